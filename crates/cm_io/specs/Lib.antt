@@ -1,0 +1,5 @@
+pub mod Told
+pub mod Fault
+pub mod Source
+pub mod Clock
+pub mod Host

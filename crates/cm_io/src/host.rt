@@ -1,0 +1,52 @@
+// What keeps files.
+ghost use Rattle.std.specs.Prelude.{◌≡◌, ◌≤◌, ◌↔◌, ℕ, Bool, false, List, IsTrue};
+ghost use Rattle.cm_io.specs.Host.{Files, KeepsOthers, Creates, Writes};
+ghost use Rattle.cm_io.specs.Fault.{PutCause};
+
+use crate::Put;
+
+/// What keeps files. One at a time may be open, to be written from its beginning.
+pub trait Host {
+    /// Whether objects of this type tell their files.
+    ghost tells: { Bool };
+
+    /// What each name has, if anything.
+    ghost files: { Self → Files };
+
+    /// Whether a file is open.
+    ghost is_open: { Self → Bool };
+
+    /// The name of the open file.
+    ghost target: { Self → List ℕ };
+
+    /// How often it has failed. The count stays at its last value once that is reached.
+    ghost faults: { Self → ℕ };
+
+    /// Creates a file, in place of one that is there, and opens it. After Failed none is open, and
+    /// the file is absent, as before, or empty.
+    fn create(&mut self, name: &str) -> Put
+        ensures opens { IsTrue (is_open self.new) ↔ (result ≡ Put.Done) }
+        ensures target { IsTrue tells → result ≡ Put.Done → target self.new ≡ name.now }
+        ensures file { IsTrue tells → Creates (files self.old name.now) (files self.new name.now) result }
+        ensures others { IsTrue tells → KeepsOthers name.now (files self.old) (files self.new) }
+        ensures later { faults self.old ≤ faults self.new }
+        ensures cause { PutCause (faults self.old) (faults self.new) result };
+
+    /// Appends the bytes to the open file. After Failed a front of them is appended.
+    fn write(&mut self, bytes: &[u8]) -> Put
+        requires { IsTrue (is_open self.old) }
+        ensures stays_open { IsTrue (is_open self.new) }
+        ensures target { IsTrue tells → target self.new ≡ target self.old }
+        ensures file { IsTrue tells → Writes (files self.old (target self.old)) (files self.new (target self.old)) bytes.now result }
+        ensures others { IsTrue tells → KeepsOthers (target self.old) (files self.old) (files self.new) }
+        ensures later { faults self.old ≤ faults self.new }
+        ensures cause { PutCause (faults self.old) (faults self.new) result };
+
+    /// Closes the open file. Afterwards none is open, also after Failed.
+    fn close(&mut self) -> Put
+        requires { IsTrue (is_open self.old) }
+        ensures closes { is_open self.new ≡ false }
+        ensures files { IsTrue tells → (name : List ℕ) → files self.new name ≡ files self.old name }
+        ensures later { faults self.old ≤ faults self.new }
+        ensures cause { PutCause (faults self.old) (faults self.new) result };
+}

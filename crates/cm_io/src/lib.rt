@@ -1,0 +1,12 @@
+//! The outside of a program: what bytes are got from and put to, what tells the time, and what keeps files.
+#![tactic(auto)]
+
+mod clock;
+mod host;
+mod sink;
+mod source;
+
+pub use clock::Clock;
+pub use host::Host;
+pub use sink::{Put, Sink};
+pub use source::{Got, Source};

@@ -1,0 +1,28 @@
+// What bytes are put to.
+ghost use Rattle.std.specs.Prelude.{◌≤◌, ℕ};
+ghost use Rattle.cm_io.specs.Told.{Told, Adds};
+ghost use Rattle.cm_io.specs.Fault.{PutCause};
+
+/// How a put, or another call that writes, went.
+#[derive(Clone, Copy, Debug, PartialEq, Eq)]
+pub enum Put {
+    /// All of it was done.
+    Done,
+    /// The outside failed. A front of the bytes may have been taken.
+    Failed,
+}
+
+/// What bytes are put to: a screen, a log.
+pub trait Sink {
+    /// What it tells of the bytes that it was given.
+    ghost told: { Self → Told };
+
+    /// How often it has failed. The count stays at its last value once that is reached.
+    ghost faults: { Self → ℕ };
+
+    /// Puts the bytes behind those that were put before.
+    fn put(&mut self, bytes: &[u8]) -> Put
+        ensures bytes { Adds (told self.old) (told self.new) bytes.now result }
+        ensures later { faults self.old ≤ faults self.new }
+        ensures cause { PutCause (faults self.old) (faults self.new) result };
+}

@@ -1,0 +1,15 @@
+-- The classes of bytes.
+use Rattle.std.specs.Prelude.{ℕ, Bool, not, ◌&&◌, ◌||◌, ◌==◌, nat_le}
+use Rattle.std.specs.Char.{is_ascii_alphanumeric}
+
+-- TAB, or from space to tilde, but no question mark
+unfoldable pub is_text : ℕ → Bool
+is_text byte = (byte == 9 || (nat_le 32 byte && nat_le byte 126)) && not (byte == 63)
+
+-- a letter, a digit or a hyphen
+unfoldable pub is_word : ℕ → Bool
+is_word byte = is_ascii_alphanumeric byte || byte == 45
+
+-- a space or TAB
+unfoldable pub is_blank : ℕ → Bool
+is_blank byte = byte == 32 || byte == 9

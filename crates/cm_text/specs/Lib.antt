@@ -1,0 +1,4 @@
+pub mod Bytes
+pub mod Case
+pub mod Shown
+pub mod Text

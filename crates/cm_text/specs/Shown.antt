@@ -1,0 +1,14 @@
+-- Fixed texts that a screen is given.
+use Rattle.std.specs.Prelude.{ℕ, List, [], ◌∷◌}
+
+-- carriage return and line feed
+unfoldable pub end_of_line : List ℕ
+end_of_line = 13 ∷ 10 ∷ []
+
+-- the bell, for a key that does nothing
+unfoldable pub bell : List ℕ
+bell = 7 ∷ []
+
+-- back over a byte, a space over it, and back again
+unfoldable pub rubout : List ℕ
+rubout = 8 ∷ 32 ∷ 8 ∷ []

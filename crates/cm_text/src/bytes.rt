@@ -1,0 +1,27 @@
+// The classes of bytes.
+ghost use Rattle.std.specs.Prelude.{◌≡◌};
+ghost use Rattle.cm_text.specs.Bytes.{is_blank, is_text, is_word};
+
+/// Whether a byte may stand in a line: TAB, or a printing byte other than `?`.
+#[tactic(auto, unfolding(crate::specs::Bytes::is_text))]
+pub fn is_text(byte: u8) -> bool
+    ensures { result ≡ is_text byte }
+{
+    matches!(byte, b'\t' | b' '..=b'~') && byte != b'?'
+}
+
+/// Whether a byte may stand in a word: a letter, a digit or `-`.
+#[tactic(auto, unfolding(crate::specs::Bytes::is_word))]
+pub fn is_word(byte: u8) -> bool
+    ensures { result ≡ is_word byte }
+{
+    byte.is_ascii_alphanumeric() || byte == b'-'
+}
+
+/// Whether a byte parts fields and means nothing more: a space or TAB.
+#[tactic(auto, unfolding(crate::specs::Bytes::is_blank))]
+pub fn is_blank(byte: u8) -> bool
+    ensures { result ≡ is_blank byte }
+{
+    byte == b' ' || byte == b'\t'
+}

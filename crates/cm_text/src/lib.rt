@@ -1,0 +1,12 @@
+//! The words that every crate shares: classes of bytes, letters without case, names, and fixed texts.
+#![tactic(auto)]
+
+mod bytes;
+mod case;
+mod name;
+mod shown;
+
+pub use bytes::{is_blank, is_text, is_word};
+pub use case::{begins_with, equals};
+pub use name::Name;
+pub use shown::{bell, end_of_line, rubout};

@@ -1,0 +1,27 @@
+// Fixed texts that a screen is given.
+ghost use Rattle.std.specs.Prelude.{◌≡◌};
+ghost use Rattle.cm_text.specs.Shown.{bell, end_of_line, rubout};
+
+/// What ends a line on the screen: carriage return and line feed.
+#[tactic(auto, unfolding(crate::specs::Shown::end_of_line))]
+pub fn end_of_line() -> &'static [u8]
+    ensures { result.now ≡ end_of_line }
+{
+    b"\r\n"
+}
+
+/// What answers a key that does nothing.
+#[tactic(auto, unfolding(crate::specs::Shown::bell))]
+pub fn bell() -> &'static [u8]
+    ensures { result.now ≡ bell }
+{
+    b"\x07"
+}
+
+/// What takes the last byte from the screen: back, a space over it, and back again.
+#[tactic(auto, unfolding(crate::specs::Shown::rubout))]
+pub fn rubout() -> &'static [u8]
+    ensures { result.now ≡ rubout }
+{
+    b"\x08 \x08"
+}
