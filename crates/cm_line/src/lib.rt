@@ -1,13 +1,8 @@
-// A library with one function.
+//! The line that is edited, and what each key is to its editor.
 #![tactic(auto)]
 
-ghost use Rattle.std.specs.Prelude.{◌≡◌};
-ghost use Rattle.cm_line.specs.Echo.{echo_of};
+mod key;
+mod line;
 
-// The `ensures` clause is the contract: what `echo` returns is `echo_of` of its argument, a definition
-// in `specs/Echo.antt`, which a caller's clause can cite too.
-pub fn echo(x: usize) -> usize
-    ensures { result ≡ echo_of x }
-{
-    x
-}
+pub use key::KeyClass;
+pub use line::Line;

@@ -1,13 +1,8 @@
-// A library with one function.
+//! Keyword tables: entries in order, and the look-up of an atom that may be an abbreviation (TBLUK).
 #![tactic(auto)]
 
-ghost use Rattle.std.specs.Prelude.{◌≡◌};
-ghost use Rattle.cm_tables.specs.Echo.{echo_of};
+mod entry;
+mod table;
 
-// The `ensures` clause is the contract: what `echo` returns is `echo_of` of its argument, a definition
-// in `specs/Echo.antt`, which a caller's clause can cite too.
-pub fn echo(x: usize) -> usize
-    ensures { result ≡ echo_of x }
-{
-    x
-}
+pub use entry::{Entry, Flag};
+pub use table::{Look, Table, TableFault};

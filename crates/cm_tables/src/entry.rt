@@ -1,0 +1,30 @@
+// The entries of a keyword table.
+use cm_text::Name;
+
+/// How an entry takes part in the look-up (TBLUK).
+#[derive(Clone, Copy, Debug, PartialEq, Eq)]
+pub enum Flag {
+    /// It is listed, and may be abbreviated.
+    Plain,
+    /// It may be abbreviated, and is not listed.
+    Invisible,
+    /// It makes its own text ambiguous, and cannot be abbreviated.
+    NoRecognise,
+    /// It stands for the entry at this position.
+    Short(u16),
+}
+
+/// A keyword, and what it stands for.
+#[derive(Debug, Drop)]
+pub struct Entry {
+    /// The keyword: upper-case letters, digits and hyphens.
+    pub text: Name,
+    /// How it takes part in the look-up.
+    pub flag: Flag,
+    /// Whether a colon and a value follow it, where it is a switch.
+    pub colon: bool,
+    /// What it means to the program.
+    pub code: u16,
+    /// The node of the grammar that follows it.
+    pub next: u16,
+}

@@ -1,0 +1,92 @@
+// Keyword tables.
+ghost use Rattle.std.specs.Prelude.{◌≡◌, ◌<◌, ◌≤◌, List, length, Some, None, MatchResult, slice_get, vec_len};
+ghost use Rattle.cm_tables.specs.Look.{look};
+ghost use Rattle.cm_tables.specs.Order.{table_fault};
+
+use crate::Entry;
+use std::marker::Model;
+use thiserror::Error;
+
+/// Why a list of entries is no table. The number is the position of the entry at fault, from 0.
+#[derive(Debug, Drop, Error)]
+pub enum TableFault {
+    /// There are more than 1,024 entries.
+    #[error("TooMany")]
+    TooMany,
+    /// The text is empty, or has a byte that is no upper-case letter, digit or hyphen.
+    #[error("BadText")]
+    BadText(u16),
+    /// The text is that of the entry before it.
+    #[error("Repeat")]
+    Repeat(u16),
+    /// The text stands below that of the entry before it.
+    #[error("Order")]
+    Order(u16),
+    /// A Short entry stands for no entry that may be abbreviated and whose text begins with its own.
+    #[error("BadTarget")]
+    BadTarget(u16),
+}
+
+/// What a look-up found.
+#[derive(Clone, Copy, Debug, PartialEq, Eq)]
+pub enum Look {
+    /// No entry.
+    None,
+    /// More than one entry, or one that does not let itself be recognised.
+    Ambiguous,
+    /// The one entry that the atom abbreviates, by its position.
+    Abbrev(u16),
+    /// The entry whose text the atom is, or the one that this stands for, by its position.
+    Exact(u16),
+}
+
+/// A keyword table: at most 1,024 entries, their texts in ascending order. Contracts see its entries.
+#[derive(Debug, Drop)]
+pub struct Table {
+    entries: Vec<Entry>,
+}
+
+impl Model for Table {
+    ghost use Rattle.std.specs.Prelude.{◌≤◌, List, vec_len};
+    ghost use Rattle.cm_tables.specs.declared.entry.Entry.{Entry};
+
+    ghost Value = { List Entry };
+
+    ghost view = { λ table. table.entries.items };
+
+    ghost invariant = { λ table. vec_len table.entries ≤ 1024 };
+}
+
+impl Table {
+    /// The table with these entries, or the first fault: their number, then their texts in order, then
+    /// the targets of the Short entries in order.
+    pub fn new(entries: Vec<Entry>) -> Result<Table, TableFault>
+        ensures { MatchResult result (λ table. (table_fault entries.items ≡ None) × (table ≡ entries.items))
+            (λ fault. table_fault entries.items ≡ Some fault) }
+    {
+        Ok(Table { entries })
+    }
+
+    /// The entry at a position.
+    pub fn entry(&self, position: u16) -> &Entry
+        requires { position < length self.now }
+        ensures { slice_get self.now position ≡ Some result.now }
+    {
+        &self.entries[usize::from(position)]
+    }
+
+    /// How many entries there are.
+    pub fn len(&self) -> u16
+        ensures value { result ≡ length self.now }
+        ensures most { result ≤ 1024 }
+    {
+        self.entries.len() as u16
+    }
+
+    /// What the table has for an atom.
+    pub fn look(&self, atom: &[u8]) -> Look
+        ensures { result ≡ look self.now atom.now }
+    {
+        Look::None
+    }
+}
