@@ -1,13 +1,18 @@
-// A library with one function.
+//! A session of a command line (COMND): the line under edit, and the parse of it that is held after each key.
 #![tactic(auto)]
 
-ghost use Rattle.std.specs.Prelude.{◌≡◌};
-ghost use Rattle.cm_state.specs.Echo.{echo_of};
+mod chain;
+mod code;
+mod field;
+mod parse;
+mod prompt;
+mod session;
+mod turn;
+mod verbs;
 
-// The `ensures` clause is the contract: what `echo` returns is `echo_of` of its argument, a definition
-// in `specs/Echo.antt`, which a caller's clause can cite too.
-pub fn echo(x: usize) -> usize
-    ensures { result ≡ echo_of x }
-{
-    x
-}
+pub use code::Code;
+pub use field::{Ending, Fault, Field, Open};
+pub use prompt::Prompt;
+pub use session::Session;
+pub use turn::Turn;
+pub use verbs::Verbs;

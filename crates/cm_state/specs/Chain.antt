@@ -1,0 +1,101 @@
+-- What the chain of a node makes of a text from a place on: a field, or how the parse ends (COMND's function blocks).
+use Rattle.std.specs.Prelude.{ℕ, ◌+◌, ◌<◌, ◌==◌, if◌then◌else◌, List, [], ◌∷◌, length, take, drop, Option, Some, None, slice_get}
+use Rattle.std.specs.Option.{option_map_or}
+use Rattle.std.specs.List.{prefix_len}
+use Rattle.cm_text.specs.Bytes.{is_blank, is_word}
+use Rattle.cm_tables.specs.declared.entry.Entry.{Entry}
+use Rattle.cm_tables.specs.declared.table.Look.{Look}
+use Rattle.cm_tables.specs.declared.table.Look.TheVariants as looks
+use Rattle.cm_tables.specs.Look.{look}
+use Rattle.cm_state.specs.declared.verbs.Verbs.{Verbs}
+use Rattle.cm_state.specs.declared.code.Code.{Code}
+use Rattle.cm_state.specs.declared.code.Code.TheVariants.{NotKeyword, Ambiguous, NotConfirmed}
+use Rattle.cm_state.specs.declared.field.Field.{Field}
+use Rattle.cm_state.specs.declared.field.Ending.{Ending}
+use Rattle.cm_state.specs.declared.field.Ending.TheVariants as ending
+use Rattle.cm_state.specs.declared.chain.Chain.{Chain}
+use Rattle.cm_state.specs.declared.chain.Chain.TheVariants.{Takes, Ends}
+use Rattle.cm_state.specs.declared.chain.Place.{Place}
+use Rattle.cm_state.specs.declared.chain.Try.{Try}
+use Rattle.cm_state.specs.declared.chain.Try.TheVariants.{Decides, Refuses}
+
+-- a function block: the end of the line, or a keyword of a table
+pub data Block : Type 0 where
+  Confirm : Block
+  Key : List Entry → Block
+
+-- the chain of a node: the commands at 0, what INFORMATION tells about at 27, else the end of the line
+abbrev pub blocks : Verbs → ℕ → List Block
+blocks verbs node =
+    if node == 0 then Confirm ∷ Key verbs.first ∷ [] else (if node == 27 then Key verbs.second ∷ [] else Confirm ∷ [])
+
+-- the text ends before the block can decide
+abbrev pub undecided : Place → Try
+undecided place = Decides (Ends (ending.Open (record { node = place.node; block = Some place.block; at = place.start })))
+
+-- an end of the line confirms it, any other byte does not
+abbrev pub confirm : Place → List ℕ → Try
+confirm place [] = undecided place
+confirm place (byte ∷ rest) = if byte == 13 then Decides (Ends ending.Done) else Refuses NotConfirmed
+
+-- the keyword of an entry
+abbrev pub keyword : Place → List Entry → ℕ → ℕ → Try
+keyword place table entry size = Decides (Takes (record {
+  node = place.node;
+  block = place.block;
+  entry = entry;
+  code = option_map_or (λ (e : Entry). e.code) (slice_get table entry) 0;
+  next = option_map_or (λ (e : Entry). e.next) (slice_get table entry) 0;
+  start = place.start;
+  end = place.start + size;
+}))
+
+-- what the look-up of a run says
+abbrev pub by_look : Place → List Entry → Look → ℕ → Try
+by_look place table looks.None size = Refuses NotKeyword
+by_look place table looks.Ambiguous size = Refuses Ambiguous
+by_look place table (looks.Abbrev entry) size = keyword place table entry size
+by_look place table (looks.Exact entry) size = keyword place table entry size
+
+-- a keyword is a run of word bytes, and the byte behind it decides
+abbrev pub key : Place → List Entry → List ℕ → Try
+key place table rest =
+    let size = prefix_len is_word rest in
+    if size == length rest then undecided place
+    else (if size == 0 then Refuses NotKeyword else by_look place table (look table (take size rest)) size)
+
+abbrev pub try_block : Place → List ℕ → Block → Try
+try_block place rest Confirm = confirm place rest
+try_block place rest (Key table) = key place table rest
+
+-- the decision, or the other answer
+abbrev pub or_next : Try → Try → Try
+or_next (Decides chain) next = Decides chain
+or_next (Refuses code) next = next
+
+-- the first block that decides, or the refusal of the last
+abbrev pub first_of : Place → List ℕ → List Block → Try
+first_of place rest [] = Refuses NotConfirmed
+first_of place rest (block ∷ []) = try_block place rest block
+first_of place rest (block ∷ next ∷ more) =
+    or_next (try_block place rest block) (first_of (record place { block = place.block + 1 }) rest (next ∷ more))
+
+-- where all blocks refuse, the last one's code is the fault
+abbrev pub decided : ℕ → ℕ → Try → Chain
+decided node start (Decides chain) = chain
+decided node start (Refuses code) = Ends (ending.Fault (record { code = code; node = node; at = start }))
+
+-- the place past the blanks
+abbrev pub skip : List ℕ → ℕ → ℕ
+skip text at = at + prefix_len is_blank (drop at text)
+
+-- what the chain of a node makes of a text from a place on
+unfoldable pub chain_at : Verbs → ℕ → List ℕ → ℕ → Chain
+chain_at verbs node text at =
+    let start = skip text at in
+    decided node start (first_of (record { node = node; block = 0; start = start }) (drop start text) (blocks verbs node))
+
+-- a field that is taken ends behind the place that it was sought from, and before the end of the text
+abbrev pub Advances : ℕ → ℕ → Chain → Type 0
+Advances at size (Takes field) = (at < field.end) × (field.end < size)
+Advances at size (Ends ending) = Unit {0}

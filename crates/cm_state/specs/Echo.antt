@@ -1,0 +1,52 @@
+-- The bytes that one key shows.
+use Rattle.std.specs.Prelude.{ℕ, ◌-◌, ◌==◌, Bool, List, [], ◌∷◌, ◌++◌, length, map, nat_lt, is_some, codes, if◌then◌else◌}
+use Rattle.cm_text.specs.Shown.{bell, end_of_line, rubout}
+use Rattle.cm_io.specs.Pieces.{times}
+use Rattle.cm_line.specs.declared.key.KeyClass.{KeyClass}
+use Rattle.cm_line.specs.declared.key.KeyClass.TheVariants.{Text, End, Rub, Word, Erase, Show, Back, Stop, Escape, Part, Help, Other}
+use Rattle.cm_line.specs.Keys.{class_of}
+use Rattle.cm_state.specs.declared.verbs.Verbs.{Verbs}
+use Rattle.cm_state.specs.declared.field.Ending.{Ending}
+use Rattle.cm_state.specs.declared.field.Ending.TheVariants as ending
+use Rattle.cm_state.specs.declared.prompt.Prompt.{Prompt}
+use Rattle.cm_state.specs.declared.prompt.Prompt.TheVariants.{Main, Sub}
+use Rattle.cm_state.specs.Code.{code_text}
+use Rattle.cm_state.specs.Held.{Held}
+use Rattle.cm_state.specs.Edit.{edited, met}
+
+-- a TAB is shown as one space
+abbrev pub shown_byte : ℕ → ℕ
+shown_byte byte = if byte == 9 then 32 else byte
+
+abbrev pub shown : List ℕ → List ℕ
+shown line = map shown_byte line
+
+unfoldable pub prompt_text : Prompt → List ℕ
+prompt_text Main = codes "@"
+prompt_text Sub = codes "@@"
+
+-- what a refused line shows
+unfoldable pub complaint : Ending → List ℕ
+complaint (ending.Open place) = []
+complaint ending.Done = []
+complaint (ending.Fault fault) = codes "?" ++ code_text fault.code ++ end_of_line
+
+-- one rubout for each byte that went, or a bell where there was none
+abbrev pub taken_away : ℕ → ℕ → List ℕ
+taken_away before now = if before == 0 then bell else times (before - now) rubout
+
+-- the echo of a key on a line of this size, with or without kept bytes, that left the session so
+abbrev pub echo_of : KeyClass → ℕ → ℕ → Bool → Held → List ℕ
+echo_of Text key size kept now = if nat_lt size 255 then shown_byte key ∷ [] else bell
+echo_of Rub key size kept now = taken_away size (length now.line)
+echo_of Word key size kept now = taken_away size (length now.line)
+echo_of Erase key size kept now = taken_away size (length now.line)
+echo_of Show key size kept now = end_of_line ++ prompt_text now.prompt ++ shown now.line
+echo_of Back key size kept now = if kept then shown now.line else bell
+echo_of Stop key size kept now = codes "^C" ++ end_of_line
+echo_of End key size kept now = end_of_line ++ complaint now.ending
+echo_of class key size kept now = bell
+
+-- the bytes that a key shows
+unfoldable pub echo : Verbs → Held → ℕ → List ℕ
+echo verbs held key = echo_of (class_of key) key (length (met held)) (is_some held.kept) (edited verbs held key)

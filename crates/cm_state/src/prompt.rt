@@ -1,0 +1,25 @@
+// What a line is asked for with.
+ghost use Rattle.std.specs.Prelude.{◌≡◌};
+ghost use Rattle.cm_state.specs.Echo.{prompt_text};
+
+/// What a line is asked for with.
+#[derive(Clone, Copy, Debug, PartialEq, Eq)]
+pub enum Prompt {
+    /// `@`, for a command.
+    Main,
+    /// `@@`, for a subcommand.
+    Sub,
+}
+
+impl Prompt {
+    /// The text of the prompt.
+    #[tactic(auto, unfolding(crate::specs::Echo::prompt_text))]
+    pub fn text(self) -> &'static str
+        ensures { result.now ≡ prompt_text self }
+    {
+        match self {
+            Prompt::Main => "@",
+            Prompt::Sub => "@@",
+        }
+    }
+}
