@@ -1,6 +1,6 @@
 -- The bytes that one key shows.
 use Rattle.std.specs.Prelude.{ℕ, ◌-◌, ◌==◌, Bool, List, [], ◌∷◌, ◌++◌, length, map, nat_lt, is_some, codes, if◌then◌else◌}
-use Rattle.cm_text.specs.Shown.{bell, end_of_line, rubout}
+use Rattle.cm_text.specs.Shown.{bell, control_c, end_of_line, question, rubout}
 use Rattle.cm_io.specs.Pieces.{times}
 use Rattle.cm_line.specs.declared.key.KeyClass.{KeyClass}
 use Rattle.cm_line.specs.declared.key.KeyClass.TheVariants.{Text, End, Rub, Word, Erase, Show, Back, Stop, Escape, Part, Help, Other}
@@ -10,6 +10,7 @@ use Rattle.cm_state.specs.declared.field.Ending.{Ending}
 use Rattle.cm_state.specs.declared.field.Ending.TheVariants as ending
 use Rattle.cm_state.specs.declared.prompt.Prompt.{Prompt}
 use Rattle.cm_state.specs.declared.prompt.Prompt.TheVariants.{Main, Sub}
+use Rattle.cm_state.specs.declared.code.Code.{Code}
 use Rattle.cm_state.specs.Code.{code_text}
 use Rattle.cm_state.specs.Held.{Held}
 use Rattle.cm_state.specs.Edit.{edited, met}
@@ -25,11 +26,15 @@ unfoldable pub prompt_text : Prompt → List ℕ
 prompt_text Main = codes "@"
 prompt_text Sub = codes "@@"
 
--- what a refused line shows
+-- why a line is refused
+unfoldable pub refusal : Code → List ℕ
+refusal code = question ++ code_text code ++ end_of_line
+
+-- what a finished line shows besides
 unfoldable pub complaint : Ending → List ℕ
 complaint (ending.Open place) = []
 complaint ending.Done = []
-complaint (ending.Fault fault) = codes "?" ++ code_text fault.code ++ end_of_line
+complaint (ending.Fault fault) = refusal fault.code
 
 -- one rubout for each byte that went, or a bell where there was none
 abbrev pub taken_away : ℕ → ℕ → List ℕ
@@ -43,7 +48,7 @@ echo_of Word key size kept now = taken_away size (length now.line)
 echo_of Erase key size kept now = taken_away size (length now.line)
 echo_of Show key size kept now = end_of_line ++ prompt_text now.prompt ++ shown now.line
 echo_of Back key size kept now = if kept then shown now.line else bell
-echo_of Stop key size kept now = codes "^C" ++ end_of_line
+echo_of Stop key size kept now = control_c ++ end_of_line
 echo_of End key size kept now = end_of_line ++ complaint now.ending
 echo_of class key size kept now = bell
 

@@ -8,8 +8,6 @@ use Rattle.cm_line.specs.Word.{word_start}
 use Rattle.cm_state.specs.declared.verbs.Verbs.{Verbs}
 use Rattle.cm_state.specs.declared.field.Ending.{Ending}
 use Rattle.cm_state.specs.declared.field.Ending.TheVariants as ending
-use Rattle.cm_state.specs.declared.turn.Turn.{Turn}
-use Rattle.cm_state.specs.declared.turn.Turn.TheVariants as turn
 use Rattle.cm_state.specs.Held.{Held}
 use Rattle.cm_state.specs.Parse.{parse_of}
 
@@ -32,40 +30,27 @@ edit Part key line kept = line
 edit Help key line kept = line
 edit Other key line kept = line
 
+-- the key finishes the line
+abbrev pub is_end : KeyClass → Bool
+is_end End = true
+is_end class = false
+
 -- a refused line keeps the bytes before its faulty field
 abbrev pub before_fault : List ℕ → Ending → Option (List ℕ)
 before_fault line (ending.Open place) = None
 before_fault line ending.Done = None
 before_fault line (ending.Fault fault) = Some (take fault.at line)
 
--- the session with a line that may go on, and its parse
-abbrev pub with_line : Verbs → Held → List ℕ → Held
-with_line verbs held line =
-    let parse = parse_of verbs held.node line in
-    record held { line = line; is_finished = false; fields = parse.fields; ending = parse.ending; kept = None }
-
--- the session with its line finished, and the parse of that text
-abbrev pub with_end : Verbs → Held → List ℕ → Held
-with_end verbs held line =
-    let parse = parse_of verbs held.node (finished line) in
-    record held { line = line; is_finished = true; fields = parse.fields; ending = parse.ending; kept = before_fault line parse.ending }
-
-abbrev pub edited_by : KeyClass → Verbs → Held → ℕ → Held
-edited_by End verbs held key = with_end verbs held (met held)
-edited_by class verbs held key = with_line verbs held (edit class key (met held) held.kept)
-
--- the session after a key
+-- the session after a key: the line, finished where the key is an end, and the parse of that text
 unfoldable pub edited : Verbs → Held → ℕ → Held
-edited verbs held key = edited_by (class_of key) verbs held key
-
--- how a finished line turns out; its parse is never open
-abbrev pub end_turn : Ending → Turn
-end_turn (ending.Open place) = turn.Edited
-end_turn ending.Done = turn.Confirmed
-end_turn (ending.Fault fault) = turn.Refused fault
-
--- what a key of this class comes to
-abbrev pub turn_of : KeyClass → Ending → Turn
-turn_of End ending = end_turn ending
-turn_of Stop ending = turn.Abandoned
-turn_of class ending = turn.Edited
+edited verbs held key =
+    let class = class_of key in
+    let line = edit class key (met held) held.kept in
+    let parse = parse_of verbs held.node (if is_end class then finished line else line) in
+    record held {
+      line = line;
+      is_finished = is_end class;
+      fields = parse.fields;
+      ending = parse.ending;
+      kept = if is_end class then before_fault line parse.ending else None;
+    }

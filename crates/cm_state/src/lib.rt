@@ -3,7 +3,9 @@
 
 mod chain;
 mod code;
+mod echo;
 mod field;
+mod log;
 mod parse;
 mod prompt;
 mod session;

@@ -1,19 +1,26 @@
 // A session: the line under edit, and the parse of it that is held.
-ghost use Rattle.std.specs.Prelude.{◌≡◌, ◌≤◌, ◌<◌, ℕ, Bool, true, false, List, [], ◌++◌, length, Option, None, slice_get, Some, if◌then◌else◌};
+ghost use Rattle.std.specs.Prelude.{◌≡◌, ◌≤◌, ◌<◌, ℕ, Bool, true, false, List, [], ◌++◌, length, take, Option, None, slice_get, Some, if◌then◌else◌};
 ghost use Rattle.cm_text.specs.Bytes.{is_text};
 ghost use Rattle.cm_text.specs.Text.{finished};
 ghost use Rattle.cm_line.specs.declared.key.KeyClass.TheVariants as class;
 ghost use Rattle.cm_line.specs.Keys.{class_of};
 ghost use Rattle.cm_io.specs.Told.{Adds};
 ghost use Rattle.cm_io.specs.Fault.{PutCause};
-ghost use Rattle.cm_state.specs.Edit.{edit, met, before_fault};
+ghost use Rattle.cm_state.specs.Edit.{edit, edited, met, before_fault, is_end};
+ghost use Rattle.cm_state.specs.Echo.{echo, echo_of, prompt_text, shown};
+ghost use Rattle.cm_state.specs.Log.{head_log, log_line, size_log};
+ghost use Rattle.cm_state.specs.Turn.{put_of, turn_of};
 ghost use Rattle.cm_state.specs.Held.{Held, at_start, text_of};
 ghost use Rattle.cm_state.specs.Parse.{IsParse, open_at, parse_of};
 
+use crate::echo::{put_again, put_end, put_line, put_stop, put_taken, shown_byte};
+use crate::log::{put_ending, put_fields, put_marked, put_single};
 use crate::parse::{Fields, parse};
-use crate::{Ending, Fault, Field, Open, Prompt, Turn, Verbs};
+use crate::{Ending, Field, Open, Prompt, Turn, Verbs};
 use arrayvec::ArrayVec;
+use cm_io::{Put, Sink, put_hex};
 use cm_line::{KeyClass, Line};
+use cm_text::bell;
 use std::marker::Model;
 
 /// A command line: the line under edit, its parse as it then stands, and what control-H may bring back.
@@ -89,6 +96,7 @@ impl Session {
     /// The answer is Confirmed exactly where the key finishes a line whose parse is done, Refused exactly
     /// where it finishes one whose parse ends in that fault, Abandoned exactly at control-C. It is Failed
     /// only where the sink failed; the session is then where the key left it.
+    #[tactic(auto, unfolding(crate::specs::Echo::echo))]
     pub fn key<S: Sink>(&mut self, key: u8, verbs: &Verbs, sink: &mut S) -> Turn
         // The line, what is kept, and the parse after the key.
         ensures edited { self.new ≡ edited verbs.now self.old key }
@@ -101,16 +109,103 @@ impl Session {
         ensures later { S.faults sink.old ≤ S.faults sink.new }
         ensures cause { PutCause (S.faults sink.old) (S.faults sink.new) (put_of result) }
     {
-        self.renew();
         let class = KeyClass::of(key);
-        let size = self.line.bytes().len();
+        let size = self.met_size();
         let kept = self.kept.is_some();
-        self.edit(class, key);
-        self.hold(verbs);
+        self.take(class, key, verbs);
         match self.echo(class, key, size, kept, sink) {
             Put::Done => self.turn(class),
             Put::Failed => Turn::Failed,
         }
+    }
+
+    // The size of the line that a key meets.
+    fn met_size(&self) -> usize
+        ensures value { result ≡ length (met self.now) }
+        ensures within { result ≤ 255 }
+    {
+        if self.is_finished {
+            0
+        } else {
+            self.line.bytes().len()
+        }
+    }
+
+    // Edits the line by a key, and holds the parse of the text as it then stands.
+    fn take(&mut self, class: KeyClass, key: u8, verbs: &Verbs)
+        requires class { class ≡ class_of key }
+        requires text { class ≡ KeyClass.Text → is_text key ≡ true }
+        ensures edited { self.new ≡ edited verbs.now self.old key }
+        ensures parse { IsParse verbs.now self.new.node (text_of self.new) self.new.fields self.new.ending }
+    {
+        self.renew();
+        self.edit(class, key);
+        self.hold(verbs);
+    }
+
+    // Shows the echo of a key on a line of this size, with or without kept bytes.
+    fn echo<S: Sink>(&self, class: KeyClass, key: u8, size: usize, kept: bool, sink: &mut S) -> Put
+        requires { size ≤ 255 }
+        ensures bytes { Adds (S.told sink.old) (S.told sink.new) (echo_of class key size kept self.now) result }
+        ensures later { S.faults sink.old ≤ S.faults sink.new }
+        ensures cause { PutCause (S.faults sink.old) (S.faults sink.new) result }
+    {
+        let line = self.line.bytes();
+        match class {
+            KeyClass::Text if size < 255 => sink.put(&[shown_byte(key)]),
+            KeyClass::Rub | KeyClass::Word | KeyClass::Erase => put_taken(size, line.len(), sink),
+            KeyClass::Show => put_again(self.prompt, line, sink),
+            KeyClass::Back if kept => put_line(line, sink),
+            KeyClass::Stop => put_stop(sink),
+            KeyClass::End => put_end(self.ending, sink),
+            _ => sink.put(bell()),
+        }
+    }
+
+    /// Puts the line of the log that tells of a key and of the parse held after it: the key, the length of
+    /// the line, the ending and each field.
+    #[tactic(auto, using(cm_io::proofs::Adding::add_append, cm_io::proofs::Adding::adds_early, cm_io::proofs::Adding::adds_late, cm_io::proofs::Adding::adds_between, cm_io::proofs::Adding::rose_early, cm_io::proofs::Adding::rose_late,), unfolding(crate::specs::Log::log_line))]
+    pub fn log_line<S: Sink>(&self, key: u8, sink: &mut S) -> Put
+        ensures bytes { Adds (S.told sink.old) (S.told sink.new) (log_line key self.now) result }
+        ensures later { S.faults sink.old ≤ S.faults sink.new }
+        ensures cause { PutCause (S.faults sink.old) (S.faults sink.new) result }
+    {
+        if let Put::Failed = self.log_head(key, sink) {
+            return Put::Failed;
+        }
+        if let Put::Failed = put_fields(self.fields.as_slice(), sink) {
+            return Put::Failed;
+        }
+        put_single(b'\n', sink)
+    }
+
+    // The key, the length of the line and the ending.
+    #[tactic(auto, using(cm_io::proofs::Adding::add_append, cm_io::proofs::Adding::adds_early, cm_io::proofs::Adding::adds_late, cm_io::proofs::Adding::adds_between, cm_io::proofs::Adding::rose_early, cm_io::proofs::Adding::rose_late,), unfolding(crate::specs::Log::head_log))]
+    fn log_head<S: Sink>(&self, key: u8, sink: &mut S) -> Put
+        ensures bytes { Adds (S.told sink.old) (S.told sink.new) (head_log key self.now) result }
+        ensures later { S.faults sink.old ≤ S.faults sink.new }
+        ensures cause { PutCause (S.faults sink.old) (S.faults sink.new) result }
+    {
+        if let Put::Failed = self.log_size(key, sink) {
+            return Put::Failed;
+        }
+        if let Put::Failed = put_single(b' ', sink) {
+            return Put::Failed;
+        }
+        put_ending(self.ending, sink)
+    }
+
+    // The key and the length of the line.
+    #[tactic(auto, using(cm_io::proofs::Adding::add_append, cm_io::proofs::Adding::adds_early, cm_io::proofs::Adding::adds_late, cm_io::proofs::Adding::adds_between, cm_io::proofs::Adding::rose_early, cm_io::proofs::Adding::rose_late,), unfolding(crate::specs::Log::size_log))]
+    fn log_size<S: Sink>(&self, key: u8, sink: &mut S) -> Put
+        ensures bytes { Adds (S.told sink.old) (S.told sink.new) (size_log key self.now) result }
+        ensures later { S.faults sink.old ≤ S.faults sink.new }
+        ensures cause { PutCause (S.faults sink.old) (S.faults sink.new) result }
+    {
+        if let Put::Failed = put_hex(sink, key) {
+            return Put::Failed;
+        }
+        put_marked(b' ', self.line.bytes().len() as u64, sink)
     }
 
     // A key behind a finished text meets an empty line.
@@ -127,11 +222,11 @@ impl Session {
     // The line after a key, finished where the key is an end.
     fn edit(&mut self, class: KeyClass, key: u8)
         requires open { self.old.is_finished ≡ false }
-        requires key { class ≡ class_of key }
+        requires text { class ≡ KeyClass.Text → is_text key ≡ true }
         ensures { self.new ≡ record self.old {
-            line = edit class key self.old.line self.old.kept;
-            is_finished = is_end class;
-            kept = None;
+          line = edit class key self.old.line self.old.kept;
+          is_finished = is_end class;
+          kept = None;
         } }
     {
         match class {
@@ -160,13 +255,89 @@ impl Session {
     // Holds the parse of the text. A refused line keeps the bytes before its faulty field.
     fn hold(&mut self, verbs: &Verbs)
         ensures parse { IsParse verbs.now self.new.node (text_of self.new) self.new.fields self.new.ending }
-        ensures kept { self.new.kept ≡ (if self.old.is_finished then before_fault self.old.line self.new.ending else self.old.kept) }
+        ensures kept { self.new.kept ≡ (if self.old.is_finished then before_fault self.old.line self.new.ending else None) }
         ensures same { self.new ≡ record self.old { fields = self.new.fields; ending = self.new.ending; kept = self.new.kept } }
     {
-        self.ending = parse(verbs, self.node, self.text(), &mut self.fields);
-        if let (true, Ending::Fault(fault)) = (self.is_finished, self.ending) {
-            self.kept = Some(front(&self.line, usize::from(fault.at)));
+        let text = text_held(self.is_finished, &self.text, &self.line);
+        self.ending = parse(verbs, self.node, text, &mut self.fields);
+        self.kept = before_fault(self.is_finished, &self.line, self.ending);
+    }
+
+    // What a key of this class has come to.
+    fn turn(&self, class: KeyClass) -> Turn
+        ensures value { result ≡ turn_of class self.now.ending }
+        ensures done { put_of result ≡ Put.Done }
+    {
+        match (class, self.ending) {
+            (KeyClass::End, Ending::Done) => Turn::Confirmed,
+            (KeyClass::End, Ending::Fault(fault)) => Turn::Refused(fault),
+            (KeyClass::Stop, _) => Turn::Abandoned,
+            _ => Turn::Edited,
         }
+    }
+
+    /// The whole text: the line, or the line and the CR that finished it.
+    pub fn text(&self) -> &[u8]
+        ensures { result.now ≡ text_of self.now }
+    {
+        text_held(self.is_finished, &self.text, &self.line)
+    }
+
+    /// How many fields are held.
+    pub fn held(&self) -> u8
+        ensures { result ≡ length self.now.fields }
+    {
+        self.fields.len() as u8
+    }
+
+    /// A field that is held, by its number from 0.
+    pub fn field(&self, number: u8) -> &Field
+        requires { number < length self.now.fields }
+        ensures { slice_get self.now.fields number ≡ Some result.now }
+    {
+        &self.fields[usize::from(number)]
+    }
+
+    /// What stands behind the last field.
+    pub fn ending(&self) -> &Ending
+        ensures { result.now ≡ self.now.ending }
+    {
+        &self.ending
+    }
+}
+
+// The finished text where the line is finished, else the line.
+fn text_held<'a>(is_finished: bool, text: &'a ArrayVec<u8, 256>, line: &'a Line) -> &'a [u8]
+    ensures value { result.now ≡ (if is_finished then text.now.items else line.now) }
+    ensures fits { length result.now ≤ 256 }
+{
+    if is_finished {
+        text.as_slice()
+    } else {
+        line.bytes()
+    }
+}
+
+// The line, finished.
+fn finished(line: &[u8]) -> ArrayVec<u8, 256>
+    requires { length line.now ≤ 255 }
+    ensures { result.items ≡ finished line.now }
+{
+    let mut text = ArrayVec::new();
+    for byte in line {
+        text.push(*byte);
+    }
+    text.push(b'\r');
+    text
+}
+
+// Of a refused line, the bytes before its faulty field.
+fn before_fault(is_finished: bool, line: &Line, ending: Ending) -> Option<Line>
+    ensures { result ≡ (if is_finished then before_fault line.now ending else None) }
+{
+    match ending {
+        Ending::Fault(fault) if is_finished => Some(front(line, usize::from(fault.at))),
+        _ => None,
     }
 }
 

@@ -12,3 +12,11 @@ bell = 7 ∷ []
 -- back over a byte, a space over it, and back again
 unfoldable pub rubout : List ℕ
 rubout = 8 ∷ 32 ∷ 8 ∷ []
+
+-- a question mark, before the reason of a refusal
+unfoldable pub question : List ℕ
+question = 63 ∷ []
+
+-- how control-C is shown
+unfoldable pub control_c : List ℕ
+control_c = 94 ∷ 67 ∷ []

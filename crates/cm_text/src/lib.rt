@@ -9,4 +9,4 @@ mod shown;
 pub use bytes::{is_blank, is_text, is_word};
 pub use case::{begins_with, equals};
 pub use name::Name;
-pub use shown::{bell, end_of_line, rubout};
+pub use shown::{bell, control_c, end_of_line, question, rubout};

@@ -1,6 +1,6 @@
 // Fixed texts that a screen is given.
 ghost use Rattle.std.specs.Prelude.{◌≡◌};
-ghost use Rattle.cm_text.specs.Shown.{bell, end_of_line, rubout};
+ghost use Rattle.cm_text.specs.Shown.{bell, control_c, end_of_line, question, rubout};
 
 /// What ends a line on the screen: carriage return and line feed.
 #[tactic(auto, unfolding(crate::specs::Shown::end_of_line))]
@@ -24,4 +24,20 @@ pub fn rubout() -> &'static [u8]
     ensures { result.now ≡ rubout }
 {
     b"\x08 \x08"
+}
+
+/// What stands before the reason of a refusal.
+#[tactic(auto, unfolding(crate::specs::Shown::question))]
+pub fn question() -> &'static [u8]
+    ensures { result.now ≡ question }
+{
+    b"?"
+}
+
+/// How control-C is shown.
+#[tactic(auto, unfolding(crate::specs::Shown::control_c))]
+pub fn control_c() -> &'static [u8]
+    ensures { result.now ≡ control_c }
+{
+    b"^C"
 }

@@ -1,0 +1,124 @@
+// What a key shows.
+#![tactic(auto, using(cm_io::proofs::Adding::add_none, cm_io::proofs::Adding::add_append, cm_io::proofs::Adding::adds_early, cm_io::proofs::Adding::adds_late, cm_io::proofs::Adding::adds_between, cm_io::proofs::Adding::rose_early, cm_io::proofs::Adding::rose_late,))]
+
+ghost use Rattle.std.specs.Prelude.{◌≡◌, ◌≤◌, ◌++◌, length};
+ghost use Rattle.cm_io.specs.Told.{Adds};
+ghost use Rattle.cm_io.specs.Fault.{PutCause};
+ghost use Rattle.cm_text.specs.Shown.{control_c, end_of_line};
+ghost use Rattle.cm_state.specs.Echo.{complaint, refusal, prompt_text, shown, shown_byte, taken_away};
+
+use crate::{Code, Ending, Prompt};
+use arrayvec::ArrayVec;
+use cm_io::{Put, Sink, put_times};
+use cm_text::{bell, control_c, end_of_line, question, rubout};
+
+// A TAB is shown as one space.
+pub fn shown_byte(byte: u8) -> u8
+    ensures { result ≡ shown_byte byte }
+{
+    if byte == b'\t' { b' ' } else { byte }
+}
+
+// The bytes of a line as they are shown.
+fn shown(line: &[u8]) -> ArrayVec<u8, 255>
+    requires { length line.now ≤ 255 }
+    ensures { result.items ≡ shown line.now }
+{
+    let mut bytes = ArrayVec::new();
+    for byte in line {
+        bytes.push(shown_byte(*byte));
+    }
+    bytes
+}
+
+// Shows a line.
+pub fn put_line<S: Sink>(line: &[u8], sink: &mut S) -> Put
+    requires { length line.now ≤ 255 }
+    ensures bytes { Adds (S.told sink.old) (S.told sink.new) (shown line.now) result }
+    ensures later { S.faults sink.old ≤ S.faults sink.new }
+    ensures cause { PutCause (S.faults sink.old) (S.faults sink.new) result }
+{
+    sink.put(shown(line).as_slice())
+}
+
+// Shows the end of the line, and the line again behind its prompt.
+pub fn put_again<S: Sink>(prompt: Prompt, line: &[u8], sink: &mut S) -> Put
+    requires { length line.now ≤ 255 }
+    ensures bytes { Adds (S.told sink.old) (S.told sink.new) (end_of_line ++ prompt_text prompt ++ shown line.now) result }
+    ensures later { S.faults sink.old ≤ S.faults sink.new }
+    ensures cause { PutCause (S.faults sink.old) (S.faults sink.new) result }
+{
+    if let Put::Failed = sink.put(end_of_line()) {
+        return Put::Failed;
+    }
+    if let Put::Failed = sink.put(prompt.text().as_bytes()) {
+        return Put::Failed;
+    }
+    put_line(line, sink)
+}
+
+// Takes bytes from the screen: from a line of the first size to one of the second.
+pub fn put_taken<S: Sink>(before: usize, now: usize, sink: &mut S) -> Put
+    requires { before ≤ 255 }
+    ensures bytes { Adds (S.told sink.old) (S.told sink.new) (taken_away before now) result }
+    ensures later { S.faults sink.old ≤ S.faults sink.new }
+    ensures cause { PutCause (S.faults sink.old) (S.faults sink.new) result }
+{
+    if before == 0 {
+        return sink.put(bell());
+    }
+    put_times(sink, rubout(), before.saturating_sub(now) as u32)
+}
+
+// Ends the line on the screen, and shows what a refused line shows.
+pub fn put_end<S: Sink>(ending: Ending, sink: &mut S) -> Put
+    ensures bytes { Adds (S.told sink.old) (S.told sink.new) (end_of_line ++ complaint ending) result }
+    ensures later { S.faults sink.old ≤ S.faults sink.new }
+    ensures cause { PutCause (S.faults sink.old) (S.faults sink.new) result }
+{
+    if let Put::Failed = sink.put(end_of_line()) {
+        return Put::Failed;
+    }
+    put_complaint(ending, sink)
+}
+
+// Shows what a refused line shows.
+#[tactic(auto, using(cm_io::proofs::Adding::add_none), unfolding(crate::specs::Echo::complaint))]
+fn put_complaint<S: Sink>(ending: Ending, sink: &mut S) -> Put
+    ensures bytes { Adds (S.told sink.old) (S.told sink.new) (complaint ending) result }
+    ensures later { S.faults sink.old ≤ S.faults sink.new }
+    ensures cause { PutCause (S.faults sink.old) (S.faults sink.new) result }
+{
+    match ending {
+        Ending::Open(_) | Ending::Done => Put::Done,
+        Ending::Fault(fault) => put_refusal(fault.code, sink),
+    }
+}
+
+// Shows why a line is refused.
+#[tactic(auto, using(cm_io::proofs::Adding::add_append, cm_io::proofs::Adding::adds_early, cm_io::proofs::Adding::adds_late, cm_io::proofs::Adding::adds_between, cm_io::proofs::Adding::rose_early, cm_io::proofs::Adding::rose_late,), unfolding(crate::specs::Echo::refusal))]
+fn put_refusal<S: Sink>(code: Code, sink: &mut S) -> Put
+    ensures bytes { Adds (S.told sink.old) (S.told sink.new) (refusal code) result }
+    ensures later { S.faults sink.old ≤ S.faults sink.new }
+    ensures cause { PutCause (S.faults sink.old) (S.faults sink.new) result }
+{
+    if let Put::Failed = sink.put(question()) {
+        return Put::Failed;
+    }
+    if let Put::Failed = sink.put(code.text().as_bytes()) {
+        return Put::Failed;
+    }
+    sink.put(end_of_line())
+}
+
+// Shows that a line is given up.
+pub fn put_stop<S: Sink>(sink: &mut S) -> Put
+    ensures bytes { Adds (S.told sink.old) (S.told sink.new) (control_c ++ end_of_line) result }
+    ensures later { S.faults sink.old ≤ S.faults sink.new }
+    ensures cause { PutCause (S.faults sink.old) (S.faults sink.new) result }
+{
+    if let Put::Failed = sink.put(control_c()) {
+        return Put::Failed;
+    }
+    sink.put(end_of_line())
+}
