@@ -3,7 +3,8 @@ ghost use Rattle.std.specs.Prelude.{◌≡◌, ◌<◌, ◌≤◌, List, length,
 ghost use Rattle.cm_tables.specs.Look.{look};
 ghost use Rattle.cm_tables.specs.Order.{table_fault};
 
-use crate::Entry;
+use crate::fault::table_fault;
+use crate::{search, Entry};
 use std::marker::Model;
 use thiserror::Error;
 
@@ -64,7 +65,10 @@ impl Table {
         ensures { MatchResult result (λ table. (table_fault entries.items ≡ None) × (table ≡ entries.items))
             (λ fault. table_fault entries.items ≡ Some fault) }
     {
-        Ok(Table { entries })
+        match table_fault(&entries) {
+            Some(fault) => Err(fault),
+            None => Ok(Table { entries }),
+        }
     }
 
     /// The entry at a position.
@@ -87,6 +91,6 @@ impl Table {
     pub fn look(&self, atom: &[u8]) -> Look
         ensures { result ≡ look self.now atom.now }
     {
-        Look::None
+        search::look(&self.entries, atom)
     }
 }
