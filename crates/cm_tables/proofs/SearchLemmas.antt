@@ -1,9 +1,9 @@
 -- The walk of a table that looks an atom up.
-use Rattle.std.proofs.Common.{◌≡◌, ℕ, ◌+◌, ◌<◌, Bool, true, false, cond, not, ltb, ◌&&◌, List, [], ◌∷◌, length, get_or, Option, Some, None, arith, suc, sym, ◌∙◌, ap, refl}
+use Rattle.std.proofs.Common.{◌≡◌, ℕ, ◌+◌, Bool, true, false, cond, not, ltb, ◌&&◌, List, [], ◌∷◌, length, get_or, Option, Some, None, arith, suc, refl}
 use Rattle.std.specs.List.{enumerate_from, filter, position, position_or_len}
 use Rattle.std.proofs.lemmas.Bool.Decides.{nat_tests}
 use Rattle.cm_text.specs.Case.{begins_with, equals}
-use Rattle.cm_tables.specs.Look.{abbreviated, by_equal, equal_to, exact, is_recognised, look, under}
+use Rattle.cm_tables.specs.Look.{abbreviated, by_equal, exact, is_recognised, look, under}
 use Rattle.cm_tables.specs.declared.entry.Entry.{Entry}
 use Rattle.cm_tables.specs.declared.table.Look.{Look}
 use Rattle.cm_tables.specs.declared.table.Look.TheVariants as looks
@@ -41,11 +41,11 @@ passing-first p k [] d e = grind (arith, nat_tests)
 passing-first {X} p k (x ∷ xs) d e = by (p x) (passing-first p (k + 1) xs d) e
   where
     by : (b : Bool) → (ltb (position_or_len p xs) (length xs) ≡ true
-          → (rest : List (ℕ × X)) × (passing p (k + 1) xs ≡ (k + 1 + position_or_len p xs, get_or xs (position_or_len p xs) d) ∷ rest))
+        → (rest : List (ℕ × X)) × (passing p (k + 1) xs ≡ (k + 1 + position_or_len p xs, get_or xs (position_or_len p xs) d) ∷ rest))
         → ltb (cond (not b) (1 + position_or_len p xs) 0) (suc (length xs)) ≡ true
         → (rest : List (ℕ × X))
-          × (cond b ((k, x) ∷ passing p (k + 1) xs) (passing p (k + 1) xs)
-             ≡ (k + cond (not b) (1 + position_or_len p xs) 0, get_or (x ∷ xs) (cond (not b) (1 + position_or_len p xs) 0) d) ∷ rest)
+        × (cond b ((k, x) ∷ passing p (k + 1) xs) (passing p (k + 1) xs)
+        ≡ (k + cond (not b) (1 + position_or_len p xs) 0, get_or (x ∷ xs) (cond (not b) (1 + position_or_len p xs) 0) d) ∷ rest)
     by true h e = (passing p (k + 1) xs, grind arith)
     by false h e = further (h (grind (arith, nat_tests)))
       where
@@ -64,8 +64,10 @@ exact_is_look table atom i d found = by (ltb n (length table)) refl found
   where
     test : Entry → Bool
     test entry = equals entry.text atom
+
     n : ℕ
     n = position_or_len test table
+
     by : (b : Bool) → ltb n (length table) ≡ b → Some i ≡ cond b (Some n) None → exact i (get_or table i d).flag ≡ by_equal (passing test 0 table) (under table atom)
     by false e f = cc
     by true e f =
@@ -81,8 +83,10 @@ abbreviated_is_look table atom missing = by (ltb n (length table)) refl missing
   where
     test : Entry → Bool
     test entry = equals entry.text atom
+
     n : ℕ
     n = position_or_len test table
+
     by : (b : Bool) → ltb n (length table) ≡ b → None ≡ cond b (Some n) None → abbreviated (under table atom) ≡ by_equal (passing test 0 table) (under table atom)
     by false e f = rw (passing-nil test 0 table e) refl
     by true e f = cc

@@ -7,8 +7,8 @@ use crate::{Entry, Flag, TableFault};
 use cm_text::begins_with;
 use std::cmp::Ordering;
 
-/// The most entries that a table may have.
-pub(crate) const MOST_ENTRIES: usize = 1024;
+// The most entries that a table may have.
+const MOST_ENTRIES: usize = 1024;
 
 fn is_keyword_byte(byte: u8) -> bool
     ensures { result ≡ is_keyword_byte byte }

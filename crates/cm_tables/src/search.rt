@@ -10,7 +10,9 @@ use cm_text::{begins_with, equals};
 fn position_of(entries: &[Entry], atom: &[u8]) -> Option<usize>
     ensures { result ≡ position (λ entry. equals entry.text atom.now) entries.now }
 {
-    entries.iter().position(|entry| equals(entry.text.as_bytes(), atom))
+    entries
+        .iter()
+        .position(|entry| equals(entry.text.as_bytes(), atom))
 }
 
 // What an entry at a position gives for its own text.

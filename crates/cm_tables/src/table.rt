@@ -4,12 +4,12 @@ ghost use Rattle.cm_tables.specs.Look.{look};
 ghost use Rattle.cm_tables.specs.Order.{table_fault};
 
 use crate::fault::table_fault;
-use crate::{search, Entry};
+use crate::{Entry, search};
 use std::marker::Model;
 use thiserror::Error;
 
 /// Why a list of entries is no table. The number is the position of the entry at fault, from 0.
-#[derive(Debug, Drop, Error)]
+#[derive(Debug, PartialEq, Eq, Drop, Error)]
 pub enum TableFault {
     /// There are more than 1,024 entries.
     #[error("TooMany")]
@@ -94,3 +94,6 @@ impl Table {
         search::look(&self.entries, atom)
     }
 }
+
+#[cfg(test)]
+mod tests;

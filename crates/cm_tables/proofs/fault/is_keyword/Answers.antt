@@ -9,5 +9,5 @@ use Rattle.cm_tables.proofs.fault.is_keyword.Goals as goal
 pub returns-then-not-is_empty : goal.returns-then-not-is_empty
 returns-then-not-is_empty c =
     let tested : c.all.result ≡ list_all is_keyword_byte c.args.text.now =
-        all_from_yields_List is_keyword_byte _ _ _ c.all.ensures.ran (YieldsList-from_slice c.args.text.now cc) (λ x b q k. search (rules, tests)) in
+    all_from_yields_List is_keyword_byte _ _ _ c.all.ensures.ran (YieldsList-from_slice c.args.text.now cc) (λ x b q k. search (rules, tests)) in
     grind (arith, nat_tests)
