@@ -1,4 +1,6 @@
 // The entries of a keyword table.
+ghost use Rattle.std.specs.Prelude.{◌≡◌};
+
 use cm_text::Name;
 
 /// How an entry takes part in the look-up (TBLUK).
@@ -12,6 +14,17 @@ pub enum Flag {
     NoRecognise,
     /// It stands for the entry at this position.
     Short(u16),
+}
+
+impl Flag {
+    ghost use Rattle.cm_tables.specs.Look.{is_recognised};
+
+    // Whether an abbreviation may stand for such an entry.
+    pub(crate) fn is_recognised(self) -> bool
+        ensures { result ≡ is_recognised self }
+    {
+        matches!(self, Flag::Plain | Flag::Invisible)
+    }
 }
 
 /// A keyword, and what it stands for.

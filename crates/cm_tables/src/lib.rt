@@ -2,6 +2,8 @@
 #![tactic(auto)]
 
 mod entry;
+mod fault;
+mod search;
 mod table;
 
 pub use entry::{Entry, Flag};

@@ -3,12 +3,13 @@ ghost use Rattle.std.specs.Prelude.{◌≡◌, ◌<◌, ◌≤◌, List, length,
 ghost use Rattle.cm_tables.specs.Look.{look};
 ghost use Rattle.cm_tables.specs.Order.{table_fault};
 
-use crate::Entry;
+use crate::fault::table_fault;
+use crate::{Entry, search};
 use std::marker::Model;
 use thiserror::Error;
 
 /// Why a list of entries is no table. The number is the position of the entry at fault, from 0.
-#[derive(Debug, Drop, Error)]
+#[derive(Debug, PartialEq, Eq, Drop, Error)]
 pub enum TableFault {
     /// There are more than 1,024 entries.
     #[error("TooMany")]
@@ -64,7 +65,10 @@ impl Table {
         ensures { MatchResult result (λ table. (table_fault entries.items ≡ None) × (table ≡ entries.items))
             (λ fault. table_fault entries.items ≡ Some fault) }
     {
-        Ok(Table { entries })
+        match table_fault(&entries) {
+            Some(fault) => Err(fault),
+            None => Ok(Table { entries }),
+        }
     }
 
     /// The entry at a position.
@@ -87,6 +91,9 @@ impl Table {
     pub fn look(&self, atom: &[u8]) -> Look
         ensures { result ≡ look self.now atom.now }
     {
-        Look::None
+        search::look(&self.entries, atom)
     }
 }
+
+#[cfg(test)]
+mod tests;

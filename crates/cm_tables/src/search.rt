@@ -1,0 +1,63 @@
+// The look-up of an atom in the entries of a table.
+ghost use Rattle.std.specs.Prelude.{◌≡◌, ◌≤◌, ◌&&◌, length, position};
+ghost use Rattle.cm_text.specs.Case.{begins_with, equals};
+ghost use Rattle.cm_tables.specs.Look.{abbreviated, exact, is_recognised, look, under};
+
+use crate::{Entry, Flag, Look};
+use cm_text::{begins_with, equals};
+
+// The position of the first entry whose text is the atom.
+fn position_of(entries: &[Entry], atom: &[u8]) -> Option<usize>
+    ensures { result ≡ position (λ entry. equals entry.text atom.now) entries.now }
+{
+    entries
+        .iter()
+        .position(|entry| equals(entry.text.as_bytes(), atom))
+}
+
+// What an entry at a position gives for its own text.
+fn exact(position: u16, flag: Flag) -> Look
+    ensures { result ≡ exact position flag }
+{
+    match flag {
+        Flag::Plain | Flag::Invisible => Look::Exact(position),
+        Flag::NoRecognise => Look::Ambiguous,
+        Flag::Short(target) => Look::Exact(target),
+    }
+}
+
+// Whether the atom may abbreviate an entry.
+fn may_abbreviate(atom: &[u8], entry: &Entry) -> bool
+    ensures { result ≡ (is_recognised entry.now.flag && begins_with entry.now.text atom.now) }
+{
+    entry.flag.is_recognised() && begins_with(entry.text.as_bytes(), atom)
+}
+
+// What the entries give that the atom may abbreviate.
+fn abbreviated(entries: &[Entry], atom: &[u8]) -> Look
+    requires { length entries.now ≤ 1024 }
+    ensures { result ≡ abbreviated (under entries.now atom.now) }
+{
+    let mut found = None;
+    for (position, entry) in entries.iter().enumerate() {
+        if may_abbreviate(atom, entry) {
+            if found.is_some() {
+                return Look::Ambiguous;
+            }
+            found = Some(position as u16);
+        }
+    }
+    found.map_or(Look::None, Look::Abbrev)
+}
+
+/// What the entries give for an atom.
+#[tactic(auto, unfolding(crate::specs::Look::look))]
+pub(crate) fn look(entries: &[Entry], atom: &[u8]) -> Look
+    requires { length entries.now ≤ 1024 }
+    ensures { result ≡ look entries.now atom.now }
+{
+    match position_of(entries, atom) {
+        Some(position) => exact(position as u16, entries[position].flag),
+        None => abbreviated(entries, atom),
+    }
+}
