@@ -1,10 +1,10 @@
 // The line that is edited.
 ghost use Rattle.std.specs.Prelude.{◌≡◌, ◌+◌, ◌-◌, ◌<◌, ◌≤◌, ◌↔◌, ℕ, true, List, [], ◌∷◌, ◌++◌, length, take, IsTrue, IfSome, IfNone};
 ghost use Rattle.std.specs.Bool.{OnTrue, OnFalse};
-ghost use Rattle.std.specs.List.{AllByRecursion};
-ghost use Rattle.cm_text.specs.Bytes.{is_text};
+ghost use Rattle.std.specs.List.{AllByRecursion, suffix_len};
+ghost use Rattle.cm_text.specs.Bytes.{is_blank, is_text, is_word};
 ghost use Rattle.cm_text.specs.Text.{IsLine};
-ghost use Rattle.cm_line.specs.Word.{word_start};
+ghost use Rattle.cm_line.specs.Word.{unblanked, without_word, word_start};
 
 use arrayvec::ArrayVec;
 use std::marker::Model;
@@ -70,11 +70,12 @@ impl Line {
 
     /// The length that one control-W leaves: without the blanks at the end, and then without the run of
     /// word bytes at the end, or without one other byte where there is no such run.
+    #[tactic(auto, unfolding(crate::specs::Word::word_start))]
     pub fn word_start(&self) -> usize
         ensures value { result ≡ word_start self.now }
         ensures within { result ≤ length self.now }
     {
-        0
+        without_word(without_blanks(&self.bytes))
     }
 
     /// Appends text bytes. False where they do not fit into 255 bytes; the line then stays as it was.
@@ -86,4 +87,37 @@ impl Line {
     {
         self.bytes.try_extend_from_slice(bytes).is_ok()
     }
+}
+
+/// The line without the blanks at its end.
+fn without_blanks(line: &[u8]) -> &[u8]
+    ensures { result.now ≡ take (unblanked line.now) line.now }
+{
+    &line[..line.len() - blanks_at_end(line)]
+}
+
+/// The length of the line without the word at its end, or without one byte where no word ends it.
+fn without_word(line: &[u8]) -> usize
+    ensures { result ≡ without_word line.now }
+{
+    match word_at_end(line) {
+        0 => line.len().saturating_sub(1),
+        word => line.len() - word,
+    }
+}
+
+/// How many blanks end the line.
+fn blanks_at_end(line: &[u8]) -> usize
+    ensures value { result ≡ suffix_len is_blank line.now }
+    ensures within { result ≤ length line.now }
+{
+    line.iter().rev().take_while(|byte| cm_text::is_blank(**byte)).count()
+}
+
+/// How many word bytes end the line.
+fn word_at_end(line: &[u8]) -> usize
+    ensures value { result ≡ suffix_len is_word line.now }
+    ensures within { result ≤ length line.now }
+{
+    line.iter().rev().take_while(|byte| cm_text::is_word(**byte)).count()
 }
