@@ -89,6 +89,12 @@ impl Line {
     }
 }
 
+/// Control-W takes at least one byte from a line that is not empty, and what it keeps begins the line.
+pub fn a_word_is_taken()
+    ensures { (line : List ℕ) → 0 < length line → word_start line < length line }
+{
+}
+
 /// The line without the blanks at its end.
 fn without_blanks(line: &[u8]) -> &[u8]
     ensures { result.now ≡ take (unblanked line.now) line.now }
@@ -120,4 +126,38 @@ fn word_at_end(line: &[u8]) -> usize
     ensures within { result ≤ length line.now }
 {
     line.iter().rev().take_while(|byte| cm_text::is_word(**byte)).count()
+}
+
+#[cfg(test)]
+mod tests {
+    use super::*;
+    use std::process::Abort;
+
+    fn line_of(rt: &impl Abort, text: &[u8]) -> Line {
+        let mut line = Line::new();
+        for byte in text {
+            assert!(rt; cm_text::is_text(*byte), "{byte} is no text byte");
+            assert!(rt; line.push(*byte), "the line is full");
+        }
+        line
+    }
+
+    #[test]
+    fn control_w_takes_words(rt: HostRuntime) {
+        for (text, lengths) in [
+            (b"A.B-C  ".as_slice(), [2, 1, 0, 0].as_slice()),
+            (b"AB CD", &[3, 0]),
+            (b"AB \t", &[0]),
+            (b" \t  ", &[0]),
+            (b"", &[0]),
+        ] {
+            let mut line = line_of(&rt, text);
+            for length in lengths {
+                let start = line.word_start();
+                assert_eq!(rt; start, *length, "in {text:?}");
+                line.cut(start);
+                assert_eq!(rt; line.bytes(), &text[..start]);
+            }
+        }
+    }
 }
