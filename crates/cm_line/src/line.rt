@@ -92,8 +92,7 @@ impl Line {
 /// Control-W takes at least one byte from a line that is not empty, and what it keeps begins the line.
 pub fn a_word_is_taken()
     ensures { (line : List ℕ) → 0 < length line → word_start line < length line }
-{
-}
+{}
 
 /// The line without the blanks at its end.
 fn without_blanks(line: &[u8]) -> &[u8]
@@ -117,7 +116,10 @@ fn blanks_at_end(line: &[u8]) -> usize
     ensures value { result ≡ suffix_len is_blank line.now }
     ensures within { result ≤ length line.now }
 {
-    line.iter().rev().take_while(|byte| cm_text::is_blank(**byte)).count()
+    line.iter()
+        .rev()
+        .take_while(|byte| cm_text::is_blank(**byte))
+        .count()
 }
 
 /// How many word bytes end the line.
@@ -125,7 +127,10 @@ fn word_at_end(line: &[u8]) -> usize
     ensures value { result ≡ suffix_len is_word line.now }
     ensures within { result ≤ length line.now }
 {
-    line.iter().rev().take_while(|byte| cm_text::is_word(**byte)).count()
+    line.iter()
+        .rev()
+        .take_while(|byte| cm_text::is_word(**byte))
+        .count()
 }
 
 #[cfg(test)]
@@ -143,11 +148,12 @@ mod tests {
     }
 
     #[test]
-    fn control_w_takes_words(rt: HostRuntime) {
+    fn control_w_takes_a_word(rt: HostRuntime) {
         for (text, lengths) in [
             (b"A.B-C  ".as_slice(), [2, 1, 0, 0].as_slice()),
             (b"AB CD", &[3, 0]),
             (b"AB \t", &[0]),
+            (b"AB.>9", &[4, 3, 2, 0]),
             (b" \t  ", &[0]),
             (b"", &[0]),
         ] {
@@ -156,8 +162,38 @@ mod tests {
                 let start = line.word_start();
                 assert_eq!(rt; start, *length, "in {text:?}");
                 line.cut(start);
-                assert_eq!(rt; line.bytes(), &text[..start]);
+                assert!(rt; text.starts_with(line.bytes()), "in {text:?}");
             }
         }
+    }
+
+    #[test]
+    fn a_full_line_takes_no_more(rt: HostRuntime) {
+        let text = [b'A'; 255];
+        let mut line = line_of(&rt, &text);
+        assert!(rt; cm_text::is_text(b'B'));
+        assert!(rt; !line.push(b'B'));
+        assert_eq!(rt; line.bytes(), text.as_slice());
+
+        line.cut(253);
+        assert!(rt; !line.append(line_of(&rt, b"BCD").bytes()));
+        assert_eq!(rt; line.bytes(), &text[..253]);
+        assert!(rt; line.append(line_of(&rt, b"BC").bytes()));
+        assert!(rt; !line.append(line_of(&rt, b"D").bytes()));
+        assert!(rt; line.append(Line::new().bytes()));
+        assert_eq!(rt; line.bytes().len(), 255);
+        assert_eq!(rt; line.pop(), Some(b'C'));
+        assert_eq!(rt; line.pop(), Some(b'B'));
+        assert_eq!(rt; line.bytes(), &text[..253]);
+    }
+
+    #[test]
+    fn an_empty_line_gives_nothing(rt: HostRuntime) {
+        let mut line = line_of(&rt, b"AB");
+        assert_eq!(rt; line.bytes(), b"AB".as_slice());
+        line.cut(1);
+        assert_eq!(rt; line.pop(), Some(b'A'));
+        assert_eq!(rt; line.pop(), None);
+        assert_eq!(rt; line.bytes().len(), 0);
     }
 }
