@@ -89,7 +89,8 @@ impl Line {
     }
 }
 
-/// Control-W takes at least one byte from a line that is not empty, and what it keeps begins the line.
+/// Control-W takes at least one byte from a line that is not empty: the length at which it cuts the line
+/// is below the line's, so that a front of it stays.
 pub fn a_word_is_taken()
     ensures { (line : List ℕ) → 0 < length line → word_start line < length line }
 {}
