@@ -1,5 +1,6 @@
 // The classes of keys.
-ghost use Rattle.std.specs.Prelude.{◌≡◌};
+ghost use Rattle.std.specs.Prelude.{◌≡◌, true};
+ghost use Rattle.cm_text.specs.Bytes.{is_text};
 ghost use Rattle.cm_line.specs.Keys.{class_of};
 
 /// What a key is to the editor of a line.
@@ -35,7 +36,8 @@ impl KeyClass {
     /// The class of a key.
     #[tactic(auto, unfolding(crate::specs::Keys::class_of))]
     pub fn of(key: u8) -> KeyClass
-        ensures { result ≡ class_of key }
+        ensures value { result ≡ class_of key }
+        ensures text { result ≡ KeyClass.Text → is_text key ≡ true }
     {
         match key {
             _ if cm_text::is_text(key) => KeyClass::Text,
@@ -50,6 +52,40 @@ impl KeyClass {
             6 => KeyClass::Part,
             b'?' => KeyClass::Help,
             _ => KeyClass::Other,
+        }
+    }
+}
+
+#[cfg(test)]
+mod tests {
+    use super::*;
+
+    #[test]
+    fn each_key_has_its_class(rt: HostRuntime) {
+        for (key, class) in [
+            (b'\t', KeyClass::Text),
+            (b' ', KeyClass::Text),
+            (b'A', KeyClass::Text),
+            (b'>', KeyClass::Text),
+            (b'@', KeyClass::Text),
+            (b'~', KeyClass::Text),
+            (b'\r', KeyClass::End),
+            (b'\n', KeyClass::End),
+            (127, KeyClass::Rub),
+            (b'W' - 64, KeyClass::Word),
+            (b'U' - 64, KeyClass::Erase),
+            (b'R' - 64, KeyClass::Show),
+            (b'H' - 64, KeyClass::Back),
+            (b'C' - 64, KeyClass::Stop),
+            (b'[' - 64, KeyClass::Escape),
+            (b'F' - 64, KeyClass::Part),
+            (b'?', KeyClass::Help),
+            (0, KeyClass::Other),
+            (31, KeyClass::Other),
+            (128, KeyClass::Other),
+            (255, KeyClass::Other),
+        ] {
+            assert_eq!(rt; KeyClass::of(key), class, "at {key}");
         }
     }
 }

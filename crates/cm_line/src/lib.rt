@@ -5,4 +5,4 @@ mod key;
 mod line;
 
 pub use key::KeyClass;
-pub use line::Line;
+pub use line::{Line, a_word_is_taken};

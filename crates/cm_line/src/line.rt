@@ -1,10 +1,10 @@
 // The line that is edited.
 ghost use Rattle.std.specs.Prelude.{◌≡◌, ◌+◌, ◌-◌, ◌<◌, ◌≤◌, ◌↔◌, ℕ, true, List, [], ◌∷◌, ◌++◌, length, take, IsTrue, IfSome, IfNone};
 ghost use Rattle.std.specs.Bool.{OnTrue, OnFalse};
-ghost use Rattle.std.specs.List.{AllByRecursion};
-ghost use Rattle.cm_text.specs.Bytes.{is_text};
+ghost use Rattle.std.specs.List.{AllByRecursion, suffix_len};
+ghost use Rattle.cm_text.specs.Bytes.{is_blank, is_text, is_word};
 ghost use Rattle.cm_text.specs.Text.{IsLine};
-ghost use Rattle.cm_line.specs.Word.{word_start};
+ghost use Rattle.cm_line.specs.Word.{unblanked, without_word, word_start};
 
 use arrayvec::ArrayVec;
 use std::marker::Model;
@@ -70,11 +70,12 @@ impl Line {
 
     /// The length that one control-W leaves: without the blanks at the end, and then without the run of
     /// word bytes at the end, or without one other byte where there is no such run.
+    #[tactic(auto, unfolding(crate::specs::Word::word_start))]
     pub fn word_start(&self) -> usize
         ensures value { result ≡ word_start self.now }
         ensures within { result ≤ length self.now }
     {
-        0
+        without_word(without_blanks(&self.bytes))
     }
 
     /// Appends text bytes. False where they do not fit into 255 bytes; the line then stays as it was.
@@ -85,5 +86,115 @@ impl Line {
         ensures full { OnFalse result (self.new ≡ self.old) }
     {
         self.bytes.try_extend_from_slice(bytes).is_ok()
+    }
+}
+
+/// Control-W takes at least one byte from a line that is not empty: the length at which it cuts the line
+/// is below the line's, so that a front of it stays.
+pub fn a_word_is_taken()
+    ensures { (line : List ℕ) → 0 < length line → word_start line < length line }
+{}
+
+/// The line without the blanks at its end.
+fn without_blanks(line: &[u8]) -> &[u8]
+    ensures { result.now ≡ take (unblanked line.now) line.now }
+{
+    &line[..line.len() - blanks_at_end(line)]
+}
+
+/// The length of the line without the word at its end, or without one byte where no word ends it.
+fn without_word(line: &[u8]) -> usize
+    ensures { result ≡ without_word line.now }
+{
+    match word_at_end(line) {
+        0 => line.len().saturating_sub(1),
+        word => line.len() - word,
+    }
+}
+
+/// How many blanks end the line.
+fn blanks_at_end(line: &[u8]) -> usize
+    ensures value { result ≡ suffix_len is_blank line.now }
+    ensures within { result ≤ length line.now }
+{
+    line.iter()
+        .rev()
+        .take_while(|byte| cm_text::is_blank(**byte))
+        .count()
+}
+
+/// How many word bytes end the line.
+fn word_at_end(line: &[u8]) -> usize
+    ensures value { result ≡ suffix_len is_word line.now }
+    ensures within { result ≤ length line.now }
+{
+    line.iter()
+        .rev()
+        .take_while(|byte| cm_text::is_word(**byte))
+        .count()
+}
+
+#[cfg(test)]
+mod tests {
+    use super::*;
+    use std::process::Abort;
+
+    fn line_of(rt: &impl Abort, text: &[u8]) -> Line {
+        let mut line = Line::new();
+        for byte in text {
+            assert!(rt; cm_text::is_text(*byte), "{byte} is no text byte");
+            assert!(rt; line.push(*byte), "the line is full");
+        }
+        line
+    }
+
+    #[test]
+    fn control_w_takes_a_word(rt: HostRuntime) {
+        for (text, lengths) in [
+            (b"A.B-C  ".as_slice(), [2, 1, 0, 0].as_slice()),
+            (b"AB CD", &[3, 0]),
+            (b"AB \t", &[0]),
+            (b"AB.>9", &[4, 3, 2, 0]),
+            (b" \t  ", &[0]),
+            (b"", &[0]),
+        ] {
+            let mut line = line_of(&rt, text);
+            for length in lengths {
+                let start = line.word_start();
+                assert_eq!(rt; start, *length, "in {text:?}");
+                line.cut(start);
+                assert!(rt; text.starts_with(line.bytes()), "in {text:?}");
+            }
+        }
+    }
+
+    #[test]
+    fn a_full_line_takes_no_more(rt: HostRuntime) {
+        let text = [b'A'; 255];
+        let mut line = line_of(&rt, &text);
+        assert!(rt; cm_text::is_text(b'B'));
+        assert!(rt; !line.push(b'B'));
+        assert_eq!(rt; line.bytes(), text.as_slice());
+
+        line.cut(253);
+        assert!(rt; !line.append(line_of(&rt, b"BCD").bytes()));
+        assert_eq!(rt; line.bytes(), &text[..253]);
+        assert!(rt; line.append(line_of(&rt, b"BC").bytes()));
+        assert!(rt; !line.append(line_of(&rt, b"D").bytes()));
+        assert!(rt; line.append(Line::new().bytes()));
+        assert_eq!(rt; line.bytes().len(), 255);
+        assert_eq!(rt; line.pop(), Some(b'C'));
+        assert_eq!(rt; line.pop(), Some(b'B'));
+        assert_eq!(rt; line.bytes(), &text[..253]);
+    }
+
+    #[test]
+    fn an_empty_line_gives_nothing(rt: HostRuntime) {
+        let mut line = line_of(&rt, b"AB");
+        assert_eq!(rt; line.bytes(), b"AB".as_slice());
+        line.cut(1);
+        assert_eq!(rt; line.pop(), Some(b'A'));
+        assert_eq!(rt; line.pop(), None);
+        assert_eq!(rt; line.bytes().len(), 0);
     }
 }

@@ -25,3 +25,47 @@ pub fn is_blank(byte: u8) -> bool
 {
     byte == b' ' || byte == b'\t'
 }
+
+#[cfg(test)]
+mod tests {
+    use super::*;
+
+    #[test]
+    fn each_byte_has_its_classes(rt: HostRuntime) {
+        for (byte, text, word, blank) in [
+            (b'\t', true, false, true),
+            (b' ', true, false, true),
+            (b'!', true, false, false),
+            (b'-', true, true, false),
+            (b'.', true, false, false),
+            (b'/', true, false, false),
+            (b'0', true, true, false),
+            (b'9', true, true, false),
+            (b':', true, false, false),
+            (b'>', true, false, false),
+            (b'?', false, false, false),
+            (b'@', true, false, false),
+            (b'A', true, true, false),
+            (b'Z', true, true, false),
+            (b'[', true, false, false),
+            (b'_', true, false, false),
+            (b'`', true, false, false),
+            (b'a', true, true, false),
+            (b'z', true, true, false),
+            (b'{', true, false, false),
+            (b'~', true, false, false),
+            (0, false, false, false),
+            (8, false, false, false),
+            (b'\n', false, false, false),
+            (b'\r', false, false, false),
+            (31, false, false, false),
+            (127, false, false, false),
+            (128, false, false, false),
+            (255, false, false, false),
+        ] {
+            assert_eq!(rt; is_text(byte), text, "text at {byte}");
+            assert_eq!(rt; is_word(byte), word, "word at {byte}");
+            assert_eq!(rt; is_blank(byte), blank, "blank at {byte}");
+        }
+    }
+}

@@ -33,4 +33,26 @@ impl Name {
     {
         self.text.as_str().as_bytes()
     }
+
+    /// The name as a text.
+    pub fn as_str(&self) -> &str
+        ensures { result.now ≡ self.now }
+    {
+        self.text.as_str()
+    }
+}
+
+#[cfg(test)]
+mod tests {
+    use super::*;
+
+    #[test]
+    fn a_name_is_its_text(rt: HostRuntime) {
+        for text in ["", "EXIT", "A-NAME-OF-THIRTY-NINE-BYTES-IN-LENGTH-1"] {
+            assert!(rt; text.len() <= 39, "{text} is too long");
+            let name = Name::new(text);
+            assert_eq!(rt; name.as_str(), text);
+            assert_eq!(rt; name.as_bytes(), text.as_bytes());
+        }
+    }
 }
