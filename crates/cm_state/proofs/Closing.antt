@@ -1,5 +1,5 @@
 -- The parse of a finished text is never open.
-use Rattle.std.proofs.Common.{◌≡◌, ℕ, ◌+◌, ◌-◌, ◌<◌, ◌≤◌, Bool, true, false, ◌==◌, List, [], ◌∷◌, ◌++◌, length, take, drop, refl, sym, ap, subst, arith, length-drop, length-append, if◌then◌else◌}
+use Rattle.std.proofs.Common.{◌≡◌, ℕ, ◌+◌, ◌<◌, ◌≤◌, Bool, true, false, ◌==◌, List, [], ◌∷◌, ◌++◌, length, take, drop, refl, subst, arith, length-drop, length-append, if◌then◌else◌}
 use Rattle.std.specs.List.{prefix_len}
 use Rattle.std.proofs.lemmas.Bool.Decides.{nat_tests}
 use Rattle.std.proofs.lemmas.List.{drop-append-le}
@@ -18,8 +18,8 @@ use Rattle.cm_state.specs.declared.chain.Chain.TheVariants.{Takes, Ends}
 use Rattle.cm_state.specs.declared.chain.Place.{Place}
 use Rattle.cm_state.specs.declared.chain.Try.{Try}
 use Rattle.cm_state.specs.declared.chain.Try.TheVariants.{Decides, Refuses}
-use Rattle.cm_state.specs.Chain.{Advances, Block, Confirm, Key, blocks, by_look, chain_at, confirm, decided, first_of, key, or_next, skip, try_block}
-use Rattle.cm_state.specs.Parse.{IsClosed, IsParse, Parses}
+use Rattle.cm_state.specs.Chain.{Advances, Block, Confirm, Key, blocks, by_look, chain_at, confirm, decided, first_of, or_next, skip, try_block}
+use Rattle.cm_state.specs.Parse.{IsClosed, Parses}
 use Rattle.cm_state.proofs.Parsing.{chain_advances}
 
 -- a run of bytes that has no CR ends before the CR

@@ -1,5 +1,5 @@
 -- What a key makes of a session, from its parse.
-use Rattle.std.proofs.Common.{◌≡◌, ℕ, List, None, ap, if◌then◌else◌, false}
+use Rattle.std.proofs.Common.{◌≡◌, ℕ, None, ap, if◌then◌else◌, false}
 use Rattle.cm_text.specs.Text.{finished}
 use Rattle.cm_line.specs.declared.key.KeyClass.{KeyClass}
 use Rattle.cm_line.specs.Keys.{class_of}

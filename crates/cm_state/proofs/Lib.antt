@@ -1,3 +1,4 @@
-pub mod Editing
 pub mod Closing
+pub mod Editing
+pub mod Logging
 pub mod Parsing

@@ -1,5 +1,5 @@
 -- What the chain of a node makes of a text from a place on: a field, or how the parse ends (COMND's function blocks).
-use Rattle.std.specs.Prelude.{ℕ, ◌+◌, ◌<◌, ◌==◌, if◌then◌else◌, List, [], ◌∷◌, length, take, drop, Option, Some, None, slice_get}
+use Rattle.std.specs.Prelude.{ℕ, ◌+◌, ◌<◌, ◌==◌, if◌then◌else◌, List, [], ◌∷◌, length, take, drop, Some, slice_get}
 use Rattle.std.specs.Option.{option_map_or}
 use Rattle.std.specs.List.{prefix_len}
 use Rattle.cm_text.specs.Bytes.{is_blank, is_word}
@@ -8,10 +8,7 @@ use Rattle.cm_tables.specs.declared.table.Look.{Look}
 use Rattle.cm_tables.specs.declared.table.Look.TheVariants as looks
 use Rattle.cm_tables.specs.Look.{look}
 use Rattle.cm_state.specs.declared.verbs.Verbs.{Verbs}
-use Rattle.cm_state.specs.declared.code.Code.{Code}
 use Rattle.cm_state.specs.declared.code.Code.TheVariants.{NotKeyword, Ambiguous, NotConfirmed}
-use Rattle.cm_state.specs.declared.field.Field.{Field}
-use Rattle.cm_state.specs.declared.field.Ending.{Ending}
 use Rattle.cm_state.specs.declared.field.Ending.TheVariants as ending
 use Rattle.cm_state.specs.declared.chain.Chain.{Chain}
 use Rattle.cm_state.specs.declared.chain.Chain.TheVariants.{Takes, Ends}

@@ -3,7 +3,7 @@ use Rattle.std.specs.Prelude.{ℕ, ◌-◌, ◌==◌, Bool, List, [], ◌∷◌,
 use Rattle.cm_text.specs.Shown.{bell, control_c, end_of_line, question, rubout}
 use Rattle.cm_io.specs.Pieces.{times}
 use Rattle.cm_line.specs.declared.key.KeyClass.{KeyClass}
-use Rattle.cm_line.specs.declared.key.KeyClass.TheVariants.{Text, End, Rub, Word, Erase, Show, Back, Stop, Escape, Part, Help, Other}
+use Rattle.cm_line.specs.declared.key.KeyClass.TheVariants.{Text, End, Rub, Word, Erase, Show, Back, Stop}
 use Rattle.cm_line.specs.Keys.{class_of}
 use Rattle.cm_state.specs.declared.verbs.Verbs.{Verbs}
 use Rattle.cm_state.specs.declared.field.Ending.{Ending}

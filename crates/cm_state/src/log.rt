@@ -105,6 +105,7 @@ fn put_field<S: Sink>(field: &Field, sink: &mut S) -> Put
 }
 
 // Each field.
+#[tactic(auto, using(crate::proofs::Logging::add_no_fields, crate::proofs::Logging::add_fields_more, crate::proofs::Logging::fields_late))]
 pub fn put_fields<S: Sink>(fields: &[Field], sink: &mut S) -> Put
     ensures bytes { Adds (S.told sink.old) (S.told sink.new) (fields_log fields.now) result }
     ensures later { S.faults sink.old ≤ S.faults sink.new }

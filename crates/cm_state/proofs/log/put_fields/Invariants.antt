@@ -1,4 +1,4 @@
-use Rattle.std.proofs.Common.{◌≡◌, ◌≤◌, take}
+use Rattle.std.proofs.Common.{◌≡◌, take}
 use Rattle.cm_io.specs.Told.{add}
 use Rattle.cm_state.specs.Log.{fields_log}
 use Rattle.cm_state.proofs.log.put_fields.Given as goal

@@ -1,4 +1,4 @@
-use Rattle.std.proofs.Common.{◌≡◌, ◌-◌, ◌≤◌, List, ◌++◌, length}
+use Rattle.std.proofs.Common.{◌-◌, ◌≤◌, List, ◌++◌, length}
 use Rattle.cm_state.specs.declared.field.Field.{Field}
 use Rattle.cm_state.specs.declared.field.Ending.{Ending}
 use Rattle.cm_state.specs.Parse.{Parses}

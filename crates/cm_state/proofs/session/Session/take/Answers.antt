@@ -1,5 +1,3 @@
-use Rattle.std.proofs.Common.{◌≡◌}
-use Rattle.cm_state.specs.Edit.{edited}
 use Rattle.cm_state.proofs.Editing.{edited_is}
 use Rattle.cm_state.proofs.session.Session.take.Goals as goal
 
