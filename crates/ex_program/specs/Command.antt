@@ -1,0 +1,22 @@
+-- What a confirmed line commands, and the reply to it.
+use Rattle.std.specs.Prelude.{ℕ, ◌==◌, Bool, true, false, List, [], ◌∷◌, ◌++◌, codes, if◌then◌else◌}
+use Rattle.cm_text.specs.Shown.{end_of_line}
+use Rattle.cm_state.specs.declared.field.Field.{Field}
+use Rattle.ex_program.specs.declared.command.Command.{Command}
+use Rattle.ex_program.specs.declared.command.Command.TheVariants.{Empty, Version, Logout}
+
+-- the code of the first keyword names the command: 10 is LOGOUT, and else it is INFORMATION, of which VERSION is all there is
+abbrev pub command_of : List Field → Command
+command_of [] = Empty
+command_of (verb ∷ fields) = if verb.code == 10 then Logout else Version
+
+unfoldable pub version : List ℕ
+version = codes " EXEC20 1"
+
+unfoldable pub farewell : List ℕ
+farewell = codes "Logged out"
+
+abbrev pub reply : Command → List ℕ
+reply Empty = []
+reply Version = version ++ end_of_line
+reply Logout = farewell ++ end_of_line

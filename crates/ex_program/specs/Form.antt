@@ -1,0 +1,35 @@
+-- What the words of the program ask for.
+use Rattle.std.specs.Prelude.{ℕ, Bool, true, false, not, ◌&&◌, ◌==◌, List, [], ◌∷◌, ◌++◌, length, Option, Some, None, nat_lt, nat_le, codes, if◌then◌else◌}
+use Rattle.std.specs.Str.{bytes_eq}
+
+-- the words so far, or None where they are too many or one is too long
+abbrev pub Held : Type 0
+Held = Option (List (List ℕ))
+
+-- a word more: at most 4 are held, each of at most 255 bytes
+abbrev pub with_word : Held → List ℕ → Held
+with_word None word = None
+with_word (Some words) word =
+    if nat_lt (length words) 4 && nat_le (length word) 255 then Some (words ++ word ∷ []) else None
+
+-- whether there is a log, and the file that the image is written to
+pub record Form : Type 0 where
+  pub logs : Bool
+  pub out : List ℕ
+
+-- a file's name is not empty, and begins with no hyphen
+abbrev pub is_name : List ℕ → Bool
+is_name [] = false
+is_name (byte ∷ bytes) = not (byte == 45)
+
+-- `-n OUT`, and `-w` before it
+abbrev pub form_of_words : List (List ℕ) → Option Form
+form_of_words (new ∷ out ∷ []) =
+    if bytes_eq new (codes "-n") && is_name out then Some (record { logs = false; out = out }) else None
+form_of_words (log ∷ new ∷ out ∷ []) =
+    if bytes_eq log (codes "-w") && bytes_eq new (codes "-n") && is_name out then Some (record { logs = true; out = out }) else None
+form_of_words words = None
+
+unfoldable pub form_of : Held → Option Form
+form_of None = None
+form_of (Some words) = form_of_words words

@@ -1,0 +1,24 @@
+-- The image that is written: the directory OPERATOR, connected, and no file.
+use Rattle.std.specs.Prelude.{◌≡◌, ◌⊎◌, ℕ, List, [], ◌∷◌, ◌++◌, Option, Some, None, codes}
+use Rattle.cm_io.specs.Told.{IsPart}
+use Rattle.ex_program.specs.declared.status.Status.{Status}
+use Rattle.ex_program.specs.declared.status.Status.TheVariants as status
+
+-- a record of the image: a line ended by a line feed
+abbrev pub image_line : List ℕ → List ℕ
+image_line text = text ++ 10 ∷ []
+
+unfoldable pub image : List ℕ
+image =
+    image_line (codes "EXEC20 1") ++ image_line (codes "D OPERATOR 1") ++ image_line (codes "C OPERATOR") ++ image_line (codes "E")
+
+-- a file is absent, as before, or holds a front of the image
+abbrev pub HoldsPart : Option (List ℕ) → Option (List ℕ) → Type 0
+HoldsPart before now = (now ≡ None) ⊎ (now ≡ before) ⊎ ((part : List ℕ) × IsPart part image × (now ≡ Some part))
+
+-- what a run leaves of the file that the image is written to
+abbrev pub Saves : Option (List ℕ) → Option (List ℕ) → Status → Type 0
+Saves before now status.HostFault = HoldsPart before now
+Saves before now status.Usage = now ≡ before
+Saves before now status.NoMemory = now ≡ before
+Saves before now result = now ≡ Some image
