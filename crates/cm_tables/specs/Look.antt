@@ -1,5 +1,5 @@
 -- The look-up of an atom in a keyword table (TBLUK), as filters of the whole table.
-use Rattle.std.specs.Prelude.{ℕ, Bool, true, false, ◌&&◌, List, [], ◌∷◌, filter}
+use Rattle.std.specs.Prelude.{ℕ, ◌<◌, Bool, true, false, ◌&&◌, List, [], ◌∷◌, filter}
 use Rattle.std.specs.List.{enumerate_from}
 use Rattle.cm_text.specs.Case.{equals, begins_with}
 use Rattle.cm_tables.specs.declared.entry.Entry.{Entry}
@@ -44,3 +44,10 @@ by_equal (e ∷ more) abbreviations = exact e.0 e.1.flag
 
 unfoldable pub look : List Entry → List ℕ → Look
 look table atom = by_equal (equal_to table atom) (under table atom)
+
+-- a position that the look-up gives is below the number of entries
+abbrev pub IsWithin : Look → ℕ → Type 0
+IsWithin looks.None count = Unit {0}
+IsWithin looks.Ambiguous count = Unit {0}
+IsWithin (looks.Abbrev position) count = position < count
+IsWithin (looks.Exact position) count = position < count

@@ -1,6 +1,6 @@
 // Keyword tables.
 ghost use Rattle.std.specs.Prelude.{◌≡◌, ◌<◌, ◌≤◌, List, length, Some, None, MatchResult, slice_get, vec_len};
-ghost use Rattle.cm_tables.specs.Look.{look};
+ghost use Rattle.cm_tables.specs.Look.{IsWithin, look};
 ghost use Rattle.cm_tables.specs.Order.{table_fault};
 
 use crate::fault::table_fault;
@@ -48,14 +48,15 @@ pub struct Table {
 }
 
 impl Model for Table {
-    ghost use Rattle.std.specs.Prelude.{◌≤◌, List, vec_len};
+    ghost use Rattle.std.specs.Prelude.{◌≡◌, ◌≤◌, List, None, vec_len};
     ghost use Rattle.cm_tables.specs.declared.entry.Entry.{Entry};
+    ghost use Rattle.cm_tables.specs.Order.{table_fault};
 
     ghost Value = { List Entry };
 
     ghost view = { λ table. table.entries.items };
 
-    ghost invariant = { λ table. vec_len table.entries ≤ 1024 };
+    ghost invariant = { λ table. (vec_len table.entries ≤ 1024) × (table_fault table.entries.items ≡ None) };
 }
 
 impl Table {
@@ -89,7 +90,9 @@ impl Table {
 
     /// What the table has for an atom.
     pub fn look(&self, atom: &[u8]) -> Look
-        ensures { result ≡ look self.now atom.now }
+        ensures value { result ≡ look self.now atom.now }
+        // A position that it gives is one of the table.
+        ensures within { IsWithin result (length self.now) }
     {
         search::look(&self.entries, atom)
     }
