@@ -1,2 +1,4 @@
 pub mod Parts
 pub mod Steps
+pub mod Folds
+pub mod Running

@@ -23,6 +23,10 @@ pub record Scene : Type 0 where
   pub keys : List ℕ
   pub moments : List ℕ
 
+abbrev pub scene : Told → ℕ → Told → List ℕ → List ℕ → Scene
+scene screen screen_faults log keys moments =
+    record { screen = screen; screen_faults = screen_faults; log = log; keys = keys; moments = moments }
+
 -- LOGOUT has acted in these keys
 abbrev pub has_ended : Scene → List ℕ → Bool
 has_ended scene taken = (after (starting scene.moments) taken).ended
@@ -131,6 +135,9 @@ pub record Counts : Type 0 where
   pub screen : ℕ
   pub log : ℕ
   pub keys : ℕ
+
+abbrev pub counts : ℕ → ℕ → ℕ → Counts
+counts screen log keys = record { screen = screen; log = log; keys = keys }
 
 -- each count rose where its object failed, and else stayed
 abbrev pub Causes : Counts → Counts → Stop → Type 0
