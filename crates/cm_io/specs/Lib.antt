@@ -3,3 +3,4 @@ pub mod Fault
 pub mod Source
 pub mod Clock
 pub mod Host
+pub mod Pieces

@@ -3,10 +3,12 @@
 
 mod clock;
 mod host;
+mod pieces;
 mod sink;
 mod source;
 
 pub use clock::Clock;
 pub use host::Host;
+pub use pieces::{put_decimal, put_hex, put_times};
 pub use sink::{Put, Sink};
 pub use source::{Got, Source};

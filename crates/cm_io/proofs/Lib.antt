@@ -1,0 +1,3 @@
+pub mod Adding
+mod Digits
+pub mod Repeating
