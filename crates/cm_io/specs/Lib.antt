@@ -4,3 +4,4 @@ pub mod Source
 pub mod Clock
 pub mod Host
 pub mod Pieces
+pub mod Memory

@@ -2,13 +2,22 @@
 #![tactic(auto)]
 
 mod clock;
+mod count_sink;
+mod fault;
 mod host;
+mod mem_clock;
+mod mem_source;
+mod no_memory;
 mod pieces;
 mod sink;
 mod source;
 
 pub use clock::Clock;
+pub use count_sink::CountSink;
 pub use host::Host;
+pub use mem_clock::MemClock;
+pub use mem_source::MemSource;
+pub use no_memory::NoMemory;
 pub use pieces::{put_decimal, put_hex, put_times};
 pub use sink::{Put, Sink};
 pub use source::{Got, Source};
