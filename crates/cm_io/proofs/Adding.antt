@@ -1,6 +1,6 @@
 -- Bytes put one piece after another, and counts of faults that rise.
-use Rattle.std.proofs.Common.{◌≡◌, ℕ, ◌+◌, ◌-◌, ◌^◌, ◌≤◌, min, max, List, [], ◌++◌, length, refl, ap, sym, ◌∙◌, arith, append_assoc, length-append}
-use Rattle.std.proofs.lemmas.List.{append-nil}
+use Rattle.std.proofs.Common.{◌≡◌, ℕ, ◌+◌, ◌-◌, ◌^◌, ◌≤◌, min, max, List, [], ◌++◌, length, take, drop, refl, ap, sym, ◌∙◌, arith, append_assoc, length-append}
+use Rattle.std.proofs.lemmas.List.{append-nil, take-append-drop}
 use Rattle.cm_io.specs.Told.{Told, Nothing, Number, Bytes, add, AddsPart}
 use Rattle.cm_io.specs.Fault.{Rose}
 
@@ -57,3 +57,12 @@ rose_early before middle now rose later = omega arith
 pub rose_late : (before middle now : ℕ) → before ≤ middle → Rose middle now → Rose before now
 unfolding Rose
 rose_late before middle now later rose = omega arith
+
+-- a front of the bytes is a part of them
+pub adds_front : (given bytes : List ℕ) (n : ℕ) → AddsPart (Bytes given) (Bytes (given ++ take n bytes)) bytes
+unfolding add
+adds_front given bytes n = record {
+  part = take n bytes;
+  is_part = record { rest = drop n bytes; joined = take-append-drop n bytes };
+  added = refl;
+}

@@ -19,3 +19,8 @@ pub record SinkState : Type 0 where
   pub bytes : List ℕ
   pub room : ℕ
   pub faults : ℕ
+
+-- bytes, and the room for them
+pub record Room : Type 0 where
+  pub bytes : List ℕ
+  pub room : ℕ

@@ -1,8 +1,8 @@
 // A source in memory.
 ghost use Rattle.std.specs.Prelude.{◌≡◌, ◌≤◌, ◌↔◌, true, IsTrue, Some, IfOk, option_copied};
-ghost use Rattle.cm_io.specs.Fault.{GotCause};
+
 ghost use Rattle.cm_io.specs.Memory.{next_fail};
-ghost use Rattle.cm_io.specs.Source.{Takes};
+ghost use Rattle.cm_io.specs.Source.{Takes, GotCause};
 
 use std::alloc::Global;
 use std::collections::VecDeque;
