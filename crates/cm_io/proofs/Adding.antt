@@ -66,3 +66,12 @@ adds_front given bytes n = record {
   is_part = record { rest = drop n bytes; joined = take-append-drop n bytes };
   added = refl;
 }
+
+-- to a sink that tells nothing any part may have been added
+pub adds_nothing : (bytes : List ℕ) → AddsPart Nothing Nothing bytes
+unfolding add
+adds_nothing bytes = record {
+  part = [];
+  is_part = record { rest = bytes; joined = refl };
+  added = refl;
+}

@@ -24,3 +24,8 @@ pub record SinkState : Type 0 where
 pub record Room : Type 0 where
   pub bytes : List ℕ
   pub room : ℕ
+
+-- whether a file is open, and the faults
+pub record Opening : Type 0 where
+  pub is_open : Bool
+  pub faults : ℕ
