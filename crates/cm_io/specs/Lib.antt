@@ -5,3 +5,4 @@ pub mod Clock
 pub mod Host
 pub mod Pieces
 pub mod Memory
+pub mod HeldFiles
