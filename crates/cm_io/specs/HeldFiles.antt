@@ -1,5 +1,5 @@
 -- The files of a host in memory.
-use Rattle.std.specs.Prelude.{◌≡◌, ℕ, ◌+◌, ◌-◌, ◌^◌, ◌≤◌, min, Bool, true, false, ◌==◌, List, [], length, unwrap_or, Option, Some, None, if◌then◌else◌}
+use Rattle.std.specs.Prelude.{◌≡◌, ℕ, ◌+◌, ◌-◌, ◌^◌, ◌≤◌, min, Bool, true, false, ◌==◌, List, [], length, unwrap_or, Option, Some, None, IsSome, if◌then◌else◌}
 use Rattle.std.specs.List.{list_any}
 use Rattle.std.specs.Option.{option_or}
 use Rattle.std.specs.Str.{bytes_eq}
@@ -56,7 +56,7 @@ next_call call = min (call + 1) (2 ^ 64 - 1)
 -- the call is not to fail, no other output is there, and the name is not too long
 abbrev pub CanCreate : HostState → List ℕ → Type 0
 CanCreate host name =
-    (is_listed host.fails host.calls ≡ false) × (file_at name host.output host.output_name ≡ host.output) × (length name ≤ 255)
+    (is_listed host.fails host.calls ≡ false) × (IsSome host.output → host.output_name ≡ name) × (length name ≤ 255)
 
 -- the call is not to fail, and the bytes fit
 abbrev pub CanWrite : HostState → List ℕ → Type 0
