@@ -1,9 +1,8 @@
 -- Bytes appended to a file.
-use Rattle.std.proofs.Common.{◌≡◌, ℕ, List, [], ◌++◌, take, drop, refl, ap, sym}
-use Rattle.std.specs.Prelude.{Option, Some, None}
+use Rattle.std.proofs.Common.{ℕ, List, [], ◌++◌, take, drop, refl, ap, sym}
+use Rattle.std.specs.Prelude.{Some}
 use Rattle.std.proofs.lemmas.List.{append-nil, take-append-drop}
 use Rattle.cm_io.specs.Host.{AppendsPart}
-use Rattle.cm_io.specs.Told.{IsPart}
 
 -- a file that stays as it is had none of the bytes appended
 pub appends_nothing : (content bytes : List ℕ) → AppendsPart (Some content) (Some content) bytes

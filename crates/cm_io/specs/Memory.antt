@@ -1,6 +1,5 @@
 -- What the objects in memory hold.
-use Rattle.std.specs.Prelude.{◌≡◌, ◌↔◌, ℕ, ◌+◌, ◌-◌, ◌≤◌, Bool, List, ◌++◌, length, take, Option, Some, None}
-use Rattle.std.specs.Str.{bytes_eq}
+use Rattle.std.specs.Prelude.{ℕ, ◌-◌, Bool, List, Option, Some, None}
 use Rattle.std.specs.Prelude.{if◌then◌else◌, nat_eq}
 
 -- a source: the bytes that are left, the number of gets before the one that fails, and the faults

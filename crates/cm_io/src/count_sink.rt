@@ -3,9 +3,8 @@ ghost use Rattle.std.specs.Prelude.{◌≡◌, ◌≤◌};
 ghost use Rattle.cm_io.specs.Fault.{PutCause};
 ghost use Rattle.cm_io.specs.Told.{Adds, Number};
 
-use std::marker::Model;
-
 use crate::{Put, Sink};
+use std::marker::Model;
 
 /// A sink that keeps the number of its bytes alone, and never fails.
 #[derive(Drop)]

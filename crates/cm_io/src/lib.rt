@@ -35,3 +35,6 @@ pub use std_clock::StdClock;
 pub use std_host::StdHost;
 pub use std_sink::{StdLog, StdSink};
 pub use std_source::StdSource;
+
+#[cfg(test)]
+mod tests;

@@ -1,11 +1,10 @@
 // A clock in memory.
 ghost use Rattle.std.specs.Prelude.{◌≡◌, true, IfOk};
 
+use crate::{Clock, NoMemory};
 use std::alloc::Global;
 use std::collections::VecDeque;
 use std::marker::Model;
-
-use crate::{Clock, NoMemory};
 
 /// A clock that gives the moments it was made with, one after another.
 #[derive(Drop)]

@@ -5,13 +5,12 @@ ghost use Rattle.cm_io.specs.Fault.{PutCause};
 ghost use Rattle.cm_io.specs.Host.{KeepsOthers, Creates, Writes};
 ghost use Rattle.cm_io.specs.HeldFiles.{is_listed, closed_at, next_call};
 
-use arrayvec::ArrayString;
-use std::alloc::Global;
-use std::marker::Model;
-
 use crate::fault::raised;
 use crate::reserved::Reserved;
 use crate::{Host, NoMemory, Put};
+use arrayvec::ArrayString;
+use std::alloc::Global;
+use std::marker::Model;
 
 // Whether the output was created, and whether it is open.
 #[derive(Clone, Copy, PartialEq, Eq)]
@@ -43,15 +42,15 @@ impl Model for MemHost {
     ghost Value = { HostState };
 
     ghost view = { λ host. record {
-        input_name = host.input_name.items;
-        input = option_map (λ bytes. bytes.items) host.input;
-        output_name = host.output_name.bytes;
-        output = output_at host.stage host.output.bytes;
-        room = host.output.room;
-        is_open = is_open_at host.stage;
-        calls = host.calls;
-        fails = host.fails.items;
-        faults = host.faults;
+      input_name = host.input_name.items;
+      input = option_map (λ bytes. bytes.items) host.input;
+      output_name = host.output_name.bytes;
+      output = output_at host.stage host.output.bytes;
+      room = host.output.room;
+      is_open = is_open_at host.stage;
+      calls = host.calls;
+      fails = host.fails.items;
+      faults = host.faults;
     } };
 }
 
@@ -68,15 +67,16 @@ impl MemHost {
         fails: &[u32],
     ) -> Result<MemHost, NoMemory>
         ensures host { IfOk result (λ host. host ≡ record {
-            input_name = name.now;
-            input = option_map (λ bytes. bytes.now) bytes.entry;
-            output_name = [];
-            output = None;
-            room = room;
-            is_open = false;
-            calls = 0;
-            fails = fails.now;
-            faults = 0 }) }
+          input_name = name.now;
+          input = option_map (λ bytes. bytes.now) bytes.entry;
+          output_name = [];
+          output = None;
+          room = room;
+          is_open = false;
+          calls = 0;
+          fails = fails.now;
+          faults = 0;
+        }) }
     {
         let input = match bytes {
             Some(bytes) => Some(bytes.to_vec(alloc)?),

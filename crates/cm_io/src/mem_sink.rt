@@ -3,12 +3,11 @@ ghost use Rattle.std.specs.Prelude.{◌≡◌, ◌≤◌, ◌↔◌, ◌+◌, []
 ghost use Rattle.cm_io.specs.Fault.{PutCause};
 ghost use Rattle.cm_io.specs.Told.{Adds, Bytes};
 
-use std::alloc::Global;
-use std::marker::Model;
-
 use crate::fault::raised;
 use crate::reserved::Reserved;
 use crate::{NoMemory, Put, Sink};
+use std::alloc::Global;
+use std::marker::Model;
 
 /// A sink that holds its bytes in memory that is reserved for them.
 #[derive(Drop)]

@@ -1,15 +1,13 @@
 // A source in memory.
 ghost use Rattle.std.specs.Prelude.{◌≡◌, ◌≤◌, ◌↔◌, true, IsTrue, Some, IfOk, option_copied};
-
 ghost use Rattle.cm_io.specs.Memory.{next_fail};
 ghost use Rattle.cm_io.specs.Source.{Takes, GotCause};
 
+use crate::fault::raised;
+use crate::{Got, NoMemory, Source};
 use std::alloc::Global;
 use std::collections::VecDeque;
 use std::marker::Model;
-
-use crate::fault::raised;
-use crate::{Got, NoMemory, Source};
 
 /// A source that holds its bytes in memory. One get may be set to fail.
 #[derive(Drop)]

@@ -1,9 +1,8 @@
 // The system's clock.
 ghost use Rattle.std.specs.Prelude.{false, []};
 
-use std::time::{SystemTime, UNIX_EPOCH};
-
 use crate::Clock;
+use std::time::{SystemTime, UNIX_EPOCH};
 
 /// The system's clock. It gives 0 where the clock cannot be read or stands before 1970.
 #[derive(Drop)]

@@ -1,13 +1,12 @@
 // The files of the system.
 ghost use Rattle.std.specs.Prelude.{◌≡◌, false, [], None};
 
-use std::fs::File;
-use std::io::Write;
-use std::marker::Model;
-
 use crate::fault::raised;
 use crate::std_write::write_whole;
 use crate::{Host, Put};
+use std::fs::File;
+use std::io::Write;
+use std::marker::Model;
 
 /// The files of the system. Each write is done at once. Contracts see its faults, and whether a file is open.
 #[derive(Drop)]

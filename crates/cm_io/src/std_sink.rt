@@ -2,12 +2,11 @@
 ghost use Rattle.std.specs.Prelude.{◌≡◌};
 ghost use Rattle.cm_io.specs.Told.{Nothing};
 
-use std::io::{Stderr, Stdout};
-use std::marker::Model;
-
 use crate::fault::raised;
 use crate::std_write::write_whole;
 use crate::{Put, Sink};
+use std::io::{Stderr, Stdout};
+use std::marker::Model;
 
 /// Standard output. Each put is written at once. Contracts see its faults.
 #[derive(Drop)]

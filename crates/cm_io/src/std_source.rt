@@ -1,12 +1,11 @@
 // Standard input.
 ghost use Rattle.std.specs.Prelude.{◌≡◌, ◌≤◌, length, false, [], IfSome};
 
-use std::io::{ErrorKind, Read, Stdin};
-use std::marker::Model;
-
 use crate::fault::raised;
 use crate::std_write::TRIES;
 use crate::{Got, Source};
+use std::io::{ErrorKind, Read, Stdin};
+use std::marker::Model;
 
 const SIZE: usize = 4096;
 
