@@ -1,5 +1,5 @@
 // A sink in memory.
-ghost use Rattle.std.specs.Prelude.{◌≡◌, ◌≤◌, ◌↔◌, ◌+◌, [], length, IfOk};
+ghost use Rattle.std.specs.Prelude.{◌≡◌, ◌≤◌, ◌↔◌, ◌+◌, ◌-◌, ◌++◌, [], length, take, IfOk};
 ghost use Rattle.cm_io.specs.Fault.{PutCause};
 ghost use Rattle.cm_io.specs.Told.{Adds, Bytes};
 
@@ -54,6 +54,7 @@ impl Sink for MemSink {
         ensures later { self.old.faults ≤ self.new.faults }
         ensures cause { PutCause self.old.faults self.new.faults result }
         ensures done { (result ≡ Put.Done) ↔ (length self.old.bytes + length bytes.now ≤ self.old.room) }
+        ensures fits { self.new.bytes ≡ self.old.bytes ++ take (self.old.room - length self.old.bytes) bytes.now }
         ensures room { self.new.room ≡ self.old.room }
     {
         if self.bytes.append(bytes) {
