@@ -1,7 +1,7 @@
 -- Bytes put one piece after another, and counts of faults that rise.
-use Rattle.std.proofs.Common.{◌≡◌, ℕ, ◌+◌, ◌-◌, ◌^◌, ◌≤◌, min, max, List, [], ◌++◌, length, refl, ap, sym, ◌∙◌, subst, arith, append_assoc, length-append}
-use Rattle.std.proofs.lemmas.List.{append-nil}
-use Rattle.cm_io.specs.Told.{Told, Nothing, Number, Bytes, add, IsPart, AddsPart}
+use Rattle.std.proofs.Common.{◌≡◌, ℕ, ◌+◌, ◌-◌, ◌^◌, ◌≤◌, min, max, List, [], ◌++◌, length, take, drop, refl, ap, sym, ◌∙◌, arith, append_assoc, length-append}
+use Rattle.std.proofs.lemmas.List.{append-nil, take-append-drop}
+use Rattle.cm_io.specs.Told.{Told, Nothing, Number, Bytes, add, AddsPart}
 use Rattle.cm_io.specs.Fault.{Rose}
 
 -- no bytes add nothing
@@ -39,9 +39,14 @@ adds_late before now first second adds = record {
   added = adds.added ∙ sym (add_append before first adds.part);
 }
 
--- a part of the second piece is a part of three
+-- a part of the second of three pieces is a part of all
 pub adds_between : (before now : Told) (first second third : List ℕ) → AddsPart (add before first) now second → AddsPart before now ((first ++ second) ++ third)
 adds_between before now first second third adds = adds_early before now (first ++ second) third (adds_late before now first second adds)
+
+-- a part of the second of four pieces is a part of all
+pub adds_between_two : (before now : Told) (first second third fourth : List ℕ) → AddsPart (add before first) now second → AddsPart before now (((first ++ second) ++ third) ++ fourth)
+adds_between_two before now first second third fourth adds =
+    adds_early before now ((first ++ second) ++ third) fourth (adds_between before now first second third adds)
 
 -- a count that rose has risen also later
 pub rose_early : (before middle now : ℕ) → Rose before middle → middle ≤ now → Rose before now
@@ -52,3 +57,21 @@ rose_early before middle now rose later = omega arith
 pub rose_late : (before middle now : ℕ) → before ≤ middle → Rose middle now → Rose before now
 unfolding Rose
 rose_late before middle now later rose = omega arith
+
+-- a front of the bytes is a part of them
+pub adds_front : (given bytes : List ℕ) (n : ℕ) → AddsPart (Bytes given) (Bytes (given ++ take n bytes)) bytes
+unfolding add
+adds_front given bytes n = record {
+  part = take n bytes;
+  is_part = record { rest = drop n bytes; joined = take-append-drop n bytes };
+  added = refl;
+}
+
+-- to a sink that tells nothing any part may have been added
+pub adds_nothing : (bytes : List ℕ) → AddsPart Nothing Nothing bytes
+unfolding add
+adds_nothing bytes = record {
+  part = [];
+  is_part = record { rest = bytes; joined = refl };
+  added = refl;
+}

@@ -1,3 +1,4 @@
 pub mod Adding
+mod Appending
 mod Digits
 pub mod Repeating

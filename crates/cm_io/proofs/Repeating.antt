@@ -24,10 +24,10 @@ times_append n (suc more) piece =
     let e : suc more + n ≡ (more + n) + 1 = omega arith in
     let s : suc more ≡ more + 1 = omega arith in
     ap (λ k. times k piece) e
-        ∙ times_more (more + n) piece
-        ∙ ap (λ bytes. bytes ++ piece) (times_append n more piece)
-        ∙ append_assoc (times n piece) (times more piece) piece
-        ∙ sym (ap (λ bytes. times n piece ++ bytes) (ap (λ k. times k piece) s ∙ times_more more piece))
+    ∙ times_more (more + n) piece
+    ∙ ap (λ bytes. bytes ++ piece) (times_append n more piece)
+    ∙ append_assoc (times n piece) (times more piece) piece
+    ∙ sym (ap (λ bytes. times n piece ++ bytes) (ap (λ k. times k piece) s ∙ times_more more piece))
 
 -- a part of what some turns put is a part of what all of them put
 pub times_early : (before now : Told) (turn count : ℕ) (piece : List ℕ) → AddsPart before now (times turn piece) → turn ≤ count → AddsPart before now (times count piece)

@@ -4,3 +4,5 @@ pub mod Source
 pub mod Clock
 pub mod Host
 pub mod Pieces
+pub mod Memory
+pub mod HeldFiles

@@ -2,13 +2,39 @@
 #![tactic(auto)]
 
 mod clock;
+mod count_sink;
+mod fault;
 mod host;
+mod mem_clock;
+mod mem_host;
+mod mem_sink;
+mod mem_source;
+mod no_memory;
 mod pieces;
+mod reserved;
 mod sink;
 mod source;
+mod std_clock;
+mod std_host;
+mod std_sink;
+mod std_source;
+mod std_write;
 
 pub use clock::Clock;
+pub use count_sink::CountSink;
 pub use host::Host;
+pub use mem_clock::MemClock;
+pub use mem_host::MemHost;
+pub use mem_sink::MemSink;
+pub use mem_source::MemSource;
+pub use no_memory::NoMemory;
 pub use pieces::{put_decimal, put_hex, put_times};
 pub use sink::{Put, Sink};
 pub use source::{Got, Source};
+pub use std_clock::StdClock;
+pub use std_host::StdHost;
+pub use std_sink::{StdLog, StdSink};
+pub use std_source::StdSource;
+
+#[cfg(test)]
+mod tests;

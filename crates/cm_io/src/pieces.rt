@@ -5,9 +5,8 @@ ghost use Rattle.cm_io.specs.Told.{Adds};
 ghost use Rattle.cm_io.specs.Fault.{PutCause};
 ghost use Rattle.cm_io.specs.Pieces.{hex, hex_digit, times};
 
-use arrayvec::ArrayVec;
-
 use crate::{Put, Sink};
+use arrayvec::ArrayVec;
 
 /// Puts the decimal digits of a number, with no zero before them.
 #[tactic(auto, using(crate::proofs::Digits::decimal_fits))]
@@ -31,11 +30,7 @@ pub fn put_hex<S: Sink>(sink: &mut S, byte: u8) -> Put
 }
 
 /// Puts a piece a number of times.
-#[tactic(auto, using(
-    crate::proofs::Repeating::add_times_none,
-    crate::proofs::Repeating::add_times_more,
-    crate::proofs::Repeating::times_late,
-))]
+#[tactic(auto, using(crate::proofs::Repeating::add_times_none, crate::proofs::Repeating::add_times_more, crate::proofs::Repeating::times_late,))]
 pub fn put_times<S: Sink>(sink: &mut S, piece: &[u8], count: u32) -> Put
     ensures bytes { Adds (S.told sink.old) (S.told sink.new) (times count piece.now) result }
     ensures later { S.faults sink.old ≤ S.faults sink.new }
@@ -50,11 +45,7 @@ pub fn put_times<S: Sink>(sink: &mut S, piece: &[u8], count: u32) -> Put
 }
 
 // Appends the decimal digits of a number.
-#[tactic(auto, using(
-    std::proofs::lemmas::Fmt::decimal_digit,
-    std::proofs::lemmas::Fmt::decimal_step,
-    crate::proofs::Digits::length_decimal_step,
-))]
+#[tactic(auto, using(std::proofs::lemmas::Fmt::decimal_digit, std::proofs::lemmas::Fmt::decimal_step, crate::proofs::Digits::length_decimal_step,))]
 fn push_decimal(digits: &mut ArrayVec<u8, 20>, number: u64)
     requires { length digits.old.items + length (decimal number) ≤ 20 }
     ensures { digits.new.items ≡ digits.old.items ++ decimal number }

@@ -1,4 +1,4 @@
-use Rattle.std.proofs.Common.{◌≡◌, ap, arith, length, length-append, append_assoc}
+use Rattle.std.proofs.Common.{ap, arith, length, length-append, append_assoc}
 use Rattle.std.proofs.lemmas.Fmt.{decimal_step}
 use Rattle.cm_io.proofs.Digits.{length_decimal_step}
 use Rattle.cm_io.proofs.pieces.+push_decimal.Goals as goal

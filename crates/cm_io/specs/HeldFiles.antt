@@ -1,0 +1,64 @@
+-- The files of a host in memory.
+use Rattle.std.specs.Prelude.{◌≡◌, ℕ, ◌+◌, ◌-◌, ◌^◌, ◌≤◌, min, Bool, true, false, ◌==◌, List, [], length, unwrap_or, Option, Some, None, IsSome, if◌then◌else◌}
+use Rattle.std.specs.List.{list_any}
+use Rattle.std.specs.Option.{option_or}
+use Rattle.std.specs.Str.{bytes_eq}
+use Rattle.cm_io.specs.Host.{Files}
+use Rattle.cm_io.specs.declared.mem_host.Stage.{Stage}
+use Rattle.cm_io.specs.declared.mem_host.Stage.TheVariants.{Absent, Open, Closed}
+
+-- one input, one output, and the numbers of the calls that fail
+pub record HostState : Type 0 where
+  pub input_name : List ℕ
+  pub input : Option (List ℕ)
+  pub output_name : List ℕ
+  pub output : Option (List ℕ)
+  pub room : ℕ
+  pub is_open : Bool
+  pub calls : ℕ
+  pub fails : List ℕ
+  pub faults : ℕ
+
+-- what a name has, where one file is there
+abbrev pub file_at : List ℕ → Option (List ℕ) → Files
+file_at own content name = if bytes_eq name own then content else None
+
+-- what each name has: the output, and else the input
+abbrev pub files_of : HostState → Files
+files_of host name = option_or (file_at host.output_name host.output name) (file_at host.input_name host.input name)
+
+-- the content of the output, once it was created
+abbrev pub output_at : Stage → List ℕ → Option (List ℕ)
+output_at Absent bytes = None
+output_at Open bytes = Some bytes
+output_at Closed bytes = Some bytes
+
+-- whether the output is open
+abbrev pub is_open_at : Stage → Bool
+is_open_at Absent = false
+is_open_at Open = true
+is_open_at Closed = false
+
+-- whether the call with this number is to fail
+abbrev pub is_listed : List ℕ → ℕ → Bool
+is_listed fails call = list_any (λ n. n == call) fails
+
+-- the stage once the output is closed, if it was open
+abbrev pub closed_at : Stage → Stage
+closed_at Absent = Absent
+closed_at Open = Closed
+closed_at Closed = Closed
+
+-- the number of the next call; it stays at the last that 64 bits hold
+abbrev pub next_call : ℕ → ℕ
+next_call call = min (call + 1) (2 ^ 64 - 1)
+
+-- the call is not to fail, no other output is there, and the name is not too long
+abbrev pub CanCreate : HostState → List ℕ → Type 0
+CanCreate host name =
+    (is_listed host.fails host.calls ≡ false) × (IsSome host.output → host.output_name ≡ name) × (length name ≤ 255)
+
+-- the call is not to fail, and the bytes fit
+abbrev pub CanWrite : HostState → List ℕ → Type 0
+CanWrite host bytes =
+    (is_listed host.fails host.calls ≡ false) × (length (unwrap_or host.output []) + length bytes ≤ host.room)

@@ -1,0 +1,228 @@
+// A host in memory.
+ghost use Rattle.std.specs.Prelude.{◌≡◌, ◌≤◌, ◌↔◌, ℕ, true, false, List, [], None, IsTrue, IfOk};
+ghost use Rattle.std.specs.Option.{option_map};
+ghost use Rattle.cm_io.specs.Fault.{PutCause};
+ghost use Rattle.cm_io.specs.Host.{KeepsOthers, Creates, Writes};
+ghost use Rattle.cm_io.specs.HeldFiles.{is_listed, closed_at, next_call};
+
+use crate::fault::raised;
+use crate::reserved::Reserved;
+use crate::{Host, NoMemory, Put};
+use arrayvec::ArrayString;
+use std::alloc::Global;
+use std::marker::Model;
+
+// Whether the output was created, and whether it is open.
+#[derive(Clone, Copy, PartialEq, Eq)]
+pub enum Stage {
+    Absent,
+    Open,
+    Closed,
+}
+
+/// A host that holds its files in memory: at most one that is there from the beginning, the input,
+/// and one that is created, the output, for which a room is reserved. The calls of its methods are
+/// numbered from 0, and some may be set to fail.
+#[derive(Drop)]
+pub struct MemHost {
+    input_name: Vec<u8>,
+    input: Option<Vec<u8>>,
+    output_name: ArrayString<255>,
+    output: Reserved,
+    stage: Stage,
+    calls: u64,
+    fails: Vec<u32>,
+    faults: u64,
+}
+
+impl Model for MemHost {
+    ghost use Rattle.std.specs.Prelude.{option_map};
+    ghost use Rattle.cm_io.specs.HeldFiles.{HostState, output_at, is_open_at};
+
+    ghost Value = { HostState };
+
+    ghost view = { λ host. record {
+      input_name = host.input_name.items;
+      input = option_map (λ bytes. bytes.items) host.input;
+      output_name = host.output_name.bytes;
+      output = output_at host.stage host.output.bytes;
+      room = host.output.room;
+      is_open = is_open_at host.stage;
+      calls = host.calls;
+      fails = host.fails.items;
+      faults = host.faults;
+    } };
+}
+
+impl MemHost {
+    ghost use Rattle.cm_io.specs.HeldFiles.{files_of};
+
+    /// A host with the input of this name, if there are bytes for it, and room for an output. The
+    /// calls with the numbers `fails` fail.
+    pub fn new(
+        alloc: Global,
+        name: &str,
+        bytes: Option<&[u8]>,
+        room: u32,
+        fails: &[u32],
+    ) -> Result<MemHost, NoMemory>
+        ensures host { IfOk result (λ host. host ≡ record {
+          input_name = name.now;
+          input = option_map (λ bytes. bytes.now) bytes.entry;
+          output_name = [];
+          output = None;
+          room = room;
+          is_open = false;
+          calls = 0;
+          fails = fails.now;
+          faults = 0;
+        }) }
+    {
+        let input = match bytes {
+            Some(bytes) => Some(bytes.to_vec(alloc)?),
+            None => None,
+        };
+        Ok(MemHost {
+            input_name: name.as_bytes().to_vec(alloc)?,
+            input,
+            output_name: ArrayString::new(),
+            output: Reserved::new(alloc, room as usize)?,
+            stage: Stage::Absent,
+            calls: 0,
+            fails: fails.to_vec(alloc)?,
+            faults: 0,
+        })
+    }
+
+    /// The content of the output, if one was created.
+    pub fn output(&self) -> Option<&[u8]>
+        ensures { option_map (λ bytes. bytes.now) result ≡ self.now.output }
+    {
+        match self.stage {
+            Stage::Absent => None,
+            Stage::Open | Stage::Closed => Some(self.output.bytes()),
+        }
+    }
+
+    /// What a name has, if anything.
+    pub fn file(&self, name: &str) -> Option<&[u8]>
+        ensures { option_map (λ bytes. bytes.now) result ≡ files_of self.now name.now }
+    {
+        if self.stage != Stage::Absent && name == self.output_name.as_str() {
+            return Some(self.output.bytes());
+        }
+        if name.as_bytes() == self.input_name.as_slice() {
+            return match &self.input {
+                Some(bytes) => Some(bytes.as_slice()),
+                None => None,
+            };
+        }
+        None
+    }
+}
+
+impl Host for MemHost {
+    ghost use Rattle.cm_io.specs.HeldFiles.{files_of, CanCreate, CanWrite};
+
+    ghost tells = { true };
+
+    ghost files = { files_of };
+
+    ghost is_open = { λ host. host.is_open };
+
+    ghost target = { λ host. host.output_name };
+
+    ghost faults = { λ host. host.faults };
+
+    fn create(&mut self, name: &str) -> Put
+        ensures opens { IsTrue self.new.is_open ↔ (result ≡ Put.Done) }
+        ensures target { IsTrue true → result ≡ Put.Done → self.new.output_name ≡ name.now }
+        ensures file { IsTrue true → Creates (files_of self.old name.now) (files_of self.new name.now) result }
+        ensures others { IsTrue true → KeepsOthers name.now (files_of self.old) (files_of self.new) }
+        ensures later { self.old.faults ≤ self.new.faults }
+        ensures cause { PutCause self.old.faults self.new.faults result }
+        ensures done { (result ≡ Put.Done) ↔ CanCreate self.old name.now }
+        ensures counts { self.new.calls ≡ next_call self.old.calls }
+        ensures fails { self.new.fails ≡ self.old.fails }
+        ensures room { self.new.room ≡ self.old.room }
+    {
+        let is_listed = is_listed(&self.fails, self.calls);
+        self.calls = self.calls.saturating_add(1);
+        let is_free = self.stage == Stage::Absent || self.output_name.as_str() == name;
+        if is_listed || !is_free || name.len() > 255 {
+            self.stage = closed(self.stage);
+            self.faults = raised(self.faults);
+            return Put::Failed;
+        }
+        self.output_name.clear();
+        self.output_name.push_str(name);
+        self.output.clear();
+        self.stage = Stage::Open;
+        Put::Done
+    }
+
+    #[tactic(auto, using(crate::proofs::Appending::appends_nothing, crate::proofs::Appending::appends_front))]
+    fn write(&mut self, bytes: &[u8]) -> Put
+        requires { IsTrue self.old.is_open }
+        ensures stays_open { IsTrue self.new.is_open }
+        ensures target { IsTrue true → self.new.output_name ≡ self.old.output_name }
+        ensures file { IsTrue true → Writes (files_of self.old self.old.output_name) (files_of self.new self.old.output_name) bytes.now result }
+        ensures others { IsTrue true → KeepsOthers self.old.output_name (files_of self.old) (files_of self.new) }
+        ensures later { self.old.faults ≤ self.new.faults }
+        ensures cause { PutCause self.old.faults self.new.faults result }
+        ensures done { (result ≡ Put.Done) ↔ CanWrite self.old bytes.now }
+        ensures counts { self.new.calls ≡ next_call self.old.calls }
+        ensures fails { self.new.fails ≡ self.old.fails }
+        ensures room { self.new.room ≡ self.old.room }
+    {
+        let is_listed = is_listed(&self.fails, self.calls);
+        self.calls = self.calls.saturating_add(1);
+        if is_listed {
+            self.faults = raised(self.faults);
+            return Put::Failed;
+        }
+        if self.output.append(bytes) {
+            return Put::Done;
+        }
+        self.faults = raised(self.faults);
+        Put::Failed
+    }
+
+    fn close(&mut self) -> Put
+        requires { IsTrue self.old.is_open }
+        ensures closes { self.new.is_open ≡ false }
+        ensures files { IsTrue true → (name : List ℕ) → files_of self.new name ≡ files_of self.old name }
+        ensures later { self.old.faults ≤ self.new.faults }
+        ensures cause { PutCause self.old.faults self.new.faults result }
+        ensures done { (result ≡ Put.Done) ↔ (is_listed self.old.fails self.old.calls ≡ false) }
+        ensures counts { self.new.calls ≡ next_call self.old.calls }
+        ensures fails { self.new.fails ≡ self.old.fails }
+        ensures room { self.new.room ≡ self.old.room }
+    {
+        let is_listed = is_listed(&self.fails, self.calls);
+        self.calls = self.calls.saturating_add(1);
+        self.stage = closed(self.stage);
+        if is_listed {
+            self.faults = raised(self.faults);
+            return Put::Failed;
+        }
+        Put::Done
+    }
+}
+
+// The stage once the output is closed, if it was open.
+fn closed(stage: Stage) -> Stage
+    ensures { result ≡ closed_at stage }
+{
+    match stage {
+        Stage::Absent => Stage::Absent,
+        Stage::Open | Stage::Closed => Stage::Closed,
+    }
+}
+
+// Whether the call with this number is to fail.
+fn is_listed(fails: &[u32], call: u64) -> bool
+    ensures { result ≡ is_listed fails.now call }
+{
+    fails.iter().any(|listed| u64::from(*listed) == call)
+}

@@ -1,0 +1,66 @@
+// A sink in memory.
+ghost use Rattle.std.specs.Prelude.{◌≡◌, ◌≤◌, ◌↔◌, ◌+◌, ◌-◌, ◌++◌, [], length, take, IfOk};
+ghost use Rattle.cm_io.specs.Fault.{PutCause};
+ghost use Rattle.cm_io.specs.Told.{Adds, Bytes};
+
+use crate::fault::raised;
+use crate::reserved::Reserved;
+use crate::{NoMemory, Put, Sink};
+use std::alloc::Global;
+use std::marker::Model;
+
+/// A sink that holds its bytes in memory that is reserved for them.
+#[derive(Drop)]
+pub struct MemSink {
+    bytes: Reserved,
+    faults: u64,
+}
+
+impl Model for MemSink {
+    ghost use Rattle.cm_io.specs.Memory.{SinkState};
+
+    ghost Value = { SinkState };
+
+    ghost view = { λ sink. record { bytes = sink.bytes.bytes; room = sink.bytes.room; faults = sink.faults } };
+}
+
+impl MemSink {
+    /// A sink with room for a number of bytes. A put that passes it puts what fits, and fails.
+    pub fn new(alloc: Global, room: u32) -> Result<MemSink, NoMemory>
+        ensures sink { IfOk result (λ sink. sink ≡ record { bytes = []; room = room; faults = 0 }) }
+    {
+        Ok(MemSink {
+            bytes: Reserved::new(alloc, room as usize)?,
+            faults: 0,
+        })
+    }
+
+    /// The bytes that were put.
+    pub fn bytes(&self) -> &[u8]
+        ensures { result.now ≡ self.now.bytes }
+    {
+        self.bytes.bytes()
+    }
+}
+
+impl Sink for MemSink {
+    ghost told = { λ sink. Bytes sink.bytes };
+
+    ghost faults = { λ sink. sink.faults };
+
+    #[tactic(auto, using(crate::proofs::Adding::adds_front), unfolding(crate::specs::Told::add))]
+    fn put(&mut self, bytes: &[u8]) -> Put
+        ensures bytes { Adds (Bytes self.old.bytes) (Bytes self.new.bytes) bytes.now result }
+        ensures later { self.old.faults ≤ self.new.faults }
+        ensures cause { PutCause self.old.faults self.new.faults result }
+        ensures done { (result ≡ Put.Done) ↔ (length self.old.bytes + length bytes.now ≤ self.old.room) }
+        ensures fits { self.new.bytes ≡ self.old.bytes ++ take (self.old.room - length self.old.bytes) bytes.now }
+        ensures room { self.new.room ≡ self.old.room }
+    {
+        if self.bytes.append(bytes) {
+            return Put::Done;
+        }
+        self.faults = raised(self.faults);
+        Put::Failed
+    }
+}

@@ -1,0 +1,96 @@
+// The files of the system.
+ghost use Rattle.std.specs.Prelude.{◌≡◌, false, [], None};
+
+use crate::fault::raised;
+use crate::std_write::write_whole;
+use crate::{Host, Put};
+use std::fs::File;
+use std::io::Write;
+use std::marker::Model;
+
+/// The files of the system. Each write is done at once. Contracts see its faults, and whether a file is open.
+#[derive(Drop)]
+pub struct StdHost {
+    rt: HostRuntime,
+    file: Option<File>,
+    faults: u64,
+}
+
+impl Model for StdHost {
+    ghost use Rattle.std.specs.Prelude.{is_some};
+    ghost use Rattle.cm_io.specs.Memory.{Opening};
+
+    ghost Value = { Opening };
+
+    ghost view = { λ host. record { is_open = is_some host.file; faults = host.faults } };
+}
+
+impl StdHost {
+    /// The files of this system, none open.
+    pub fn new(rt: &HostRuntime) -> StdHost
+        ensures { result ≡ record { is_open = false; faults = 0 } }
+    {
+        StdHost {
+            rt: *rt,
+            file: None,
+            faults: 0,
+        }
+    }
+}
+
+impl Host for StdHost {
+    ghost tells = { false };
+
+    ghost files = { λ _ _. None };
+
+    ghost is_open = { λ host. host.is_open };
+
+    ghost target = { λ _. [] };
+
+    ghost faults = { λ host. host.faults };
+
+    fn create(&mut self, name: &str) -> Put {
+        match File::create(&self.rt, name) {
+            Ok(file) => {
+                self.file = Some(file);
+                Put::Done
+            }
+            Err(_) => {
+                self.file = None;
+                self.faults = raised(self.faults);
+                Put::Failed
+            }
+        }
+    }
+
+    fn write(&mut self, bytes: &[u8]) -> Put {
+        let is_written = match &self.file {
+            Some(file) => {
+                let mut output: &File = file;
+                write_whole(&mut output, bytes)
+            }
+            None => false,
+        };
+        if is_written {
+            return Put::Done;
+        }
+        self.faults = raised(self.faults);
+        Put::Failed
+    }
+
+    fn close(&mut self) -> Put {
+        let is_flushed = match &self.file {
+            Some(file) => {
+                let mut output: &File = file;
+                output.flush().is_ok()
+            }
+            None => false,
+        };
+        self.file = None;
+        if is_flushed {
+            return Put::Done;
+        }
+        self.faults = raised(self.faults);
+        Put::Failed
+    }
+}

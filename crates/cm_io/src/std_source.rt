@@ -1,0 +1,85 @@
+// Standard input.
+ghost use Rattle.std.specs.Prelude.{◌≡◌, ◌≤◌, length, false, [], IfSome};
+
+use crate::fault::raised;
+use crate::std_write::TRIES;
+use crate::{Got, Source};
+use std::io::{ErrorKind, Read, Stdin};
+use std::marker::Model;
+
+const SIZE: usize = 4096;
+
+/// Standard input. It reads what has come, at most 4096 bytes at a time, and waits for no more.
+/// A read that gives nothing is the end. Contracts see its faults.
+#[derive(Drop)]
+pub struct StdSource {
+    input: Stdin,
+    buffer: [u8; SIZE],
+    next: usize,
+    end: usize,
+    faults: u64,
+}
+
+impl Model for StdSource {
+    ghost use Rattle.std.specs.Prelude.{ℕ, ◌≤◌};
+
+    ghost Value = { ℕ };
+
+    ghost view = { λ source. source.faults };
+
+    ghost invariant = { λ source. (source.next ≤ source.end) × (source.end ≤ 4096) };
+}
+
+impl StdSource {
+    /// The standard input of this process.
+    pub fn new(rt: &HostRuntime) -> StdSource
+        ensures { result ≡ 0 }
+    {
+        StdSource {
+            input: rt.stdin(),
+            buffer: [0; SIZE],
+            next: 0,
+            end: 0,
+            faults: 0,
+        }
+    }
+}
+
+impl Source for StdSource {
+    ghost tells = { false };
+
+    ghost left = { λ _. [] };
+
+    ghost faults = { λ source. source };
+
+    fn get(&mut self) -> Got {
+        if self.next == self.end {
+            let Some(count) = read_some(&mut self.input, &mut self.buffer) else {
+                self.faults = raised(self.faults);
+                return Got::Failed;
+            };
+            self.next = 0;
+            self.end = count;
+            if count == 0 {
+                return Got::End;
+            }
+        }
+        let byte = self.buffer[self.next];
+        self.next += 1;
+        Got::Byte(byte)
+    }
+}
+
+// Reads what has come, and gives its length, or nothing where the system failed.
+fn read_some(input: &mut Stdin, buffer: &mut [u8]) -> Option<usize>
+    ensures within { IfSome result (λ count. count ≤ length buffer.old) }
+{
+    for _ in 0..TRIES {
+        match input.read(buffer) {
+            Ok(count) => return Some(count),
+            Err(error) if error.kind() == ErrorKind::Interrupted => {}
+            Err(_) => return None,
+        }
+    }
+    None
+}

@@ -1,0 +1,36 @@
+// Writing to the system, whatever it takes at a time.
+ghost use Rattle.std.specs.Prelude.{◌≤◌, length, IfSome};
+
+use std::io::{ErrorKind, Write};
+
+// How often an interrupted call is tried again.
+pub const TRIES: u32 = 1000;
+
+// Writes all the bytes, and tells whether all were taken.
+pub fn write_whole<W: Write>(output: &mut W, bytes: &[u8]) -> bool {
+    let mut rest = bytes;
+    for _ in 0..u64::MAX {
+        if rest.is_empty() {
+            return true;
+        }
+        match write_front(output, rest) {
+            Some(taken) if taken > 0 => rest = &rest[taken..],
+            _ => return false,
+        }
+    }
+    false
+}
+
+// Writes a front of the bytes, and gives its length, or nothing where the system failed.
+fn write_front<W: Write>(output: &mut W, bytes: &[u8]) -> Option<usize>
+    ensures front { IfSome result (λ taken. taken ≤ length bytes.now) }
+{
+    for _ in 0..TRIES {
+        match output.write(bytes) {
+            Ok(taken) => return Some(taken),
+            Err(error) if error.kind() == ErrorKind::Interrupted => {}
+            Err(_) => return None,
+        }
+    }
+    None
+}
