@@ -35,6 +35,9 @@ runs_first writes a b keys screen log moments = record {
   counted = refl;
 }
 
+pub subst_session : (writes : Bool) (a b : Scene) (session next : Held) (count : ℕ) → session ≡ next → Runs writes a b session count → Runs writes a b next count
+subst_session writes a b session next count same runs = subst (λ held. Runs writes a b held count) same runs
+
 -- the keys taken and one more are the first of those that there were
 one_more : (taken : List ℕ) (key : ℕ) (all before now : List ℕ) → taken ++ before ≡ all → before ≡ key ∷ now → (taken ++ key ∷ []) ++ now ≡ all
 one_more taken key all before now keys got = append_assoc taken (key ∷ []) now ∙ ap (λ left. taken ++ left) (sym got) ∙ keys

@@ -5,8 +5,8 @@ use Rattle.ex_program.proofs.Running.{Runs}
 use Rattle.ex_program.proofs.run.run.Given as goal
 
 -- the run of the keys so far stands, and no fault was counted
-abbrev pub invariant-loop-_turn : goal.invariant-loop-_turn
-invariant-loop-_turn g l = record {
+abbrev pub invariant-loop-turn : goal.invariant-loop-turn
+invariant-loop-turn g l = record {
   runs : IsTrue g.K.Source.tells → IsTrue g.C.Clock.tells → Runs l.writes
       (scene (g.S.Sink.told l.fn.screen) (g.S.Sink.faults l.fn.screen) (g.W.Sink.told l.fn.log) (g.K.Source.left l.fn.keys) (g.C.Clock.left l.fn.clock))
       (scene (g.S.Sink.told l.screen) (g.S.Sink.faults l.screen) (g.W.Sink.told l.log) (g.K.Source.left l.keys) (g.C.Clock.left l.clock))
