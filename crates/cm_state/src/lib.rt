@@ -20,3 +20,6 @@ pub use prompt::Prompt;
 pub use session::Session;
 pub use turn::Turn;
 pub use verbs::Verbs;
+
+#[cfg(test)]
+mod tests;
