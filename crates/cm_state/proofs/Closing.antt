@@ -19,7 +19,7 @@ use Rattle.cm_state.specs.declared.chain.Place.{Place}
 use Rattle.cm_state.specs.declared.chain.Try.{Try}
 use Rattle.cm_state.specs.declared.chain.Try.TheVariants.{Decides, Refuses}
 use Rattle.cm_state.specs.Chain.{Advances, Block, Confirm, Key, blocks, by_look, chain_at, confirm, decided, first_of, or_next, skip, try_block}
-use Rattle.cm_state.specs.Parse.{IsClosed, Parses}
+use Rattle.cm_state.specs.Parse.{IsClosed, IsParse, Parses}
 use Rattle.cm_state.proofs.Parsing.{chain_advances}
 
 -- a run of bytes that has no CR ends before the CR
@@ -107,3 +107,9 @@ parse_closes verbs node line at [] ending within p = subst Settles p (chain_sett
 parse_closes verbs node line at (field ∷ fields) ending within p =
     let advances = subst (Advances at (length (finished line))) p.0 (chain_advances verbs node (finished line) at) in
     parse_closes verbs field.next line field.end fields ending (omega (arith, length-append line (13 ∷ []))) p.1
+
+-- the parse of a finished text is decided
+pub finished_closes : (verbs : _) (node : ℕ) (line : List ℕ) (fields : List Field) (ending : Ending)
+    → IsParse verbs node (finished line) fields ending → IsClosed ending
+unfolding IsParse
+finished_closes verbs node line fields ending p = parse_closes verbs node line 0 fields ending (omega arith) p

@@ -1,4 +1,7 @@
 pub mod Closing
 pub mod Editing
+pub mod Lines
 pub mod Logging
 pub mod Parsing
+pub mod Starting
+pub mod Tables

@@ -5,6 +5,7 @@ mod chain;
 mod code;
 mod echo;
 mod field;
+mod laws;
 mod log;
 mod parse;
 mod prompt;
@@ -14,7 +15,11 @@ mod verbs;
 
 pub use code::Code;
 pub use field::{Ending, Fault, Field, Open};
+pub use laws::{a_finished_text_is_decided, a_start_is_a_parse, one_parse, the_edit_is_a_line};
 pub use prompt::Prompt;
 pub use session::Session;
 pub use turn::Turn;
 pub use verbs::Verbs;
+
+#[cfg(test)]
+mod tests;

@@ -1,0 +1,100 @@
+-- What a key makes of a line is a line.
+use Rattle.std.proofs.Common.{◌≡◌, ◌≢◌, ℕ, zero, suc, ◌-◌, Bool, true, false, List, [], ◌∷◌, ◌++◌, length, take, Option, Some, None, IfSome, nat_lt, unwrap_or, refl, arith, ◌==◌, ◌||◌, if◌then◌else◌, length-append}
+use Rattle.std.specs.List.{AllByRecursion}
+use Rattle.std.proofs.lemmas.Bool.Decides.{nat_tests}
+use Rattle.std.proofs.lemmas.List.{length-take}
+use Rattle.cm_text.specs.Bytes.{is_text}
+use Rattle.cm_text.specs.Text.{IsLine}
+use Rattle.cm_line.specs.declared.key.KeyClass.{KeyClass}
+use Rattle.cm_line.specs.declared.key.KeyClass.TheVariants.{Text, End, Rub, Word, Erase, Show, Back, Stop, Escape, Part, Help, Other}
+use Rattle.cm_line.specs.Keys.{class_of}
+use Rattle.cm_line.specs.Word.{word_start}
+use Rattle.cm_state.specs.Edit.{edit, met}
+use Rattle.cm_state.specs.Held.{Held}
+
+-- text bytes alone
+abbrev ArePlain : List ℕ → Type 0
+ArePlain bytes = AllByRecursion (λ byte. is_text byte ≡ true) bytes
+
+front_is_plain : (size : ℕ) (bytes : List ℕ) → ArePlain bytes → ArePlain (take size bytes)
+front_is_plain zero bytes plain = tt
+front_is_plain (suc size) [] plain = tt
+front_is_plain (suc size) (byte ∷ bytes) plain = (plain.0, front_is_plain size bytes plain.1)
+
+longer_is_plain : (bytes : List ℕ) (byte : ℕ) → ArePlain bytes → is_text byte ≡ true → ArePlain (bytes ++ byte ∷ [])
+longer_is_plain [] byte plain text = (text, tt)
+longer_is_plain (first ∷ bytes) byte plain text = (plain.0, longer_is_plain bytes byte plain.1 text)
+
+front_is_line : (size : ℕ) (line : List ℕ) → IsLine line → IsLine (take size line)
+front_is_line size line is =
+    record { short = omega (arith, length-take size line); plain = front_is_plain size line is.plain }
+
+pushed_is_line : (line : List ℕ) (byte : ℕ) (fits : Bool) → fits ≡ nat_lt (length line) 255 → is_text byte ≡ true → IsLine line
+    → IsLine (if fits then line ++ byte ∷ [] else line)
+pushed_is_line line byte true fits text is =
+    record { short = grind (arith, nat_tests, length-append line (byte ∷ [])); plain = longer_is_plain line byte is.plain text }
+pushed_is_line line byte false fits text is = is
+
+kept_is_line : (line : List ℕ) (kept : Option (List ℕ)) → IsLine line → IfSome kept IsLine → IsLine (unwrap_or kept line)
+kept_is_line line None is kept_is = is
+kept_is_line line (Some bytes) is kept_is = kept_is
+
+-- a choice between two other classes is no text
+other_class : (b : Bool) (class otherwise : KeyClass) → class ≢ Text → otherwise ≢ Text → (if b then class else otherwise) ≢ Text
+other_class true class otherwise first later = first
+other_class false class otherwise first later = later
+
+-- only a text byte has the class of texts
+text_key_is_text : (key : ℕ) → class_of key ≡ Text → is_text key ≡ true
+unfolding class_of
+text_key_is_text key e = by (is_text key) e
+  where
+    rest : KeyClass
+    rest =
+        if key == 13 || key == 10 then End
+        else (if key == 127 then Rub
+        else (if key == 23 then Word
+        else (if key == 21 then Erase
+        else (if key == 18 then Show
+        else (if key == 8 then Back
+        else (if key == 3 then Stop
+        else (if key == 27 then Escape
+        else (if key == 6 then Part
+        else (if key == 63 then Help
+        else Other)))))))))
+
+    rest_is_other : rest ≢ Text
+    rest_is_other =
+        other_class _ End _ (λ (e : End ≡ Text). cc)
+        (other_class _ Rub _ (λ (e : Rub ≡ Text). cc)
+        (other_class _ Word _ (λ (e : Word ≡ Text). cc)
+        (other_class _ Erase _ (λ (e : Erase ≡ Text). cc)
+        (other_class _ Show _ (λ (e : Show ≡ Text). cc)
+        (other_class _ Back _ (λ (e : Back ≡ Text). cc)
+        (other_class _ Stop _ (λ (e : Stop ≡ Text). cc)
+        (other_class _ Escape _ (λ (e : Escape ≡ Text). cc)
+        (other_class _ Part _ (λ (e : Part ≡ Text). cc)
+        (other_class _ Help Other (λ (e : Help ≡ Text). cc) (λ (e : Other ≡ Text). cc))))))))))
+
+    by : (b : Bool) → (if b then Text else rest) ≡ Text → b ≡ true
+    by true e = refl
+    by false e = absurd (rest_is_other e)
+
+edit_by_class : (class : KeyClass) (key : ℕ) (line : List ℕ) (kept : Option (List ℕ))
+    → (class ≡ Text → is_text key ≡ true) → IsLine line → IfSome kept IsLine → IsLine (edit class key line kept)
+edit_by_class Text key line kept text is kept_is = pushed_is_line line key (nat_lt (length line) 255) refl (text refl) is
+edit_by_class Rub key line kept text is kept_is = front_is_line (length line - 1) line is
+edit_by_class Word key line kept text is kept_is = front_is_line (word_start line) line is
+edit_by_class Erase key line kept text is kept_is = record { short = omega arith; plain = tt }
+edit_by_class Stop key line kept text is kept_is = record { short = omega arith; plain = tt }
+edit_by_class Back key line kept text is kept_is = kept_is_line line kept is kept_is
+edit_by_class End key line kept text is kept_is = is
+edit_by_class Show key line kept text is kept_is = is
+edit_by_class Escape key line kept text is kept_is = is
+edit_by_class Part key line kept text is kept_is = is
+edit_by_class Help key line kept text is kept_is = is
+edit_by_class Other key line kept text is kept_is = is
+
+pub edit_is_line : (held : Held) (key : ℕ) → IsLine (met held) → IfSome held.kept IsLine
+    → IsLine (edit (class_of key) key (met held) held.kept)
+edit_is_line held key is kept = edit_by_class (class_of key) key (met held) held.kept (text_key_is_text key) is kept
