@@ -13,19 +13,11 @@ entry text flag code next = record { text = text; flag = flag; colon = false; co
 unfoldable pub command_entries : List Entry
 command_entries =
     entry (codes "INFORMATION") Plain 9 27
-<<<<<<< HEAD
-        ∷ entry (codes "KJOB") Invisible 10 5
-        ∷ entry (codes "L") NoRecognise 0 5
-        ∷ entry (codes "LO") NoRecognise 0 5
-        ∷ entry (codes "LOGOUT") Plain 10 5
-        ∷ []
-=======
     ∷ entry (codes "KJOB") Invisible 10 5
     ∷ entry (codes "L") NoRecognise 0 5
     ∷ entry (codes "LO") NoRecognise 0 5
     ∷ entry (codes "LOGOUT") Plain 10 5
     ∷ []
->>>>>>> 7af259464b26ce07d93326b9ec5ef47ead6bd8cc
 
 -- what INFORMATION tells about
 unfoldable pub topic_entries : List Entry

@@ -1,6 +1,8 @@
 -- The image that is written: the directory OPERATOR, connected, and no file.
 use Rattle.std.specs.Prelude.{◌≡◌, ◌⊎◌, ℕ, List, [], ◌∷◌, ◌++◌, Option, Some, None, codes}
 use Rattle.cm_io.specs.Told.{IsPart}
+use Rattle.cm_io.specs.declared.sink.Put.{Put}
+use Rattle.cm_io.specs.declared.sink.Put.TheVariants.{Done, Failed}
 use Rattle.ex_program.specs.declared.status.Status.{Status}
 use Rattle.ex_program.specs.declared.status.Status.TheVariants as status
 
@@ -15,6 +17,11 @@ image =
 -- a file is absent, as before, or holds a front of the image
 abbrev pub HoldsPart : Option (List ℕ) → Option (List ℕ) → Type 0
 HoldsPart before now = (now ≡ None) ⊎ (now ≡ before) ⊎ ((part : List ℕ) × IsPart part image × (now ≡ Some part))
+
+-- writing the image leaves it in the file; where it fails, a front of it or less
+abbrev pub Keeps : Option (List ℕ) → Option (List ℕ) → Put → Type 0
+Keeps before now Done = now ≡ Some image
+Keeps before now Failed = HoldsPart before now
 
 -- what a run leaves of the file that the image is written to
 abbrev pub Saves : Option (List ℕ) → Option (List ℕ) → Status → Type 0

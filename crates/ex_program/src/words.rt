@@ -1,0 +1,130 @@
+// The words of the program, and what they ask for.
+ghost use Rattle.std.specs.Prelude.{◌≡◌, ℕ, List, [], length, Option, Some, None, nat_le, if◌then◌else◌};
+ghost use Rattle.std.specs.Str.{bytes_eq};
+ghost use Rattle.std.specs.Option.{option_map};
+ghost use Rattle.ex_program.specs.Form.{form_of, form_of_words, is_name, with_word};
+
+use arrayvec::{ArrayString, ArrayVec};
+use std::marker::Model;
+
+/// How many words are held.
+pub const MOST_WORDS: usize = 4;
+
+// A word of at most 255 bytes. Contracts see its bytes.
+#[derive(Drop)]
+struct Word {
+    text: ArrayString<255>,
+}
+
+impl Model for Word {
+    ghost Value = { List ℕ };
+
+    ghost view = { λ word. word.text.bytes };
+}
+
+impl Default for Word {
+    fn default() -> Word {
+        Word {
+            text: ArrayString::new(),
+        }
+    }
+}
+
+/// The words of the program: at most 4, each of at most 255 bytes, or too many. Contracts see the list of
+/// the words, and none where they are too many.
+#[derive(Drop)]
+pub struct Words {
+    words: ArrayVec<Word, 4>,
+    too_many: bool,
+}
+
+impl Model for Words {
+    ghost use Rattle.std.specs.Prelude.{ℕ, List, Option, Some, None, if◌then◌else◌};
+
+    ghost Value = { Option (List (List ℕ)) };
+
+    ghost view = { λ words. if words.too_many then None else Some words.words.items };
+}
+
+/// What words ask for.
+#[derive(Clone, Copy)]
+pub struct Form<'a> {
+    /// Whether the log is written.
+    pub logs: bool,
+    /// The name of the file that the image is written to.
+    pub out: &'a str,
+}
+
+impl Words {
+    /// No words.
+    pub fn new() -> Words
+        ensures { result ≡ Some [] }
+    {
+        Words {
+            words: ArrayVec::new(),
+            too_many: false,
+        }
+    }
+
+    /// Adds a word. Where 4 are held, or it has more than 255 bytes, the words are too many from then on.
+    pub fn push(&mut self, word: &str)
+        ensures { self.new ≡ with_word self.old word.now }
+    {
+        match word_of(word) {
+            Some(word) if self.words.len() < MOST_WORDS => self.words.push(word),
+            _ => self.too_many = true,
+        }
+    }
+
+    /// What the words ask for. None where they ask for nothing that the program does.
+    pub fn form(&self) -> Option<Form<'_>>
+        ensures { option_map (λ form. record { logs = form.logs; out = form.out.now }) result ≡ form_of self.now }
+    {
+        if self.too_many {
+            return None;
+        }
+        form_of_words(&self.words)
+    }
+}
+
+// A word, unless it is too long.
+fn word_of(text: &str) -> Option<Word>
+    ensures { result ≡ (if nat_le (length text.now) 255 then Some text.now else None) }
+{
+    let mut word = ArrayString::new();
+    match word.try_push_str(text) {
+        Ok(()) => Some(Word { text: word }),
+        Err(_) => None,
+    }
+}
+
+// What a list of words asks for: `-n OUT`, and `-w` before it.
+fn form_of_words(words: &[Word]) -> Option<Form<'_>>
+    ensures { option_map (λ form. record { logs = form.logs; out = form.out.now }) result ≡ form_of_words words.now }
+{
+    match words {
+        [new, out] if is(new, "-n") && is_name(out) => Some(Form {
+            logs: false,
+            out: out.text.as_str(),
+        }),
+        [log, new, out] if is(log, "-w") && is(new, "-n") && is_name(out) => Some(Form {
+            logs: true,
+            out: out.text.as_str(),
+        }),
+        _ => None,
+    }
+}
+
+// Whether a word is this text.
+fn is(word: &Word, text: &str) -> bool
+    ensures { result ≡ bytes_eq word.now text.now }
+{
+    word.text.as_str() == text
+}
+
+// Whether a word can name a file: it is not empty, and begins with no hyphen.
+fn is_name(word: &Word) -> bool
+    ensures { result ≡ is_name word.now }
+{
+    !matches!(word.text.as_str().as_bytes(), [] | [b'-', ..])
+}
