@@ -2,3 +2,4 @@ pub mod Parts
 pub mod Steps
 pub mod Folds
 pub mod Running
+pub mod Trying

@@ -1,5 +1,5 @@
 -- How a run stops, and what stands at its end.
-use Rattle.std.specs.Prelude.{◌≡◌, ◌⊎◌, ◌<◌, ◌≤◌, ℕ, Bool, true, false, List, [], ◌++◌, length, Option, Some, None}
+use Rattle.std.specs.Prelude.{◌≡◌, ◌⊎◌, ◌<◌, ◌≤◌, ℕ, ◌-◌, ◌^◌, Bool, true, false, List, [], ◌++◌, length, Option, Some, None}
 use Rattle.cm_text.specs.Shown.{end_of_line}
 use Rattle.cm_io.specs.Told.{Told, add, AddsPart, IsPart}
 use Rattle.cm_io.specs.Fault.{Rose}
@@ -147,3 +147,52 @@ Causes a b stop.KeyLimit = b ≡ a
 Causes a b stop.ReadFailed = Rose a.keys b.keys × (b ≡ record a { keys = b.keys })
 Causes a b stop.ScreenFailed = Rose a.screen b.screen × (b ≡ record a { screen = b.screen })
 Causes a b stop.LogFailed = Rose a.log b.log × (b ≡ record a { log = b.log })
+
+-- the status is this one, or HostFault in its place
+abbrev pub IsOr : Status → Status → Type 0
+IsOr result why = (result ≡ why) ⊎ (result ≡ status.HostFault)
+
+-- a run that is written to its end comes to one of these
+abbrev pub IsEnd : Status → Type 0
+IsEnd status.Done = Unit {0}
+IsEnd status.ReadFault = Unit {0}
+IsEnd status.WriteFault = Unit {0}
+IsEnd status.KeyLimit = Unit {0}
+IsEnd status.Usage = ⊥
+IsEnd status.HostFault = ⊥
+IsEnd status.NoMemory = ⊥
+
+-- what the end of a run shows, by how it stopped
+abbrev pub Closes : Stop → Told → Told → ℕ → ℕ → Status → Type 0
+Closes stop.LoggedOut before now f g result = IsOr result status.Done × Tried before now f g [] (message result)
+Closes stop.KeysEnded before now f g result =
+    (IsOr result status.Done × Tried before now f g end_of_line (message result))
+    ⊎ (IsOr result status.WriteFault × AddsPart before now end_of_line × Rose f g)
+Closes stop.ReadFailed before now f g result = IsOr result status.ReadFault × Tried before now f g [] (end_of_line ++ message result)
+Closes stop.KeyLimit before now f g result = IsOr result status.KeyLimit × Tried before now f g [] (end_of_line ++ message result)
+Closes stop.ScreenFailed before now f g result = IsOr result status.WriteFault × (now ≡ before)
+Closes stop.LogFailed before now f g result = IsOr result status.WriteFault × Tried before now f g [] (message result)
+
+-- the host's count rose where the status is HostFault, and else stayed
+abbrev pub HostCause : ℕ → ℕ → Status → Type 0
+HostCause before now status.HostFault = Rose before now
+HostCause before now status.Done = now ≡ before
+HostCause before now status.ReadFault = now ≡ before
+HostCause before now status.WriteFault = now ≡ before
+HostCause before now status.KeyLimit = now ≡ before
+HostCause before now status.Usage = now ≡ before
+HostCause before now status.NoMemory = now ≡ before
+
+-- the other counts, by the status
+abbrev pub StatusCause : Counts → Counts → Status → Type 0
+StatusCause a b status.Done = b ≡ a
+StatusCause a b status.ReadFault = Rose a.keys b.keys
+StatusCause a b status.WriteFault = Rose a.screen b.screen ⊎ Rose a.log b.log
+StatusCause a b status.KeyLimit = (b.keys ≡ a.keys) × (b.log ≡ a.log)
+StatusCause a b status.Usage = (b.keys ≡ a.keys) × (b.log ≡ a.log)
+StatusCause a b status.NoMemory = (b.keys ≡ a.keys) × (b.log ≡ a.log)
+StatusCause a b status.HostFault = Unit {0}
+
+-- the count did not rise, and does not stand at its last value
+abbrev pub IsQuiet : ℕ → ℕ → Type 0
+IsQuiet before now = (now ≡ before) × (before < 2 ^ 64 - 1)

@@ -5,12 +5,13 @@ ghost use Rattle.std.specs.Prelude.{◌≡◌, ◌≤◌, ◌⊎◌, ◌++◌, [
 ghost use Rattle.cm_io.specs.Fault.{PutCause};
 ghost use Rattle.cm_io.specs.Host.{KeepsOthers};
 ghost use Rattle.cm_text.specs.Shown.{end_of_line};
-ghost use Rattle.ex_program.specs.End.{Tried};
-ghost use Rattle.ex_program.specs.Image.{HoldsPart, Keeps, image};
+ghost use Rattle.ex_program.specs.End.{Closes, HostCause, IsEnd, IsOr, Tried};
+ghost use Rattle.ex_program.specs.Image.{Keeps, Saves, image};
 ghost use Rattle.ex_program.specs.Messages.{message};
 
 use crate::Status;
 use crate::command::put_line;
+use crate::stop::Stop;
 use cm_io::{Host, Put, Sink};
 use cm_text::end_of_line;
 
@@ -44,9 +45,100 @@ pub fn save<H: Host>(out: &str, host: &mut H) -> Put
 pub fn show_message<S: Sink>(status: Status, screen: &mut S)
     ensures shown { Tried (S.told screen.old) (S.told screen.new) (S.faults screen.old) (S.faults screen.new) [] (message status) }
     ensures later { S.faults screen.old ≤ S.faults screen.new }
+    ensures quiet { status ≡ Status.Done → S.faults screen.new ≡ S.faults screen.old }
 {
     if let Status::Done | Status::WriteFault = status {
         return;
     }
     put_line(status.message().as_bytes(), screen);
+}
+
+/// Writes the image to a file. HostFault takes the place of the status where the host fails.
+pub fn keep<H: Host>(status: Status, out: &str, host: &mut H) -> Status
+    requires { IsEnd status }
+    ensures status { IsOr result status }
+    ensures saved { IsTrue H.tells → Saves (H.files host.old out.now) (H.files host.new out.now) result }
+    ensures others { IsTrue H.tells → KeepsOthers out.now (H.files host.old) (H.files host.new) }
+    ensures later { H.faults host.old ≤ H.faults host.new }
+    ensures cause { HostCause (H.faults host.old) (H.faults host.new) result }
+{
+    match save(out, host) {
+        Put::Done => status,
+        Put::Failed => Status::HostFault,
+    }
+}
+
+/// Writes the image to a file, and shows the message of the status that it comes to.
+pub fn finish<H: Host, S: Sink>(status: Status, out: &str, host: &mut H, screen: &mut S) -> Status
+    requires { IsEnd status }
+    ensures status { IsOr result status }
+    ensures shown { Tried (S.told screen.old) (S.told screen.new) (S.faults screen.old) (S.faults screen.new) [] (message result) }
+    ensures later { S.faults screen.old ≤ S.faults screen.new }
+    ensures quiet { result ≡ Status.Done → S.faults screen.new ≡ S.faults screen.old }
+
+    ensures saved { IsTrue H.tells → Saves (H.files host.old out.now) (H.files host.new out.now) result }
+    ensures others { IsTrue H.tells → KeepsOthers out.now (H.files host.old) (H.files host.new) }
+    ensures host_later { H.faults host.old ≤ H.faults host.new }
+    ensures host_cause { HostCause (H.faults host.old) (H.faults host.new) result }
+{
+    let status = keep(status, out, host);
+    show_message(status, screen);
+    status
+}
+
+/// Ends the line that is open, writes the image to a file, and shows the message of the status that it
+/// comes to. A screen that fails is given no more.
+pub fn halt<H: Host, S: Sink>(status: Status, out: &str, host: &mut H, screen: &mut S) -> Status
+    requires { IsEnd status }
+    ensures status { IsOr result status }
+    ensures shown { Tried (S.told screen.old) (S.told screen.new) (S.faults screen.old) (S.faults screen.new) [] (end_of_line ++ message result) }
+    ensures later { S.faults screen.old ≤ S.faults screen.new }
+
+    ensures saved { IsTrue H.tells → Saves (H.files host.old out.now) (H.files host.new out.now) result }
+    ensures others { IsTrue H.tells → KeepsOthers out.now (H.files host.old) (H.files host.new) }
+    ensures host_later { H.faults host.old ≤ H.faults host.new }
+    ensures host_cause { HostCause (H.faults host.old) (H.faults host.new) result }
+{
+    match screen.put(end_of_line()) {
+        Put::Done => finish(status, out, host, screen),
+        Put::Failed => keep(status, out, host),
+    }
+}
+
+/// Ends a run that stopped so.
+pub fn close<H: Host, S: Sink>(stop: Stop, out: &str, host: &mut H, screen: &mut S) -> Status
+    ensures closes { Closes stop (S.told screen.old) (S.told screen.new) (S.faults screen.old) (S.faults screen.new) result }
+    ensures later { S.faults screen.old ≤ S.faults screen.new }
+    ensures quiet { result ≡ Status.Done → S.faults screen.new ≡ S.faults screen.old }
+
+    ensures saved { IsTrue H.tells → Saves (H.files host.old out.now) (H.files host.new out.now) result }
+    ensures others { IsTrue H.tells → KeepsOthers out.now (H.files host.old) (H.files host.new) }
+    ensures host_later { H.faults host.old ≤ H.faults host.new }
+    ensures host_cause { HostCause (H.faults host.old) (H.faults host.new) result }
+{
+    match stop {
+        Stop::LoggedOut => finish(Status::Done, out, host, screen),
+        Stop::KeysEnded => end_line(out, host, screen),
+        Stop::ReadFailed => halt(Status::ReadFault, out, host, screen),
+        Stop::KeyLimit => halt(Status::KeyLimit, out, host, screen),
+        Stop::ScreenFailed => keep(Status::WriteFault, out, host),
+        Stop::LogFailed => finish(Status::WriteFault, out, host, screen),
+    }
+}
+
+// Ends a run whose keys were read to their end: ends the line that is open, which may fail.
+fn end_line<H: Host, S: Sink>(out: &str, host: &mut H, screen: &mut S) -> Status
+    ensures closes { Closes Stop.KeysEnded (S.told screen.old) (S.told screen.new) (S.faults screen.old) (S.faults screen.new) result }
+    ensures later { S.faults screen.old ≤ S.faults screen.new }
+    ensures quiet { result ≡ Status.Done → S.faults screen.new ≡ S.faults screen.old }
+
+    ensures saved { IsTrue H.tells → Saves (H.files host.old out.now) (H.files host.new out.now) result }
+    ensures others { IsTrue H.tells → KeepsOthers out.now (H.files host.old) (H.files host.new) }
+    ensures host_later { H.faults host.old ≤ H.faults host.new }
+    ensures host_cause { HostCause (H.faults host.old) (H.faults host.new) result }
+{
+    match screen.put(end_of_line()) {
+        Put::Done => finish(Status::Done, out, host, screen),
+        Put::Failed => keep(Status::WriteFault, out, host),
+    }
 }
