@@ -3,3 +3,4 @@ pub mod Steps
 pub mod Folds
 pub mod Running
 pub mod Trying
+pub mod Ending

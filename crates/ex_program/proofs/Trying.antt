@@ -53,3 +53,9 @@ tried_since before middle now f g h shown first message put earlier tried = reco
   later : (tried.part ≡ message) ⊎ Rose g h → (tried.part ≡ message) ⊎ Rose f h
   later (inl all) = inl all
   later (inr rose) = inr (rose_late f g h earlier rose)
+
+-- the same of a message right behind what was shown
+pub tried_later : (before middle now : Told) (f g h : ℕ) (shown message : List ℕ) → middle ≡ add before shown → f ≤ g
+    → Tried middle now g h [] message → Tried before now f h shown message
+tried_later before middle now f g h shown message put earlier tried =
+    subst (λ bytes. Tried before now f h bytes message) (append-nil shown) (tried_since before middle now f g h shown [] message put earlier tried)

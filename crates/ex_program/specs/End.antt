@@ -3,7 +3,9 @@ use Rattle.std.specs.Prelude.{◌≡◌, ◌⊎◌, ◌<◌, ◌≤◌, ℕ, ◌
 use Rattle.cm_text.specs.Shown.{end_of_line}
 use Rattle.cm_io.specs.Told.{Told, add, AddsPart, IsPart}
 use Rattle.cm_io.specs.Fault.{Rose}
+use Rattle.cm_io.specs.Host.{Files, KeepsOthers}
 use Rattle.ex_program.specs.Form.{Form}
+use Rattle.ex_program.specs.Image.{Saves}
 use Rattle.ex_program.specs.Messages.{message}
 use Rattle.ex_program.specs.Run.{after, logged, run_keys, run_shown, starting}
 use Rattle.ex_program.specs.declared.status.Status.{Status}
@@ -129,6 +131,11 @@ pub record Refused (a b : Scene) (result : Status) : Type 0 where
 abbrev pub Stands : Option Form → Scene → Scene → Status → Type 0
 Stands None a b result = (result ≡ status.Usage) × Refused a b result
 Stands (Some form) a b result = ((result ≡ status.NoMemory) × Refused a b result) ⊎ Ran form.logs a b result
+
+-- what is left of the host's files: with no form they are as before, else that of the form is written and every other is as before
+abbrev pub Leaves : Option Form → Files → Files → Status → Type 0
+Leaves None before now result = (name : List ℕ) → now name ≡ before name
+Leaves (Some form) before now result = Saves (before form.out) (now form.out) result × KeepsOthers form.out before now
 
 -- the counts of faults
 pub record Counts : Type 0 where
