@@ -7,7 +7,7 @@ use Rattle.cm_io.specs.Fault.{Rose}
 use Rattle.cm_io.proofs.Adding.{adds_early, adds_late, rose_early}
 use Rattle.ex_program.specs.Messages.{message}
 use Rattle.ex_program.specs.Run.{World, after, closing, logged, run_keys, run_shown, starting}
-use Rattle.ex_program.specs.End.{Causes, Closes, Counts, CutShort, IsOr, Ran, Reached, Scene, StatusCause, Stops, Tried, has_ended, key_limit, scene}
+use Rattle.ex_program.specs.End.{Causes, Closes, Counts, CutShort, IsOr, IsRun, Ran, Reached, Scene, StatusCause, Stops, Tried, has_ended, key_limit, scene}
 use Rattle.ex_program.specs.declared.status.Status.{Status}
 use Rattle.ex_program.specs.declared.status.Status.TheVariants as status
 use Rattle.ex_program.specs.declared.stop.Stop.{Stop}
@@ -169,3 +169,13 @@ closes_causes a b before now screen result stop.ScreenFailed causes closes later
     (λ same. inl (rose_early a.screen b.screen screen causes.0 later)) tt
 closes_causes a b before now screen result stop.LogFailed causes closes later quiet =
     by_or (StatusCause a (record b { screen = screen })) result status.WriteFault closes.0 (λ same. inr causes.0) tt
+
+-- a run that closed so is past its first prompt
+pub closes_run : (before now : Told) (f g : ℕ) (result : Status) (why : Stop) → Closes why before now f g result → IsRun result
+closes_run before now f g result stop.LoggedOut closes = by_or IsRun result status.Done closes.0 (λ _. tt) tt
+closes_run before now f g result stop.KeysEnded (inl closes) = by_or IsRun result status.Done closes.0 (λ _. tt) tt
+closes_run before now f g result stop.KeysEnded (inr closes) = by_or IsRun result status.WriteFault closes.0 (λ _. tt) tt
+closes_run before now f g result stop.ReadFailed closes = by_or IsRun result status.ReadFault closes.0 (λ _. tt) tt
+closes_run before now f g result stop.KeyLimit closes = by_or IsRun result status.KeyLimit closes.0 (λ _. tt) tt
+closes_run before now f g result stop.ScreenFailed closes = by_or IsRun result status.WriteFault closes.0 (λ _. tt) tt
+closes_run before now f g result stop.LogFailed closes = by_or IsRun result status.WriteFault closes.0 (λ _. tt) tt

@@ -4,3 +4,4 @@ pub mod Folds
 pub mod Running
 pub mod Trying
 pub mod Ending
+pub mod Meaning

@@ -169,6 +169,12 @@ IsEnd status.Usage = ⊥
 IsEnd status.HostFault = ⊥
 IsEnd status.NoMemory = ⊥
 
+-- what a run past its first prompt comes to
+abbrev pub IsRun : Status → Type 0
+IsRun status.Usage = ⊥
+IsRun status.NoMemory = ⊥
+IsRun result = Unit {0}
+
 -- what the end of a run shows, by how it stopped
 abbrev pub Closes : Stop → Told → Told → ℕ → ℕ → Status → Type 0
 Closes stop.LoggedOut before now f g result = IsOr result status.Done × Tried before now f g [] (message result)

@@ -1,11 +1,12 @@
 // The program over what is outside of it.
-ghost use Rattle.std.specs.Prelude.{◌≡◌, ◌⊎◌, ◌≤◌, ◌<◌, ◌↔◌, ℕ, List, length, None, Some, IsTrue};
+ghost use Rattle.std.specs.Prelude.{◌≡◌, ◌⊎◌, ◌≤◌, ◌<◌, ◌↔◌, [], length, None, Some, IsTrue};
 ghost use Rattle.cm_io.specs.Host.{KeepsOthers};
 ghost use Rattle.cm_io.specs.Told.{add};
 ghost use Rattle.cm_state.specs.Verbs.{exec_verbs};
-ghost use Rattle.ex_program.specs.End.{HostCause, IsQuiet, Leaves, Ran, Refused, Stands, StatusCause, counts, key_limit, scene};
+ghost use Rattle.ex_program.specs.End.{HostCause, IsQuiet, IsRun, Leaves, Ran, Stands, StatusCause, Tried, counts, key_limit, scene};
 ghost use Rattle.ex_program.specs.Form.{Form, form_of};
 ghost use Rattle.ex_program.specs.Image.{Saves, image};
+ghost use Rattle.ex_program.specs.Messages.{message};
 ghost use Rattle.ex_program.specs.Run.{logged, run_shown, starting};
 
 use crate::run::run;
@@ -35,7 +36,74 @@ fn run_all<H: Host, K: Source, S: Sink, W: Sink, C: Clock>(
     ensures saved { IsTrue H.tells → Saves (H.files host.old out.now) (H.files host.new out.now) result }
     ensures others { IsTrue H.tells → KeepsOthers out.now (H.files host.old) (H.files host.new) }
     ensures host_cause { HostCause (H.faults host.old) (H.faults host.new) result }
+    ensures past_the_prompt { IsRun result }
 {
     let stop = run(writes, verbs, keys, screen, log, clock);
     close(stop, out, host, screen)
+}
+
+// Shows the message of a status that comes before the first prompt.
+fn refuse<S: Sink>(status: Status, screen: &mut S) -> Status
+    ensures status { result ≡ status }
+    ensures shown { Tried (S.told screen.old) (S.told screen.new) (S.faults screen.old) (S.faults screen.new) [] (message status) }
+    ensures later { S.faults screen.old ≤ S.faults screen.new }
+{
+    show_message(status, screen);
+    status
+}
+
+/// The program `exec20`: takes the keys in turn, shows what they come to, logs the parse that is held after
+/// each where the words ask for it, and writes the image at the end.
+///
+/// `words` are `-n OUT`, or `-w -n OUT` for a run with a log; the image is written to the file OUT of
+/// `host`. A key edits the line on `screen`; a line that is confirmed acts, at a moment of `clock`. The
+/// status is Usage exactly where the words are neither, and NoMemory where memory is wanting; both come
+/// before anything else is touched. The others are said of below, clause by clause.
+pub fn exec20<H: Host, K: Source, S: Sink, W: Sink, C: Clock>(
+    alloc: Global,
+    words: &Words,
+    host: &mut H,
+    keys: &mut K,
+    screen: &mut S,
+    log: &mut W,
+    clock: &mut C,
+) -> Status
+    // Where the run is Done, the screen was given what the run over all keys shows ..
+    ensures done_shown { IsTrue K.tells → IsTrue C.tells → result ≡ Status.Done
+        → S.told screen.new ≡ add (S.told screen.old) (run_shown (starting (C.left clock.old)) (K.left keys.old)) }
+    // .. the log what it logs ..
+    ensures done_logged { IsTrue K.tells → IsTrue C.tells → result ≡ Status.Done
+        → (form : Form) → form_of words.now ≡ Some form
+        → W.told log.new ≡ add (W.told log.old) (logged form.logs (starting (C.left clock.old)) (K.left keys.old)) }
+    // .. and OUT holds the image.
+    ensures done_saved { IsTrue H.tells → result ≡ Status.Done
+        → (form : Form) → form_of words.now ≡ Some form → H.files host.new form.out ≡ Some image }
+
+    // What stands, whatever the status: on the screen and in the log ..
+    ensures stands { IsTrue K.tells → IsTrue C.tells → Stands (form_of words.now)
+        (scene (S.told screen.old) (S.faults screen.old) (W.told log.old) (K.left keys.old) (C.left clock.old))
+        (scene (S.told screen.new) (S.faults screen.new) (W.told log.new) (K.left keys.new) (C.left clock.new)) result }
+    // .. and in the files.
+    ensures files { IsTrue H.tells → Leaves (form_of words.now) (H.files host.old) (H.files host.new) result }
+
+    // When each status may come.
+    ensures usage { (result ≡ Status.Usage) ↔ (form_of words.now ≡ None) }
+    ensures cause { StatusCause (counts (S.faults screen.old) (W.faults log.old) (K.faults keys.old))
+        (counts (S.faults screen.new) (W.faults log.new) (K.faults keys.new)) result }
+    ensures host_cause { HostCause (H.faults host.old) (H.faults host.new) result }
+
+    // With words of a form, fewer keys than a run takes, and nothing outside that fails, the run is Done.
+    ensures complete { IsTrue K.tells → IsTrue C.tells → (form : Form) → form_of words.now ≡ Some form
+        → length (K.left keys.old) < key_limit
+        → IsQuiet (S.faults screen.old) (S.faults screen.new) → IsQuiet (W.faults log.old) (W.faults log.new)
+        → IsQuiet (K.faults keys.old) (K.faults keys.new) → IsQuiet (H.faults host.old) (H.faults host.new)
+        → (result ≡ Status.Done) ⊎ (result ≡ Status.NoMemory) }
+{
+    let Some(form) = words.form() else {
+        return refuse(Status::Usage, screen);
+    };
+    let Ok(verbs) = Verbs::new(alloc) else {
+        return refuse(Status::NoMemory, screen);
+    };
+    run_all(form.logs, form.out, &verbs, host, keys, screen, log, clock)
 }
