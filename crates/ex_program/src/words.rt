@@ -66,6 +66,16 @@ impl Words {
         }
     }
 
+    /// More words than any form has, as those are that the system cannot tell.
+    pub fn too_many() -> Words
+        ensures { result ≡ None }
+    {
+        Words {
+            words: ArrayVec::new(),
+            too_many: true,
+        }
+    }
+
     /// Adds a word. Where 4 are held, or it has more than 255 bytes, the words are too many from then on.
     pub fn push(&mut self, word: &str)
         ensures { self.new ≡ with_word self.old word.now }
