@@ -23,7 +23,7 @@ impl Model for Reserved {
 }
 
 impl Reserved {
-    // No bytes, and room for a number of them.
+    /// No bytes, and room for a number of them.
     pub fn new(alloc: Global, room: usize) -> Result<Reserved, AllocError>
         ensures reserved { IfOk result (λ reserved. reserved ≡ record { bytes = []; room = room }) }
     {
@@ -33,19 +33,21 @@ impl Reserved {
         })
     }
 
+    /// The bytes.
     pub fn bytes(&self) -> &[u8]
         ensures { result.now ≡ self.now.bytes }
     {
         &self.bytes
     }
 
+    /// Drops the bytes. The room stays.
     pub fn clear(&mut self)
         ensures { self.new ≡ record self.old { bytes = [] } }
     {
         self.bytes.clear();
     }
 
-    // Appends what fits, and tells whether all did.
+    /// Appends what fits, and tells whether all did.
     pub fn append(&mut self, more: &[u8]) -> bool
         ensures all { IsTrue result ↔ (length self.old.bytes + length more.now ≤ self.old.room) }
         ensures appended { IsTrue result → self.new ≡ record self.old { bytes = self.old.bytes ++ more.now } }

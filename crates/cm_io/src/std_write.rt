@@ -4,10 +4,10 @@ ghost use Rattle.std.specs.Prelude.{◌≤◌, length, IfSome};
 use std::io::{ErrorKind, Write};
 
 // How often an interrupted call is tried again.
-pub const TRIES: u32 = 1000;
+pub(crate) const TRIES: u32 = 1000;
 
-// Writes all the bytes, and tells whether all were taken.
-pub fn write_whole<W: Write>(output: &mut W, bytes: &[u8]) -> bool {
+/// Writes all the bytes, and tells whether all were taken.
+pub(crate) fn write_whole<W: Write>(output: &mut W, bytes: &[u8]) -> bool {
     let mut rest = bytes;
     for _ in 0..u64::MAX {
         if rest.is_empty() {
