@@ -1,5 +1,5 @@
 // What a key shows.
-#![tactic(auto, using(cm_io::proofs::Adding::add_none, cm_io::proofs::Adding::add_append, cm_io::proofs::Adding::adds_early, cm_io::proofs::Adding::adds_late, cm_io::proofs::Adding::adds_between, cm_io::proofs::Adding::rose_early, cm_io::proofs::Adding::rose_late,))]
+#![tactic(auto, using(crate::proofs::Putting::pieces))]
 
 ghost use Rattle.std.specs.Prelude.{◌≡◌, ◌≤◌, ◌++◌, length};
 ghost use Rattle.cm_io.specs.Told.{Adds};
@@ -96,7 +96,7 @@ fn put_complaint<S: Sink>(ending: Ending, sink: &mut S) -> Put
 }
 
 // Shows why a line is refused.
-#[tactic(auto, using(cm_io::proofs::Adding::add_append, cm_io::proofs::Adding::adds_early, cm_io::proofs::Adding::adds_late, cm_io::proofs::Adding::adds_between, cm_io::proofs::Adding::rose_early, cm_io::proofs::Adding::rose_late,), unfolding(crate::specs::Echo::refusal))]
+#[tactic(auto, using(crate::proofs::Putting::pieces), unfolding(crate::specs::Echo::refusal))]
 fn put_refusal<S: Sink>(code: Code, sink: &mut S) -> Put
     ensures bytes { Adds (S.told sink.old) (S.told sink.new) (refusal code) result }
     ensures later { S.faults sink.old ≤ S.faults sink.new }

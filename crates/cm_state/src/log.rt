@@ -1,5 +1,5 @@
 // The line of the log that tells of one key.
-#![tactic(auto, using(cm_io::proofs::Adding::add_none, cm_io::proofs::Adding::add_append, cm_io::proofs::Adding::adds_early, cm_io::proofs::Adding::adds_late, cm_io::proofs::Adding::adds_between, cm_io::proofs::Adding::rose_early, cm_io::proofs::Adding::rose_late,))]
+#![tactic(auto, using(crate::proofs::Putting::pieces))]
 
 ghost use Rattle.std.specs.Prelude.{◌≤◌, ◌++◌, length};
 ghost use Rattle.cm_io.specs.Told.{Adds};
@@ -10,7 +10,7 @@ use crate::{Ending, Fault, Field};
 use cm_io::{Put, Sink, put_decimal};
 
 // One byte.
-#[tactic(auto, using(cm_io::proofs::Adding::add_append, cm_io::proofs::Adding::adds_early, cm_io::proofs::Adding::adds_late, cm_io::proofs::Adding::adds_between, cm_io::proofs::Adding::rose_early, cm_io::proofs::Adding::rose_late,), unfolding(crate::specs::Log::single))]
+#[tactic(auto, using(crate::proofs::Putting::pieces), unfolding(crate::specs::Log::single))]
 pub fn put_single<S: Sink>(byte: u8, sink: &mut S) -> Put
     ensures bytes { Adds (S.told sink.old) (S.told sink.new) (single byte) result }
     ensures later { S.faults sink.old ≤ S.faults sink.new }
@@ -20,7 +20,7 @@ pub fn put_single<S: Sink>(byte: u8, sink: &mut S) -> Put
 }
 
 // A number behind a byte.
-#[tactic(auto, using(cm_io::proofs::Adding::add_append, cm_io::proofs::Adding::adds_early, cm_io::proofs::Adding::adds_late, cm_io::proofs::Adding::adds_between, cm_io::proofs::Adding::rose_early, cm_io::proofs::Adding::rose_late,), unfolding(crate::specs::Log::marked))]
+#[tactic(auto, using(crate::proofs::Putting::pieces), unfolding(crate::specs::Log::marked))]
 pub fn put_marked<S: Sink>(mark: u8, number: u64, sink: &mut S) -> Put
     ensures bytes { Adds (S.told sink.old) (S.told sink.new) (marked mark number) result }
     ensures later { S.faults sink.old ≤ S.faults sink.new }
@@ -33,7 +33,7 @@ pub fn put_marked<S: Sink>(mark: u8, number: u64, sink: &mut S) -> Put
 }
 
 // Why, at which node and at which place a text is refused.
-#[tactic(auto, using(cm_io::proofs::Adding::add_append, cm_io::proofs::Adding::adds_early, cm_io::proofs::Adding::adds_late, cm_io::proofs::Adding::adds_between, cm_io::proofs::Adding::rose_early, cm_io::proofs::Adding::rose_late,), unfolding(crate::specs::Log::fault_log))]
+#[tactic(auto, using(crate::proofs::Putting::pieces), unfolding(crate::specs::Log::fault_log))]
 fn put_fault<S: Sink>(fault: Fault, sink: &mut S) -> Put
     ensures bytes { Adds (S.told sink.old) (S.told sink.new) (fault_log fault) result }
     ensures later { S.faults sink.old ≤ S.faults sink.new }
@@ -49,7 +49,7 @@ fn put_fault<S: Sink>(fault: Fault, sink: &mut S) -> Put
 }
 
 // What stands behind the last field.
-#[tactic(auto, using(cm_io::proofs::Adding::add_append, cm_io::proofs::Adding::adds_early, cm_io::proofs::Adding::adds_late, cm_io::proofs::Adding::adds_between, cm_io::proofs::Adding::rose_early, cm_io::proofs::Adding::rose_late,), unfolding(crate::specs::Log::ending_log))]
+#[tactic(auto, using(crate::proofs::Putting::pieces), unfolding(crate::specs::Log::ending_log))]
 pub fn put_ending<S: Sink>(ending: Ending, sink: &mut S) -> Put
     ensures bytes { Adds (S.told sink.old) (S.told sink.new) (ending_log ending) result }
     ensures later { S.faults sink.old ≤ S.faults sink.new }
@@ -63,7 +63,7 @@ pub fn put_ending<S: Sink>(ending: Ending, sink: &mut S) -> Put
 }
 
 // Where a field stands.
-#[tactic(auto, using(cm_io::proofs::Adding::add_append, cm_io::proofs::Adding::adds_early, cm_io::proofs::Adding::adds_late, cm_io::proofs::Adding::adds_between, cm_io::proofs::Adding::rose_early, cm_io::proofs::Adding::rose_late,), unfolding(crate::specs::Log::place_log))]
+#[tactic(auto, using(crate::proofs::Putting::pieces), unfolding(crate::specs::Log::place_log))]
 fn put_place<S: Sink>(field: &Field, sink: &mut S) -> Put
     ensures bytes { Adds (S.told sink.old) (S.told sink.new) (place_log field.now) result }
     ensures later { S.faults sink.old ≤ S.faults sink.new }
@@ -76,7 +76,7 @@ fn put_place<S: Sink>(field: &Field, sink: &mut S) -> Put
 }
 
 // Which block took a field.
-#[tactic(auto, using(cm_io::proofs::Adding::add_append, cm_io::proofs::Adding::adds_early, cm_io::proofs::Adding::adds_late, cm_io::proofs::Adding::adds_between, cm_io::proofs::Adding::rose_early, cm_io::proofs::Adding::rose_late,), unfolding(crate::specs::Log::block_log))]
+#[tactic(auto, using(crate::proofs::Putting::pieces), unfolding(crate::specs::Log::block_log))]
 fn put_block<S: Sink>(field: &Field, sink: &mut S) -> Put
     ensures bytes { Adds (S.told sink.old) (S.told sink.new) (block_log field.now) result }
     ensures later { S.faults sink.old ≤ S.faults sink.new }
@@ -89,7 +89,7 @@ fn put_block<S: Sink>(field: &Field, sink: &mut S) -> Put
 }
 
 // A field.
-#[tactic(auto, using(cm_io::proofs::Adding::add_append, cm_io::proofs::Adding::adds_early, cm_io::proofs::Adding::adds_late, cm_io::proofs::Adding::adds_between, cm_io::proofs::Adding::rose_early, cm_io::proofs::Adding::rose_late,), unfolding(crate::specs::Log::field_log))]
+#[tactic(auto, using(crate::proofs::Putting::pieces), unfolding(crate::specs::Log::field_log))]
 fn put_field<S: Sink>(field: &Field, sink: &mut S) -> Put
     ensures bytes { Adds (S.told sink.old) (S.told sink.new) (field_log field.now) result }
     ensures later { S.faults sink.old ≤ S.faults sink.new }

@@ -164,7 +164,7 @@ impl Session {
 
     /// Puts the line of the log that tells of a key and of the parse held after it: the key, the length of
     /// the line, the ending and each field.
-    #[tactic(auto, using(cm_io::proofs::Adding::add_append, cm_io::proofs::Adding::adds_early, cm_io::proofs::Adding::adds_late, cm_io::proofs::Adding::adds_between, cm_io::proofs::Adding::rose_early, cm_io::proofs::Adding::rose_late,), unfolding(crate::specs::Log::log_line))]
+    #[tactic(auto, using(crate::proofs::Putting::pieces), unfolding(crate::specs::Log::log_line))]
     pub fn log_line<S: Sink>(&self, key: u8, sink: &mut S) -> Put
         ensures bytes { Adds (S.told sink.old) (S.told sink.new) (log_line key self.now) result }
         ensures later { S.faults sink.old ≤ S.faults sink.new }
@@ -180,7 +180,7 @@ impl Session {
     }
 
     // The key, the length of the line and the ending.
-    #[tactic(auto, using(cm_io::proofs::Adding::add_append, cm_io::proofs::Adding::adds_early, cm_io::proofs::Adding::adds_late, cm_io::proofs::Adding::adds_between, cm_io::proofs::Adding::rose_early, cm_io::proofs::Adding::rose_late,), unfolding(crate::specs::Log::head_log))]
+    #[tactic(auto, using(crate::proofs::Putting::pieces), unfolding(crate::specs::Log::head_log))]
     fn log_head<S: Sink>(&self, key: u8, sink: &mut S) -> Put
         ensures bytes { Adds (S.told sink.old) (S.told sink.new) (head_log key self.now) result }
         ensures later { S.faults sink.old ≤ S.faults sink.new }
@@ -196,7 +196,7 @@ impl Session {
     }
 
     // The key and the length of the line.
-    #[tactic(auto, using(cm_io::proofs::Adding::add_append, cm_io::proofs::Adding::adds_early, cm_io::proofs::Adding::adds_late, cm_io::proofs::Adding::adds_between, cm_io::proofs::Adding::rose_early, cm_io::proofs::Adding::rose_late,), unfolding(crate::specs::Log::size_log))]
+    #[tactic(auto, using(crate::proofs::Putting::pieces), unfolding(crate::specs::Log::size_log))]
     fn log_size<S: Sink>(&self, key: u8, sink: &mut S) -> Put
         ensures bytes { Adds (S.told sink.old) (S.told sink.new) (size_log key self.now) result }
         ensures later { S.faults sink.old ≤ S.faults sink.new }
