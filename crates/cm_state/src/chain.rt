@@ -122,7 +122,7 @@ fn skip(text: &[u8], at: usize) -> usize
     at + blank_run(&text[at..])
 }
 
-// What the chain of a node makes of a text from a place on.
+/// What the chain of a node makes of a text from a place on.
 #[tactic(auto, unfolding(crate::specs::Chain::chain_at))]
 pub fn try_chain(verbs: &Verbs, node: u16, text: &[u8], at: u16) -> Chain
     requires short { length text.now ≤ 256 }

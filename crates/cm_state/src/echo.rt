@@ -12,7 +12,7 @@ use arrayvec::ArrayVec;
 use cm_io::{Put, Sink, put_times};
 use cm_text::{bell, control_c, end_of_line, question, rubout};
 
-// A TAB is shown as one space.
+/// A TAB is shown as one space.
 pub fn shown_byte(byte: u8) -> u8
     ensures { result ≡ shown_byte byte }
 {
@@ -31,7 +31,7 @@ fn shown(line: &[u8]) -> ArrayVec<u8, 255>
     bytes
 }
 
-// Shows a line.
+/// Shows a line.
 pub fn put_line<S: Sink>(line: &[u8], sink: &mut S) -> Put
     requires { length line.now ≤ 255 }
     ensures bytes { Adds (S.told sink.old) (S.told sink.new) (shown line.now) result }
@@ -41,7 +41,7 @@ pub fn put_line<S: Sink>(line: &[u8], sink: &mut S) -> Put
     sink.put(shown(line).as_slice())
 }
 
-// Shows the end of the line, and the line again behind its prompt.
+/// Shows the end of the line, and the line again behind its prompt.
 pub fn put_again<S: Sink>(prompt: Prompt, line: &[u8], sink: &mut S) -> Put
     requires { length line.now ≤ 255 }
     ensures bytes { Adds (S.told sink.old) (S.told sink.new) (end_of_line ++ prompt_text prompt ++ shown line.now) result }
@@ -57,7 +57,7 @@ pub fn put_again<S: Sink>(prompt: Prompt, line: &[u8], sink: &mut S) -> Put
     put_line(line, sink)
 }
 
-// Takes bytes from the screen: from a line of the first size to one of the second.
+/// Takes bytes from the screen: from a line of the first size to one of the second.
 pub fn put_taken<S: Sink>(before: usize, now: usize, sink: &mut S) -> Put
     requires { before ≤ 255 }
     ensures bytes { Adds (S.told sink.old) (S.told sink.new) (taken_away before now) result }
@@ -70,7 +70,7 @@ pub fn put_taken<S: Sink>(before: usize, now: usize, sink: &mut S) -> Put
     put_times(sink, rubout(), before.saturating_sub(now) as u32)
 }
 
-// Ends the line on the screen, and shows what a refused line shows.
+/// Ends the line on the screen, and shows what a refused line shows.
 pub fn put_end<S: Sink>(ending: Ending, sink: &mut S) -> Put
     ensures bytes { Adds (S.told sink.old) (S.told sink.new) (end_of_line ++ complaint ending) result }
     ensures later { S.faults sink.old ≤ S.faults sink.new }
@@ -111,7 +111,7 @@ fn put_refusal<S: Sink>(code: Code, sink: &mut S) -> Put
     sink.put(end_of_line())
 }
 
-// Shows that a line is given up.
+/// Shows that a line is given up.
 pub fn put_stop<S: Sink>(sink: &mut S) -> Put
     ensures bytes { Adds (S.told sink.old) (S.told sink.new) (control_c ++ end_of_line) result }
     ensures later { S.faults sink.old ≤ S.faults sink.new }

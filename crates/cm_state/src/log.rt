@@ -9,7 +9,7 @@ ghost use Rattle.cm_state.specs.Log.{block_log, ending_log, fault_log, field_log
 use crate::{Ending, Fault, Field};
 use cm_io::{Put, Sink, put_decimal};
 
-// One byte.
+/// One byte.
 #[tactic(auto, using(crate::proofs::Putting::pieces), unfolding(crate::specs::Log::single))]
 pub fn put_single<S: Sink>(byte: u8, sink: &mut S) -> Put
     ensures bytes { Adds (S.told sink.old) (S.told sink.new) (single byte) result }
@@ -19,7 +19,7 @@ pub fn put_single<S: Sink>(byte: u8, sink: &mut S) -> Put
     sink.put(&[byte])
 }
 
-// A number behind a byte.
+/// A number behind a byte.
 #[tactic(auto, using(crate::proofs::Putting::pieces), unfolding(crate::specs::Log::marked))]
 pub fn put_marked<S: Sink>(mark: u8, number: u64, sink: &mut S) -> Put
     ensures bytes { Adds (S.told sink.old) (S.told sink.new) (marked mark number) result }
@@ -48,7 +48,7 @@ fn put_fault<S: Sink>(fault: Fault, sink: &mut S) -> Put
     put_marked(b'@', u64::from(fault.at), sink)
 }
 
-// What stands behind the last field.
+/// What stands behind the last field.
 #[tactic(auto, using(crate::proofs::Putting::pieces), unfolding(crate::specs::Log::ending_log))]
 pub fn put_ending<S: Sink>(ending: Ending, sink: &mut S) -> Put
     ensures bytes { Adds (S.told sink.old) (S.told sink.new) (ending_log ending) result }
@@ -104,7 +104,7 @@ fn put_field<S: Sink>(field: &Field, sink: &mut S) -> Put
     put_place(field, sink)
 }
 
-// Each field.
+/// Each field.
 #[tactic(auto, using(crate::proofs::Logging::add_no_fields, crate::proofs::Logging::add_fields_more, crate::proofs::Logging::fields_late))]
 pub fn put_fields<S: Sink>(fields: &[Field], sink: &mut S) -> Put
     ensures bytes { Adds (S.told sink.old) (S.told sink.new) (fields_log fields.now) result }

@@ -9,7 +9,7 @@ use arrayvec::ArrayVec;
 // The fields of a text of at most 255 bytes: each takes one byte or more.
 pub type Fields = ArrayVec<Field, 255>;
 
-// The parse of a text from a node on: puts its fields in place of those that were held, and answers its ending.
+/// The parse of a text from a node on: puts its fields in place of those that were held, and answers its ending.
 #[tactic(auto, unfolding(crate::specs::Parse::IsParse))]
 pub fn parse(verbs: &Verbs, start: u16, text: &[u8], fields: &mut Fields) -> Ending
     requires { length text.now ≤ 256 }
