@@ -3,11 +3,11 @@ use Rattle.std.specs.Prelude.{ℕ, Bool, true, false, not, ◌&&◌, ◌==◌, L
 use Rattle.std.specs.Str.{bytes_eq}
 
 -- the words so far, or None where they are too many or one is too long
-abbrev pub Held : Type 0
-Held = Option (List (List ℕ))
+abbrev pub Given : Type 0
+Given = Option (List (List ℕ))
 
 -- a word more: at most 4 are held, each of at most 255 bytes
-abbrev pub with_word : Held → List ℕ → Held
+abbrev pub with_word : Given → List ℕ → Given
 with_word None word = None
 with_word (Some words) word =
     if nat_lt (length words) 4 && nat_le (length word) 255 then Some (words ++ word ∷ []) else None
@@ -30,6 +30,6 @@ form_of_words (log ∷ new ∷ out ∷ []) =
     if bytes_eq log (codes "-w") && bytes_eq new (codes "-n") && is_name out then Some (record { logs = true; out = out }) else None
 form_of_words words = None
 
-unfoldable pub form_of : Held → Option Form
+unfoldable pub form_of : Given → Option Form
 form_of None = None
 form_of (Some words) = form_of_words words
