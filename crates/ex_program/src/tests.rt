@@ -96,7 +96,7 @@ struct Case<'a> {
 // A run that is Done.
 fn done<'a>(keys: &'a [u8], screen: &'a [u8], log_end: &'a [u8]) -> Case<'a> {
     Case {
-        given: given(keys),
+        given: over(keys),
         status: Status::Done,
         screen,
         log_end,
@@ -287,15 +287,10 @@ fn tells_that_the_host_failed(rt: HostRuntime) -> Result<(), Fail> {
     try_cases(&rt, rt.alloc(), &cases)
 }
 
-// Tries words that ask for nothing that the program does: nothing is touched but the screen.
-fn try_usage(rt: &impl Abort, alloc: Global, words: &[&str]) -> Result<(), Fail> {
-    let mut outcome = outcome_of(
-        alloc,
-        &Given {
-            words,
-            ..over(b"LOG\r")
-        },
-    )?;
+// Tries a run whose words ask for nothing that the program does: it touches nothing but the screen.
+fn try_usage(rt: &impl Abort, alloc: Global, given: &Given<'_>) -> Result<(), Fail> {
+    let words = given.words;
+    let mut outcome = outcome_of(alloc, given)?;
     assert_eq!(rt; outcome.status, Status::Usage, "of {words:?}");
     assert_eq!(rt; outcome.screen.bytes(), USAGE, "of {words:?}");
     assert_eq!(rt; outcome.log.bytes(), b"".as_slice(), "of {words:?}");
@@ -325,26 +320,33 @@ fn shows_the_usage_of_other_words(rt: HostRuntime) -> Result<(), Fail> {
         &["-w", "-n", "OUT", "X", "Y"],
     ];
     for words in cases {
-        try_usage(&rt, rt.alloc(), words)?;
+        let given = Given {
+            words,
+            ..over(b"LOG\r")
+        };
+        try_usage(&rt, rt.alloc(), &given)?;
     }
     Ok(())
 }
 
-#[test]
-fn takes_words_of_at_most_255_bytes(rt: HostRuntime) -> Result<(), Fail> {
-    let bytes = [b'A'; 256];
-    let long = str::from_utf8(&bytes)?;
-    try_usage(&rt, rt.alloc(), &["-n", long])?;
-    let full = str::from_utf8(&bytes[..255])?;
+// How a run ends whose OUT is this name.
+fn status_at(alloc: Global, name: &str) -> Result<Status, NoMemory> {
     let outcome = outcome_of(
-        rt.alloc(),
+        alloc,
         &Given {
-            words: &["-n", full],
+            words: &["-n", &*name],
             ..over(b"")
         },
     )?;
-    assert_eq!(rt; outcome.status, Status::Done);
-    assert!(rt; outcome.host.file(full) == Some(IMAGE));
+    Ok(outcome.status)
+}
+
+#[test]
+fn takes_words_of_at_most_255_bytes(rt: HostRuntime) -> Result<(), Fail> {
+    for (length, status) in [(255, Status::Done), (256, Status::Usage)] {
+        let name = "A".repeat(rt.alloc(), length)?;
+        assert_eq!(rt; status_at(rt.alloc(), &name)?, status, "of {length} bytes");
+    }
     Ok(())
 }
 
