@@ -14,10 +14,9 @@ const BEFORE: &[u8] = b"before";
 
 const USAGE: &[u8] = b"Usage: exec20 [-w] IN OUT | exec20 [-w] -n OUT | exec20 -g N\r\n";
 
-// What a run is given, and what of it fails.
+// What a run is given behind its words, and what of it fails.
 #[derive(Clone, Copy)]
 struct Given<'a> {
-    words: &'a [&'a str],
     keys: &'a [u8],
     failing_get: Option<u32>,
     screen_room: u32,
@@ -26,10 +25,9 @@ struct Given<'a> {
     failing_calls: &'a [u32],
 }
 
-// A run with a log over these keys, of which nothing fails.
+// These keys, and nothing that fails.
 fn over(keys: &[u8]) -> Given<'_> {
     Given {
-        words: &["-w", "-n", "OUT"],
         keys,
         failing_get: None,
         screen_room: 4096,
@@ -57,7 +55,12 @@ fn words_of(texts: &[&str]) -> Words {
     words
 }
 
+// A run with a log.
 fn outcome_of(alloc: Global, given: &Given<'_>) -> Result<Outcome, NoMemory> {
+    outcome_by(alloc, &words_of(&["-w", "-n", "OUT"]), given)
+}
+
+fn outcome_by(alloc: Global, words: &Words, given: &Given<'_>) -> Result<Outcome, NoMemory> {
     let mut outcome = Outcome {
         status: Status::NoMemory,
         keys: MemSource::new(alloc, given.keys, given.failing_get)?,
@@ -73,7 +76,7 @@ fn outcome_of(alloc: Global, given: &Given<'_>) -> Result<Outcome, NoMemory> {
     };
     outcome.status = exec20(
         alloc,
-        &words_of(given.words),
+        words,
         &mut outcome.host,
         &mut outcome.keys,
         &mut outcome.screen,
@@ -169,7 +172,7 @@ fn logs_each_key_where_the_words_ask_for_it(rt: HostRuntime) -> Result<(), Fail>
         (["-w", "-n", "OUT"].as_slice(), log),
         (["-n", "OUT"].as_slice(), b"".as_slice()),
     ] {
-        let outcome = outcome_of(rt.alloc(), &Given { words, ..logged })?;
+        let outcome = outcome_by(rt.alloc(), &words_of(words), &logged)?;
         assert_eq!(rt; outcome.status, Status::Done);
         assert_eq!(rt; outcome.screen.bytes(), screen);
         assert_eq!(rt; outcome.log.bytes(), log);
@@ -287,21 +290,19 @@ fn tells_that_the_host_failed(rt: HostRuntime) -> Result<(), Fail> {
     try_cases(&rt, rt.alloc(), &cases)
 }
 
-// Tries a run whose words ask for nothing that the program does: it touches nothing but the screen.
-fn try_usage(rt: &impl Abort, alloc: Global, given: &Given<'_>) -> Result<(), Fail> {
-    let words = given.words;
-    let mut outcome = outcome_of(alloc, given)?;
-    assert_eq!(rt; outcome.status, Status::Usage, "of {words:?}");
-    assert_eq!(rt; outcome.screen.bytes(), USAGE, "of {words:?}");
-    assert_eq!(rt; outcome.log.bytes(), b"".as_slice(), "of {words:?}");
-    assert!(rt; outcome.host.output().is_none(), "of {words:?}");
-    assert!(rt; outcome.host.file("IN") == Some(BEFORE), "of {words:?}");
-    assert_eq!(rt; outcome.keys.get(), Got::Byte(b'L'), "of {words:?}");
-    Ok(())
+// Whether a run over the keys `LOG` showed the usage, and touched nothing else.
+fn is_refused(outcome: &mut Outcome) -> bool {
+    outcome.status == Status::Usage
+        && outcome.screen.bytes() == USAGE
+        && outcome.log.bytes().is_empty()
+        && outcome.host.output().is_none()
+        && outcome.host.file("IN") == Some(BEFORE)
+        && outcome.keys.get() == Got::Byte(b'L')
 }
 
 #[test]
 fn shows_the_usage_of_other_words(rt: HostRuntime) -> Result<(), Fail> {
+    let base = over(b"LOG\r");
     let cases: [&[&str]; 15] = [
         &[],
         &["-w"],
@@ -320,32 +321,19 @@ fn shows_the_usage_of_other_words(rt: HostRuntime) -> Result<(), Fail> {
         &["-w", "-n", "OUT", "X", "Y"],
     ];
     for words in cases {
-        let given = Given {
-            words,
-            ..over(b"LOG\r")
-        };
-        try_usage(&rt, rt.alloc(), &given)?;
+        let mut outcome = outcome_by(rt.alloc(), &words_of(words), &base)?;
+        assert!(rt; is_refused(&mut outcome), "of {words:?}");
     }
     Ok(())
-}
-
-// How a run ends whose OUT is this name.
-fn status_at(alloc: Global, name: &str) -> Result<Status, NoMemory> {
-    let outcome = outcome_of(
-        alloc,
-        &Given {
-            words: &["-n", &*name],
-            ..over(b"")
-        },
-    )?;
-    Ok(outcome.status)
 }
 
 #[test]
 fn takes_words_of_at_most_255_bytes(rt: HostRuntime) -> Result<(), Fail> {
     for (length, status) in [(255, Status::Done), (256, Status::Usage)] {
         let name = "A".repeat(rt.alloc(), length)?;
-        assert_eq!(rt; status_at(rt.alloc(), &name)?, status, "of {length} bytes");
+        let words = words_of(&["-n", name.as_str()]);
+        let outcome = outcome_by(rt.alloc(), &words, &over(b""))?;
+        assert_eq!(rt; outcome.status, status, "of {length} bytes");
     }
     Ok(())
 }
