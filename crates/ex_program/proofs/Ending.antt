@@ -7,7 +7,8 @@ use Rattle.cm_io.specs.Fault.{Rose}
 use Rattle.cm_io.proofs.Adding.{adds_early, adds_late, rose_early}
 use Rattle.ex_program.specs.Messages.{message}
 use Rattle.ex_program.specs.Run.{World, after, closing, logged, run_keys, run_shown, starting}
-use Rattle.ex_program.specs.End.{Causes, Closes, Counts, CutShort, IsOr, IsRun, Ran, Reached, Scene, StatusCause, Stops, Tried, has_ended, key_limit, scene}
+use Rattle.ex_program.specs.Cause.{Causes, Counts, StatusCause}
+use Rattle.ex_program.specs.End.{Closes, CutShort, IsOr, IsRun, Ran, Reached, Scene, Stops, Tried, has_ended, key_limit, scene}
 use Rattle.ex_program.specs.declared.status.Status.{Status}
 use Rattle.ex_program.specs.declared.status.Status.TheVariants as status
 use Rattle.ex_program.specs.declared.stop.Stop.{Stop}

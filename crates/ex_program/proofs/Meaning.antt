@@ -9,7 +9,8 @@ use Rattle.cm_io.specs.Fault.{Rose}
 use Rattle.ex_program.specs.Form.{Form}
 use Rattle.ex_program.specs.Messages.{message}
 use Rattle.ex_program.specs.Run.{World, after, closing, logged, logs, run_keys, run_shown, shown, shows, starting, step}
-use Rattle.ex_program.specs.End.{Counts, Ends, Finished, Halted, HostCause, IsOver, IsQuiet, IsRun, Ran, Scene, Stands, StatusCause, Tried, has_ended, key_limit}
+use Rattle.ex_program.specs.Cause.{Counts, HostCause, IsQuiet, StatusCause}
+use Rattle.ex_program.specs.End.{Ends, Finished, Halted, IsOver, IsRun, Ran, Scene, Stands, Tried, has_ended, key_limit}
 use Rattle.ex_program.specs.declared.status.Status.{Status}
 use Rattle.ex_program.specs.declared.status.Status.TheVariants as status
 use Rattle.ex_program.proofs.Folds.{after-append, logged-append, shown-append}

@@ -3,14 +3,15 @@ ghost use Rattle.std.specs.Prelude.{◌≡◌, ◌⊎◌, ◌≤◌, ◌<◌, �
 ghost use Rattle.cm_io.specs.Host.{KeepsOthers};
 ghost use Rattle.cm_io.specs.Told.{add};
 ghost use Rattle.cm_state.specs.Verbs.{exec_verbs};
-ghost use Rattle.ex_program.specs.End.{HostCause, IsQuiet, IsRun, Leaves, Ran, Stands, StatusCause, Tried, counts, key_limit, scene};
+ghost use Rattle.ex_program.specs.Cause.{HostCause, IsQuiet, StatusCause, counts};
+ghost use Rattle.ex_program.specs.End.{IsRun, Leaves, Ran, Stands, Tried, key_limit, scene};
 ghost use Rattle.ex_program.specs.Form.{Form, form_of};
 ghost use Rattle.ex_program.specs.Image.{Saves, image};
 ghost use Rattle.ex_program.specs.Messages.{message};
 ghost use Rattle.ex_program.specs.Run.{logged, run_shown, starting};
 
+use crate::end::{close, show_message};
 use crate::run::run;
-use crate::save::{close, show_message};
 use crate::{Status, Words};
 use cm_io::{Clock, Host, Sink, Source};
 use cm_state::Verbs;

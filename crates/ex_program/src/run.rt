@@ -1,7 +1,8 @@
 // The run over the keys.
 ghost use Rattle.std.specs.Prelude.{◌≡◌, ◌≤◌, IsTrue};
 ghost use Rattle.cm_state.specs.Verbs.{exec_verbs};
-ghost use Rattle.ex_program.specs.End.{Causes, Stops, counts, scene};
+ghost use Rattle.ex_program.specs.Cause.{Causes, counts};
+ghost use Rattle.ex_program.specs.End.{Stops, scene};
 
 use crate::step::{Step, take_key};
 use crate::stop::Stop;

@@ -5,7 +5,8 @@ ghost use Rattle.std.specs.Prelude.{◌≡◌, ◌≤◌, ◌⊎◌, ◌++◌, [
 ghost use Rattle.cm_io.specs.Fault.{PutCause};
 ghost use Rattle.cm_io.specs.Host.{KeepsOthers};
 ghost use Rattle.cm_text.specs.Shown.{end_of_line};
-ghost use Rattle.ex_program.specs.End.{Closes, HostCause, IsEnd, IsOr, Tried};
+ghost use Rattle.ex_program.specs.Cause.{HostCause};
+ghost use Rattle.ex_program.specs.End.{Closes, IsEnd, IsOr, Tried};
 ghost use Rattle.ex_program.specs.Image.{Keeps, Saves, image};
 ghost use Rattle.ex_program.specs.Messages.{message};
 

@@ -3,7 +3,7 @@ use Rattle.cm_io.specs.Told.{add}
 use Rattle.cm_text.specs.Shown.{end_of_line}
 use Rattle.ex_program.specs.Messages.{message}
 use Rattle.ex_program.proofs.Trying.{tried_behind, tried_joined}
-use Rattle.ex_program.proofs.save.halt.Goals as goal
+use Rattle.ex_program.proofs.end.halt.Goals as goal
 
 pub returns-in-Done-clause-shown : goal.returns-in-Done-clause-shown
 returns-in-Done-clause-shown g c =
