@@ -1,5 +1,5 @@
 -- What the parts of a step come to.
-use Rattle.std.proofs.Common.{◌≡◌, ℕ, ◌≤◌, Bool, List, [], ◌++◌, if◌then◌else◌, refl, sym, ap, ◌∙◌, subst}
+use Rattle.std.proofs.Common.{◌≡◌, ℕ, Bool, List, [], ◌++◌, if◌then◌else◌, refl, sym, ap, ◌∙◌, subst}
 use Rattle.cm_io.specs.Told.{Told, add, Adds, AddsPart}
 use Rattle.cm_io.specs.declared.sink.Put.{Put}
 use Rattle.cm_io.specs.declared.sink.Put.TheVariants.{Done}
@@ -14,7 +14,7 @@ use Rattle.cm_state.specs.declared.turn.Turn.{Turn}
 use Rattle.cm_state.specs.declared.turn.Turn.TheVariants as turns
 use Rattle.cm_state.specs.declared.verbs.Verbs.{Verbs}
 use Rattle.cm_line.specs.Keys.{class_of}
-use Rattle.ex_program.specs.Run.{World, answered, answer, logs, step, shows}
+use Rattle.ex_program.specs.Run.{answered, answer, logs, step, shows}
 use Rattle.ex_program.specs.Step.{Answers, IsNotLog, LeadsTo, LogCause, ScreenCause, going}
 use Rattle.ex_program.specs.declared.step.Step.{Step}
 use Rattle.ex_program.specs.declared.step.Step.TheVariants as steps

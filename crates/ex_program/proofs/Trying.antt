@@ -1,7 +1,7 @@
 -- Messages that are tried.
-use Rattle.std.proofs.Common.{◌≡◌, ◌⊎◌, ℕ, ◌≤◌, List, [], ◌++◌, refl, sym, ap, ◌∙◌, subst, inl, inr, append_assoc}
+use Rattle.std.proofs.Common.{◌≡◌, ◌⊎◌, ℕ, ◌≤◌, List, [], ◌++◌, sym, ap, ◌∙◌, subst, inl, inr, append_assoc}
 use Rattle.std.proofs.lemmas.List.{append-nil}
-use Rattle.cm_io.specs.Told.{Told, add, AddsPart, IsPart}
+use Rattle.cm_io.specs.Told.{Told, add, AddsPart}
 use Rattle.cm_io.specs.Fault.{Rose}
 use Rattle.cm_io.proofs.Adding.{add_append, rose_late}
 use Rattle.ex_program.specs.End.{Tried}

@@ -1,5 +1,5 @@
 -- What a confirmed line commands, and the reply to it.
-use Rattle.std.specs.Prelude.{ℕ, ◌==◌, Bool, true, false, List, [], ◌∷◌, ◌++◌, codes, if◌then◌else◌}
+use Rattle.std.specs.Prelude.{ℕ, ◌==◌, List, [], ◌∷◌, ◌++◌, codes, if◌then◌else◌}
 use Rattle.cm_text.specs.Shown.{end_of_line}
 use Rattle.cm_state.specs.declared.field.Field.{Field}
 use Rattle.ex_program.specs.declared.command.Command.{Command}

@@ -86,23 +86,39 @@ fn outcome_by(alloc: Global, words: &Words, given: &Given<'_>) -> Result<Outcome
     Ok(outcome)
 }
 
-// A run, and what is to stand at its end: the whole screen, the end of the log, and OUT.
+// What a log is to hold.
+#[derive(Clone, Copy)]
+enum Log<'a> {
+    Whole(&'a [u8]),
+    End(&'a [u8]),
+}
+
+impl Log<'_> {
+    fn is_of(self, bytes: &[u8]) -> bool {
+        match self {
+            Log::Whole(whole) => bytes == whole,
+            Log::End(end) => bytes.ends_with(end),
+        }
+    }
+}
+
+// A run, and what is to stand at its end.
 #[derive(Clone, Copy)]
 struct Case<'a> {
     given: Given<'a>,
     status: Status,
     screen: &'a [u8],
-    log_end: &'a [u8],
+    log: Log<'a>,
     out: Option<&'a [u8]>,
 }
 
 // A run that is Done.
-fn done<'a>(keys: &'a [u8], screen: &'a [u8], log_end: &'a [u8]) -> Case<'a> {
+fn done<'a>(keys: &'a [u8], screen: &'a [u8], log: Log<'a>) -> Case<'a> {
     Case {
         given: over(keys),
         status: Status::Done,
         screen,
-        log_end,
+        log,
         out: Some(IMAGE),
     }
 }
@@ -114,10 +130,7 @@ fn try_cases(rt: &impl Abort, alloc: Global, cases: &[Case<'_>]) -> Result<(), F
         let outcome = outcome_of(alloc, &case.given)?;
         assert_eq!(rt; outcome.status, case.status, "after {keys:?}");
         assert_eq!(rt; outcome.screen.bytes(), case.screen, "after {keys:?}");
-        assert!(rt;
-            outcome.log.bytes().ends_with(case.log_end),
-            "after {keys:?}"
-        );
+        assert!(rt; case.log.is_of(outcome.log.bytes()), "after {keys:?}");
         assert!(rt; outcome.host.file("OUT") == case.out, "after {keys:?}");
         assert!(rt; outcome.host.file("IN") == Some(BEFORE), "after {keys:?}");
     }
@@ -127,36 +140,36 @@ fn try_cases(rt: &impl Abort, alloc: Global, cases: &[Case<'_>]) -> Result<(), F
 #[test]
 fn shows_the_prompt_and_the_end(rt: HostRuntime) -> Result<(), Fail> {
     let cases = [
-        done(b"", b"@\r\n", b""),
+        done(b"", b"@\r\n", Log::Whole(b"")),
         done(
             b"LOGOUT\r",
             b"@LOGOUT\r\nLogged out\r\n",
-            b"0d 6 D 0.1k10@0-6\n",
+            Log::End(b"0d 6 D 0.1k10@0-6\n"),
         ),
         done(
             b"INF VER X\r",
             b"@INF VER X\r\n?Not confirmed\r\n@\r\n",
-            b"\n0d 9 F25.5@8 0.1k9@0-3 27.0k4@4-7\n",
+            Log::End(b"\n0d 9 F25.5@8 0.1k9@0-3 27.0k4@4-7\n"),
         ),
         done(
             b"L\r\x08",
             b"@L\r\n?Ambiguous keyword\r\n@\r\n",
-            b"4c 1 O\n0d 1 F2.0@0\n08 0 O\n",
+            Log::Whole(b"4c 1 O\n0d 1 F2.0@0\n08 0 O\n"),
         ),
         done(
             b"INF X\r\x08",
             b"@INF X\r\n?Unrecognized keyword\r\n@INF \r\n",
-            b"\n0d 5 F1.27@4 0.1k9@0-3\n08 4 O 0.1k9@0-3\n",
+            Log::End(b"\n0d 5 F1.27@4 0.1k9@0-3\n08 4 O 0.1k9@0-3\n"),
         ),
         done(
             b"INF\x03LOG\r",
             b"@INF^C\r\n@LOG\r\nLogged out\r\n",
-            b"\n03 0 O\n4c 1 O\n4f 2 O\n47 3 O\n0d 3 D 0.1k10@0-3\n",
+            Log::End(b"\n03 0 O\n4c 1 O\n4f 2 O\n47 3 O\n0d 3 D 0.1k10@0-3\n"),
         ),
         done(
             b"A.B-C  \x17\x17\x17\x17",
             b"@A.B-C  \x08 \x08\x08 \x08\x08 \x08\x08 \x08\x08 \x08\x08 \x08\x08 \x08\x07\r\n",
-            b"\n17 0 O\n17 0 O\n",
+            Log::End(b"\n17 0 O\n17 0 O\n"),
         ),
     ];
     try_cases(&rt, rt.alloc(), &cases)
@@ -202,7 +215,7 @@ fn stops_where_the_outside_fails(rt: HostRuntime) -> Result<(), Fail> {
             },
             status: Status::ReadFault,
             screen: b"@LO\r\n?Read fault\r\n",
-            log_end: b"4c 1 O\n4f 2 O\n",
+            log: Log::Whole(b"4c 1 O\n4f 2 O\n"),
             out: Some(IMAGE),
         },
         Case {
@@ -212,7 +225,7 @@ fn stops_where_the_outside_fails(rt: HostRuntime) -> Result<(), Fail> {
             },
             status: Status::WriteFault,
             screen: b"@INF VER\r\n EXE",
-            log_end: b"\n0d 7 D 0.1k9@0-3 27.0k4@4-7\n",
+            log: Log::End(b"\n0d 7 D 0.1k9@0-3 27.0k4@4-7\n"),
             out: Some(IMAGE),
         },
         Case {
@@ -222,7 +235,7 @@ fn stops_where_the_outside_fails(rt: HostRuntime) -> Result<(), Fail> {
             },
             status: Status::WriteFault,
             screen: b"@INF ",
-            log_end: b"\n20 4 O 0.1k9@0-3\n",
+            log: Log::End(b"\n20 4 O 0.1k9@0-3\n"),
             out: Some(IMAGE),
         },
         Case {
@@ -232,7 +245,7 @@ fn stops_where_the_outside_fails(rt: HostRuntime) -> Result<(), Fail> {
             },
             status: Status::WriteFault,
             screen: b"@L",
-            log_end: b"4c ",
+            log: Log::Whole(b"4c "),
             out: Some(IMAGE),
         },
     ];
@@ -245,7 +258,7 @@ fn host_fault<'a>(given: Given<'a>, screen: &'a [u8], out: Option<&'a [u8]>) -> 
         given,
         status: Status::HostFault,
         screen,
-        log_end: b"",
+        log: Log::End(b""),
         out,
     }
 }
@@ -380,6 +393,8 @@ fn takes_no_more_keys_than_its_limit(rt: HostRuntime) -> Result<(), Fail> {
     Ok(())
 }
 
+const TWO_LINES: &[u8] = b"INF VER\rLOGOUT\r";
+
 // What fails, at a number.
 #[derive(Clone, Copy, Debug)]
 enum Fault {
@@ -390,7 +405,7 @@ enum Fault {
 }
 
 impl Fault {
-    // The run of these keys that meets the fault at this number, where it goes on for so long.
+    // A run that meets the fault at this number, where it goes on for so long.
     fn failing<'a>(self, base: Given<'a>, number: &'a [u32; 1]) -> Given<'a> {
         let [count] = *number;
         match self {
@@ -439,72 +454,53 @@ fn is_front(text: &[u8], message: &[u8], whole: &[u8]) -> bool {
     }
 }
 
-// Whether a run met the fault. It checks what stands then, against the run that meets none.
-fn meets(rt: &impl Abort, fault: Fault, number: u32, outcome: &Outcome, whole: &Outcome) -> bool {
-    assert!(rt;
-        outcome.host.file("IN") == Some(BEFORE),
-        "{fault:?} {number}"
-    );
-    if outcome.status == Status::Done {
-        assert_eq!(rt;
-            outcome.screen.bytes(),
-            whole.screen.bytes(),
-            "{fault:?} {number}"
-        );
-        assert_eq!(rt;
-            outcome.log.bytes(),
-            whole.log.bytes(),
-            "{fault:?} {number}"
-        );
-        assert!(rt;
-            outcome.host.file("OUT") == Some(IMAGE),
-            "{fault:?} {number}"
-        );
-        return false;
-    }
-    assert_eq!(rt; outcome.status, fault.status(), "{fault:?} {number}");
-    let is_shown = is_front(
-        outcome.screen.bytes(),
-        fault.message(),
-        whole.screen.bytes(),
-    );
-    assert!(rt; is_shown, "{fault:?} {number}");
-    assert!(rt;
-        whole.log.bytes().starts_with(outcome.log.bytes()),
-        "{fault:?} {number}"
-    );
-    let is_saved = outcome.host.file("OUT") == Some(IMAGE);
-    assert!(rt;
-        is_saved || fault.status() == Status::HostFault,
-        "{fault:?} {number}"
-    );
-    true
+// Whether the fault cut a run short, and a front of the whole run stands.
+fn is_cut(fault: Fault, outcome: &Outcome, whole: &Outcome) -> bool {
+    let screen = outcome.screen.bytes();
+    outcome.status == fault.status()
+        && is_front(screen, fault.message(), whole.screen.bytes())
+        && whole.log.bytes().starts_with(outcome.log.bytes())
+        && (outcome.status == Status::HostFault || outcome.host.file("OUT") == Some(IMAGE))
+        && outcome.host.file("IN") == Some(BEFORE)
 }
 
-// How many runs meet the fault, as its number is counted upwards from 0.
-fn count_faults(rt: &impl Abort, alloc: Global, fault: Fault) -> Result<u32, Fail> {
-    let base = over(b"INF VER\rLOGOUT\r");
-    let whole = outcome_of(alloc, &base)?;
-    for number in 0..1000 {
-        let outcome = outcome_of(alloc, &fault.failing(base, &[number]))?;
-        if !meets(rt, fault, number, &outcome, &whole) {
-            return Ok(number);
+// Whether the whole run stands.
+fn is_whole(outcome: &Outcome, whole: &Outcome) -> bool {
+    outcome.status == Status::Done
+        && outcome.screen.bytes() == whole.screen.bytes()
+        && outcome.log.bytes() == whole.log.bytes()
+        && outcome.host.file("OUT") == Some(IMAGE)
+        && outcome.host.file("IN") == Some(BEFORE)
+}
+
+// How many runs the fault cuts short, as its number is counted upwards from 0 until a run is Done.
+fn count_cut(rt: &impl Abort, alloc: Global, fault: Fault, whole: &Outcome) -> Result<usize, Fail> {
+    for number in 0..1000u32 {
+        let outcome = outcome_of(alloc, &fault.failing(over(TWO_LINES), &[number]))?;
+        if outcome.status == Status::Done {
+            assert!(rt; is_whole(&outcome, whole), "{fault:?} {number}");
+            return Ok(number as usize);
         }
+        assert!(rt; is_cut(fault, &outcome, whole), "{fault:?} {number}");
     }
     Err(Fail::from("no run is Done"))
 }
 
 #[test]
 fn leaves_a_front_of_the_run_at_each_fault(rt: HostRuntime) -> Result<(), Fail> {
-    let screen = b"@INF VER\r\n EXEC20 1\r\n@LOGOUT\r\nLogged out\r\n";
-    let cases = [
-        (Fault::Get, 15),
-        (Fault::Screen, screen.len() as u32),
+    let whole = outcome_of(rt.alloc(), &over(TWO_LINES))?;
+    assert_eq!(rt;
+        whole.screen.bytes(),
+        b"@INF VER\r\n EXEC20 1\r\n@LOGOUT\r\nLogged out\r\n".as_slice()
+    );
+    for (fault, count) in [
+        (Fault::Get, TWO_LINES.len()),
+        (Fault::Screen, whole.screen.bytes().len()),
+        (Fault::Log, whole.log.bytes().len()),
         (Fault::Host, 3),
-    ];
-    for (fault, faults) in cases {
-        assert_eq!(rt; count_faults(&rt, rt.alloc(), fault)?, faults, "{fault:?}");
+    ] {
+        let cut = count_cut(&rt, rt.alloc(), fault, &whole)?;
+        assert_eq!(rt; cut, count, "{fault:?}");
     }
-    assert!(rt; count_faults(&rt, rt.alloc(), Fault::Log)? > 0);
     Ok(())
 }

@@ -1,7 +1,7 @@
 use Rattle.std.proofs.Common.{◌≡◌, ◌∙◌, ap, arith, refl, sym, None}
 use Rattle.cm_state.specs.declared.prompt.Prompt.TheVariants.{Main}
 use Rattle.cm_state.specs.Held.{Held, at_start}
-use Rattle.ex_program.proofs.Running.{Runs, cut_first, runs_cut, runs_ended, runs_first, runs_more, runs_out, runs_over, runs_same, runs_unread, subst_session}
+use Rattle.ex_program.proofs.Running.{cut_first, runs_cut, runs_ended, runs_first, runs_more, runs_out, runs_over, runs_same, runs_unread, subst_session}
 use Rattle.ex_program.proofs.run.run.Goals as goal
 
 pub returns-in-Failed-clause-stops : goal.returns-in-Failed-clause-stops

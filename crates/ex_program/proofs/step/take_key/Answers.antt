@@ -1,4 +1,3 @@
-use Rattle.std.proofs.Common.{◌≡◌}
 use Rattle.cm_state.specs.Echo.{echo}
 use Rattle.cm_state.specs.Verbs.{exec_verbs}
 use Rattle.ex_program.specs.Run.{answer}
