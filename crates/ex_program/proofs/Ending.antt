@@ -1,14 +1,13 @@
 -- What stands at the end of a run, from how it stopped and what its end shows.
-use Rattle.std.proofs.Common.{◌≡◌, ◌⊎◌, ℕ, ◌<◌, ◌≤◌, Bool, true, false, List, [], ◌++◌, length, refl, sym, ap, ◌∙◌, subst, inl, inr, arith, if◌then◌else◌}
-use Rattle.std.proofs.lemmas.List.{append-nil}
+use Rattle.std.proofs.Common.{◌≡◌, ℕ, ◌≤◌, Bool, true, false, List, [], ◌++◌, sym, ap, ◌∙◌, subst, inl, inr, arith, if◌then◌else◌}
 use Rattle.cm_text.specs.Shown.{end_of_line}
-use Rattle.cm_io.specs.Told.{Told, add, AddsPart}
+use Rattle.cm_io.specs.Told.{Told, AddsPart}
 use Rattle.cm_io.specs.Fault.{Rose}
 use Rattle.cm_io.proofs.Adding.{adds_early, adds_late, rose_early}
 use Rattle.ex_program.specs.Messages.{message}
 use Rattle.ex_program.specs.Run.{World, after, closing, logged, run_keys, run_shown, starting}
 use Rattle.ex_program.specs.Cause.{Causes, Counts, StatusCause}
-use Rattle.ex_program.specs.End.{Closes, CutShort, IsOr, IsRun, Ran, Reached, Scene, Stops, Tried, has_ended, key_limit, scene}
+use Rattle.ex_program.specs.End.{Closes, IsOr, IsRun, Ran, Scene, Stops, Tried, scene}
 use Rattle.ex_program.specs.declared.status.Status.{Status}
 use Rattle.ex_program.specs.declared.status.Status.TheVariants as status
 use Rattle.ex_program.specs.declared.stop.Stop.{Stop}

@@ -1,16 +1,16 @@
 -- What stands at the end of a run, as its readers want to know it.
-use Rattle.std.proofs.Common.{◌≡◌, ◌⊎◌, ℕ, ◌+◌, ◌-◌, ◌^◌, ◌<◌, ◌≤◌, Bool, true, false, List, [], ◌∷◌, ◌++◌, length, Option, Some, None, refl, sym, ap, ◌∙◌, subst, inl, inr, arith, length-append, if◌then◌else◌}
+use Rattle.std.proofs.Common.{◌≡◌, ◌⊎◌, ℕ, ◌<◌, Bool, true, List, [], ◌∷◌, ◌++◌, length, Option, Some, None, refl, sym, ap, ◌∙◌, subst, inl, inr, arith, length-append, if◌then◌else◌}
 use Rattle.std.proofs.lemmas.List.{append-nil}
 use Rattle.cm_text.specs.Shown.{end_of_line}
 use Rattle.cm_state.specs.declared.prompt.Prompt.TheVariants.{Main}
 use Rattle.cm_state.specs.Echo.{prompt_text}
-use Rattle.cm_io.specs.Told.{Told, add, IsPart}
+use Rattle.cm_io.specs.Told.{add}
 use Rattle.cm_io.specs.Fault.{Rose}
 use Rattle.ex_program.specs.Form.{Form}
 use Rattle.ex_program.specs.Messages.{message}
 use Rattle.ex_program.specs.Run.{World, after, closing, logged, logs, run_keys, run_shown, shown, shows, starting, step}
 use Rattle.ex_program.specs.Cause.{Counts, HostCause, IsQuiet, StatusCause}
-use Rattle.ex_program.specs.End.{Ends, Finished, Halted, IsOver, IsRun, Ran, Scene, Stands, Tried, has_ended, key_limit}
+use Rattle.ex_program.specs.End.{Ends, Finished, IsOver, IsRun, Ran, Scene, key_limit}
 use Rattle.ex_program.specs.declared.status.Status.{Status}
 use Rattle.ex_program.specs.declared.status.Status.TheVariants as status
 use Rattle.ex_program.proofs.Folds.{after-append, logged-append, shown-append}

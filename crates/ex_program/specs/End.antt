@@ -1,5 +1,5 @@
 -- How a run stops, and what stands at its end.
-use Rattle.std.specs.Prelude.{◌≡◌, ◌⊎◌, ◌<◌, ◌≤◌, ℕ, ◌-◌, ◌^◌, Bool, true, false, List, [], ◌++◌, length, Option, Some, None}
+use Rattle.std.specs.Prelude.{◌≡◌, ◌⊎◌, ◌<◌, ◌≤◌, ℕ, Bool, true, false, List, [], ◌++◌, length, Option, Some, None}
 use Rattle.cm_text.specs.Shown.{end_of_line}
 use Rattle.cm_io.specs.Told.{Told, add, AddsPart, IsPart}
 use Rattle.cm_io.specs.Fault.{Rose}
