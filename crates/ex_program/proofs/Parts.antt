@@ -2,7 +2,7 @@
 use Rattle.std.proofs.Common.{◌≡◌, ℕ, List, [], refl, sym}
 use Rattle.std.proofs.lemmas.List.{append-nil}
 use Rattle.cm_io.specs.Told.{Told, add, AddsPart}
-use Rattle.cm_io.proofs.Adding.{add_none}
+use Rattle.cm_io.proofs.Adding.{add_append, add_none, adds_between, adds_early, adds_late, rose_early, rose_late}
 
 -- nothing is a front of what is to be put
 pub adds_nothing : (told : Told) (bytes : List ℕ) → AddsPart told told bytes
@@ -19,3 +19,6 @@ adds_whole before now bytes whole = record {
   is_part = record { rest = []; joined = append-nil bytes };
   added = whole;
 }
+
+-- what joins pieces that are put one behind the other
+pub ruleset pieces = (add_none, add_append, adds_early, adds_late, adds_between, rose_early, rose_late)

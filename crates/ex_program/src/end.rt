@@ -1,5 +1,5 @@
 // What stands at the end of a run: the image is written, and the message of the status is shown.
-#![tactic(auto, using(cm_io::proofs::Adding::add_none, cm_io::proofs::Adding::add_append, cm_io::proofs::Adding::adds_early, cm_io::proofs::Adding::adds_late, cm_io::proofs::Adding::adds_between, cm_io::proofs::Adding::rose_early, cm_io::proofs::Adding::rose_late,))]
+#![tactic(auto, using(crate::proofs::Parts::pieces))]
 
 ghost use Rattle.std.specs.Prelude.{◌≡◌, ◌≤◌, ◌⊎◌, ◌++◌, [], IsTrue, Some};
 ghost use Rattle.cm_io.specs.Fault.{PutCause};

@@ -1,5 +1,5 @@
 // What one key of a run does: edits the line, and acts where it confirms one.
-#![tactic(auto, using(cm_io::proofs::Adding::add_none, cm_io::proofs::Adding::add_append, cm_io::proofs::Adding::adds_early, cm_io::proofs::Adding::adds_late, cm_io::proofs::Adding::adds_between, cm_io::proofs::Adding::rose_early, cm_io::proofs::Adding::rose_late, crate::proofs::Parts::adds_nothing, crate::proofs::Parts::adds_whole,))]
+#![tactic(auto, using(crate::proofs::Parts::pieces, crate::proofs::Parts::adds_nothing, crate::proofs::Parts::adds_whole))]
 
 ghost use Rattle.std.specs.Prelude.{◌≡◌, ◌≤◌, ◌++◌, [], IsTrue, ℕ, List, if◌then◌else◌};
 ghost use Rattle.cm_io.specs.Told.{Adds};
@@ -34,7 +34,7 @@ const COMMANDS: u16 = 0;
 
 /// Takes one key of a run that is not over: edits the line and shows the echo, logs the key, and answers
 /// it. Only a confirmed line acts.
-#[tactic(auto, using(cm_io::proofs::Adding::add_none, cm_io::proofs::Adding::add_append, cm_io::proofs::Adding::adds_early, cm_io::proofs::Adding::adds_late, cm_io::proofs::Adding::adds_between, cm_io::proofs::Adding::rose_early, cm_io::proofs::Adding::rose_late, crate::proofs::Parts::adds_nothing, crate::proofs::Parts::adds_whole,), unfolding(crate::specs::Run::logs, crate::specs::Run::shows, crate::specs::Run::step))]
+#[tactic(auto, using(crate::proofs::Parts::pieces, crate::proofs::Parts::adds_nothing, crate::proofs::Parts::adds_whole), unfolding(crate::specs::Run::logs, crate::specs::Run::shows, crate::specs::Run::step))]
 pub fn take_key<S: Sink, W: Sink, C: Clock>(
     writes: bool,
     key: u8,
@@ -80,7 +80,7 @@ fn log_key<W: Sink>(writes: bool, key: u8, session: &Session, log: &mut W) -> Pu
 
 // Answers a key that came to this turn: a confirmed line acts, and a line that is finished or given up
 // makes way for the next.
-#[tactic(auto, using(cm_io::proofs::Adding::add_none, cm_io::proofs::Adding::add_append, cm_io::proofs::Adding::adds_early, cm_io::proofs::Adding::adds_late, cm_io::proofs::Adding::adds_between, cm_io::proofs::Adding::rose_early, cm_io::proofs::Adding::rose_late, crate::proofs::Parts::adds_nothing, crate::proofs::Parts::adds_whole,), unfolding(crate::specs::Run::answer, crate::specs::Run::answered))]
+#[tactic(auto, using(crate::proofs::Parts::pieces, crate::proofs::Parts::adds_nothing, crate::proofs::Parts::adds_whole), unfolding(crate::specs::Run::answer, crate::specs::Run::answered))]
 fn answer<S: Sink, C: Clock>(
     turn: Turn,
     session: &mut Session,
