@@ -22,3 +22,6 @@ adds_whole before now bytes whole = record {
 
 -- what joins pieces that are put one behind the other
 pub ruleset pieces = (add_none, add_append, adds_early, adds_late, adds_between, rose_early, rose_late)
+
+-- and what makes fronts of them
+pub ruleset fronts = (pieces, adds_nothing, adds_whole)

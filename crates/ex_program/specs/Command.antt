@@ -5,7 +5,8 @@ use Rattle.cm_state.specs.declared.field.Field.{Field}
 use Rattle.ex_program.specs.declared.command.Command.{Command}
 use Rattle.ex_program.specs.declared.command.Command.TheVariants.{Empty, Version, Logout}
 
--- the code of the first keyword names the command: 10 is LOGOUT, and else it is INFORMATION, of which VERSION is all there is
+-- the code of the first keyword names the command: 10 is LOGOUT, and else it is INFORMATION, which tells of
+-- VERSION alone
 abbrev pub command_of : List Field → Command
 command_of [] = Empty
 command_of (verb ∷ fields) = if verb.code == 10 then Logout else Version

@@ -51,7 +51,8 @@ abbrev pub Stops : Bool → Scene → Scene → Stop → Type 0
 Stops writes a b stop.LoggedOut =
     (taken : List ℕ) × Reached writes a b taken × (has_ended a taken ≡ true) × (length taken ≤ key_limit)
 Stops writes a b stop.KeysEnded =
-    (taken : List ℕ) × Reached writes a b taken × (has_ended a taken ≡ false) × (length taken < key_limit) × (b.keys ≡ [])
+    (taken : List ℕ) × Reached writes a b taken × (has_ended a taken ≡ false) × (length taken < key_limit)
+    × (b.keys ≡ [])
 Stops writes a b stop.ReadFailed =
     (taken : List ℕ) × Reached writes a b taken × (has_ended a taken ≡ false) × (length taken < key_limit)
 Stops writes a b stop.KeyLimit =
@@ -77,7 +78,8 @@ pub record Finished (writes : Bool) (a b : Scene) (message : List ℕ) : Type 0 
   pub keys : taken ++ b.keys ≡ a.keys
   pub over : IsOver a b taken
   pub within : length taken ≤ key_limit
-  pub screen : Tried a.screen b.screen a.screen_faults b.screen_faults (run_shown (starting a.moments) taken) message
+  pub screen : Tried a.screen b.screen a.screen_faults b.screen_faults
+      (run_shown (starting a.moments) taken) message
   pub log : b.log ≡ add a.log (logged writes (starting a.moments) taken)
   pub moments : b.moments ≡ (after (starting a.moments) taken).moments
 
@@ -87,15 +89,18 @@ pub record Halted (writes : Bool) (a b : Scene) (message : List ℕ) (count : �
   pub keys : taken ++ b.keys ≡ a.keys
   pub going : has_ended a taken ≡ false
   pub counted : count (length taken)
-  pub screen : Tried a.screen b.screen a.screen_faults b.screen_faults (run_keys (starting a.moments) taken) (end_of_line ++ message)
+  pub screen : Tried a.screen b.screen a.screen_faults b.screen_faults
+      (run_keys (starting a.moments) taken) (end_of_line ++ message)
   pub log : b.log ≡ add a.log (logged writes (starting a.moments) taken)
   pub moments : b.moments ≡ (after (starting a.moments) taken).moments
 
--- a screen that failed holds a front of what the run shows, and was given no more; behind a log that failed the message is tried
+-- a screen that failed holds a front of what the run shows, and was given no more; behind a log that failed
+-- the message is tried
 abbrev pub CutScreen : Scene → Scene → List ℕ → List ℕ → Type 0
 CutScreen a b taken message =
     AddsPart a.screen b.screen (run_shown (starting a.moments) taken)
-    ⊎ ((front : List ℕ) × IsPart front (run_keys (starting a.moments) taken) × Tried a.screen b.screen a.screen_faults b.screen_faults front message)
+    ⊎ ((front : List ℕ) × IsPart front (run_keys (starting a.moments) taken)
+    × Tried a.screen b.screen a.screen_faults b.screen_faults front message)
 
 -- the run was cut short by the screen or the log
 pub record Cut (writes : Bool) (a b : Scene) (message : List ℕ) : Type 0 where
@@ -132,10 +137,12 @@ abbrev pub Stands : Option Form → Scene → Scene → Status → Type 0
 Stands None a b result = (result ≡ status.Usage) × Refused a b result
 Stands (Some form) a b result = ((result ≡ status.NoMemory) × Refused a b result) ⊎ Ran form.logs a b result
 
--- what is left of the host's files: with no form they are as before, else that of the form is written and every other is as before
+-- what is left of the host's files: with no form they are as before, else that of the form is written and
+-- every other is as before
 abbrev pub Leaves : Option Form → Files → Files → Status → Type 0
 Leaves None before now result = (name : List ℕ) → now name ≡ before name
-Leaves (Some form) before now result = Saves (before form.out) (now form.out) result × KeepsOthers form.out before now
+Leaves (Some form) before now result =
+    Saves (before form.out) (now form.out) result × KeepsOthers form.out before now
 
 -- the status is this one, or HostFault in its place
 abbrev pub IsOr : Status → Status → Type 0
@@ -163,7 +170,10 @@ Closes stop.LoggedOut before now f g result = IsOr result status.Done × Tried b
 Closes stop.KeysEnded before now f g result =
     (IsOr result status.Done × Tried before now f g end_of_line (message result))
     ⊎ (IsOr result status.WriteFault × AddsPart before now end_of_line × Rose f g)
-Closes stop.ReadFailed before now f g result = IsOr result status.ReadFault × Tried before now f g [] (end_of_line ++ message result)
-Closes stop.KeyLimit before now f g result = IsOr result status.KeyLimit × Tried before now f g [] (end_of_line ++ message result)
+Closes stop.ReadFailed before now f g result =
+    IsOr result status.ReadFault × Tried before now f g [] (end_of_line ++ message result)
+Closes stop.KeyLimit before now f g result =
+    IsOr result status.KeyLimit × Tried before now f g [] (end_of_line ++ message result)
 Closes stop.ScreenFailed before now f g result = IsOr result status.WriteFault × (now ≡ before)
-Closes stop.LogFailed before now f g result = IsOr result status.WriteFault × Tried before now f g [] (message result)
+Closes stop.LogFailed before now f g result =
+    IsOr result status.WriteFault × Tried before now f g [] (message result)

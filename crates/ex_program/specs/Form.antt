@@ -27,7 +27,8 @@ abbrev pub form_of_words : List (List ℕ) → Option Form
 form_of_words (new ∷ out ∷ []) =
     if bytes_eq new (codes "-n") && is_name out then Some (record { logs = false; out = out }) else None
 form_of_words (log ∷ new ∷ out ∷ []) =
-    if bytes_eq log (codes "-w") && bytes_eq new (codes "-n") && is_name out then Some (record { logs = true; out = out }) else None
+    if bytes_eq log (codes "-w") && bytes_eq new (codes "-n") && is_name out
+    then Some (record { logs = true; out = out }) else None
 form_of_words words = None
 
 unfoldable pub form_of : Given → Option Form

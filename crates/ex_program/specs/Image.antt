@@ -12,7 +12,8 @@ image_line text = text ++ 10 ∷ []
 
 unfoldable pub image : List ℕ
 image =
-    image_line (codes "EXEC20 1") ++ image_line (codes "D OPERATOR 1") ++ image_line (codes "C OPERATOR") ++ image_line (codes "E")
+    image_line (codes "EXEC20 1") ++ image_line (codes "D OPERATOR 1")
+    ++ image_line (codes "C OPERATOR") ++ image_line (codes "E")
 
 -- a file is absent, as before, or holds a front of the image
 abbrev pub HoldsPart : Option (List ℕ) → Option (List ℕ) → Type 0

@@ -80,7 +80,9 @@ step world key = if world.ended then world else answered (with_key world key) (t
 
 unfoldable pub shows : World → ℕ → List ℕ
 shows world key =
-    if world.ended then [] else echo exec_verbs world.session key ++ answer (with_key world key) (turn_after world key)
+    if world.ended
+    then []
+    else echo exec_verbs world.session key ++ answer (with_key world key) (turn_after world key)
 
 unfoldable pub logs : Bool → World → ℕ → List ℕ
 logs writes world key =

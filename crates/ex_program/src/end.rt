@@ -44,7 +44,8 @@ pub fn save<H: Host>(out: &str, host: &mut H) -> Put
 
 /// Shows the message of a status, where it has one. A screen that fails here changes nothing.
 pub fn show_message<S: Sink>(status: Status, screen: &mut S)
-    ensures shown { Tried (S.told screen.old) (S.told screen.new) (S.faults screen.old) (S.faults screen.new) [] (message status) }
+    ensures shown { Tried (S.told screen.old) (S.told screen.new)
+        (S.faults screen.old) (S.faults screen.new) [] (message status) }
     ensures later { S.faults screen.old ≤ S.faults screen.new }
     ensures quiet { status ≡ Status.Done → S.faults screen.new ≡ S.faults screen.old }
 {
@@ -73,7 +74,8 @@ pub fn keep<H: Host>(status: Status, out: &str, host: &mut H) -> Status
 pub fn finish<H: Host, S: Sink>(status: Status, out: &str, host: &mut H, screen: &mut S) -> Status
     requires { IsEnd status }
     ensures status { IsOr result status }
-    ensures shown { Tried (S.told screen.old) (S.told screen.new) (S.faults screen.old) (S.faults screen.new) [] (message result) }
+    ensures shown { Tried (S.told screen.old) (S.told screen.new)
+        (S.faults screen.old) (S.faults screen.new) [] (message result) }
     ensures later { S.faults screen.old ≤ S.faults screen.new }
     ensures quiet { result ≡ Status.Done → S.faults screen.new ≡ S.faults screen.old }
 
@@ -92,7 +94,8 @@ pub fn finish<H: Host, S: Sink>(status: Status, out: &str, host: &mut H, screen:
 pub fn halt<H: Host, S: Sink>(status: Status, out: &str, host: &mut H, screen: &mut S) -> Status
     requires { IsEnd status }
     ensures status { IsOr result status }
-    ensures shown { Tried (S.told screen.old) (S.told screen.new) (S.faults screen.old) (S.faults screen.new) [] (end_of_line ++ message result) }
+    ensures shown { Tried (S.told screen.old) (S.told screen.new)
+        (S.faults screen.old) (S.faults screen.new) [] (end_of_line ++ message result) }
     ensures later { S.faults screen.old ≤ S.faults screen.new }
 
     ensures saved { IsTrue H.tells → Saves (H.files host.old out.now) (H.files host.new out.now) result }
@@ -108,7 +111,8 @@ pub fn halt<H: Host, S: Sink>(status: Status, out: &str, host: &mut H, screen: &
 
 /// Ends a run that stopped so.
 pub fn close<H: Host, S: Sink>(stop: Stop, out: &str, host: &mut H, screen: &mut S) -> Status
-    ensures closes { Closes stop (S.told screen.old) (S.told screen.new) (S.faults screen.old) (S.faults screen.new) result }
+    ensures closes { Closes stop (S.told screen.old) (S.told screen.new)
+        (S.faults screen.old) (S.faults screen.new) result }
     ensures later { S.faults screen.old ≤ S.faults screen.new }
     ensures quiet { result ≡ Status.Done → S.faults screen.new ≡ S.faults screen.old }
 
@@ -129,7 +133,8 @@ pub fn close<H: Host, S: Sink>(stop: Stop, out: &str, host: &mut H, screen: &mut
 
 // Ends a run whose keys were read to their end: ends the line that is open, which may fail.
 fn end_line<H: Host, S: Sink>(out: &str, host: &mut H, screen: &mut S) -> Status
-    ensures closes { Closes Stop.KeysEnded (S.told screen.old) (S.told screen.new) (S.faults screen.old) (S.faults screen.new) result }
+    ensures closes { Closes Stop.KeysEnded (S.told screen.old) (S.told screen.new)
+        (S.faults screen.old) (S.faults screen.new) result }
     ensures later { S.faults screen.old ≤ S.faults screen.new }
     ensures quiet { result ≡ Status.Done → S.faults screen.new ≡ S.faults screen.old }
 

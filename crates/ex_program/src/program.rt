@@ -31,7 +31,8 @@ fn run_all<H: Host, K: Source, S: Sink, W: Sink, C: Clock>(
     requires { verbs.now ≡ exec_verbs }
     ensures ran { IsTrue K.tells → IsTrue C.tells → Ran writes
         (scene (S.told screen.old) (S.faults screen.old) (W.told log.old) (K.left keys.old) (C.left clock.old))
-        (scene (S.told screen.new) (S.faults screen.new) (W.told log.new) (K.left keys.new) (C.left clock.new)) result }
+        (scene (S.told screen.new) (S.faults screen.new) (W.told log.new) (K.left keys.new) (C.left clock.new))
+        result }
     ensures cause { StatusCause (counts (S.faults screen.old) (W.faults log.old) (K.faults keys.old))
         (counts (S.faults screen.new) (W.faults log.new) (K.faults keys.new)) result }
     ensures saved { IsTrue H.tells → Saves (H.files host.old out.now) (H.files host.new out.now) result }
@@ -46,7 +47,8 @@ fn run_all<H: Host, K: Source, S: Sink, W: Sink, C: Clock>(
 // Shows the message of a status that comes before the first prompt.
 fn refuse<S: Sink>(status: Status, screen: &mut S) -> Status
     ensures status { result ≡ status }
-    ensures shown { Tried (S.told screen.old) (S.told screen.new) (S.faults screen.old) (S.faults screen.new) [] (message status) }
+    ensures shown { Tried (S.told screen.old) (S.told screen.new)
+        (S.faults screen.old) (S.faults screen.new) [] (message status) }
     ensures later { S.faults screen.old ≤ S.faults screen.new }
 {
     show_message(status, screen);
@@ -71,11 +73,13 @@ pub fn exec20<H: Host, K: Source, S: Sink, W: Sink, C: Clock>(
 ) -> Status
     // Where the run is Done, the screen was given what the run over all keys shows ..
     ensures done_shown { IsTrue K.tells → IsTrue C.tells → result ≡ Status.Done
-        → S.told screen.new ≡ add (S.told screen.old) (run_shown (starting (C.left clock.old)) (K.left keys.old)) }
+        → S.told screen.new ≡ add (S.told screen.old)
+        (run_shown (starting (C.left clock.old)) (K.left keys.old)) }
     // .. the log what it logs ..
     ensures done_logged { IsTrue K.tells → IsTrue C.tells → result ≡ Status.Done
         → (form : Form) → form_of words.now ≡ Some form
-        → W.told log.new ≡ add (W.told log.old) (logged form.logs (starting (C.left clock.old)) (K.left keys.old)) }
+        → W.told log.new ≡ add (W.told log.old)
+        (logged form.logs (starting (C.left clock.old)) (K.left keys.old)) }
     // .. and OUT holds the image.
     ensures done_saved { IsTrue H.tells → result ≡ Status.Done
         → (form : Form) → form_of words.now ≡ Some form → H.files host.new form.out ≡ Some image }
@@ -83,9 +87,11 @@ pub fn exec20<H: Host, K: Source, S: Sink, W: Sink, C: Clock>(
     // What stands, whatever the status: on the screen and in the log ..
     ensures stands { IsTrue K.tells → IsTrue C.tells → Stands (form_of words.now)
         (scene (S.told screen.old) (S.faults screen.old) (W.told log.old) (K.left keys.old) (C.left clock.old))
-        (scene (S.told screen.new) (S.faults screen.new) (W.told log.new) (K.left keys.new) (C.left clock.new)) result }
+        (scene (S.told screen.new) (S.faults screen.new) (W.told log.new) (K.left keys.new) (C.left clock.new))
+        result }
     // .. and in the files.
-    ensures files { IsTrue H.tells → Leaves (form_of words.now) (H.files host.old) (H.files host.new) result }
+    ensures files { IsTrue H.tells → Leaves (form_of words.now)
+        (H.files host.old) (H.files host.new) result }
 
     // When each status may come.
     ensures usage { (result ≡ Status.Usage) ↔ (form_of words.now ≡ None) }

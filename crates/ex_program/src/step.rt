@@ -1,5 +1,5 @@
 // What one key of a run does: edits the line, and acts where it confirms one.
-#![tactic(auto, using(crate::proofs::Parts::pieces, crate::proofs::Parts::adds_nothing, crate::proofs::Parts::adds_whole))]
+#![tactic(auto, using(crate::proofs::Parts::fronts))]
 
 ghost use Rattle.std.specs.Prelude.{◌≡◌, ◌≤◌, ◌++◌, [], IsTrue, ℕ, List, if◌then◌else◌};
 ghost use Rattle.cm_io.specs.Told.{Adds};
@@ -34,7 +34,7 @@ const COMMANDS: u16 = 0;
 
 /// Takes one key of a run that is not over: edits the line and shows the echo, logs the key, and answers
 /// it. Only a confirmed line acts.
-#[tactic(auto, using(crate::proofs::Parts::pieces, crate::proofs::Parts::adds_nothing, crate::proofs::Parts::adds_whole), unfolding(crate::specs::Run::logs, crate::specs::Run::shows, crate::specs::Run::step))]
+#[tactic(auto, using(crate::proofs::Parts::fronts), unfolding(crate::specs::Run::logs, crate::specs::Run::shows, crate::specs::Run::step))]
 pub fn take_key<S: Sink, W: Sink, C: Clock>(
     writes: bool,
     key: u8,
@@ -45,13 +45,16 @@ pub fn take_key<S: Sink, W: Sink, C: Clock>(
     clock: &mut C,
 ) -> Step
     requires { verbs.now ≡ exec_verbs }
-    ensures leads { IsTrue C.tells → LeadsTo result (step (going session.old (C.left clock.old)) key) session.new (C.left clock.new) }
+    ensures leads { IsTrue C.tells → LeadsTo result
+        (step (going session.old (C.left clock.old)) key) session.new (C.left clock.new) }
 
-    ensures shown { Answers (S.told screen.old) (S.told screen.new) (shows (going session.old (C.left clock.old)) key) result }
+    ensures shown { Answers (S.told screen.old) (S.told screen.new)
+        (shows (going session.old (C.left clock.old)) key) result }
     ensures screen_later { S.faults screen.old ≤ S.faults screen.new }
     ensures screen_cause { ScreenCause (S.faults screen.old) (S.faults screen.new) result }
 
-    ensures logged { Answers (W.told log.old) (W.told log.new) (logs writes (going session.old (C.left clock.old)) key) result }
+    ensures logged { Answers (W.told log.old) (W.told log.new)
+        (logs writes (going session.old (C.left clock.old)) key) result }
     ensures log_later { W.faults log.old ≤ W.faults log.new }
     ensures log_cause { LogCause (W.faults log.old) (W.faults log.new) result }
 {
@@ -67,7 +70,8 @@ pub fn take_key<S: Sink, W: Sink, C: Clock>(
 
 // Logs a key, where there is a log.
 fn log_key<W: Sink>(writes: bool, key: u8, session: &Session, log: &mut W) -> Put
-    ensures bytes { Adds (W.told log.old) (W.told log.new) (if writes then log_line key session.now else []) result }
+    ensures bytes { Adds (W.told log.old) (W.told log.new)
+        (if writes then log_line key session.now else []) result }
     ensures later { W.faults log.old ≤ W.faults log.new }
     ensures cause { PutCause (W.faults log.old) (W.faults log.new) result }
 {
@@ -80,15 +84,17 @@ fn log_key<W: Sink>(writes: bool, key: u8, session: &Session, log: &mut W) -> Pu
 
 // Answers a key that came to this turn: a confirmed line acts, and a line that is finished or given up
 // makes way for the next.
-#[tactic(auto, using(crate::proofs::Parts::pieces, crate::proofs::Parts::adds_nothing, crate::proofs::Parts::adds_whole), unfolding(crate::specs::Run::answer, crate::specs::Run::answered))]
+#[tactic(auto, using(crate::proofs::Parts::fronts), unfolding(crate::specs::Run::answer, crate::specs::Run::answered))]
 fn answer<S: Sink, C: Clock>(
     turn: Turn,
     session: &mut Session,
     screen: &mut S,
     clock: &mut C,
 ) -> Step
-    ensures leads { IsTrue C.tells → LeadsTo result (answered (going session.old (C.left clock.old)) turn) session.new (C.left clock.new) }
-    ensures bytes { Answers (S.told screen.old) (S.told screen.new) (answer (going session.old (C.left clock.old)) turn) result }
+    ensures leads { IsTrue C.tells → LeadsTo result
+        (answered (going session.old (C.left clock.old)) turn) session.new (C.left clock.new) }
+    ensures bytes { Answers (S.told screen.old) (S.told screen.new)
+        (answer (going session.old (C.left clock.old)) turn) result }
     ensures later { S.faults screen.old ≤ S.faults screen.new }
     ensures cause { ScreenCause (S.faults screen.old) (S.faults screen.new) result }
     ensures not_log { IsNotLog result }
@@ -102,8 +108,11 @@ fn answer<S: Sink, C: Clock>(
 
 // Does what a confirmed line commands, at the moment of now, and shows the reply.
 fn act<S: Sink, C: Clock>(session: &mut Session, screen: &mut S, clock: &mut C) -> Step
-    ensures leads { IsTrue C.tells → LeadsTo result (acted (going session.old (C.left clock.old)) (command_of session.old.fields)) session.new (C.left clock.new) }
-    ensures bytes { Answers (S.told screen.old) (S.told screen.new) (acting (command_of session.old.fields)) result }
+    ensures leads { IsTrue C.tells → LeadsTo result
+        (acted (going session.old (C.left clock.old)) (command_of session.old.fields))
+        session.new (C.left clock.new) }
+    ensures bytes { Answers (S.told screen.old) (S.told screen.new)
+        (acting (command_of session.old.fields)) result }
     ensures later { S.faults screen.old ≤ S.faults screen.new }
     ensures cause { ScreenCause (S.faults screen.old) (S.faults screen.new) result }
     ensures not_log { IsNotLog result }
@@ -114,7 +123,8 @@ fn act<S: Sink, C: Clock>(session: &mut Session, screen: &mut S, clock: &mut C) 
 
 // Shows the reply to a command, and begins the next line or ends the run.
 fn obey<S: Sink>(command: Command, session: &mut Session, screen: &mut S) -> Step
-    ensures leads { (moments : List ℕ) → LeadsTo result (obeyed (going session.old moments) command) session.new moments }
+    ensures leads { (moments : List ℕ) → LeadsTo result
+        (obeyed (going session.old moments) command) session.new moments }
     ensures bytes { Answers (S.told screen.old) (S.told screen.new) (acting command) result }
     ensures later { S.faults screen.old ≤ S.faults screen.new }
     ensures cause { ScreenCause (S.faults screen.old) (S.faults screen.new) result }
@@ -128,7 +138,8 @@ fn obey<S: Sink>(command: Command, session: &mut Session, screen: &mut S) -> Ste
 
 // Behind the reply to a command, begins the next line or ends the run.
 fn go_on<S: Sink>(command: Command, session: &mut Session, screen: &mut S) -> Step
-    ensures leads { (moments : List ℕ) → LeadsTo result (obeyed (going session.old moments) command) session.new moments }
+    ensures leads { (moments : List ℕ) → LeadsTo result
+        (obeyed (going session.old moments) command) session.new moments }
     ensures bytes { Answers (S.told screen.old) (S.told screen.new) (next_prompt command) result }
     ensures later { S.faults screen.old ≤ S.faults screen.new }
     ensures cause { ScreenCause (S.faults screen.old) (S.faults screen.new) result }

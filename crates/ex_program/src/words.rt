@@ -89,7 +89,8 @@ impl Words {
     /// What the words ask for. None where they ask for nothing that the program does.
     #[tactic(auto, unfolding(crate::specs::Form::form_of))]
     pub fn form(&self) -> Option<Form<'_>>
-        ensures { option_map (λ form. record { logs = form.logs; out = form.out.now }) result ≡ form_of self.now }
+        ensures { option_map (λ form. record { logs = form.logs; out = form.out.now }) result
+            ≡ form_of self.now }
     {
         if self.too_many {
             return None;
@@ -111,7 +112,8 @@ fn word_of(text: &str) -> Option<Word>
 
 // What a list of words asks for: `-n OUT`, and `-w` before it.
 fn form_of_words(words: &[Word]) -> Option<Form<'_>>
-    ensures { option_map (λ form. record { logs = form.logs; out = form.out.now }) result ≡ form_of_words words.now }
+    ensures { option_map (λ form. record { logs = form.logs; out = form.out.now }) result
+        ≡ form_of_words words.now }
 {
     match words {
         [new, out] if is(new, "-n") && is_name(out) => Some(Form {
