@@ -1,4 +1,5 @@
--- What the chain of a node makes of a text from a place on: a field, or how the parse ends (COMND's function blocks).
+-- What the chain of a node makes of a text from a place on: a field, or how the parse ends (COMND's function
+-- blocks).
 use Rattle.std.specs.Prelude.{ℕ, ◌+◌, ◌<◌, ◌==◌, if◌then◌else◌, List, [], ◌∷◌, length, take, drop, Some, slice_get}
 use Rattle.std.specs.Option.{option_map_or}
 use Rattle.std.specs.List.{prefix_len}
@@ -24,11 +25,13 @@ pub data Block : Type 0 where
 -- the chain of a node: the commands at 0, what INFORMATION tells about at 27, else the end of the line
 abbrev pub blocks : Verbs → ℕ → List Block
 blocks verbs node =
-    if node == 0 then Confirm ∷ Key verbs.first ∷ [] else (if node == 27 then Key verbs.second ∷ [] else Confirm ∷ [])
+    if node == 0 then Confirm ∷ Key verbs.first ∷ []
+    else (if node == 27 then Key verbs.second ∷ [] else Confirm ∷ [])
 
 -- the text ends before the block can decide
 abbrev pub undecided : Place → Try
-undecided place = Decides (Ends (ending.Open (record { node = place.node; block = Some place.block; at = place.start })))
+undecided place =
+    Decides (Ends (ending.Open (record { node = place.node; block = Some place.block; at = place.start })))
 
 -- an end of the line confirms it, any other byte does not
 abbrev pub confirm : Place → List ℕ → Try
@@ -70,7 +73,7 @@ abbrev pub or_next : Try → Try → Try
 or_next (Decides chain) next = Decides chain
 or_next (Refuses code) next = next
 
--- the first block that decides, or the refusal of the last
+-- the first block that decides, or the refusal of the last; no node has an empty chain
 abbrev pub first_of : Place → List ℕ → List Block → Try
 first_of place rest [] = Refuses NotConfirmed
 first_of place rest (block ∷ []) = try_block place rest block
@@ -90,7 +93,8 @@ skip text at = at + prefix_len is_blank (drop at text)
 unfoldable pub chain_at : Verbs → ℕ → List ℕ → ℕ → Chain
 chain_at verbs node text at =
     let start = skip text at in
-    decided node start (first_of (record { node = node; block = 0; start = start }) (drop start text) (blocks verbs node))
+    let place : Place = record { node = node; block = 0; start = start } in
+    decided node start (first_of place (drop start text) (blocks verbs node))
 
 -- a field that is taken ends behind the place that it was sought from, and before the end of the text
 abbrev pub Advances : ℕ → ℕ → Chain → Type 0

@@ -44,7 +44,8 @@ pub fn put_line<S: Sink>(line: &[u8], sink: &mut S) -> Put
 /// Shows the end of the line, and the line again behind its prompt.
 pub fn put_again<S: Sink>(prompt: Prompt, line: &[u8], sink: &mut S) -> Put
     requires { length line.now ≤ 255 }
-    ensures bytes { Adds (S.told sink.old) (S.told sink.new) (end_of_line ++ prompt_text prompt ++ shown line.now) result }
+    ensures bytes { Adds (S.told sink.old) (S.told sink.new)
+        (end_of_line ++ prompt_text prompt ++ shown line.now) result }
     ensures later { S.faults sink.old ≤ S.faults sink.new }
     ensures cause { PutCause (S.faults sink.old) (S.faults sink.new) result }
 {

@@ -255,8 +255,10 @@ impl Session {
     // Holds the parse of the text. A refused line keeps the bytes before its faulty field.
     fn hold(&mut self, verbs: &Verbs)
         ensures parse { IsParse verbs.now self.new.node (text_of self.new) self.new.fields self.new.ending }
-        ensures kept { self.new.kept ≡ (if self.old.is_finished then before_fault self.old.line self.new.ending else None) }
-        ensures same { self.new ≡ record self.old { fields = self.new.fields; ending = self.new.ending; kept = self.new.kept } }
+        ensures kept { self.new.kept
+            ≡ (if self.old.is_finished then before_fault self.old.line self.new.ending else None) }
+        ensures same { self.new
+            ≡ record self.old { fields = self.new.fields; ending = self.new.ending; kept = self.new.kept } }
     {
         let text = text_held(self.is_finished, &self.text, &self.line);
         self.ending = parse(verbs, self.node, text, &mut self.fields);
