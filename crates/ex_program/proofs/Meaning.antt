@@ -1,5 +1,5 @@
 -- What stands at the end of a run, as its readers want to know it.
-use Rattle.std.proofs.Common.{◌≡◌, ◌⊎◌, ℕ, ◌<◌, Bool, true, List, [], ◌∷◌, ◌++◌, length, Option, Some, None, refl, sym, ap, ◌∙◌, subst, inl, inr, arith, length-append, if◌then◌else◌}
+use Rattle.std.proofs.Common.{◌≡◌, ◌⊎◌, ℕ, ◌<◌, ◌≤◌, Bool, true, false, List, [], ◌∷◌, ◌++◌, length, Option, Some, None, refl, sym, ap, ◌∙◌, subst, inl, inr, arith, length-append, if◌then◌else◌}
 use Rattle.std.proofs.lemmas.List.{append-nil}
 use Rattle.cm_text.specs.Shown.{end_of_line}
 use Rattle.cm_state.specs.declared.prompt.Prompt.TheVariants.{Main}
@@ -10,7 +10,7 @@ use Rattle.ex_program.specs.Form.{Form}
 use Rattle.ex_program.specs.Messages.{message}
 use Rattle.ex_program.specs.Run.{World, after, closing, logged, logs, run_keys, run_shown, shown, shows, starting, step}
 use Rattle.ex_program.specs.Cause.{Counts, HostCause, IsQuiet, StatusCause}
-use Rattle.ex_program.specs.End.{Ends, Finished, IsOver, IsRun, Ran, Scene, key_limit}
+use Rattle.ex_program.specs.End.{Ends, Finished, Halted, has_ended, IsOver, IsRun, Ran, Scene, key_limit}
 use Rattle.ex_program.specs.declared.status.Status.{Status}
 use Rattle.ex_program.specs.declared.status.Status.TheVariants as status
 use Rattle.ex_program.proofs.Folds.{after-append, logged-append, shown-append}
@@ -109,30 +109,74 @@ not_quiet : (before now : ℕ) → Rose before now → IsQuiet before now → �
 unfolding Rose
 not_quiet before now rose quiet = omega arith
 
--- where nothing outside failed and keys are fewer than a run takes, the run is Done
-module _ (writes : Bool) (a b : Scene) (f g : Counts) (h k : ℕ) (result : Status)
-    (few : length a.keys < key_limit) (screen : IsQuiet f.screen g.screen) (log : IsQuiet f.log g.log) (keys : IsQuiet f.keys g.keys) (host : IsQuiet h k)
-    (cause : StatusCause f g result) (host_cause : HostCause h k result) where
+-- of two fronts of one list the shorter is a front of the longer
+shorter_front : (short left long rest : List ℕ) → short ++ left ≡ long ++ rest → length short ≤ length long → (more : List ℕ) × (short ++ more ≡ long)
+shorter_front [] left long rest same within = (long, refl)
+shorter_front (x ∷ short) left [] rest same within = absurd (omega arith)
+shorter_front (x ∷ short) left (y ∷ long) rest same within =
+    let heads : x ≡ y = cc in
+    let tails : short ++ left ≡ long ++ rest = cc in
+    let deeper = shorter_front short left long rest tails (omega arith) in
+    (deeper.0, cc (heads, deeper.1))
+
+-- the run is Done, or was halted by the limit of keys
+abbrev IsDoneOrLimited : Bool → Scene → Scene → Status → Type 0
+IsDoneOrLimited writes a b result =
+    ((result ≡ status.Done) × Finished writes a b (message result))
+    ⊎ ((result ≡ status.KeyLimit) × Halted writes a b (message result) (λ taken. taken ≡ key_limit))
+
+-- so it ends where nothing outside failed
+module _ (writes : Bool) (a b : Scene) (f g : Counts) (h k : ℕ) (result : Status) (screen : IsQuiet f.screen g.screen) (log : IsQuiet f.log g.log)
+    (keys : IsQuiet f.keys g.keys) (host : IsQuiet h k) (cause : StatusCause f g result) (host_cause : HostCause h k result) where
   host_stays : result ≡ status.HostFault → ⊥
   host_stays same = not_quiet h k (subst (HostCause h k) same host_cause) host
 
-  by_why : (why : Status) → Ends writes a b (message result) why → result ≡ why → result ≡ status.Done
-  by_why status.Done ends same = same
+  by_why : (why : Status) → Ends writes a b (message result) why → result ≡ why
+      → IsDoneOrLimited writes a b result
+  by_why status.Done ends same = inl (same, ends)
   by_why status.ReadFault ends same = absurd (not_quiet f.keys g.keys (subst (StatusCause f g) same cause) keys)
   by_why status.WriteFault ends same = absurd (cut (subst (StatusCause f g) same cause)) where
     cut : Rose f.screen g.screen ⊎ Rose f.log g.log → ⊥
     cut (inl rose) = not_quiet f.screen g.screen rose screen
     cut (inr rose) = not_quiet f.log g.log rose log
-  by_why status.KeyLimit ends same = absurd (omega (arith, ends.counted, length-append ends.taken b.keys, ap length ends.keys))
+  by_why status.KeyLimit ends same = inr (same, ends)
   by_why status.Usage ends same = absurd ends
   by_why status.HostFault ends same = absurd ends
   by_why status.NoMemory ends same = absurd ends
 
-  pub quiet_done : Ran writes a b result → result ≡ status.Done
-  quiet_done ran = by_replaced ran.replaced where
-    by_replaced : (result ≡ ran.why) ⊎ (result ≡ status.HostFault) → result ≡ status.Done
+  quiet_ends : Ran writes a b result
+      → IsDoneOrLimited writes a b result
+  quiet_ends ran = by_replaced ran.replaced where
+    by_replaced : (result ≡ ran.why) ⊎ (result ≡ status.HostFault)
+        → IsDoneOrLimited writes a b result
     by_replaced (inl same) = by_why ran.why ran.ends same
     by_replaced (inr same) = absurd (host_stays same)
+
+  -- with fewer keys than a run takes it is Done
+  pub quiet_done : length a.keys < key_limit → Ran writes a b result → result ≡ status.Done
+  quiet_done few ran = by_end (quiet_ends ran) where
+    by_end : IsDoneOrLimited writes a b result → result ≡ status.Done
+    by_end (inl done) = done.0
+    by_end (inr limit) = absurd (omega (arith, limit.1.counted, length-append limit.1.taken b.keys, ap length limit.1.keys))
+
+  -- with as many keys as a run takes, in which LOGOUT does not act, it is halted
+  pub quiet_limit : (taken rest : List ℕ) → taken ++ rest ≡ a.keys → length taken ≡ key_limit → has_ended a taken ≡ false
+      → Ran writes a b result → result ≡ status.KeyLimit
+  quiet_limit taken rest all count going ran = by_end (quiet_ends ran) where
+    over : (finished : Finished writes a b (message result)) → IsOver a b finished.taken → ⊥
+    over finished (inl ended) =
+        let front = shorter_front finished.taken b.keys taken rest (finished.keys ∙ sym all) (omega (arith, finished.within)) in
+        let last : after (starting a.moments) taken ≡ after (starting a.moments) finished.taken =
+        ap (λ keys. after (starting a.moments) keys) (sym front.1) ∙ after-append (starting a.moments) finished.taken front.0
+        ∙ after-ended (after (starting a.moments) finished.taken) front.0 ended in
+        let both : true ≡ false = sym ended ∙ ap (λ (world : World). world.ended) (sym last) ∙ going in
+        cc
+    over finished (inr read) =
+        absurd (omega (arith, read.2, ap length (all_taken finished.taken b.keys a.keys finished.keys read.1), length-append taken rest, ap length all))
+
+    by_end : IsDoneOrLimited writes a b result → result ≡ status.KeyLimit
+    by_end (inl done) = absurd (over done.1 done.1.over)
+    by_end (inr limit) = limit.0
 
 -- the words have one form
 pub one_form : (asked : Option Form) (first second : Form) → Some first ≡ asked → asked ≡ Some second → first.logs ≡ second.logs

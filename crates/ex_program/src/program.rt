@@ -1,5 +1,5 @@
 // The program over what is outside of it.
-ghost use Rattle.std.specs.Prelude.{◌≡◌, ◌⊎◌, ◌≤◌, ◌<◌, ◌↔◌, [], length, None, Some, IsTrue};
+ghost use Rattle.std.specs.Prelude.{◌≡◌, ◌⊎◌, ◌≤◌, ◌<◌, ◌↔◌, ℕ, false, List, [], ◌++◌, length, None, Some, IsTrue};
 ghost use Rattle.cm_io.specs.Host.{KeepsOthers};
 ghost use Rattle.cm_io.specs.Told.{add};
 ghost use Rattle.cm_state.specs.Verbs.{exec_verbs};
@@ -8,7 +8,7 @@ ghost use Rattle.ex_program.specs.End.{IsRun, Leaves, Ran, Stands, Tried, key_li
 ghost use Rattle.ex_program.specs.Form.{Form, form_of};
 ghost use Rattle.ex_program.specs.Image.{Saves, image};
 ghost use Rattle.ex_program.specs.Messages.{message};
-ghost use Rattle.ex_program.specs.Run.{logged, run_shown, starting};
+ghost use Rattle.ex_program.specs.Run.{after, logged, run_shown, starting};
 
 use crate::end::{close, show_message};
 use crate::run::run;
@@ -105,6 +105,13 @@ pub fn exec20<H: Host, K: Source, S: Sink, W: Sink, C: Clock>(
         → IsQuiet (S.faults screen.old) (S.faults screen.new) → IsQuiet (W.faults log.old) (W.faults log.new)
         → IsQuiet (K.faults keys.old) (K.faults keys.new) → IsQuiet (H.faults host.old) (H.faults host.new)
         → (result ≡ Status.Done) ⊎ (result ≡ Status.NoMemory) }
+    // With as many keys as a run takes, in which LOGOUT does not act, it is KeyLimit.
+    ensures limit { IsTrue K.tells → IsTrue C.tells → (form : Form) → form_of words.now ≡ Some form
+        → (taken rest : List ℕ) → taken ++ rest ≡ K.left keys.old → length taken ≡ key_limit
+        → (after (starting (C.left clock.old)) taken).ended ≡ false
+        → IsQuiet (S.faults screen.old) (S.faults screen.new) → IsQuiet (W.faults log.old) (W.faults log.new)
+        → IsQuiet (K.faults keys.old) (K.faults keys.new) → IsQuiet (H.faults host.old) (H.faults host.new)
+        → (result ≡ Status.KeyLimit) ⊎ (result ≡ Status.NoMemory) }
 {
     let Some(form) = words.form() else {
         return refuse(Status::Usage, screen);
