@@ -3,7 +3,7 @@ use Rattle.std.proofs.Common.{◌≡◌, ℕ, ◌≤◌, Bool, true, false, List
 use Rattle.cm_text.specs.Shown.{end_of_line}
 use Rattle.cm_io.specs.Told.{Told, AddsPart}
 use Rattle.cm_io.specs.Fault.{Rose}
-use Rattle.cm_io.proofs.Adding.{adds_early, adds_late, rose_early}
+use Rattle.cm_io.proofs.Adding.{adds_early, adds_late, rose_early, rose_late}
 use Rattle.ex_program.specs.Messages.{message}
 use Rattle.ex_program.specs.Run.{World, after, closing, logged, run_keys, run_shown, starting}
 use Rattle.ex_program.specs.Cause.{Causes, Counts, StatusCause}
@@ -26,9 +26,9 @@ shown_going world taken going = ap (λ (over : Bool). run_keys world taken ++ (i
 cut_shown : (told now : Told) (world : World) (taken : List ℕ) → AddsPart told now (run_keys world taken) → AddsPart told now (run_shown world taken)
 cut_shown told now world taken part = adds_early told now (run_keys world taken) (closing world taken) part
 
-module _ (writes : Bool) (a b : Scene) (now : Told) (faults : ℕ) (result : Status) (earlier : a.screen_faults ≤ b.screen_faults) where
+module _ (writes : Bool) (a b : Scene) (now : Told) (faults : ℕ) (result : Status) (earlier : a.screen_faults ≤ b.screen_faults) (later : b.screen_faults ≤ faults) where
   abbrev final : Scene
-  final = scene now faults b.log b.keys b.moments
+  final = scene now faults b.log b.log_faults b.keys b.moments
 
   logged_out : Stops writes a b stop.LoggedOut → Closes stop.LoggedOut b.screen now b.screen_faults faults result → Ran writes a final result
   logged_out s closes = let w = starting a.moments in record {
@@ -67,8 +67,11 @@ module _ (writes : Bool) (a b : Scene) (now : Told) (faults : ℕ) (result : Sta
     ends = record {
       taken = s.0;
       keys = s.1.keys;
-      screen = inl (subst (λ bytes. AddsPart a.screen now bytes) (shown_going w s.0 s.2)
-          (adds_late a.screen now (run_keys w s.0) end_of_line (subst (λ told. AddsPart told now end_of_line) s.1.screen closes.1)));
+      screen = inl (
+        subst (λ bytes. AddsPart a.screen now bytes) (shown_going w s.0 s.2)
+            (adds_late a.screen now (run_keys w s.0) end_of_line (subst (λ told. AddsPart told now end_of_line) s.1.screen closes.1)),
+        rose_late a.screen_faults b.screen_faults faults earlier closes.2,
+      );
       log = adds_whole a.log b.log (logged writes w s.0) s.1.log;
     };
   }
@@ -110,8 +113,11 @@ module _ (writes : Bool) (a b : Scene) (now : Told) (faults : ℕ) (result : Sta
     ends = record {
       taken = s.0;
       keys = s.1.keys;
-      screen = inl (subst (λ told. AddsPart a.screen told (run_shown (starting a.moments) s.0)) (sym closes.1)
-          (cut_shown a.screen b.screen (starting a.moments) s.0 s.1.screen));
+      screen = inl (
+        subst (λ told. AddsPart a.screen told (run_shown (starting a.moments) s.0)) (sym closes.1)
+            (cut_shown a.screen b.screen (starting a.moments) s.0 s.1.screen),
+        rose_early a.screen_faults b.screen_faults faults s.2 later,
+      );
       log = s.1.log;
     };
   }
@@ -127,6 +133,7 @@ module _ (writes : Bool) (a b : Scene) (now : Told) (faults : ℕ) (result : Sta
         s.1.screen.part,
         s.1.screen.is_part,
         tried_later a.screen b.screen now a.screen_faults b.screen_faults faults s.1.screen.part (message result) s.1.screen.added earlier closes.1,
+        s.2,
       );
       log = s.1.log;
     };

@@ -22,12 +22,19 @@ pub record Scene : Type 0 where
   pub screen : Told
   pub screen_faults : ℕ
   pub log : Told
+  pub log_faults : ℕ
   pub keys : List ℕ
   pub moments : List ℕ
 
-abbrev pub scene : Told → ℕ → Told → List ℕ → List ℕ → Scene
-scene screen screen_faults log keys moments =
-    record { screen = screen; screen_faults = screen_faults; log = log; keys = keys; moments = moments }
+abbrev pub scene : Told → ℕ → Told → ℕ → List ℕ → List ℕ → Scene
+scene screen screen_faults log log_faults keys moments = record {
+  screen = screen;
+  screen_faults = screen_faults;
+  log = log;
+  log_faults = log_faults;
+  keys = keys;
+  moments = moments;
+}
 
 -- LOGOUT has acted in these keys
 abbrev pub has_ended : Scene → List ℕ → Bool
@@ -57,8 +64,9 @@ Stops writes a b stop.ReadFailed =
     (taken : List ℕ) × Reached writes a b taken × (has_ended a taken ≡ false) × (length taken < key_limit)
 Stops writes a b stop.KeyLimit =
     (taken : List ℕ) × Reached writes a b taken × (has_ended a taken ≡ false) × (length taken ≡ key_limit)
-Stops writes a b stop.ScreenFailed = (taken : List ℕ) × CutShort writes a b taken
-Stops writes a b stop.LogFailed = (taken : List ℕ) × CutShort writes a b taken
+Stops writes a b stop.ScreenFailed =
+    (taken : List ℕ) × CutShort writes a b taken × Rose a.screen_faults b.screen_faults
+Stops writes a b stop.LogFailed = (taken : List ℕ) × CutShort writes a b taken × Rose a.log_faults b.log_faults
 
 -- behind what is shown stands the message, or a front of it where the screen failed there
 pub record Tried (before now : Told) (before_faults now_faults : ℕ) (shown message : List ℕ) : Type 0 where
@@ -98,9 +106,9 @@ pub record Halted (writes : Bool) (a b : Scene) (message : List ℕ) (count : �
 -- the message is tried
 abbrev pub CutScreen : Scene → Scene → List ℕ → List ℕ → Type 0
 CutScreen a b taken message =
-    AddsPart a.screen b.screen (run_shown (starting a.moments) taken)
+    (AddsPart a.screen b.screen (run_shown (starting a.moments) taken) × Rose a.screen_faults b.screen_faults)
     ⊎ ((front : List ℕ) × IsPart front (run_keys (starting a.moments) taken)
-    × Tried a.screen b.screen a.screen_faults b.screen_faults front message)
+    × Tried a.screen b.screen a.screen_faults b.screen_faults front message × Rose a.log_faults b.log_faults)
 
 -- the run was cut short by the screen or the log
 pub record Cut (writes : Bool) (a b : Scene) (message : List ℕ) : Type 0 where

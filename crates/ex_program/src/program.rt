@@ -30,8 +30,10 @@ fn run_all<H: Host, K: Source, S: Sink, W: Sink, C: Clock>(
 ) -> Status
     requires { verbs.now ≡ exec_verbs }
     ensures ran { IsTrue K.tells → IsTrue C.tells → Ran writes
-        (scene (S.told screen.old) (S.faults screen.old) (W.told log.old) (K.left keys.old) (C.left clock.old))
-        (scene (S.told screen.new) (S.faults screen.new) (W.told log.new) (K.left keys.new) (C.left clock.new))
+        (scene (S.told screen.old) (S.faults screen.old) (W.told log.old) (W.faults log.old)
+        (K.left keys.old) (C.left clock.old))
+        (scene (S.told screen.new) (S.faults screen.new) (W.told log.new) (W.faults log.new)
+        (K.left keys.new) (C.left clock.new))
         result }
     ensures cause { StatusCause (counts (S.faults screen.old) (W.faults log.old) (K.faults keys.old))
         (counts (S.faults screen.new) (W.faults log.new) (K.faults keys.new)) result }
@@ -86,8 +88,10 @@ pub fn exec20<H: Host, K: Source, S: Sink, W: Sink, C: Clock>(
 
     // What stands, whatever the status: on the screen and in the log ..
     ensures stands { IsTrue K.tells → IsTrue C.tells → Stands (form_of words.now)
-        (scene (S.told screen.old) (S.faults screen.old) (W.told log.old) (K.left keys.old) (C.left clock.old))
-        (scene (S.told screen.new) (S.faults screen.new) (W.told log.new) (K.left keys.new) (C.left clock.new))
+        (scene (S.told screen.old) (S.faults screen.old) (W.told log.old) (W.faults log.old)
+        (K.left keys.old) (C.left clock.old))
+        (scene (S.told screen.new) (S.faults screen.new) (W.told log.new) (W.faults log.new)
+        (K.left keys.new) (C.left clock.new))
         result }
     // .. and in the files.
     ensures files { IsTrue H.tells → Leaves (form_of words.now)

@@ -24,8 +24,10 @@ pub fn run<K: Source, S: Sink, W: Sink, C: Clock>(
 ) -> Stop
     requires { verbs.now ≡ exec_verbs }
     ensures stops { IsTrue K.tells → IsTrue C.tells → Stops writes
-        (scene (S.told screen.old) (S.faults screen.old) (W.told log.old) (K.left keys.old) (C.left clock.old))
-        (scene (S.told screen.new) (S.faults screen.new) (W.told log.new) (K.left keys.new) (C.left clock.new))
+        (scene (S.told screen.old) (S.faults screen.old) (W.told log.old) (W.faults log.old)
+        (K.left keys.old) (C.left clock.old))
+        (scene (S.told screen.new) (S.faults screen.new) (W.told log.new) (W.faults log.new)
+        (K.left keys.new) (C.left clock.new))
         result }
     ensures causes { Causes (counts (S.faults screen.old) (W.faults log.old) (K.faults keys.old))
         (counts (S.faults screen.new) (W.faults log.new) (K.faults keys.new)) result }

@@ -3,7 +3,7 @@ use Rattle.ex_program.proofs.program.run_all.Goals as goal
 
 pub returns-clause-ran : goal.returns-clause-ran
 returns-clause-ran g c = λ keys clock.
-    closes_ran c.args.writes _ _ _ _ c.close.result c.run-stop.ensures.screen_later c.run-stop.result (c.run-stop.ensures.stops keys clock) c.close.ensures.closes
+    closes_ran c.args.writes _ _ _ _ c.close.result c.run-stop.ensures.screen_later c.close.ensures.later c.run-stop.result (c.run-stop.ensures.stops keys clock) c.close.ensures.closes
 
 pub returns-clause-cause : goal.returns-clause-cause
 returns-clause-cause g c =

@@ -1,11 +1,14 @@
-use Rattle.std.proofs.Common.{◌≡◌, ◌∙◌, ap, arith, refl, sym, None}
+use Rattle.std.proofs.Common.{◌≡◌, ◌∙◌, ap, arith, refl, subst, sym, None}
+use Rattle.cm_io.specs.Fault.{Rose}
 use Rattle.cm_state.specs.declared.prompt.Prompt.TheVariants.{Main}
 use Rattle.cm_state.specs.Held.{Held, at_start}
 use Rattle.ex_program.proofs.Running.{cut_first, runs_cut, runs_ended, runs_first, runs_more, runs_out, runs_over, runs_same, runs_unread, subst_session}
 use Rattle.ex_program.proofs.run.run.Goals as goal
 
 pub returns-in-Failed-clause-stops : goal.returns-in-Failed-clause-stops
-returns-in-Failed-clause-stops g c = λ _ _. cut_first c.args.writes _ _ refl c.in-Failed.ensures.bytes refl
+returns-in-Failed-clause-stops g c = λ _ _.
+    let cut = cut_first c.args.writes _ _ refl c.in-Failed.ensures.bytes refl in
+    (cut.0, cut.1, c.in-Failed.ensures.cause)
 
 pub loop-turn-init : goal.loop-turn-init
 loop-turn-init g c =
@@ -36,13 +39,15 @@ returns-in-Over-clause-stops g c = λ keys clock.
 
 pub returns-in-ScreenFailed-clause-stops : goal.returns-in-ScreenFailed-clause-stops
 returns-in-ScreenFailed-clause-stops g c = λ keys clock.
-    runs_cut c.args.writes _ _ _ c.loop-turn.session c.loop-turn._turn c.in-Byte.key (c.loop-turn.invariant.runs keys clock)
-    (c.in-Byte.ensures.bytes keys) c.in-ScreenFailed.ensures.shown c.in-ScreenFailed.ensures.logged
+    let cut = runs_cut c.args.writes _ _ _ c.loop-turn.session c.loop-turn._turn c.in-Byte.key (c.loop-turn.invariant.runs keys clock)
+    (c.in-Byte.ensures.bytes keys) c.in-ScreenFailed.ensures.shown c.in-ScreenFailed.ensures.logged in
+    (cut.0, cut.1, subst (λ count. Rose count (g.S.Sink.faults c.take_key.new.screen)) c.loop-turn.invariant.screen c.in-ScreenFailed.ensures.screen_cause)
 
 pub returns-in-LogFailed-clause-stops : goal.returns-in-LogFailed-clause-stops
 returns-in-LogFailed-clause-stops g c = λ keys clock.
-    runs_cut c.args.writes _ _ _ c.loop-turn.session c.loop-turn._turn c.in-Byte.key (c.loop-turn.invariant.runs keys clock)
-    (c.in-Byte.ensures.bytes keys) c.in-LogFailed.ensures.shown c.in-LogFailed.ensures.logged
+    let cut = runs_cut c.args.writes _ _ _ c.loop-turn.session c.loop-turn._turn c.in-Byte.key (c.loop-turn.invariant.runs keys clock)
+    (c.in-Byte.ensures.bytes keys) c.in-LogFailed.ensures.shown c.in-LogFailed.ensures.logged in
+    (cut.0, cut.1, subst (λ count. Rose count (g.W.Sink.faults c.take_key.new.log)) c.loop-turn.invariant.log c.in-LogFailed.ensures.log_cause)
 
 pub returns-clause-stops : goal.returns-clause-stops
 returns-clause-stops g c = λ keys clock.

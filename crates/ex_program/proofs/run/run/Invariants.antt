@@ -8,8 +8,8 @@ use Rattle.ex_program.proofs.run.run.Given as goal
 abbrev pub invariant-loop-turn : goal.invariant-loop-turn
 invariant-loop-turn g l = record {
   runs : IsTrue g.K.Source.tells → IsTrue g.C.Clock.tells → Runs l.writes
-      (scene (g.S.Sink.told l.fn.screen) (g.S.Sink.faults l.fn.screen) (g.W.Sink.told l.fn.log) (g.K.Source.left l.fn.keys) (g.C.Clock.left l.fn.clock))
-      (scene (g.S.Sink.told l.screen) (g.S.Sink.faults l.screen) (g.W.Sink.told l.log) (g.K.Source.left l.keys) (g.C.Clock.left l.clock))
+      (scene (g.S.Sink.told l.fn.screen) (g.S.Sink.faults l.fn.screen) (g.W.Sink.told l.fn.log) (g.W.Sink.faults l.fn.log) (g.K.Source.left l.fn.keys) (g.C.Clock.left l.fn.clock))
+      (scene (g.S.Sink.told l.screen) (g.S.Sink.faults l.screen) (g.W.Sink.told l.log) (g.W.Sink.faults l.log) (g.K.Source.left l.keys) (g.C.Clock.left l.clock))
       l.session l._turn;
   screen : g.S.Sink.faults l.screen ≡ g.S.Sink.faults l.fn.screen;
   log : g.W.Sink.faults l.log ≡ g.W.Sink.faults l.fn.log;
