@@ -2,7 +2,8 @@
 use Rattle.std.proofs.Common.{◌≡◌, ℕ, List, [], refl, sym}
 use Rattle.std.proofs.lemmas.List.{append-nil}
 use Rattle.cm_io.specs.Told.{Told, add, AddsPart}
-use Rattle.cm_io.proofs.Adding.{add_append, add_none, adds_between, adds_early, adds_late, rose_early, rose_late}
+use Rattle.cm_io.proofs.Adding.{add_none}
+use Rattle.cm_state.proofs.Putting as putting
 
 -- nothing is a front of what is to be put
 pub adds_nothing : (told : Told) (bytes : List ℕ) → AddsPart told told bytes
@@ -21,7 +22,7 @@ adds_whole before now bytes whole = record {
 }
 
 -- what joins pieces that are put one behind the other
-pub ruleset pieces = (add_none, add_append, adds_early, adds_late, adds_between, rose_early, rose_late)
+pub ruleset pieces = (add_none, putting.pieces)
 
 -- and what makes fronts of them
 pub ruleset fronts = (pieces, adds_nothing, adds_whole)
