@@ -10,6 +10,10 @@ is_text byte = (byte == 9 || (nat_le 32 byte && nat_le byte 126)) && not (byte =
 unfoldable pub is_word : ℕ → Bool
 is_word byte = is_ascii_alphanumeric byte || byte == 45
 
+-- a word byte, a dollar sign or an underscore
+unfoldable pub is_name : ℕ → Bool
+is_name byte = is_word byte || byte == 36 || byte == 95
+
 -- a space or TAB
 unfoldable pub is_blank : ℕ → Bool
 is_blank byte = byte == 32 || byte == 9

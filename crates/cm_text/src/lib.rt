@@ -6,7 +6,7 @@ mod case;
 mod name;
 mod shown;
 
-pub use bytes::{is_blank, is_text, is_word};
+pub use bytes::{is_blank, is_name, is_text, is_word};
 pub use case::{begins_with, equals};
 pub use name::Name;
 pub use shown::{bell, control_c, end_of_line, question, rubout};

@@ -1,0 +1,9 @@
+pub mod Code
+pub mod Local
+pub mod Mark
+pub mod Phrase
+pub mod Quoted
+pub mod Run
+pub mod Skip
+pub mod Text
+pub mod Try

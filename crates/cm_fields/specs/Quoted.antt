@@ -1,0 +1,38 @@
+-- A quoted text (.CMQST): from a quote to a quote that no quote follows; a quote inside stands twice.
+use Rattle.std.specs.Prelude.{ℕ, ◌+◌, ◌==◌, nat_le, if◌then◌else◌, List, [], ◌∷◌}
+use Rattle.cm_fields.specs.declared.TheConstants.{MOST_BYTES}
+use Rattle.cm_fields.specs.declared.code.Code.TheVariants.{NotQuoted, NoQuote, FieldLong}
+use Rattle.cm_fields.specs.declared.trial.Try.{Try}
+use Rattle.cm_fields.specs.declared.trial.Try.TheVariants.{Accept, Refuse, More}
+use Rattle.cm_fields.specs.declared.value.Value.TheVariants.{Quoted}
+use Rattle.cm_fields.specs.Try.{span}
+
+-- how the text behind the opening quote goes on: the closing quote stands behind so many bytes, which write so
+-- many; the line ends behind so many bytes; or the text ends before that is known
+pub data Closing : Type 0 where
+  Closed : ℕ → ℕ → Closing
+  Cut : ℕ → Closing
+  Unknown : Closing
+
+-- behind so many bytes, which write so many
+abbrev pub closing : ℕ → ℕ → List ℕ → Closing
+closing size written [] = Unknown
+closing size written (byte ∷ []) = if byte == 13 then Cut size else Unknown
+closing size written (byte ∷ next ∷ more) =
+    if byte == 13 then Cut size
+    else (if byte == 34
+    then (if next == 34 then closing (size + 2) (written + 1) more else Closed size written)
+    else closing (size + 1) (written + 1) (next ∷ more))
+
+-- the byte behind the closing quote decides
+abbrev pub by_closing : ℕ → Closing → Try
+by_closing at (Closed size written) =
+    if nat_le written MOST_BYTES
+    then Accept (Quoted (span (at + 1) size)) (size + 3) (at + (size + 2))
+    else Refuse FieldLong (size + 3)
+by_closing at (Cut size) = Refuse NoQuote (size + 2)
+by_closing at Unknown = More
+
+abbrev pub quoted : List ℕ → ℕ → Try
+quoted [] at = More
+quoted (byte ∷ rest) at = if byte == 34 then by_closing at (closing 0 0 rest) else Refuse NotQuoted 1

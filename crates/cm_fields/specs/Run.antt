@@ -1,0 +1,31 @@
+-- Numbers and words, each a run of word bytes (.CMNUM, .CMFLD).
+use Rattle.std.specs.Prelude.{ℕ, Bool, ◌&&◌, ◌==◌, nat_lt, nat_le, if◌then◌else◌, List, length, Result, Ok, Err}
+use Rattle.std.specs.Str.{all_ascii_digits}
+use Rattle.std.specs.Str.Parse.{digits_value}
+use Rattle.cm_text.specs.Bytes.{is_word}
+use Rattle.cm_fields.specs.declared.TheConstants.{MOST_NUMBER, MOST_BYTES}
+use Rattle.cm_fields.specs.declared.code.Code.{Code}
+use Rattle.cm_fields.specs.declared.code.Code.TheVariants.{BadNumber, NumberRange, NoField, FieldLong}
+use Rattle.cm_fields.specs.declared.trial.Try.{Try}
+use Rattle.cm_fields.specs.declared.value.Value.{Value}
+use Rattle.cm_fields.specs.declared.value.Value.TheVariants.{Number, Word}
+use Rattle.cm_fields.specs.Try.{by_run, span}
+
+-- digits alone, at least one, of a value that is not too large
+unfoldable pub number_of : List ℕ → Result Value Code
+number_of run =
+    if nat_lt 0 (length run) && all_ascii_digits run
+    then (if nat_le (digits_value 10 run) MOST_NUMBER then Ok (Number (digits_value 10 run)) else Err NumberRange)
+    else Err BadNumber
+
+abbrev pub number : List ℕ → ℕ → Try
+number rest at = by_run is_word number_of rest at
+
+-- at least one byte and not too many, from this place on
+unfoldable pub word_of : ℕ → List ℕ → Result Value Code
+word_of at run =
+    if length run == 0 then Err NoField
+    else (if nat_le (length run) MOST_BYTES then Ok (Word (span at (length run))) else Err FieldLong)
+
+abbrev pub word : List ℕ → ℕ → Try
+word rest at = by_run is_word (word_of at) rest at

@@ -1,0 +1,25 @@
+//! The field functions of COMND that ask no catalogue, and what every field function shares: values,
+//! refusals, and what a trial answers.
+#![tactic(auto)]
+
+mod code;
+mod mark;
+mod phrase;
+mod quotes;
+mod run;
+mod skipped;
+mod text;
+mod trial;
+mod value;
+
+pub mod laws;
+
+pub use code::Code;
+pub use mark::{comma, confirm};
+pub use phrase::{noise, token};
+pub use quotes::quoted;
+pub use run::{number, word};
+pub use skipped::skip;
+pub use text::text_field;
+pub use trial::Try;
+pub use value::{Gen, Spec, Span, Value};
