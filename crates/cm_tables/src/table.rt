@@ -88,6 +88,13 @@ impl Table {
         self.entries.len() as u16
     }
 
+    /// The entries in order.
+    pub fn entries(&self) -> &[Entry]
+        ensures { result.now ≡ self.now }
+    {
+        &self.entries
+    }
+
     /// What the table has for an atom.
     pub fn look(&self, atom: &[u8]) -> Look
         ensures value { result ≡ look self.now atom.now }
