@@ -17,6 +17,7 @@ enum Closing {
 }
 
 // How the text behind an opening quote goes on, behind so many bytes of it, which write so many.
+#[tactic(auto, using(crate::proofs::Quoting::plain_passed, crate::proofs::Quoting::quote_passed))]
 fn closing_from(size: usize, written: usize, inside: &[u8]) -> Closing
     requires size { size + length inside.now ≤ 256 }
     requires written { written ≤ size }
@@ -24,11 +25,12 @@ fn closing_from(size: usize, written: usize, inside: &[u8]) -> Closing
     ensures within { IsWithin (size + length inside.now) result }
 {
     match inside {
-        [] | [b'"'] => Closing::Unknown,
+        [] => Closing::Unknown,
         [b'\r', ..] => Closing::Cut(size),
-        [b'"', b'"', more @ ..] => closing_from(size + 2, written + 1, more),
-        [b'"', ..] => Closing::Closed { size, written },
-        [_, more @ ..] => closing_from(size + 1, written + 1, more),
+        [byte, more @ ..] if *byte != b'"' => closing_from(size + 1, written + 1, more),
+        [_] => Closing::Unknown,
+        [_, b'"', more @ ..] => closing_from(size + 2, written + 1, more),
+        _ => Closing::Closed { size, written },
     }
 }
 
