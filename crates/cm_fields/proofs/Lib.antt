@@ -1,0 +1,4 @@
+pub mod Holding
+pub mod Runs
+pub mod Skipping
+pub mod Quoting

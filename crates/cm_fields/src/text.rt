@@ -1,14 +1,30 @@
 // The rest of the line.
 ghost use Rattle.std.specs.Prelude.{◌≡◌, ◌≤◌, drop, length};
-ghost use Rattle.cm_fields.specs.Text.{text_field};
+ghost use Rattle.std.specs.List.{prefix_len};
+ghost use Rattle.cm_fields.specs.Text.{is_inside, text_field};
 
-use crate::Try;
+use crate::trial::{said, span_of};
+use crate::{Try, Value};
+
+// How many bytes stand before the end of the line.
+fn inside_run(rest: &[u8]) -> usize
+    ensures value { result ≡ prefix_len is_inside rest.now }
+    ensures within { result ≤ length rest.now }
+{
+    rest.iter().take_while(|byte| **byte != b'\r').count()
+}
 
 /// The rest of the line (.CMTXT), up to the carriage return; never refused.
+#[tactic(auto, unfolding(crate::specs::Text::text_field))]
 pub fn text_field(text: &[u8], at: usize) -> Try
     requires short { length text.now ≤ 256 }
     requires place { at ≤ length text.now }
     ensures { result ≡ text_field (drop at text.now) at }
 {
-    Try::More
+    let rest = &text[at..];
+    let size = inside_run(rest);
+    if size == rest.len() {
+        return Try::More;
+    }
+    said(at, size, size + 1, Ok(Value::Text(span_of(at, size))))
 }
