@@ -27,7 +27,8 @@ pub enum Try {
     More,
 }
 
-// A value, of a field of this size, or a refusal; so many bytes decide.
+/// What a field function answers that so many bytes decide: a value, of a field from a place on of this size,
+/// or a refusal.
 pub fn said(at: usize, size: usize, looked: usize, decision: Result<Value, Code>) -> Try
     requires field { at + size < 2 ^ 16 }
     requires looked { looked < 2 ^ 16 }
@@ -46,7 +47,7 @@ pub fn said(at: usize, size: usize, looked: usize, decision: Result<Value, Code>
     }
 }
 
-// The part of a text that begins at this place, of this size.
+/// The part of a text that begins at this place, of this size.
 pub fn span_of(at: usize, size: usize) -> Span
     requires { at + size < 2 ^ 16 }
     ensures { result ≡ span at size }
