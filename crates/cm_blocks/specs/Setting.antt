@@ -1,7 +1,7 @@
 -- What a text is parsed under.
 use Rattle.std.specs.Prelude.{}
 use Rattle.cm_files.specs.Catalogue.{Catalogue}
-use Rattle.cm_hooks.specs.Rules.{Meanings}
+use Rattle.cm_hooks.specs.Meanings.{Meanings}
 use Rattle.cm_blocks.specs.Grammar.{Graph}
 
 -- a grammar, a catalogue, and what a program's own functions mean

@@ -11,7 +11,7 @@ use Rattle.cm_fields.specs.Phrase.{noise, token}
 use Rattle.cm_fields.specs.Quoted.{quoted}
 use Rattle.cm_fields.specs.Run.{number, word}
 use Rattle.cm_fields.specs.Text.{text_field}
-use Rattle.cm_hooks.specs.Hook.{hook}
+use Rattle.cm_hooks.specs.Field.{hook}
 use Rattle.cm_blocks.specs.declared.function.Function.{Function}
 use Rattle.cm_blocks.specs.declared.function.Function.TheVariants.{Key, Switch, Noise, Number, Word, Quoted, Token, Text, Comma, Confirm, Hook}
 use Rattle.cm_blocks.specs.declared.node.Block.{Block}

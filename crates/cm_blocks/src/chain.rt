@@ -2,6 +2,7 @@
 ghost use Rattle.std.specs.Prelude.{◌≡◌, ◌+◌, ◌≤◌, ◌<◌, All, true, drop, length};
 ghost use Rattle.cm_text.specs.Text.{finished};
 ghost use Rattle.cm_fields.specs.declared.code.Code.TheVariants.{NotConfirmed};
+ghost use Rattle.cm_hooks.specs.Ties.{Ties, count};
 ghost use Rattle.cm_blocks.specs.Chain.{ChainLeads, IsNear, chain_at, default_place, default_rest, defaulted, spent, typed, walk};
 ghost use Rattle.cm_blocks.specs.Fault.{has_table};
 ghost use Rattle.cm_blocks.specs.Grammar.{hook_count, hook_limit};
@@ -48,7 +49,8 @@ fn try_function<N: Names, R: Rules>(
     hooks: &Hooks<R>,
 ) -> Try
     requires table { has_table grammar.now.tables function.now ≡ true }
-    requires hook { hook_limit function.now ≤ length hooks.now }
+    requires ties { Ties R.meanings hooks.now }
+    requires hook { hook_limit function.now ≤ count hooks.now }
     requires short { length text.now ≤ 256 }
     requires place { at ≤ length text.now }
     ensures { result ≡ trial (setting grammar.now (N.catalogue _names.now) R.meanings)
@@ -127,7 +129,8 @@ fn walk_blocks<N: Names, R: Rules, L: Ledger>(
 ) -> Walk
     requires few { length blocks.now ≤ 16 }
     requires well { All (IsWellBlock grammar.now) blocks.now }
-    requires hooks { hook_count grammar.now ≤ length hooks.now }
+    requires ties { Ties R.meanings hooks.now }
+    requires hooks { hook_count grammar.now ≤ count hooks.now }
     requires short { length text.now ≤ 256 }
     requires place { at ≤ length text.now }
     ensures value { result ≡ walk (setting grammar.now (N.catalogue names.now) R.meanings)
@@ -271,7 +274,8 @@ fn walk_default<N: Names, R: Rules, L: Ledger>(
     steps: &mut Steps<L>,
 ) -> Walk
     requires well { IsWell grammar.now node.now }
-    requires hooks { hook_count grammar.now ≤ length hooks.now }
+    requires ties { Ties R.meanings hooks.now }
+    requires hooks { hook_count grammar.now ≤ count hooks.now }
     ensures value { result ≡ walk (setting grammar.now (N.catalogue names.now) R.meanings)
         (default_rest node.now.raw text.now) (default_place node.now.raw text.now) 0 0 NotConfirmed node.now.chain }
     ensures steps { steps.new ≡ steps.old + spent (setting grammar.now (N.catalogue names.now) R.meanings)
@@ -303,7 +307,8 @@ pub fn try_chain<N: Names, R: Rules, L: Ledger>(
     requires node { node < length grammar.now.nodes }
     requires short { length text.now ≤ 256 }
     requires place { at ≤ length text.now }
-    requires hooks { hook_count grammar.now ≤ length hooks.now }
+    requires ties { Ties R.meanings hooks.now }
+    requires hooks { hook_count grammar.now ≤ count hooks.now }
     ensures value { result
         ≡ (chain_at (setting grammar.now (N.catalogue names.now) R.meanings) node text.now at).chain }
     ensures steps { steps.new ≡ steps.old
