@@ -3,6 +3,7 @@ use Rattle.std.proofs.Common.{◌≡◌, ◌≢◌, ℕ, ◌+◌, ◌-◌, ◌<�
 use Rattle.std.proofs.lemmas.Bool.Decides.{nat_tests}
 use Rattle.std.proofs.lemmas.List.{take_all}
 use Rattle.cm_fields.specs.declared.run.TheConstants.{MOST_BYTES}
+use Rattle.cm_fields.specs.declared.code.Code.TheVariants.{NotQuoted}
 use Rattle.cm_fields.specs.declared.quotes.Closing.{Closing}
 use Rattle.cm_fields.specs.declared.quotes.Closing.TheVariants.{Closed, Cut, Unknown}
 use Rattle.cm_fields.specs.declared.value.Value.{Value}
@@ -154,3 +155,38 @@ by_closing_reaches most at (Closed size written) within =
     (λ _. record { some = omega arith; begins = omega arith; seen = omega arith; within = omega arith }) (λ _. tt)
 by_closing_reaches most at (Cut size) within = tt
 by_closing_reaches most at Unknown within = tt
+
+-- what the first bytes decide of a quoted text they decide however the text goes on
+quoted_decided : (front more other : List ℕ) (at : ℕ) → Holds (length front) (quoted (front ++ more) at) (quoted (front ++ other) at)
+quoted_decided [] [] other at = tt
+quoted_decided [] (byte ∷ more) other at =
+    holds_beyond _ _ _ (holds_of_choice (LooksBeyond 0) (byte == 34) _ _
+    (λ _. by_closing_beyond 0 at (closing 0 0 more) (omega arith)) (λ _. omega arith))
+quoted_decided (byte ∷ front) more other at =
+    let end = closing_holds (length front) 0 0 front more other (omega arith) in
+    let decided = by_closing_holds (length front) at _ _ end in
+    let size : 1 + length front ≡ length (byte ∷ front) = omega arith in
+    holds_both (length (byte ∷ front)) (byte == 34) _ (Refuse NotQuoted 1) _ (Refuse NotQuoted 1)
+    (rw (← size) decided) (λ seen. refl)
+
+quoted_seen : (rest : List ℕ) (at : ℕ) → IsSeen (length rest) (quoted rest at)
+quoted_seen [] at = tt
+quoted_seen (byte ∷ rest) at =
+    let size : 1 + length rest ≡ length (byte ∷ rest) = omega arith in
+    let within = by_closing_seen (length rest) at _ (closing_within (length rest) 0 0 rest (omega arith)) in
+    holds_of_choice (IsSeen (length (byte ∷ rest))) (byte == 34) _ _ (λ _. rw (← size) within) (λ _. omega arith)
+
+pub quoted_is_local : IsLocal quoted
+quoted_is_local = is_local quoted quoted_decided quoted_seen
+
+quoted_reaches_if : (rest : List ℕ) (at : ℕ) → ReachesIfAccept at (length rest) (quoted rest at)
+quoted_reaches_if [] at = tt
+quoted_reaches_if (byte ∷ rest) at =
+    let size : 1 + length rest ≡ length (byte ∷ rest) = omega arith in
+    let reached = by_closing_reaches (length rest) at _ (closing_within (length rest) 0 0 rest (omega arith)) in
+    holds_of_choice (ReachesIfAccept at (length (byte ∷ rest))) (byte == 34) _ _ (λ _. rw (← size) reached) (λ _. tt)
+
+-- an accepted quoted text ends in the text, and the byte behind it was looked at
+pub quoted_reaches : (rest : List ℕ) (at : ℕ) (value : Value) (looked end : ℕ) → quoted rest at ≡ Accept value looked end
+    → Reaches at (length rest) looked end
+quoted_reaches rest at value looked end is = reaches_accepted at (length rest) (quoted rest at) value looked end (quoted_reaches_if rest at) is

@@ -1,10 +1,10 @@
 // The rest of the line.
-ghost use Rattle.std.specs.Prelude.{◌≡◌, ◌≤◌, drop, length};
+ghost use Rattle.std.specs.Prelude.{◌≡◌, ◌+◌, ◌<◌, ◌≤◌, ◌^◌, drop, length};
 ghost use Rattle.std.specs.List.{prefix_len};
-ghost use Rattle.cm_fields.specs.Text.{is_inside, text_field};
+ghost use Rattle.cm_fields.specs.Text.{is_inside, text_field, text_of};
 
 use crate::trial::{said, span_of};
-use crate::{Try, Value};
+use crate::{Code, Try, Value};
 
 // How many bytes stand before the end of the line.
 fn inside_run(rest: &[u8]) -> usize
@@ -14,8 +14,15 @@ fn inside_run(rest: &[u8]) -> usize
     rest.iter().take_while(|byte| **byte != b'\r').count()
 }
 
+// What stands there, from this place on.
+fn text_of(at: usize, run: &[u8]) -> Result<Value, Code>
+    requires { at + length run.now < 2 ^ 16 }
+    ensures { result ≡ text_of at run.now }
+{
+    Ok(Value::Text(span_of(at, run.len())))
+}
+
 /// The rest of the line (.CMTXT), up to the carriage return; never refused.
-#[tactic(auto, unfolding(crate::specs::Text::text_field))]
 pub fn text_field(text: &[u8], at: usize) -> Try
     requires short { length text.now ≤ 256 }
     requires place { at ≤ length text.now }
@@ -26,5 +33,5 @@ pub fn text_field(text: &[u8], at: usize) -> Try
     if size == rest.len() {
         return Try::More;
     }
-    said(at, size, size + 1, Ok(Value::Text(span_of(at, size))))
+    said(at, size, size + 1, text_of(at, &rest[..size]))
 }
