@@ -18,7 +18,7 @@ use cm_fields::{
 use cm_files::Names;
 use cm_hooks::{Hooks, Rules, hook_field};
 use cm_text::Name;
-use std::marker::Ledger;
+use std::sync::ledger::Ledger;
 
 // What the blocks of a chain answer in order.
 #[derive(Clone, Copy)]
