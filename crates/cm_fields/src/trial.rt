@@ -28,7 +28,7 @@ pub enum Try {
 }
 
 // A value, of a field of this size, or a refusal; so many bytes decide.
-pub fn said(at: usize, size: usize, looked: usize, decision: Result<Value, Code>) -> Try
+pub(crate) fn said(at: usize, size: usize, looked: usize, decision: Result<Value, Code>) -> Try
     requires field { at + size < 2 ^ 16 }
     requires looked { looked < 2 ^ 16 }
     ensures { result ≡ said at size looked decision }
@@ -47,7 +47,7 @@ pub fn said(at: usize, size: usize, looked: usize, decision: Result<Value, Code>
 }
 
 // The part of a text that begins at this place, of this size.
-pub fn span_of(at: usize, size: usize) -> Span
+pub(crate) fn span_of(at: usize, size: usize) -> Span
     requires { at + size < 2 ^ 16 }
     ensures { result ≡ span at size }
 {
