@@ -1,7 +1,8 @@
 // The chain of a node, tried on a text.
-ghost use Rattle.std.specs.Prelude.{◌≡◌, ◌+◌, ◌≤◌, ◌<◌, All, true, drop, length};
+ghost use Rattle.std.specs.Prelude.{◌≡◌, ◌+◌, ◌-◌, ◌≤◌, ◌<◌, All, true, drop, length};
 ghost use Rattle.cm_text.specs.Text.{finished};
 ghost use Rattle.cm_fields.specs.declared.code.Code.TheVariants.{NotConfirmed};
+ghost use Rattle.cm_fields.specs.Local.{IsSeen};
 ghost use Rattle.cm_hooks.specs.Ties.{Ties, count};
 ghost use Rattle.cm_blocks.specs.Chain.{ChainLeads, IsNear, chain_at, default_place, default_rest, defaulted, spent, typed, walk};
 ghost use Rattle.cm_blocks.specs.Fault.{has_table};
@@ -53,8 +54,9 @@ fn try_function<N: Names, R: Rules>(
     requires hook { hook_limit function.now ≤ count hooks.now }
     requires short { length text.now ≤ 256 }
     requires place { at ≤ length text.now }
-    ensures { result ≡ trial (setting grammar.now (N.catalogue _names.now) R.meanings)
+    ensures value { result ≡ trial (setting grammar.now (N.catalogue _names.now) R.meanings)
         function.now (drop at text.now) at }
+    ensures seen { IsSeen (length text.now - at) result }
 {
     match function {
         Function::Key(table) => key(grammar.table(*table), text, at),
@@ -73,7 +75,9 @@ fn try_function<N: Names, R: Rules>(
 
 // How many bytes an answer looked at, of so many.
 fn looked_of(size: usize, answer: Try) -> usize
-    ensures { result ≡ looked_of size answer }
+    requires { IsSeen size answer }
+    ensures value { result ≡ looked_of size answer }
+    ensures within { result ≤ size }
 {
     match answer {
         Try::Accept { looked, .. } => usize::from(looked),
