@@ -58,10 +58,10 @@ pub rose_late : (before middle now : ℕ) → before ≤ middle → Rose middle 
 unfolding Rose
 rose_late before middle now later rose = omega arith
 
--- a front of the bytes is a part of them
-pub adds_front : (given bytes : List ℕ) (n : ℕ) → AddsPart (Bytes given) (Bytes (given ++ take n bytes)) bytes
+-- a prefix of the bytes is a part of them
+pub adds_prefix : (given bytes : List ℕ) (n : ℕ) → AddsPart (Bytes given) (Bytes (given ++ take n bytes)) bytes
 unfolding add
-adds_front given bytes n = record {
+adds_prefix given bytes n = record {
   part = take n bytes;
   is_part = record { rest = drop n bytes; joined = take-append-drop n bytes };
   added = refl;
