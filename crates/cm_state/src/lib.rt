@@ -24,4 +24,6 @@ pub use turn::Turn;
 pub use verbs::{LOGOUT, Verbs};
 
 #[cfg(test)]
+mod embedding;
+#[cfg(test)]
 mod tests;
