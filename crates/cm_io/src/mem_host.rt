@@ -24,8 +24,8 @@ pub(crate) enum Stage {
 }
 
 /// A host that holds its files in memory: at most one that is there from the beginning, the input,
-/// and one that is created, the output, for which a room is reserved; a name has at most 255 bytes. The calls of its methods are
-/// numbered from 0, and some may be set to fail.
+/// and one that is created, the output, whose name has at most 255 bytes and for which a room is
+/// reserved. The calls of its methods are numbered from 0, and some may be set to fail.
 #[derive(Drop)]
 pub struct MemHost {
     input_name: Vec<u8>,
@@ -165,10 +165,7 @@ impl Host for MemHost {
         Put::Done
     }
 
-    #[tactic(auto, using(
-        crate::proofs::Appending::appends_nothing,
-        crate::proofs::Appending::appends_prefix,
-    ))]
+    #[tactic(auto, using(crate::proofs::Appending::appends_nothing, crate::proofs::Appending::appends_prefix,))]
     fn write(&mut self, bytes: &[u8]) -> Put
         requires { IsTrue self.old.is_open }
         ensures stays_open { IsTrue self.new.is_open }

@@ -14,11 +14,7 @@ use cm_text::end_of_line;
 const DIGIT_LIMIT: usize = 20;
 
 /// Puts some bytes and the end of their line, CR and LF.
-#[tactic(auto, using(
-    crate::proofs::Adding::add_append,
-    crate::proofs::Adding::adds_early,
-    crate::proofs::Adding::adds_late,
-))]
+#[tactic(auto, using(crate::proofs::Adding::two_pieces))]
 pub fn put_line<S: Sink>(bytes: &[u8], sink: &mut S) -> Put
     ensures bytes { Adds (S.told sink.old) (S.told sink.new) (bytes.now ++ end_of_line) result }
     ensures later { S.faults sink.old ≤ S.faults sink.new }
@@ -52,11 +48,7 @@ pub fn put_hex<S: Sink>(byte: u8, sink: &mut S) -> Put
 }
 
 /// Puts a piece a number of times.
-#[tactic(auto, using(
-    crate::proofs::Repeating::add_times_none,
-    crate::proofs::Repeating::add_times_more,
-    crate::proofs::Repeating::times_late,
-))]
+#[tactic(auto, using(crate::proofs::Repeating::turns))]
 pub fn put_times<S: Sink>(count: u32, piece: &[u8], sink: &mut S) -> Put
     ensures bytes { Adds (S.told sink.old) (S.told sink.new) (times count piece.now) result }
     ensures later { S.faults sink.old ≤ S.faults sink.new }
@@ -70,11 +62,7 @@ pub fn put_times<S: Sink>(count: u32, piece: &[u8], sink: &mut S) -> Put
     Put::Done
 }
 
-#[tactic(auto, using(
-    std::proofs::lemmas::Fmt::decimal_digit,
-    std::proofs::lemmas::Fmt::decimal_step,
-    crate::proofs::Digits::length_decimal_step,
-))]
+#[tactic(auto, using(std::proofs::lemmas::Fmt::decimal_digit, std::proofs::lemmas::Fmt::decimal_step, crate::proofs::Digits::length_decimal_step,))]
 fn push_decimal(digits: &mut ArrayVec<u8, DIGIT_LIMIT>, number: u64)
     requires { length digits.old.items + length (decimal number) ≤ DIGIT_LIMIT }
     ensures { digits.new.items ≡ digits.old.items ++ decimal number }

@@ -20,7 +20,7 @@ impl Model for Reserved {
     ghost view = { λ reserved. record { bytes = reserved.bytes.items; room = reserved.room } };
 
     ghost invariant = { λ reserved. (length reserved.bytes.items ≤ reserved.room)
-      × (reserved.room ≤ vec_capacity reserved.bytes) };
+        × (reserved.room ≤ vec_capacity reserved.bytes) };
 }
 
 impl Reserved {

@@ -102,7 +102,10 @@ fn often_used_pieces(rt: HostRuntime) -> Result<(), Fail> {
     assert_eq!(rt; put_hex(0xf9, &mut sink), Put::Done);
     assert_eq!(rt; put_times(3, b"-+", &mut sink), Put::Done);
     assert_eq!(rt; put_line(b"ab", &mut sink), Put::Done);
-    assert_eq!(rt; sink.bytes(), b"0184467440737095516150af9-+-+-+ab\r\n".as_slice());
+    assert_eq!(rt;
+        sink.bytes(),
+        b"0184467440737095516150af9-+-+-+ab\r\n".as_slice()
+    );
     Ok(())
 }
 

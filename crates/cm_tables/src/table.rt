@@ -58,7 +58,7 @@ impl Model for Table {
     ghost view = { λ table. table.entries.items };
 
     ghost invariant = { λ table. (vec_len table.entries ≤ ENTRY_LIMIT)
-      × (table_fault table.entries.items ≡ None) };
+        × (table_fault table.entries.items ≡ None) };
 }
 
 impl Table {
