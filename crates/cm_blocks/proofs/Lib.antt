@@ -1,3 +1,4 @@
 pub mod Switches
 pub mod Trials
+pub mod Walks
 pub mod Wells

@@ -41,7 +41,8 @@ both : (first later : Option GrammarFault) → or_fault first later ≡ None →
 both None later none = record { first_none = refl; later_none = none }
 both (Some fault) later none = cc
 
-both_true : (a b : Bool) → (a && b) ≡ true → (a ≡ true) × (b ≡ true)
+-- both tests of a chain are passed
+pub both_true : (a b : Bool) → (a && b) ≡ true → (a ≡ true) × (b ≡ true)
 both_true true b is = (refl, is)
 both_true false b is = cc
 

@@ -1,6 +1,7 @@
 -- What the chain of a node makes of a text from a place on, and what that costs (COMND's function blocks).
 use Rattle.std.specs.Prelude.{◌≡◌, ℕ, ◌+◌, ◌<◌, ◌≤◌, ◌==◌, max, Bool, true, false, if◌then◌else◌, List, [], ◌∷◌, length, drop, Option, Some, None, unwrap_or, slice_get}
 use Rattle.cm_text.specs.Text.{finished}
+use Rattle.cm_text.specs.declared.text.TheConstants.{TEXT_LIMIT}
 use Rattle.cm_fields.specs.declared.code.Code.{Code}
 use Rattle.cm_fields.specs.declared.code.Code.TheVariants.{NotConfirmed}
 use Rattle.cm_fields.specs.declared.trial.Try.{Try}
@@ -41,9 +42,9 @@ walk s rest at number looked code (block ∷ more) =
     let seen = max looked (looked_of (length rest) answer) in
     or_later s.graph number seen block answer (walk s rest at (number + 1) seen (code_of code answer) more)
 
--- what is taken was decided within a text of at most 256 bytes
+-- what is taken was decided within a text
 abbrev pub IsNear : Walk → Type 0
-IsNear (Takes block role next value looked end) = looked ≤ 256
+IsNear (Takes block role next value looked end) = looked ≤ TEXT_LIMIT
 IsNear (Wants block) = Unit {0}
 IsNear (Fails code) = Unit {0}
 

@@ -9,7 +9,7 @@ use Rattle.cm_blocks.specs.declared.node.Block.{Block}
 use Rattle.cm_blocks.specs.declared.node.Node.{Node}
 use Rattle.cm_blocks.specs.declared.grammar.GrammarFault.{GrammarFault}
 use Rattle.cm_blocks.specs.declared.grammar.GrammarFault.TheVariants.{TooMany, EmptyChain, ChainLong, TableRange, NextRange, BadText, BadFlags, NoConfirm}
-use Rattle.cm_blocks.specs.declared.fault.TheConstants.{MOST_NODES, MOST_TABLES, MOST_BLOCKS}
+use Rattle.cm_blocks.specs.declared.fault.TheConstants.{NODE_LIMIT, TABLE_LIMIT, BLOCK_LIMIT}
 use Rattle.cm_blocks.specs.Grammar.{Graph}
 
 -- the table that a function names
@@ -67,7 +67,7 @@ has_flags block = block.flags.wild || not block.flags.all_generations
 abbrev pub node_fault : List (List Entry) → ℕ → ℕ → Node → Option GrammarFault
 node_fault tables nodes number node =
     if length node.chain == 0 then Some (EmptyChain number)
-    else (if nat_lt MOST_BLOCKS (length node.chain) then Some (ChainLong number)
+    else (if nat_lt BLOCK_LIMIT (length node.chain) then Some (ChainLong number)
     else (if not (list_all (λ (block : Block). has_table tables block.function) node.chain)
     then Some (TableRange number)
     else (if not (list_all (leads_within tables nodes) node.chain) then Some (NextRange number)
@@ -96,8 +96,8 @@ chain_confirms node = list_any (λ (block : Block). is_confirm block.function) n
 -- how many nodes and tables there may be
 abbrev pub has_size : Graph → Bool
 has_size graph =
-    nat_lt 0 (length graph.nodes) && nat_le (length graph.nodes) MOST_NODES
-    && nat_le (length graph.tables) MOST_TABLES
+    nat_lt 0 (length graph.nodes) && nat_le (length graph.nodes) NODE_LIMIT
+    && nat_le (length graph.tables) TABLE_LIMIT
 
 -- the first fault of all
 unfoldable pub grammar_fault : Graph → Option GrammarFault

@@ -3,7 +3,7 @@ use Rattle.std.specs.Prelude.{◌≡◌, ℕ, zero, suc, ◌+◌, ◌-◌, ◌==
 use Rattle.std.specs.List.{common_prefix_len}
 use Rattle.cm_blocks.specs.declared.field.Chain.{Chain}
 use Rattle.cm_blocks.specs.declared.field.Chain.TheVariants as chain
-use Rattle.cm_blocks.specs.declared.field.TheConstants.{MOST_FIELDS}
+use Rattle.cm_blocks.specs.declared.field.TheConstants.{FIELD_LIMIT}
 use Rattle.cm_blocks.specs.Chain.{chain_at}
 use Rattle.cm_blocks.specs.Parse.{node_behind, parse_of, place_behind}
 use Rattle.cm_blocks.specs.Setting.{Setting}
@@ -40,7 +40,7 @@ cost_from s text (suc room) node at =
 -- what the parse of a text costs behind fields that are kept
 abbrev pub cost_behind : Setting → ℕ → List ℕ → List Taken → ℕ
 cost_behind s node text fields =
-    cost_from s text (MOST_FIELDS - length fields) (node_behind node fields) (place_behind 0 fields)
+    cost_from s text (FIELD_LIMIT - length fields) (node_behind node fields) (place_behind 0 fields)
 
 -- what the parse of the new text costs who holds that of the old one
 unfoldable pub cost : Setting → ℕ → List ℕ → List ℕ → ℕ

@@ -5,7 +5,7 @@ use Rattle.cm_blocks.specs.declared.field.Chain.{Chain}
 use Rattle.cm_blocks.specs.declared.field.Chain.TheVariants as chain
 use Rattle.cm_blocks.specs.declared.field.Ending.{Ending}
 use Rattle.cm_blocks.specs.declared.field.Ending.TheVariants as ending
-use Rattle.cm_blocks.specs.declared.field.TheConstants.{MOST_FIELDS}
+use Rattle.cm_blocks.specs.declared.field.TheConstants.{FIELD_LIMIT}
 use Rattle.cm_blocks.specs.Chain.{chain_at}
 use Rattle.cm_blocks.specs.Setting.{Setting}
 use Rattle.cm_blocks.specs.Taken.{Taken}
@@ -40,7 +40,7 @@ parse_from s text (suc room) node at =
 
 -- the parse of a text from a node on
 unfoldable pub parse_of : Setting → ℕ → List ℕ → Parse
-parse_of s node text = parse_from s text MOST_FIELDS node 0
+parse_of s node text = parse_from s text FIELD_LIMIT node 0
 
 -- the node and the place behind fields, or those from which they are sought
 abbrev pub node_behind : ℕ → List Taken → ℕ
@@ -74,7 +74,7 @@ pub record Parses (s : Setting) (text : List ℕ) (room node at : ℕ) (fields :
 
 -- the fields and the ending are the parse of the whole text
 abbrev pub IsParse : Setting → ℕ → List ℕ → List Taken → Ending → Type 0
-IsParse s node text fields ends = Parses s text MOST_FIELDS node 0 fields ends
+IsParse s node text fields ends = Parses s text FIELD_LIMIT node 0 fields ends
 
 -- the start of a parse: the first block of the node wants more
 abbrev pub open_at : ℕ → ℕ → Ending

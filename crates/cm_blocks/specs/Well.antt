@@ -1,5 +1,6 @@
 -- What is true of each node of a grammar.
 use Rattle.std.specs.Prelude.{ℕ, ◌≡◌, ◌<◌, ◌≤◌, true, length, All}
+use Rattle.cm_blocks.specs.declared.fault.TheConstants.{BLOCK_LIMIT}
 use Rattle.cm_blocks.specs.declared.node.Block.{Block}
 use Rattle.cm_blocks.specs.declared.node.Node.{Node}
 use Rattle.cm_blocks.specs.Fault.{has_phrase, has_table, leads_within}
@@ -13,8 +14,8 @@ pub record IsWellBlock (graph : Graph) (block : Block) : Type 0 where
   pub hook : hook_limit block.function ≤ hook_count graph
   pub phrase : has_phrase block.function ≡ true
 
--- a node has 1 to 16 blocks, each of them well
+-- a node has some blocks, and no more than it may, each of them well
 pub record IsWell (graph : Graph) (node : Node) : Type 0 where
   pub some : 0 < length node.chain
-  pub few : length node.chain ≤ 16
+  pub few : length node.chain ≤ BLOCK_LIMIT
   pub blocks : All (IsWellBlock graph) node.chain

@@ -12,14 +12,18 @@ ghost use Rattle.cm_blocks.specs.Trial.{entry_next, keyword_next, looked_of, nex
 ghost use Rattle.cm_blocks.specs.Well.{IsWell, IsWellBlock};
 
 use crate::{Block, Chain, Fault, Field, Function, Grammar, Node, Open, Role, Steps, key, switch};
+use crate::fault::BLOCK_LIMIT;
 use arrayvec::ArrayVec;
 use cm_fields::{
     Code, Try, Value, comma, confirm, noise, number, quoted, skip, text_field, token, word,
 };
 use cm_files::Names;
 use cm_hooks::{Hooks, Rules, hook_field};
-use cm_text::Name;
+use cm_text::{NAME_LIMIT, Name, TEXT_LIMIT};
 use std::sync::ledger::Ledger;
+
+// The most bytes of a default, finished as a line.
+const DEFAULT_LIMIT: usize = NAME_LIMIT + 1;
 
 // What the blocks of a chain answer in order.
 #[derive(Clone, Copy)]
@@ -52,7 +56,7 @@ fn try_function<N: Names, R: Rules>(
     requires table { has_table grammar.now.tables function.now ≡ true }
     requires ties { Ties R.meanings hooks.now }
     requires hook { hook_limit function.now ≤ count hooks.now }
-    requires short { length text.now ≤ 256 }
+    requires short { length text.now ≤ TEXT_LIMIT }
     requires place { at ≤ length text.now }
     ensures value { result ≡ trial (setting grammar.now (N.catalogue _names.now) R.meanings)
         function.now (drop at text.now) at }
@@ -131,11 +135,11 @@ fn walk_blocks<N: Names, R: Rules, L: Ledger>(
     hooks: &Hooks<R>,
     steps: &mut Steps<L>,
 ) -> Walk
-    requires few { length blocks.now ≤ 16 }
+    requires few { length blocks.now ≤ BLOCK_LIMIT }
     requires well { All (IsWellBlock grammar.now) blocks.now }
     requires ties { Ties R.meanings hooks.now }
     requires hooks { hook_count grammar.now ≤ count hooks.now }
-    requires short { length text.now ≤ 256 }
+    requires short { length text.now ≤ TEXT_LIMIT }
     requires place { at ≤ length text.now }
     ensures value { result ≡ walk (setting grammar.now (N.catalogue names.now) R.meanings)
         (drop at text.now) at 0 0 NotConfirmed blocks.now }
@@ -176,7 +180,7 @@ fn walk_blocks<N: Names, R: Rules, L: Ledger>(
 // What the blocks of a node answer at a place of the text.
 fn typed(node: u16, start: u16, walk: Walk) -> Chain
     requires near { IsNear walk }
-    requires place { start ≤ 256 }
+    requires place { start ≤ TEXT_LIMIT }
     ensures { result ≡ typed node start walk }
 {
     match walk {
@@ -218,7 +222,7 @@ fn typed(node: u16, start: u16, walk: Walk) -> Chain
 
 // What the blocks of a node answer on its default, at a place where the line ends.
 fn defaulted(node: u16, start: u16, walk: Walk) -> Chain
-    requires { start ≤ 256 }
+    requires { start ≤ TEXT_LIMIT }
     ensures { result ≡ defaulted node start walk }
 {
     match walk {
@@ -257,13 +261,11 @@ fn defaulted(node: u16, start: u16, walk: Walk) -> Chain
 }
 
 // The default of a node, finished as a line.
-fn finished(text: &Name) -> ArrayVec<u8, 40>
+fn finished(text: &Name) -> ArrayVec<u8, DEFAULT_LIMIT>
     ensures { result.items ≡ finished text.now }
 {
     let mut line = ArrayVec::new();
-    for byte in text.as_bytes() {
-        line.push(*byte);
-    }
+    let _ = line.try_extend_from_slice(text.as_bytes());
     line.push(b'\r');
     line
 }
@@ -309,7 +311,7 @@ pub fn try_chain<N: Names, R: Rules, L: Ledger>(
     steps: &mut Steps<L>,
 ) -> Chain
     requires node { node < length grammar.now.nodes }
-    requires short { length text.now ≤ 256 }
+    requires short { length text.now ≤ TEXT_LIMIT }
     requires place { at ≤ length text.now }
     requires ties { Ties R.meanings hooks.now }
     requires hooks { hook_count grammar.now ≤ count hooks.now }

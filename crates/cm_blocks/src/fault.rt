@@ -10,19 +10,19 @@ use cm_tables::{Entry, Table};
 use cm_text::Name;
 
 /// The most nodes of a grammar.
-pub const MOST_NODES: usize = 1024;
+pub const NODE_LIMIT: usize = 1024;
 
 /// The most keyword tables of a grammar.
-pub const MOST_TABLES: usize = 64;
+pub const TABLE_LIMIT: usize = 64;
 
 /// The most blocks of a node.
-pub const MOST_BLOCKS: usize = 16;
+pub const BLOCK_LIMIT: usize = 16;
 
 // Whether there are as many nodes and tables as there may be.
 fn has_size(nodes: &[Node], tables: &[Table]) -> bool
     ensures { result ≡ has_size (record { nodes = nodes.now; tables = tables.now }) }
 {
-    !nodes.is_empty() && nodes.len() <= MOST_NODES && tables.len() <= MOST_TABLES
+    !nodes.is_empty() && nodes.len() <= NODE_LIMIT && tables.len() <= TABLE_LIMIT
 }
 
 // Whether the table that a function names is there.
@@ -162,7 +162,7 @@ fn node_fault(tables: &[Table], nodes: usize, number: u16, node: &Node) -> Optio
     let chain = node.chain.as_slice();
     if chain.is_empty() {
         Some(GrammarFault::EmptyChain(number))
-    } else if chain.len() > MOST_BLOCKS {
+    } else if chain.len() > BLOCK_LIMIT {
         Some(GrammarFault::ChainLong(number))
     } else if !have_tables(tables, chain) {
         Some(GrammarFault::TableRange(number))
@@ -179,7 +179,7 @@ fn node_fault(tables: &[Table], nodes: usize, number: u16, node: &Node) -> Optio
 
 // The fault of the first node that has one.
 fn nodes_fault(tables: &[Table], nodes: &[Node]) -> Option<GrammarFault>
-    requires { length nodes.now ≤ 1024 }
+    requires { length nodes.now ≤ NODE_LIMIT }
     ensures { result ≡ nodes_fault tables.now (length nodes.now) 0 nodes.now }
 {
     for (number, node) in nodes.iter().enumerate() {

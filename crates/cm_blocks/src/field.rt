@@ -6,7 +6,7 @@ use cm_fields::{Code, Value};
 use std::marker::Model;
 
 /// The most fields of a line.
-pub const MOST_FIELDS: usize = 64;
+pub const FIELD_LIMIT: usize = 64;
 
 /// A field that a chain took from a text. Only `try_chain` makes one, by a trial that is counted, and it cannot
 /// be cloned; so who holds a field holds what a counted trial answered. Contracts see its parts.

@@ -110,10 +110,13 @@ impl Grammar {
     }
 }
 
+// One past the greatest id that a hook may have.
+const HOOK_LIMIT: u16 = 256;
+
 // One past the id of the hook that a block asks, 0 where it asks none.
 fn hook_limit(block: &Block) -> u16
     ensures value { result ≡ hook_limit block.now.function }
-    ensures most { result ≤ 256 }
+    ensures most { result ≤ HOOK_LIMIT }
 {
     match block.function {
         Function::Hook(id) => u16::from(id) + 1,
@@ -123,7 +126,7 @@ fn hook_limit(block: &Block) -> u16
 
 fn blocks_limit(blocks: &[Block]) -> u16
     ensures value { result ≡ blocks_limit blocks.now }
-    ensures most { result ≤ 256 }
+    ensures most { result ≤ HOOK_LIMIT }
 {
     let mut limit = 0;
     for block in blocks {

@@ -7,6 +7,7 @@ ghost use Rattle.cm_blocks.specs.Keyword.{behind_slash, entry_position, key, key
 
 use cm_fields::{Code, Try, Value, said, word_run};
 use cm_tables::{Entry, Look, Table};
+use cm_text::TEXT_LIMIT;
 
 // The position of the entry that a run means.
 #[tactic(auto, unfolding(crate::specs::Keyword::entry_position))]
@@ -42,7 +43,7 @@ fn key_value(table: &Table, found: Result<u16, Code>) -> Result<Value, Code>
 /// A keyword of the table (.CMKEY): a run of word bytes that is an entry's text, or abbreviates one. Refused
 /// with NotKeyword where the run is empty or abbreviates none, with Ambiguous where it abbreviates several.
 pub fn key(table: &Table, text: &[u8], at: usize) -> Try
-    requires short { length text.now ≤ 256 }
+    requires short { length text.now ≤ TEXT_LIMIT }
     requires place { at ≤ length text.now }
     ensures { result ≡ key table.now (drop at text.now) at }
 {
@@ -97,7 +98,7 @@ fn behind_slash(table: &Table, rest: &[u8], at: usize) -> Try
 /// takes a value. Refused with NotSwitch where no `/` stands, with NotKeyword and Ambiguous as a keyword, with
 /// NeedColon where the colon is wanting.
 pub fn switch(table: &Table, text: &[u8], at: usize) -> Try
-    requires short { length text.now ≤ 256 }
+    requires short { length text.now ≤ TEXT_LIMIT }
     requires place { at ≤ length text.now }
     ensures { result ≡ switch table.now (drop at text.now) at }
 {

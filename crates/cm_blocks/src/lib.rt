@@ -13,8 +13,8 @@ mod steps;
 pub mod laws;
 
 pub use chain::try_chain;
-pub use fault::{MOST_BLOCKS, MOST_NODES, MOST_TABLES};
-pub use field::{Chain, Ending, Fault, Field, MOST_FIELDS, Open};
+pub use fault::{BLOCK_LIMIT, NODE_LIMIT, TABLE_LIMIT};
+pub use field::{Chain, Ending, Fault, Field, FIELD_LIMIT, Open};
 pub use function::{Function, Role};
 pub use grammar::{Grammar, GrammarFault};
 pub use keyword::{key, switch};

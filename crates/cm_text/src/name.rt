@@ -32,7 +32,8 @@ impl Name {
 
     /// The bytes of the name.
     pub fn as_bytes(&self) -> &[u8]
-        ensures { result.now ≡ self.now }
+        ensures value { result.now ≡ self.now }
+        ensures within { length result.now ≤ NAME_LIMIT }
     {
         self.text.as_str().as_bytes()
     }
