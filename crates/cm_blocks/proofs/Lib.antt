@@ -1,3 +1,4 @@
+pub mod Keeping
 pub mod Switches
 pub mod Trials
 pub mod Walks

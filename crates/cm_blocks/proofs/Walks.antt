@@ -179,23 +179,27 @@ some_node graph place node found = by graph.nodes found
     by [] found = cc
     by (first ∷ more) found = omega arith
 
+-- where a chain leads from a place past the blanks
+pub choice_leads : (s : Setting) (number : ℕ) (node : Node) (text : List ℕ) (at start : ℕ) (default : Option (List ℕ))
+    → IsWell s.graph node → 0 < length s.graph.nodes → at ≤ start → start ≤ length text
+    → ChainLeads (length s.graph.nodes) at (length text) (by_default s number node (drop start text) start default).chain
+choice_leads s number node text at start None well some behind within = text_leads s number node text at start well some behind within 0 _
+choice_leads s number node text at start (Some default) well some behind within =
+    of_choice (λ (counted : Counted). ChainLeads (length s.graph.nodes) at (length text) counted.chain) (is_line_end (drop start text)) _ _
+    (default_leads s number node at start (length text) default well some behind within 0 _)
+    (text_leads s number node text at start well some behind within 0 _)
+
 node_leads : (s : Setting) (number : ℕ) (node : Node) (text : List ℕ) (at : ℕ) → IsWell s.graph node
     → 0 < length s.graph.nodes → at ≤ length text
     → ChainLeads (length s.graph.nodes) at (length text) (past_skip s number node text at (skip node.raw text at)).chain
 node_leads s number node text at well some within = by (skip node.raw text at) refl
     where
-    by_choice : (default : Option (List ℕ)) (start : ℕ) → at ≤ start → start ≤ length text
-        → ChainLeads (length s.graph.nodes) at (length text) (by_default s number node (drop start text) start default).chain
-    by_choice None start behind inside = text_leads s number node text at start well some behind inside 0 _
-    by_choice (Some default) start behind inside =
-        of_choice (λ (counted : Counted). ChainLeads (length s.graph.nodes) at (length text) counted.chain) (is_line_end (drop start text)) _ _
-        (default_leads s number node at start (length text) default well some behind inside 0 _)
-        (text_leads s number node text at start well some behind inside 0 _)
     by : (found : Option ℕ) → skip node.raw text at ≡ found
         → ChainLeads (length s.graph.nodes) at (length text) (past_skip s number node text at found).chain
     by None is = tt
     by (Some start) is =
-        let reached = skip_within node.raw text at start within is in by_choice node.default start reached.0 reached.1
+        let reached = skip_within node.raw text at start within is in
+        choice_leads s number node text at start node.default well some reached.0 reached.1
 
 -- what a chain takes leads on
 pub chain_leads : (s : Setting) (number : ℕ) (text : List ℕ) (at : ℕ) → grammar_fault s.graph ≡ None → at ≤ length text

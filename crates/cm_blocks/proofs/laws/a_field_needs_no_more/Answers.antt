@@ -1,0 +1,5 @@
+use Rattle.cm_blocks.proofs.Keeping.{chain_keeps}
+use Rattle.cm_blocks.proofs.laws.a_field_needs_no_more.Goals as goal
+
+pub returns : goal.returns
+returns c = chain_keeps
