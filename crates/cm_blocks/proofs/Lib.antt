@@ -1,4 +1,6 @@
 pub mod Keeping
+pub mod Parsing
+pub mod Standing
 pub mod Switches
 pub mod Trials
 pub mod Walks

@@ -140,7 +140,7 @@ pub typed_leads : (nodes at size number start most : ℕ) (walked : Walk) → at
 typed_leads nodes at size number start most (Takes block role next value looked end) behind within leads =
     let reached = leads.1 in
     of_choice (ChainLeads nodes at size) (is_confirm value) _ _ tt
-    (record { next = leads.0; start = behind; end = reached.begins; within = omega arith; need = omega arith })
+    (record { next = leads.0; start = behind; end = reached.begins; within = omega arith; need = omega arith; covered = reached.seen })
 typed_leads nodes at size number start most (Wants block) behind within leads = tt
 typed_leads nodes at size number start most (Fails code) behind within leads = tt
 
@@ -148,7 +148,7 @@ pub defaulted_leads : (nodes at size number start from most : ℕ) (walked : Wal
     → WalkLeads nodes from most walked → ChainLeads nodes at size (defaulted number start walked)
 defaulted_leads nodes at size number start from most (Takes block role next value looked end) behind within leads =
     of_choice (ChainLeads nodes at size) (is_confirm value) _ _ tt
-    (record { next = leads.0; start = behind; end = omega arith; within = within; need = omega arith })
+    (record { next = leads.0; start = behind; end = omega arith; within = within; need = omega arith; covered = omega arith })
 defaulted_leads nodes at size number start from most (Wants block) behind within leads = tt
 defaulted_leads nodes at size number start from most (Fails code) behind within leads = tt
 

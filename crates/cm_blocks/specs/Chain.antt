@@ -154,13 +154,14 @@ at_node s number text at (Some node) = past_skip s number node text at (skip nod
 unfoldable pub chain_at : Setting → ℕ → List ℕ → ℕ → Counted
 chain_at s number text at = at_node s number text at (slice_get s.graph.nodes number)
 
--- a field leads to a node of the grammar, and lies behind the place and in the text
+-- a field leads to a node of the grammar, lies behind the place and in the text, and needs its own bytes
 pub record Leads (nodes at size : ℕ) (field : Taken) : Type 0 where
   pub next : field.next < nodes
   pub start : at ≤ field.start
   pub end : field.start ≤ field.end
   pub within : field.end ≤ size
   pub need : field.start < field.need
+  pub covered : field.end ≤ field.need
 
 abbrev pub ChainLeads : ℕ → ℕ → ℕ → Chain → Type 0
 ChainLeads nodes at size (chain.Field field) = Leads nodes at size field

@@ -1,0 +1,151 @@
+-- Each text has exactly one parse, and the parse of the empty line is open at the first block.
+use Rattle.std.proofs.Common.{◌≡◌, ℕ, zero, suc, ◌+◌, ◌<◌, ◌≤◌, ◌==◌, Bool, true, false, nat_lt, ◌&&◌, List, [], ◌∷◌, ◌++◌, length, drop, Option, Some, None, slice_get, get_or, refl, ap, sym, subst, ◌∙◌, arith}
+use Rattle.std.specs.List.{common_prefix_len}
+use Rattle.std.proofs.lemmas.Bool.Decides.{nat_tests}
+use Rattle.cm_fields.specs.declared.code.Code.{Code}
+use Rattle.cm_fields.specs.declared.code.Code.TheVariants.{NotConfirmed}
+use Rattle.cm_fields.specs.declared.trial.Try.{Try}
+use Rattle.cm_fields.specs.declared.trial.Try.TheVariants.{More}
+use Rattle.cm_fields.specs.Phrase.{same_letter, token}
+use Rattle.cm_fields.specs.Skip.{skip}
+use Rattle.cm_blocks.specs.declared.chain.Walk.{Walk}
+use Rattle.cm_blocks.specs.declared.chain.Walk.TheVariants.{Wants}
+use Rattle.cm_blocks.specs.declared.field.Chain.{Chain}
+use Rattle.cm_blocks.specs.declared.field.Chain.TheVariants as chain
+use Rattle.cm_blocks.specs.declared.field.Ending.{Ending}
+use Rattle.cm_blocks.specs.declared.field.Ending.TheVariants as ending
+use Rattle.cm_blocks.specs.declared.function.Function.{Function}
+use Rattle.cm_blocks.specs.declared.function.Function.TheVariants.{Key, Switch, Noise, Number, Word, Quoted, Token, Text, Comma, Confirm, Hook}
+use Rattle.cm_blocks.specs.declared.node.Block.{Block}
+use Rattle.cm_blocks.specs.declared.node.Node.{Node}
+use Rattle.cm_blocks.specs.Chain.{at_node, by_default, chain_at, or_later, typed, walk}
+use Rattle.cm_blocks.specs.Fault.{grammar_fault, has_phrase}
+use Rattle.cm_blocks.specs.Parse.{Follow, IsLast, IsParse, Parse, Parses, after_chain, ending_of, node_behind, open_at, parse_from, parse_of, place_behind, with_fields}
+use Rattle.cm_blocks.specs.Setting.{Setting}
+use Rattle.cm_blocks.specs.Taken.{Taken}
+use Rattle.cm_blocks.specs.Trial.{trial}
+use Rattle.cm_blocks.specs.Well.{IsWell}
+use Rattle.cm_blocks.proofs.Wells.{both_true, well_node}
+
+-- the parse from a place on is one
+parses_from : (s : Setting) (text : List ℕ) (room node at : ℕ)
+    → Parses s text room node at (parse_from s text room node at).fields (parse_from s text room node at).ending
+parses_from s text zero node at =
+    record { few = omega arith; follow = tt; ending = refl; last = λ below. absurd (omega arith) }
+parses_from s text (suc room) node at =
+    by (chain_at s node text at).chain refl (λ field. parses_from s text room field.next field.end)
+    where
+    behind : Taken → Parse
+    behind field = parse_from s text room field.next field.end
+    by : (answer : Chain) → (chain_at s node text at).chain ≡ answer
+        → ((field : Taken) → Parses s text room field.next field.end (behind field).fields (behind field).ending)
+        → Parses s text (suc room) node at (after_chain behind answer).fields (after_chain behind answer).ending
+    by (chain.Field field) is later =
+        let rest = later field in
+        record {
+          few = omega (arith, rest.few);
+          follow = (is, rest.follow);
+          ending = rest.ending;
+          last = λ below. rest.last (omega arith);
+        }
+    by (chain.Done place) is later = record { few = omega arith; follow = tt; ending = ap ending_of (sym is); last = λ below. subst IsLast (sym is) tt }
+    by (chain.Fault fault) is later = record { few = omega arith; follow = tt; ending = ap ending_of (sym is); last = λ below. subst IsLast (sym is) tt }
+    by (chain.Open place) is later = record { few = omega arith; follow = tt; ending = ap ending_of (sym is); last = λ below. subst IsLast (sym is) tt }
+
+pub parse_of_parses : (s : Setting) (node : ℕ) (text : List ℕ)
+    → IsParse s node text (parse_of s node text).fields (parse_of s node text).ending
+unfolding parse_of
+parse_of_parses s node text = parses_from s text 64 node 0
+
+-- any parse from a place on is that one
+only_from : (s : Setting) (text : List ℕ) (room node at : ℕ) (fields : List Taken) (ends : Ending)
+    → Parses s text room node at fields ends
+    → let parse : Parse = record { fields = fields; ending = ends } in parse ≡ parse_from s text room node at
+only_from s text zero node at [] ends parses = ap (λ (e : Ending). let parse : Parse = record { fields = []; ending = e } in parse) parses.ending
+only_from s text zero node at (field ∷ fields) ends parses = absurd (omega (arith, parses.few))
+only_from s text (suc room) node at [] ends parses = by (chain_at s node text at).chain refl (parses.last (omega arith)) parses.ending
+    where
+    by : (answer : Chain) → (chain_at s node text at).chain ≡ answer → IsLast (chain_at s node text at).chain
+        → ends ≡ ending_of (chain_at s node text at).chain
+        → let parse : Parse = record { fields = []; ending = ends } in
+            parse ≡ after_chain (λ field. parse_from s text room field.next field.end) answer
+    by (chain.Field field) is last ending = absurd (subst IsLast is last)
+    by (chain.Done place) is last ending = let e = ending ∙ ap ending_of is in ap (λ (e : Ending). let parse : Parse = record { fields = []; ending = e } in parse) e
+    by (chain.Fault fault) is last ending = let e = ending ∙ ap ending_of is in ap (λ (e : Ending). let parse : Parse = record { fields = []; ending = e } in parse) e
+    by (chain.Open place) is last ending = let e = ending ∙ ap ending_of is in ap (λ (e : Ending). let parse : Parse = record { fields = []; ending = e } in parse) e
+only_from s text (suc room) node at (field ∷ fields) ends parses =
+    let rest = only_from s text room field.next field.end fields ends
+        (record { few = omega (arith, parses.few); follow = parses.follow.1; ending = parses.ending; last = λ below. parses.last (omega arith) }) in
+    ap (with_fields (field ∷ [])) rest
+    ∙ sym (ap (after_chain (λ (field : Taken). parse_from s text room field.next field.end)) parses.follow.0)
+
+pub parses_are_parse_of : (s : Setting) (node : ℕ) (text : List ℕ) (fields : List Taken) (ends : Ending)
+    → IsParse s node text fields ends → (fields ≡ (parse_of s node text).fields) × (ends ≡ (parse_of s node text).ending)
+unfolding parse_of
+parses_are_parse_of s node text fields ends parses =
+    let same = only_from s text 64 node 0 fields ends parses in
+    (ap (λ (parse : Parse). parse.fields) same, ap (λ (parse : Parse). parse.ending) same)
+
+-- nothing is decided of no bytes
+token_wants : (phrase : List ℕ) (at : ℕ) → has_phrase (Token phrase) ≡ true → token phrase [] at ≡ More
+unfolding token
+token_wants [] at phrase = cc
+token_wants (letter ∷ phrase) at is =
+    let some : (0 == length (letter ∷ phrase)) ≡ false = grind (arith, nat_tests) in rw some refl
+
+trial_wants : (s : Setting) (function : Function) (at : ℕ) → has_phrase function ≡ true → trial s function [] at ≡ More
+unfolding trial
+trial_wants s (Token text) at phrase = token_wants text at phrase
+trial_wants s (Noise text) at phrase = refl
+trial_wants s (Key table) at phrase = refl
+trial_wants s (Switch table) at phrase = refl
+trial_wants s Number at phrase = refl
+trial_wants s Word at phrase = refl
+trial_wants s Quoted at phrase = refl
+trial_wants s Text at phrase = refl
+trial_wants s Comma at phrase = refl
+trial_wants s Confirm at phrase = refl
+trial_wants s (Hook id) at phrase = refl
+
+walk_wants : (s : Setting) (graph_node : Node) (at looked : ℕ) (code : Code) → IsWell s.graph graph_node
+    → walk s [] at 0 looked code graph_node.chain ≡ Wants 0
+walk_wants s graph_node at looked code well = by graph_node.chain well.some (λ k d below. (well.blocks k d below).phrase)
+    where
+    by : (blocks : List Block) → 0 < length blocks → ((k : ℕ) (d : Block) → k < length blocks → has_phrase (get_or blocks k d).function ≡ true)
+        → walk s [] at 0 looked code blocks ≡ Wants 0
+    by [] some phrases = absurd (omega arith)
+    by (block ∷ blocks) some phrases =
+        let wants = trial_wants s block.function at (phrases 0 block (omega arith)) in
+        rw wants refl
+
+some_at : (nodes : List Node) (number : ℕ) → number < length nodes → (node : Node) × (slice_get nodes number ≡ Some node)
+some_at [] number below = absurd (omega arith)
+some_at (node ∷ nodes) zero below = (node, refl)
+some_at (node ∷ nodes) (suc number) below = some_at nodes number (omega arith)
+
+node_starts : (s : Setting) (number : ℕ) (node : Node) → IsWell s.graph node
+    → (at_node s number [] 0 (Some node)).chain ≡ chain.Open (record { node = number; block = Some 0; at = 0 })
+node_starts s number node well = by node.default
+    where
+    by : (default : Option (List ℕ)) → (by_default s number node [] 0 default).chain ≡ chain.Open (record { node = number; block = Some 0; at = 0 })
+    by None = ap (typed number 0) (walk_wants s node 0 0 NotConfirmed well)
+    by (Some text) = ap (typed number 0) (walk_wants s node 0 0 NotConfirmed well)
+
+chain_starts : (s : Setting) (number : ℕ) → grammar_fault s.graph ≡ None → number < length s.graph.nodes
+    → (chain_at s number [] 0).chain ≡ chain.Open (record { node = number; block = Some 0; at = 0 })
+unfolding chain_at
+chain_starts s number none below =
+    let found = some_at s.graph.nodes number below in
+    subst (λ (node : Option Node). (at_node s number [] 0 node).chain ≡ chain.Open (record { node = number; block = Some 0; at = 0 }))
+    (sym found.1) (node_starts s number found.0 (well_node s.graph number found.0 none found.1))
+
+-- the parse of the empty line
+start_from : (s : Setting) (room number : ℕ) → (chain_at s number [] 0).chain ≡ chain.Open (record { node = number; block = Some 0; at = 0 })
+    → parse_from s [] room number 0 ≡ record { fields = []; ending = open_at number 0 }
+start_from s zero number is = ap (λ (answer : Chain). let parse : Parse = record { fields = []; ending = ending_of answer } in parse) is
+start_from s (suc room) number is = ap (after_chain (λ (field : Taken). parse_from s [] room field.next field.end)) is
+
+pub start_is_open : (s : Setting) → grammar_fault s.graph ≡ None → (number : ℕ) → number < length s.graph.nodes
+    → parse_of s number [] ≡ record { fields = []; ending = open_at number 0 }
+unfolding parse_of
+start_is_open s none number below = start_from s 64 number (chain_starts s number none below)

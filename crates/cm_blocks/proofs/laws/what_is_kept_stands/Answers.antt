@@ -1,0 +1,5 @@
+use Rattle.cm_blocks.proofs.Standing.{kept_begins}
+use Rattle.cm_blocks.proofs.laws.what_is_kept_stands.Goals as goal
+
+pub returns : goal.returns
+returns c = kept_begins
