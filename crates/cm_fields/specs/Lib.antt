@@ -1,4 +1,5 @@
 pub mod Code
+pub mod Finish
 pub mod Local
 pub mod Mark
 pub mod Phrase
