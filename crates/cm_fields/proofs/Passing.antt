@@ -6,7 +6,7 @@ use Rattle.cm_fields.specs.declared.skipped.Comment.{Comment}
 use Rattle.cm_fields.specs.declared.skipped.Comment.TheVariants.{Outside, ToMark, ToEnd}
 use Rattle.cm_fields.specs.Passed.{ArePassed, BeginsOther, EndsLine, HasNoEnd, HasNoMark, IsOpen, IsPast, IsUnended}
 use Rattle.cm_fields.specs.Passed.{blank, marked, nothing, to_end, unclosed}
-use Rattle.cm_fields.specs.Skip.{ended, or_later, passed, skip, skip_from}
+use Rattle.cm_fields.specs.Skip.{or_later, passed, skip, skip_from}
 
 differs : (byte other : ℕ) → byte ≢ other → (byte == other) ≡ false
 differs byte other unequal = grind (arith, nat_tests)
@@ -201,7 +201,11 @@ outside_tells raw at byte rest later =
     (λ is. told_behind raw (byte ∷ []) rest at _ (λ behind bytes before. blank byte bytes is before) (later Outside tt))
     (λ plain. of_choice P raw None _
     (λ is_raw. record {
-      bytes = []; behind = byte ∷ rest; whole = refl; ends = omega arith; passed = nothing;
+      bytes = [];
+      behind = byte ∷ rest;
+      whole = refl;
+      ends = omega arith;
+      passed = nothing;
       other = (plain, λ (has : raw ≡ false). absurd (cc));
     })
     (λ has. of_choice P (byte == 33) (Some ToMark) _
@@ -209,7 +213,11 @@ outside_tells raw at byte rest later =
     (λ first. of_choice P (byte == 59) (Some ToEnd) None
     (λ test. let is = equal byte 59 test in rw is (later ToEnd has [] at tt (omega arith)))
     (λ second. record {
-      bytes = []; behind = byte ∷ rest; whole = refl; ends = omega arith; passed = nothing;
+      bytes = [];
+      behind = byte ∷ rest;
+      whole = refl;
+      ends = omega arith;
+      passed = nothing;
       other = (plain, λ _. (unequal byte 33 first, unequal byte 59 second));
     }))))
 
@@ -245,8 +253,12 @@ mark_tells raw at byte rest has later inside begin inner place =
     let P : Option Comment → Type 0 = λ next. Told raw (33 ∷ inside ++ byte ∷ rest) begin (or_later at next (λ next. skip_from raw next (at + 1) rest)) in
     of_choice P (byte == 13) None _
     (λ test. let is = equal byte 13 test in record {
-      bytes = 33 ∷ inside; behind = byte ∷ rest; whole = refl; ends = place;
-      passed = unclosed inside has inner is; other = other_at_end raw byte rest is;
+      bytes = 33 ∷ inside;
+      behind = byte ∷ rest;
+      whole = refl;
+      ends = place;
+      passed = unclosed inside has inner is;
+      other = other_at_end raw byte rest is;
     })
     (λ end. of_choice P (byte == 33) (Some Outside) (Some ToMark)
     (λ test.
@@ -267,8 +279,12 @@ semicolon_tells raw at byte rest has later inside begin inner place =
     let P : Option Comment → Type 0 = λ next. Told raw (59 ∷ inside ++ byte ∷ rest) begin (or_later at next (λ next. skip_from raw next (at + 1) rest)) in
     of_choice P (byte == 13) None (Some ToEnd)
     (λ test. let is = equal byte 13 test in record {
-      bytes = 59 ∷ inside; behind = byte ∷ rest; whole = refl; ends = place;
-      passed = to_end inside has inner is; other = other_at_end raw byte rest is;
+      bytes = 59 ∷ inside;
+      behind = byte ∷ rest;
+      whole = refl;
+      ends = place;
+      passed = to_end inside has inner is;
+      other = other_at_end raw byte rest is;
     })
     (λ end. told_longer raw (59 ∷ inside) byte rest begin _
     (later ToEnd has (inside ++ byte ∷ []) begin (no_end_push inside byte inner (unequal byte 13 end))
@@ -279,11 +295,19 @@ walk_tells : (raw : Bool) (comment : Comment) (at : ℕ) (rest : List ℕ) → M
 walk_tells raw Outside at [] has =
     record { bytes = []; behind = []; whole = refl; ends = omega arith; passed = nothing; other = tt }
 walk_tells raw ToMark at [] has = λ inside begin inner place. record {
-  bytes = []; behind = 33 ∷ inside ++ []; whole = refl; has_comments = has; passed = nothing;
+  bytes = [];
+  behind = 33 ∷ inside ++ [];
+  whole = refl;
+  has_comments = has;
+  passed = nothing;
   unended = inl (refl, subst HasNoMark (sym (append-nil inside)) inner);
 }
 walk_tells raw ToEnd at [] has = λ inside begin inner place. record {
-  bytes = []; behind = 59 ∷ inside ++ []; whole = refl; has_comments = has; passed = nothing;
+  bytes = [];
+  behind = 59 ∷ inside ++ [];
+  whole = refl;
+  has_comments = has;
+  passed = nothing;
   unended = inr (refl, subst HasNoEnd (sym (append-nil inside)) inner);
 }
 walk_tells raw Outside at (byte ∷ rest) has =

@@ -1,4 +1,4 @@
--- What stands before a field: blanks and whole comments. So the place of a field, with no walk over the bytes.
+-- What stands before a field, blanks and whole comments, as a grammar: no walk over the bytes.
 use Rattle.std.specs.Prelude.{ℕ, ◌≡◌, ◌≢◌, ◌+◌, Bool, true, false, ◌⊎◌, List, [], ◌∷◌, ◌++◌, length}
 use Rattle.std.specs.List.{AllByRecursion}
 use Rattle.cm_text.specs.Bytes.{is_blank}
@@ -23,8 +23,10 @@ pub data ArePassed (raw : Bool) (behind : List ℕ) : List ℕ → Type 0 where
       → ArePassed raw behind (byte ∷ bytes)
   marked : (inside bytes : List ℕ) → raw ≡ false → HasNoMark inside → ArePassed raw behind bytes
       → ArePassed raw behind (33 ∷ inside ++ 33 ∷ bytes)
-  unclosed : (inside : List ℕ) → raw ≡ false → HasNoMark inside → EndsLine behind → ArePassed raw behind (33 ∷ inside)
-  to_end : (inside : List ℕ) → raw ≡ false → HasNoEnd inside → EndsLine behind → ArePassed raw behind (59 ∷ inside)
+  unclosed : (inside : List ℕ) → raw ≡ false → HasNoMark inside → EndsLine behind
+      → ArePassed raw behind (33 ∷ inside)
+  to_end : (inside : List ℕ) → raw ≡ false → HasNoEnd inside → EndsLine behind
+      → ArePassed raw behind (59 ∷ inside)
 
 -- neither a blank nor the begin of a comment stands here
 abbrev pub BeginsOther : Bool → List ℕ → Type 0
@@ -36,7 +38,7 @@ abbrev pub IsUnended : List ℕ → Type 0
 IsUnended [] = ⊥
 IsUnended (byte ∷ inside) = ((byte ≡ 33) × HasNoMark inside) ⊎ ((byte ≡ 59) × HasNoEnd inside)
 
--- a text stands from one place on; up to another are blanks and whole comments, and neither stands behind them
+-- of a text from one place on: up to another are blanks and whole comments, and neither stands behind them
 pub record IsPast (raw : Bool) (rest : List ℕ) (at place : ℕ) : Type 0 where
   pub bytes : List ℕ
   pub behind : List ℕ

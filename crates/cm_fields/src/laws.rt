@@ -35,6 +35,8 @@ pub fn skip_passes_blanks_and_comments()
         → skip raw text at ≡ Some place → IsPast raw (drop at text) at place }
     ensures only_past { (raw : Bool) → (text : List ℕ) → (at : ℕ) → (place : ℕ)
         → IsPast raw (drop at text) at place → skip raw text at ≡ Some place }
-    ensures open_comment { (raw : Bool) → (text : List ℕ) → (at : ℕ) → skip raw text at ≡ None → IsOpen raw (drop at text) }
-    ensures only_open { (raw : Bool) → (text : List ℕ) → (at : ℕ) → IsOpen raw (drop at text) → skip raw text at ≡ None }
+    ensures open_comment { (raw : Bool) → (text : List ℕ) → (at : ℕ)
+        → skip raw text at ≡ None → IsOpen raw (drop at text) }
+    ensures only_open { (raw : Bool) → (text : List ℕ) → (at : ℕ)
+        → IsOpen raw (drop at text) → skip raw text at ≡ None }
 {}
