@@ -22,7 +22,7 @@ noise_said phrase inside size at =
     if option_map_or (λ byte. byte == 41) (slice_get inside size) false && begins_with phrase (take size inside)
     then Accept (Noise true) (size + 2) (at + (size + 2)) else Refuse BadNoise (size + 2)
 
-slice_get-append : (size : ℕ) (front more : List ℕ) → size < length front → slice_get (front ++ more) size ≡ slice_get front size
+pub slice_get-append : (size : ℕ) (front more : List ℕ) → size < length front → slice_get (front ++ more) size ≡ slice_get front size
 slice_get-append size [] more within = absurd (omega arith)
 slice_get-append zero (byte ∷ front) more within = refl
 slice_get-append (suc size) (byte ∷ front) more within = slice_get-append size front more (omega arith)

@@ -16,8 +16,8 @@ pub const MOST_NUMBER: u64 = 34_359_738_367;
 /// The most bytes of a word, and of what a quoted text writes.
 pub const MOST_BYTES: usize = 39;
 
-// How many word bytes the text begins with.
-fn word_run(rest: &[u8]) -> usize
+/// How many word bytes the text begins with.
+pub fn word_run(rest: &[u8]) -> usize
     ensures value { result ≡ prefix_len is_word rest.now }
     ensures within { result ≤ length rest.now }
 {

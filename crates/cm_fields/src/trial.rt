@@ -27,8 +27,9 @@ pub enum Try {
     More,
 }
 
-// A value, of a field of this size, or a refusal; so many bytes decide.
-pub(crate) fn said(at: usize, size: usize, looked: usize, decision: Result<Value, Code>) -> Try
+/// What a field function answers that so many bytes decide: a value, of a field from a place on of this size,
+/// or a refusal.
+pub fn said(at: usize, size: usize, looked: usize, decision: Result<Value, Code>) -> Try
     requires field { at + size < 2 ^ 16 }
     requires looked { looked < 2 ^ 16 }
     ensures { result ≡ said at size looked decision }
@@ -46,8 +47,8 @@ pub(crate) fn said(at: usize, size: usize, looked: usize, decision: Result<Value
     }
 }
 
-// The part of a text that begins at this place, of this size.
-pub(crate) fn span_of(at: usize, size: usize) -> Span
+/// The part of a text that begins at this place, of this size.
+pub fn span_of(at: usize, size: usize) -> Span
     requires { at + size < 2 ^ 16 }
     ensures { result ≡ span at size }
 {

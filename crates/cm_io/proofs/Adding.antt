@@ -39,6 +39,9 @@ adds_late before now first second adds = record {
   added = adds.added ∙ sym (add_append before first adds.part);
 }
 
+-- both pieces are put, or a part of the first, or the first and a part of the second
+pub ruleset two_pieces = (add_append, adds_early, adds_late)
+
 -- a part of the second of three pieces is a part of all
 pub adds_between : (before now : Told) (first second third : List ℕ) → AddsPart (add before first) now second → AddsPart before now ((first ++ second) ++ third)
 adds_between before now first second third adds = adds_early before now (first ++ second) third (adds_late before now first second adds)
@@ -58,10 +61,10 @@ pub rose_late : (before middle now : ℕ) → before ≤ middle → Rose middle 
 unfolding Rose
 rose_late before middle now later rose = omega arith
 
--- a front of the bytes is a part of them
-pub adds_front : (given bytes : List ℕ) (n : ℕ) → AddsPart (Bytes given) (Bytes (given ++ take n bytes)) bytes
+-- a prefix of the bytes is a part of them
+pub adds_prefix : (given bytes : List ℕ) (n : ℕ) → AddsPart (Bytes given) (Bytes (given ++ take n bytes)) bytes
 unfolding add
-adds_front given bytes n = record {
+adds_prefix given bytes n = record {
   part = take n bytes;
   is_part = record { rest = drop n bytes; joined = take-append-drop n bytes };
   added = refl;

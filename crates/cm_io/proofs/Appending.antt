@@ -12,9 +12,9 @@ appends_nothing content bytes = record {
   appended = ap Some (sym (append-nil content));
 }
 
--- a front of the bytes is a part of them
-pub appends_front : (content bytes : List ℕ) (n : ℕ) → AppendsPart (Some content) (Some (content ++ take n bytes)) bytes
-appends_front content bytes n = record {
+-- a prefix of the bytes is a part of them
+pub appends_prefix : (content bytes : List ℕ) (n : ℕ) → AppendsPart (Some content) (Some (content ++ take n bytes)) bytes
+appends_prefix content bytes n = record {
   part = take n bytes;
   is_part = record { rest = drop n bytes; joined = take-append-drop n bytes };
   appended = refl;

@@ -1,4 +1,4 @@
 pub mod Adding
 mod Appending
 mod Digits
-pub mod Repeating
+mod Repeating

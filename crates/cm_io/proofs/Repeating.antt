@@ -49,3 +49,6 @@ pub times_late : (before now : Told) (turn count : ℕ) (piece : List ℕ) → A
 times_late before now turn count piece adds turns =
     let P : List ℕ → Type 0 = λ bytes. AddsPart before now bytes in
     times_early before now (turn + 1) count piece (subst P (sym (times_more turn piece)) (adds_late before now (times turn piece) piece adds)) (omega arith)
+
+-- the turns so far are put, or a part of the piece in its turn behind them
+pub ruleset turns = (add_times_none, add_times_more, times_late)

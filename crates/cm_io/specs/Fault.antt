@@ -3,9 +3,13 @@ use Rattle.std.specs.Prelude.{◌≡◌, ℕ, ◌+◌, ◌-◌, ◌^◌, ◌≤�
 use Rattle.cm_io.specs.declared.sink.Put.{Put}
 use Rattle.cm_io.specs.declared.sink.Put.TheVariants.{Done, Failed}
 
--- the count is higher now, or stands at the last number that 64 bits hold
+-- the last value of a count, which has 64 bits
+abbrev pub last_count : ℕ
+last_count = 2 ^ 64 - 1
+
+-- the count is higher now, or stands at its last value
 unfoldable pub Rose : ℕ → ℕ → Type 0
-Rose before now = min (before + 1) (2 ^ 64 - 1) ≤ now
+Rose before now = min (before + 1) last_count ≤ now
 
 -- Failed comes only where the count rose, and Done only where it stayed
 abbrev pub PutCause : ℕ → ℕ → Put → Type 0

@@ -1,9 +1,11 @@
 -- The files of a host in memory.
-use Rattle.std.specs.Prelude.{◌≡◌, ℕ, ◌+◌, ◌-◌, ◌^◌, ◌≤◌, min, Bool, true, false, ◌==◌, List, [], length, unwrap_or, Option, Some, None, IsSome, if◌then◌else◌}
+use Rattle.std.specs.Prelude.{◌≡◌, ℕ, ◌+◌, ◌≤◌, min, Bool, true, false, ◌==◌, List, [], length, unwrap_or, Option, Some, None, IsSome, if◌then◌else◌}
 use Rattle.std.specs.List.{list_any}
 use Rattle.std.specs.Option.{option_or}
 use Rattle.std.specs.Str.{bytes_eq}
+use Rattle.cm_io.specs.Fault.{last_count}
 use Rattle.cm_io.specs.Host.{Files}
+use Rattle.cm_io.specs.declared.mem_host.TheConstants.{FILE_NAME_LIMIT}
 use Rattle.cm_io.specs.declared.mem_host.Stage.{Stage}
 use Rattle.cm_io.specs.declared.mem_host.Stage.TheVariants.{Absent, Open, Closed}
 
@@ -25,7 +27,8 @@ file_at own content name = if bytes_eq name own then content else None
 
 -- what each name has: the output, and else the input
 abbrev pub files_of : HostState → Files
-files_of host name = option_or (file_at host.output_name host.output name) (file_at host.input_name host.input name)
+files_of host name =
+    option_or (file_at host.output_name host.output name) (file_at host.input_name host.input name)
 
 -- the content of the output, once it was created
 abbrev pub output_at : Stage → List ℕ → Option (List ℕ)
@@ -49,16 +52,18 @@ closed_at Absent = Absent
 closed_at Open = Closed
 closed_at Closed = Closed
 
--- the number of the next call; it stays at the last that 64 bits hold
+-- the number of the next call; it stays at its last value
 abbrev pub next_call : ℕ → ℕ
-next_call call = min (call + 1) (2 ^ 64 - 1)
+next_call call = min (call + 1) last_count
 
 -- the call is not to fail, no other output is there, and the name is not too long
 abbrev pub CanCreate : HostState → List ℕ → Type 0
 CanCreate host name =
-    (is_listed host.fails host.calls ≡ false) × (IsSome host.output → host.output_name ≡ name) × (length name ≤ 255)
+    (is_listed host.fails host.calls ≡ false) × (IsSome host.output → host.output_name ≡ name)
+    × (length name ≤ FILE_NAME_LIMIT)
 
 -- the call is not to fail, and the bytes fit
 abbrev pub CanWrite : HostState → List ℕ → Type 0
 CanWrite host bytes =
-    (is_listed host.fails host.calls ≡ false) × (length (unwrap_or host.output []) + length bytes ≤ host.room)
+    (is_listed host.fails host.calls ≡ false)
+    × (length (unwrap_or host.output []) + length bytes ≤ host.room)

@@ -18,13 +18,13 @@ abbrev pub Creates : Option (List ℕ) → Option (List ℕ) → Put → Type 0
 Creates before now Done = now ≡ Some []
 Creates before now Failed = (now ≡ None) ⊎ (now ≡ before) ⊎ (now ≡ Some [])
 
--- a front of the bytes was appended
+-- a prefix of the bytes was appended
 pub record AppendsPart (before now : Option (List ℕ)) (bytes : List ℕ) : Type 0 where
   pub part : List ℕ
   pub is_part : IsPart part bytes
   pub appended : now ≡ option_map (λ content. content ++ part) before
 
--- writing appends all of the bytes; where it fails, a front of them
+-- writing appends all of the bytes; where it fails, a prefix of them
 abbrev pub Writes : Option (List ℕ) → Option (List ℕ) → List ℕ → Put → Type 0
 Writes before now bytes Done = now ≡ option_map (λ content. content ++ bytes) before
 Writes before now bytes Failed = AppendsPart before now bytes

@@ -1,5 +1,6 @@
 -- What a sink tells of the bytes that it was given, and what a put adds to it.
-use Rattle.std.specs.Prelude.{◌≡◌, ℕ, ◌+◌, ◌-◌, ◌^◌, min, max, List, ◌++◌, length}
+use Rattle.std.specs.Prelude.{◌≡◌, ℕ, ◌+◌, min, max, List, ◌++◌, length}
+use Rattle.cm_io.specs.Fault.{last_count}
 use Rattle.cm_io.specs.declared.sink.Put.{Put}
 use Rattle.cm_io.specs.declared.sink.Put.TheVariants.{Done, Failed}
 
@@ -9,24 +10,24 @@ pub data Told : Type 0 where
   Number : ℕ → Told
   Bytes : List ℕ → Told
 
--- what is told after more bytes; a number stays at the last that 64 bits hold
+-- what is told after more bytes; a number stays at its last value
 unfoldable pub add : Told → List ℕ → Told
 add Nothing bytes = Nothing
-add (Number n) bytes = Number (max n (min (n + length bytes) (2 ^ 64 - 1)))
+add (Number n) bytes = Number (max n (min (n + length bytes) last_count))
 add (Bytes given) bytes = Bytes (given ++ bytes)
 
--- the part is a front of the whole
+-- the part is a prefix of the whole
 pub record IsPart (part whole : List ℕ) : Type 0 where
   pub rest : List ℕ
   pub joined : part ++ rest ≡ whole
 
--- a front of the bytes was added
+-- a prefix of the bytes was added
 pub record AddsPart (before now : Told) (bytes : List ℕ) : Type 0 where
   pub part : List ℕ
   pub is_part : IsPart part bytes
   pub added : now ≡ add before part
 
--- Done adds all of the bytes, Failed a front of them
+-- Done adds all of the bytes, Failed a prefix of them
 abbrev pub Adds : Told → Told → List ℕ → Put → Type 0
 Adds before now bytes Done = now ≡ add before bytes
 Adds before now bytes Failed = AddsPart before now bytes

@@ -32,12 +32,13 @@ pub trait Host {
         ensures later { faults self.old ≤ faults self.new }
         ensures cause { PutCause (faults self.old) (faults self.new) result };
 
-    /// Appends the bytes to the open file. After Failed a front of them is appended.
+    /// Appends the bytes to the open file. After Failed a prefix of them is appended.
     fn write(&mut self, bytes: &[u8]) -> Put
         requires { IsTrue (is_open self.old) }
         ensures stays_open { IsTrue (is_open self.new) }
         ensures target { IsTrue tells → target self.new ≡ target self.old }
-        ensures file { IsTrue tells → Writes (files self.old (target self.old)) (files self.new (target self.old)) bytes.now result }
+        ensures file { IsTrue tells → Writes (files self.old (target self.old))
+            (files self.new (target self.old)) bytes.now result }
         ensures others { IsTrue tells → KeepsOthers (target self.old) (files self.old) (files self.new) }
         ensures later { faults self.old ≤ faults self.new }
         ensures cause { PutCause (faults self.old) (faults self.new) result };

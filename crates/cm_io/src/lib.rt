@@ -28,7 +28,7 @@ pub use mem_host::MemHost;
 pub use mem_sink::MemSink;
 pub use mem_source::MemSource;
 pub use no_memory::NoMemory;
-pub use pieces::{put_decimal, put_hex, put_times};
+pub use pieces::{put_decimal, put_hex, put_line, put_times};
 pub use sink::{Put, Sink};
 pub use source::{Got, Source};
 pub use std_clock::StdClock;

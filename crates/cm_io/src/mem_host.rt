@@ -12,22 +12,25 @@ use arrayvec::ArrayString;
 use std::alloc::Global;
 use std::marker::Model;
 
+// The most bytes of a file's name.
+const FILE_NAME_LIMIT: usize = 255;
+
 // Whether the output was created, and whether it is open.
 #[derive(Clone, Copy, PartialEq, Eq)]
-pub enum Stage {
+pub(crate) enum Stage {
     Absent,
     Open,
     Closed,
 }
 
 /// A host that holds its files in memory: at most one that is there from the beginning, the input,
-/// and one that is created, the output, for which a room is reserved. The calls of its methods are
-/// numbered from 0, and some may be set to fail.
+/// and one that is created, the output, whose name has at most 255 bytes and for which a room is
+/// reserved. The calls of its methods are numbered from 0, and some may be set to fail.
 #[derive(Drop)]
 pub struct MemHost {
     input_name: Vec<u8>,
     input: Option<Vec<u8>>,
-    output_name: ArrayString<255>,
+    output_name: ArrayString<FILE_NAME_LIMIT>,
     output: Reserved,
     stage: Stage,
     calls: u64,
@@ -137,7 +140,8 @@ impl Host for MemHost {
     fn create(&mut self, name: &str) -> Put
         ensures opens { IsTrue self.new.is_open ↔ (result ≡ Put.Done) }
         ensures target { IsTrue true → result ≡ Put.Done → self.new.output_name ≡ name.now }
-        ensures file { IsTrue true → Creates (files_of self.old name.now) (files_of self.new name.now) result }
+        ensures file { IsTrue true
+            → Creates (files_of self.old name.now) (files_of self.new name.now) result }
         ensures others { IsTrue true → KeepsOthers name.now (files_of self.old) (files_of self.new) }
         ensures later { self.old.faults ≤ self.new.faults }
         ensures cause { PutCause self.old.faults self.new.faults result }
@@ -149,7 +153,7 @@ impl Host for MemHost {
         let is_listed = is_listed(&self.fails, self.calls);
         self.calls = self.calls.saturating_add(1);
         let is_free = self.stage == Stage::Absent || self.output_name.as_str() == name;
-        if is_listed || !is_free || name.len() > 255 {
+        if is_listed || !is_free || name.len() > FILE_NAME_LIMIT {
             self.stage = closed(self.stage);
             self.faults = raised(self.faults);
             return Put::Failed;
@@ -161,13 +165,15 @@ impl Host for MemHost {
         Put::Done
     }
 
-    #[tactic(auto, using(crate::proofs::Appending::appends_nothing, crate::proofs::Appending::appends_front))]
+    #[tactic(auto, using(crate::proofs::Appending::appends_nothing, crate::proofs::Appending::appends_prefix,))]
     fn write(&mut self, bytes: &[u8]) -> Put
         requires { IsTrue self.old.is_open }
         ensures stays_open { IsTrue self.new.is_open }
         ensures target { IsTrue true → self.new.output_name ≡ self.old.output_name }
-        ensures file { IsTrue true → Writes (files_of self.old self.old.output_name) (files_of self.new self.old.output_name) bytes.now result }
-        ensures others { IsTrue true → KeepsOthers self.old.output_name (files_of self.old) (files_of self.new) }
+        ensures file { IsTrue true → Writes (files_of self.old self.old.output_name)
+            (files_of self.new self.old.output_name) bytes.now result }
+        ensures others { IsTrue true
+            → KeepsOthers self.old.output_name (files_of self.old) (files_of self.new) }
         ensures later { self.old.faults ≤ self.new.faults }
         ensures cause { PutCause self.old.faults self.new.faults result }
         ensures done { (result ≡ Put.Done) ↔ CanWrite self.old bytes.now }
@@ -191,7 +197,8 @@ impl Host for MemHost {
     fn close(&mut self) -> Put
         requires { IsTrue self.old.is_open }
         ensures closes { self.new.is_open ≡ false }
-        ensures files { IsTrue true → (name : List ℕ) → files_of self.new name ≡ files_of self.old name }
+        ensures files { IsTrue true
+            → (name : List ℕ) → files_of self.new name ≡ files_of self.old name }
         ensures later { self.old.faults ≤ self.new.faults }
         ensures cause { PutCause self.old.faults self.new.faults result }
         ensures done { (result ≡ Put.Done) ↔ (is_listed self.old.fails self.old.calls ≡ false) }

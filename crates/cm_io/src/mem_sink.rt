@@ -21,7 +21,11 @@ impl Model for MemSink {
 
     ghost Value = { SinkState };
 
-    ghost view = { λ sink. record { bytes = sink.bytes.bytes; room = sink.bytes.room; faults = sink.faults } };
+    ghost view = { λ sink. record {
+      bytes = sink.bytes.bytes;
+      room = sink.bytes.room;
+      faults = sink.faults;
+    } };
 }
 
 impl MemSink {
@@ -48,13 +52,15 @@ impl Sink for MemSink {
 
     ghost faults = { λ sink. sink.faults };
 
-    #[tactic(auto, using(crate::proofs::Adding::adds_front), unfolding(crate::specs::Told::add))]
+    #[tactic(auto, using(crate::proofs::Adding::adds_prefix), unfolding(crate::specs::Told::add))]
     fn put(&mut self, bytes: &[u8]) -> Put
         ensures bytes { Adds (Bytes self.old.bytes) (Bytes self.new.bytes) bytes.now result }
         ensures later { self.old.faults ≤ self.new.faults }
         ensures cause { PutCause self.old.faults self.new.faults result }
-        ensures done { (result ≡ Put.Done) ↔ (length self.old.bytes + length bytes.now ≤ self.old.room) }
-        ensures fits { self.new.bytes ≡ self.old.bytes ++ take (self.old.room - length self.old.bytes) bytes.now }
+        ensures done { (result ≡ Put.Done)
+            ↔ (length self.old.bytes + length bytes.now ≤ self.old.room) }
+        ensures fits { self.new.bytes
+            ≡ self.old.bytes ++ take (self.old.room - length self.old.bytes) bytes.now }
         ensures room { self.new.room ≡ self.old.room }
     {
         if self.bytes.append(bytes) {

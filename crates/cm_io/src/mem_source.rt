@@ -23,13 +23,18 @@ impl Model for MemSource {
 
     ghost Value = { SourceState };
 
-    ghost view = { λ source. record { left = source.left.items; fail = source.fail; faults = source.faults } };
+    ghost view = { λ source. record {
+      left = source.left.items;
+      fail = source.fail;
+      faults = source.faults;
+    } };
 }
 
 impl MemSource {
     /// A source of these bytes. The get with the number `fail`, counted from 0, fails.
     pub fn new(alloc: Global, bytes: &[u8], fail: Option<u32>) -> Result<MemSource, NoMemory>
-        ensures source { IfOk result (λ source. source ≡ record { left = bytes.now; fail = fail; faults = 0 }) }
+        ensures source { IfOk result
+            (λ source. source ≡ record { left = bytes.now; fail = fail; faults = 0 }) }
     {
         Ok(MemSource {
             left: VecDeque::from(bytes.to_vec(alloc)?),

@@ -6,7 +6,7 @@ use std::marker::Model;
 
 // Bytes for which there is a fixed room.
 #[derive(Drop)]
-pub struct Reserved {
+pub(crate) struct Reserved {
     bytes: Vec<u8>,
     room: usize,
 }
@@ -19,12 +19,13 @@ impl Model for Reserved {
 
     ghost view = { λ reserved. record { bytes = reserved.bytes.items; room = reserved.room } };
 
-    ghost invariant = { λ reserved. (length reserved.bytes.items ≤ reserved.room) × (reserved.room ≤ vec_capacity reserved.bytes) };
+    ghost invariant = { λ reserved. (length reserved.bytes.items ≤ reserved.room)
+        × (reserved.room ≤ vec_capacity reserved.bytes) };
 }
 
 impl Reserved {
-    /// No bytes, and room for a number of them.
-    pub fn new(alloc: Global, room: usize) -> Result<Reserved, AllocError>
+    // No bytes, and room for a number of them.
+    pub(crate) fn new(alloc: Global, room: usize) -> Result<Reserved, AllocError>
         ensures reserved { IfOk result (λ reserved. reserved ≡ record { bytes = []; room = room }) }
     {
         Ok(Reserved {
@@ -33,25 +34,27 @@ impl Reserved {
         })
     }
 
-    /// The bytes.
-    pub fn bytes(&self) -> &[u8]
+    pub(crate) fn bytes(&self) -> &[u8]
         ensures { result.now ≡ self.now.bytes }
     {
         &self.bytes
     }
 
-    /// Drops the bytes. The room stays.
-    pub fn clear(&mut self)
+    // Drops the bytes. The room stays.
+    pub(crate) fn clear(&mut self)
         ensures { self.new ≡ record self.old { bytes = [] } }
     {
         self.bytes.clear();
     }
 
-    /// Appends what fits, and tells whether all did.
-    pub fn append(&mut self, more: &[u8]) -> bool
+    // Appends what fits, and tells whether all did.
+    pub(crate) fn append(&mut self, more: &[u8]) -> bool
         ensures all { IsTrue result ↔ (length self.old.bytes + length more.now ≤ self.old.room) }
-        ensures appended { IsTrue result → self.new ≡ record self.old { bytes = self.old.bytes ++ more.now } }
-        ensures front { self.new ≡ record self.old { bytes = self.old.bytes ++ take (self.old.room - length self.old.bytes) more.now } }
+        ensures appended { IsTrue result
+            → self.new ≡ record self.old { bytes = self.old.bytes ++ more.now } }
+        ensures prefix { self.new ≡ record self.old {
+          bytes = self.old.bytes ++ take (self.old.room - length self.old.bytes) more.now;
+        } }
     {
         let room = self.room - self.bytes.len();
         if more.len() <= room {

@@ -8,7 +8,7 @@ ghost use Rattle.cm_io.specs.Fault.{PutCause};
 pub enum Put {
     /// All of it was done.
     Done,
-    /// The outside failed. A front of the bytes may have been taken.
+    /// The outside failed. A prefix of the bytes may have been taken.
     Failed,
 }
 

@@ -7,14 +7,15 @@ use crate::{Got, Source};
 use std::io::{ErrorKind, Read, Stdin};
 use std::marker::Model;
 
-const SIZE: usize = 4096;
+// The most bytes of one read.
+const READ_LIMIT: usize = 4096;
 
 /// Standard input. It reads what has come, at most 4096 bytes at a time, and waits for no more.
 /// A read that gives nothing is the end. Contracts see its faults.
 #[derive(Drop)]
 pub struct StdSource {
     input: Stdin,
-    buffer: [u8; SIZE],
+    buffer: [u8; READ_LIMIT],
     next: usize,
     end: usize,
     faults: u64,
@@ -22,12 +23,13 @@ pub struct StdSource {
 
 impl Model for StdSource {
     ghost use Rattle.std.specs.Prelude.{ℕ, ◌≤◌};
+    ghost use Rattle.cm_io.specs.declared.std_source.TheConstants.{READ_LIMIT};
 
     ghost Value = { ℕ };
 
     ghost view = { λ source. source.faults };
 
-    ghost invariant = { λ source. (source.next ≤ source.end) × (source.end ≤ 4096) };
+    ghost invariant = { λ source. (source.next ≤ source.end) × (source.end ≤ READ_LIMIT) };
 }
 
 impl StdSource {
@@ -37,7 +39,7 @@ impl StdSource {
     {
         StdSource {
             input: rt.stdin(),
-            buffer: [0; SIZE],
+            buffer: [0; READ_LIMIT],
             next: 0,
             end: 0,
             faults: 0,

@@ -6,14 +6,14 @@ use std::io::{ErrorKind, Write};
 // How often an interrupted call is tried again.
 pub(crate) const TRIES: u32 = 1000;
 
-/// Writes all the bytes, and tells whether all were taken.
+// Writes all the bytes, and tells whether all were taken.
 pub(crate) fn write_whole<W: Write>(output: &mut W, bytes: &[u8]) -> bool {
     let mut rest = bytes;
     for _ in 0..u64::MAX {
         if rest.is_empty() {
             return true;
         }
-        match write_front(output, rest) {
+        match write_prefix(output, rest) {
             Some(taken) if taken > 0 => rest = &rest[taken..],
             _ => return false,
         }
@@ -21,9 +21,9 @@ pub(crate) fn write_whole<W: Write>(output: &mut W, bytes: &[u8]) -> bool {
     false
 }
 
-// Writes a front of the bytes, and gives its length, or nothing where the system failed.
-fn write_front<W: Write>(output: &mut W, bytes: &[u8]) -> Option<usize>
-    ensures front { IfSome result (λ taken. taken ≤ length bytes.now) }
+// Writes a prefix of the bytes, and gives its length, or nothing where the system failed.
+fn write_prefix<W: Write>(output: &mut W, bytes: &[u8]) -> Option<usize>
+    ensures prefix { IfSome result (λ taken. taken ≤ length bytes.now) }
 {
     for _ in 0..TRIES {
         match output.write(bytes) {

@@ -1,7 +1,7 @@
 // Each object once, through the bounds by which programs use it.
 use crate::{
     Clock, CountSink, Got, Host, MemClock, MemHost, MemSink, MemSource, Put, Sink, Source,
-    StdClock, StdHost, StdLog, StdSink, StdSource, put_decimal, put_hex, put_times,
+    StdClock, StdHost, StdLog, StdSink, StdSource, put_decimal, put_hex, put_line, put_times,
 };
 use std::test::Fail;
 use std::{env, fs};
@@ -96,12 +96,16 @@ fn memory_host(rt: HostRuntime) -> Result<(), Fail> {
 #[test]
 fn often_used_pieces(rt: HostRuntime) -> Result<(), Fail> {
     let mut sink = MemSink::new(rt.alloc(), 100)?;
-    assert_eq!(rt; put_decimal(&mut sink, 0), Put::Done);
-    assert_eq!(rt; put_decimal(&mut sink, 18446744073709551615), Put::Done);
-    assert_eq!(rt; put_hex(&mut sink, 0x0a), Put::Done);
-    assert_eq!(rt; put_hex(&mut sink, 0xf9), Put::Done);
-    assert_eq!(rt; put_times(&mut sink, b"-+", 3), Put::Done);
-    assert_eq!(rt; sink.bytes(), b"0184467440737095516150af9-+-+-+".as_slice());
+    assert_eq!(rt; put_decimal(0, &mut sink), Put::Done);
+    assert_eq!(rt; put_decimal(18446744073709551615, &mut sink), Put::Done);
+    assert_eq!(rt; put_hex(0x0a, &mut sink), Put::Done);
+    assert_eq!(rt; put_hex(0xf9, &mut sink), Put::Done);
+    assert_eq!(rt; put_times(3, b"-+", &mut sink), Put::Done);
+    assert_eq!(rt; put_line(b"ab", &mut sink), Put::Done);
+    assert_eq!(rt;
+        sink.bytes(),
+        b"0184467440737095516150af9-+-+-+ab\r\n".as_slice()
+    );
     Ok(())
 }
 

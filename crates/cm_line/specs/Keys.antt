@@ -4,7 +4,8 @@ use Rattle.cm_text.specs.Bytes.{is_text}
 use Rattle.cm_line.specs.declared.key.KeyClass.{KeyClass}
 use Rattle.cm_line.specs.declared.key.KeyClass.TheVariants.{Text, End, Rub, Word, Erase, Show, Back, Stop, Escape, Part, Help, Other}
 
--- 13 and 10 are CR and LF, 127 is DEL, 27 is ESC and 63 is `?`; 23, 21, 18, 8, 3 and 6 are control-W, -U, -R, -H, -C and -F
+-- 13 and 10 are CR and LF, 127 is DEL, 27 is ESC and 63 is `?`; 23, 21, 18, 8, 3 and 6 are control-W, -U, -R,
+-- -H, -C and -F
 unfoldable pub class_of : ℕ → KeyClass
 class_of key =
     if is_text key then Text

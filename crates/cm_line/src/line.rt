@@ -7,12 +7,13 @@ ghost use Rattle.cm_text.specs.Text.{IsLine};
 ghost use Rattle.cm_line.specs.Word.{unblanked, without_word, word_start};
 
 use arrayvec::ArrayVec;
+use cm_text::LINE_LIMIT;
 use std::marker::Model;
 
 /// A line under edit: at most 255 text bytes. Contracts see its bytes.
 #[derive(Debug, Drop)]
 pub struct Line {
-    bytes: ArrayVec<u8, 255>,
+    bytes: ArrayVec<u8, LINE_LIMIT>,
 }
 
 impl Model for Line {
@@ -44,7 +45,7 @@ impl Line {
     /// Appends a text byte. False where the line has 255 bytes, which then stays as it was.
     pub fn push(&mut self, byte: u8) -> bool
         requires { is_text byte ≡ true }
-        ensures fits { IsTrue result ↔ (length self.old < 255) }
+        ensures fits { IsTrue result ↔ (length self.old < LINE_LIMIT) }
         ensures pushed { OnTrue result (self.new ≡ self.old ++ byte ∷ []) }
         ensures full { OnFalse result (self.new ≡ self.old) }
     {
@@ -81,7 +82,7 @@ impl Line {
     /// Appends text bytes. False where they do not fit into 255 bytes; the line then stays as it was.
     pub fn append(&mut self, bytes: &[u8]) -> bool
         requires { AllByRecursion (λ byte. is_text byte ≡ true) bytes.now }
-        ensures fits { IsTrue result ↔ (length self.old + length bytes.now ≤ 255) }
+        ensures fits { IsTrue result ↔ (length self.old + length bytes.now ≤ LINE_LIMIT) }
         ensures appended { OnTrue result (self.new ≡ self.old ++ bytes.now) }
         ensures full { OnFalse result (self.new ≡ self.old) }
     {
@@ -90,19 +91,19 @@ impl Line {
 }
 
 /// Control-W takes at least one byte from a line that is not empty: the length at which it cuts the line
-/// is below the line's, so that a front of it stays.
+/// is below the line's, so that a prefix of it stays.
 pub fn a_word_is_taken()
     ensures { (line : List ℕ) → 0 < length line → word_start line < length line }
 {}
 
-/// The line without the blanks at its end.
+// The line without the blanks at its end.
 fn without_blanks(line: &[u8]) -> &[u8]
     ensures { result.now ≡ take (unblanked line.now) line.now }
 {
     &line[..line.len() - blanks_at_end(line)]
 }
 
-/// The length of the line without the word at its end, or without one byte where no word ends it.
+// The length of the line without the word at its end, or without one byte where no word ends it.
 fn without_word(line: &[u8]) -> usize
     ensures { result ≡ without_word line.now }
 {
@@ -112,7 +113,6 @@ fn without_word(line: &[u8]) -> usize
     }
 }
 
-/// How many blanks end the line.
 fn blanks_at_end(line: &[u8]) -> usize
     ensures value { result ≡ suffix_len is_blank line.now }
     ensures within { result ≤ length line.now }
@@ -123,7 +123,6 @@ fn blanks_at_end(line: &[u8]) -> usize
         .count()
 }
 
-/// How many word bytes end the line.
 fn word_at_end(line: &[u8]) -> usize
     ensures value { result ≡ suffix_len is_word line.now }
     ensures within { result ≤ length line.now }
@@ -170,7 +169,7 @@ mod tests {
 
     #[test]
     fn a_full_line_takes_no_more(rt: HostRuntime) {
-        let text = [b'A'; 255];
+        let text = [b'A'; LINE_LIMIT];
         let mut line = line_of(&rt, &text);
         assert!(rt; cm_text::is_text(b'B'));
         assert!(rt; !line.push(b'B'));

@@ -17,8 +17,8 @@ use Rattle.cm_state.specs.declared.chain.Chain.{Chain}
 use Rattle.cm_state.specs.declared.chain.Chain.TheVariants.{Takes, Ends}
 use Rattle.cm_state.specs.declared.chain.Place.{Place}
 use Rattle.cm_state.specs.declared.chain.Try.{Try}
-use Rattle.cm_state.specs.declared.chain.Try.TheVariants.{Decides, Refuses}
-use Rattle.cm_state.specs.Chain.{Advances, Block, Confirm, Key, blocks, by_look, chain_at, confirm, decided, first_of, or_next, skip, try_block}
+use Rattle.cm_state.specs.declared.chain.Try.TheVariants.{Accept, Refuse, More}
+use Rattle.cm_state.specs.Chain.{Advances, Block, Confirm, Key, blocks, by_look, chain_at, confirm, chain_answer, first_of, or_next, skip, try_block}
 use Rattle.cm_state.specs.Parse.{IsClosed, IsParse, Parses}
 use Rattle.cm_state.proofs.Parsing.{chain_advances}
 
@@ -35,8 +35,9 @@ Settles (Takes field) = Unit {0}
 Settles (Ends ending) = IsClosed ending
 
 abbrev IsSettled : Try → Type 0
-IsSettled (Decides chain) = Settles chain
-IsSettled (Refuses code) = Unit {0}
+IsSettled (Accept chain) = Settles chain
+IsSettled (Refuse code) = Unit {0}
+IsSettled (More place) = ⊥
 
 settles_either : (test : Bool) (t u : Try) → (test ≡ true → IsSettled t) → (test ≡ false → IsSettled u) → IsSettled (if test then t else u)
 settles_either true t u first second = first refl
@@ -60,8 +61,9 @@ block_settles place rest (Key table) stops =
     (λ _. settles_either (run == 0) _ _ (λ _. tt) (λ _. by_look_settles place table (look table (take run rest)) run))
 
 or_next_settles : (t u : Try) → IsSettled t → IsSettled u → IsSettled (or_next t u)
-or_next_settles (Decides chain) u first second = first
-or_next_settles (Refuses code) u first second = second
+or_next_settles (Accept chain) u first second = first
+or_next_settles (Refuse code) u first second = second
+or_next_settles (More place) u first second = first
 
 first_of_settles : (place : Place) (rest : List ℕ) (chain : List Block) → prefix_len is_word rest < length rest → IsSettled (first_of place rest chain)
 first_of_settles place rest [] stops = tt
@@ -70,9 +72,10 @@ first_of_settles place rest (block ∷ next ∷ more) stops =
     or_next_settles _ _ (block_settles place rest block stops)
     (first_of_settles (record place { block = place.block + 1 }) rest (next ∷ more) stops)
 
-decided_settles : (node start : ℕ) (t : Try) → IsSettled t → Settles (decided node start t)
-decided_settles node start (Decides chain) settled = settled
-decided_settles node start (Refuses code) settled = tt
+answer_settles : (node start : ℕ) (t : Try) → IsSettled t → Settles (chain_answer node start t)
+answer_settles node start (Accept chain) settled = settled
+answer_settles node start (Refuse code) settled = tt
+answer_settles node start (More place) settled = settled
 
 -- so does one from a place of the line on
 stops_within : (p : ℕ → Bool) (line : List ℕ) (at : ℕ) → p 13 ≡ false → at ≤ length line
@@ -98,7 +101,7 @@ chain_settles verbs node line at within =
     let words = stops_within is_word line start no_word blanks in
     let stops : prefix_len is_word (drop start (finished line)) < length (drop start (finished line)) =
     omega (arith, length-drop start (finished line), length-append line (13 ∷ [])) in
-    decided_settles node start _
+    answer_settles node start _
     (first_of_settles (record { node = node; block = 0; start = start }) (drop start (finished line)) (blocks verbs node) stops)
 
 pub parse_closes : (verbs : _) (node : ℕ) (line : List ℕ) (at : ℕ) (fields : List Field) (ending : Ending)

@@ -1,8 +1,8 @@
-pub mod Closing
-pub mod Editing
-pub mod Lines
-pub mod Logging
-pub mod Parsing
+mod Closing
+mod Editing
+mod Lines
+mod Logging
+mod Parsing
 pub mod Putting
-pub mod Starting
-pub mod Tables
+mod Starting
+mod Tables

@@ -4,32 +4,33 @@ use Rattle.std.specs.List.{AllByRecursion}
 use Rattle.std.proofs.lemmas.Bool.Decides.{nat_tests}
 use Rattle.std.proofs.lemmas.List.{length-take}
 use Rattle.cm_text.specs.Bytes.{is_text}
+use Rattle.cm_text.specs.declared.text.TheConstants.{LINE_LIMIT}
 use Rattle.cm_text.specs.Text.{IsLine}
 use Rattle.cm_line.specs.declared.key.KeyClass.{KeyClass}
 use Rattle.cm_line.specs.declared.key.KeyClass.TheVariants.{Text, End, Rub, Word, Erase, Show, Back, Stop, Escape, Part, Help, Other}
 use Rattle.cm_line.specs.Keys.{class_of}
 use Rattle.cm_line.specs.Word.{word_start}
-use Rattle.cm_state.specs.Edit.{edit, met}
+use Rattle.cm_state.specs.Edit.{edit, met_line}
 use Rattle.cm_state.specs.Held.{Held}
 
 -- text bytes alone
 abbrev ArePlain : List ℕ → Type 0
 ArePlain bytes = AllByRecursion (λ byte. is_text byte ≡ true) bytes
 
-front_is_plain : (size : ℕ) (bytes : List ℕ) → ArePlain bytes → ArePlain (take size bytes)
-front_is_plain zero bytes plain = tt
-front_is_plain (suc size) [] plain = tt
-front_is_plain (suc size) (byte ∷ bytes) plain = (plain.0, front_is_plain size bytes plain.1)
+prefix_is_plain : (size : ℕ) (bytes : List ℕ) → ArePlain bytes → ArePlain (take size bytes)
+prefix_is_plain zero bytes plain = tt
+prefix_is_plain (suc size) [] plain = tt
+prefix_is_plain (suc size) (byte ∷ bytes) plain = (plain.0, prefix_is_plain size bytes plain.1)
 
 longer_is_plain : (bytes : List ℕ) (byte : ℕ) → ArePlain bytes → is_text byte ≡ true → ArePlain (bytes ++ byte ∷ [])
 longer_is_plain [] byte plain text = (text, tt)
 longer_is_plain (first ∷ bytes) byte plain text = (plain.0, longer_is_plain bytes byte plain.1 text)
 
-front_is_line : (size : ℕ) (line : List ℕ) → IsLine line → IsLine (take size line)
-front_is_line size line is =
-    record { short = omega (arith, length-take size line); plain = front_is_plain size line is.plain }
+prefix_is_line : (size : ℕ) (line : List ℕ) → IsLine line → IsLine (take size line)
+prefix_is_line size line is =
+    record { short = omega (arith, length-take size line); plain = prefix_is_plain size line is.plain }
 
-pushed_is_line : (line : List ℕ) (byte : ℕ) (fits : Bool) → fits ≡ nat_lt (length line) 255 → is_text byte ≡ true → IsLine line
+pushed_is_line : (line : List ℕ) (byte : ℕ) (fits : Bool) → fits ≡ nat_lt (length line) LINE_LIMIT → is_text byte ≡ true → IsLine line
     → IsLine (if fits then line ++ byte ∷ [] else line)
 pushed_is_line line byte true fits text is =
     record { short = grind (arith, nat_tests, length-append line (byte ∷ [])); plain = longer_is_plain line byte is.plain text }
@@ -82,9 +83,9 @@ text_key_is_text key e = by (is_text key) e
 
 edit_by_class : (class : KeyClass) (key : ℕ) (line : List ℕ) (kept : Option (List ℕ))
     → (class ≡ Text → is_text key ≡ true) → IsLine line → IfSome kept IsLine → IsLine (edit class key line kept)
-edit_by_class Text key line kept text is kept_is = pushed_is_line line key (nat_lt (length line) 255) refl (text refl) is
-edit_by_class Rub key line kept text is kept_is = front_is_line (length line - 1) line is
-edit_by_class Word key line kept text is kept_is = front_is_line (word_start line) line is
+edit_by_class Text key line kept text is kept_is = pushed_is_line line key (nat_lt (length line) LINE_LIMIT) refl (text refl) is
+edit_by_class Rub key line kept text is kept_is = prefix_is_line (length line - 1) line is
+edit_by_class Word key line kept text is kept_is = prefix_is_line (word_start line) line is
 edit_by_class Erase key line kept text is kept_is = record { short = omega arith; plain = tt }
 edit_by_class Stop key line kept text is kept_is = record { short = omega arith; plain = tt }
 edit_by_class Back key line kept text is kept_is = kept_is_line line kept is kept_is
@@ -95,6 +96,6 @@ edit_by_class Part key line kept text is kept_is = is
 edit_by_class Help key line kept text is kept_is = is
 edit_by_class Other key line kept text is kept_is = is
 
-pub edit_is_line : (held : Held) (key : ℕ) → IsLine (met held) → IfSome held.kept IsLine
-    → IsLine (edit (class_of key) key (met held) held.kept)
-edit_is_line held key is kept = edit_by_class (class_of key) key (met held) held.kept (text_key_is_text key) is kept
+pub edit_is_line : (held : Held) (key : ℕ) → IsLine (met_line held) → IfSome held.kept IsLine
+    → IsLine (edit (class_of key) key (met_line held) held.kept)
+edit_is_line held key is kept = edit_by_class (class_of key) key (met_line held) held.kept (text_key_is_text key) is kept

@@ -14,14 +14,15 @@ use Rattle.cm_state.specs.declared.chain.Chain.{Chain}
 use Rattle.cm_state.specs.declared.chain.Chain.TheVariants.{Takes, Ends}
 use Rattle.cm_state.specs.declared.chain.Place.{Place}
 use Rattle.cm_state.specs.declared.chain.Try.{Try}
-use Rattle.cm_state.specs.declared.chain.Try.TheVariants.{Decides, Refuses}
-use Rattle.cm_state.specs.Chain.{Block, Confirm, Key, Advances, blocks, by_look, chain_at, confirm, decided, first_of, key, or_next, skip, try_block}
-use Rattle.cm_state.specs.Parse.{Parse, Parses, IsParse, after, parse_from, parse_of}
+use Rattle.cm_state.specs.declared.chain.Try.TheVariants.{Accept, Refuse, More}
+use Rattle.cm_state.specs.Chain.{Block, Confirm, Key, Advances, blocks, by_look, chain_at, confirm, chain_answer, first_of, key, or_next, skip, try_block}
+use Rattle.cm_state.specs.Parse.{Parse, Parses, IsParse, chain_parse, parse_from, parse_of}
 
--- what a block decides is behind the place, and before the end
+-- a field that a block takes ends behind the place, and before the end
 abbrev Goes : ℕ → ℕ → Try → Type 0
-Goes at size (Decides chain) = Advances at size chain
-Goes at size (Refuses code) = Unit {0}
+Goes at size (Accept chain) = Advances at size chain
+Goes at size (Refuse code) = Unit {0}
+Goes at size (More place) = Unit {0}
 
 goes_either : (at size : ℕ) (test : Bool) (t u : Try) → (test ≡ true → Goes at size t) → (test ≡ false → Goes at size u)
     → Goes at size (if test then t else u)
@@ -50,8 +51,9 @@ key_goes at size place table rest behind within =
     (grind (arith, nat_tests)) (grind (arith, nat_tests))))
 
 or_next_goes : (at size : ℕ) (t u : Try) → Goes at size t → Goes at size u → Goes at size (or_next t u)
-or_next_goes at size (Decides chain) u first second = first
-or_next_goes at size (Refuses code) u first second = second
+or_next_goes at size (Accept chain) u first second = first
+or_next_goes at size (Refuse code) u first second = second
+or_next_goes at size (More place) u first second = tt
 
 block_goes : (at size : ℕ) (place : Place) (rest : List ℕ) (block : Block)
     → at ≤ place.start → length rest ≡ size - place.start → Goes at size (try_block place rest block)
@@ -66,16 +68,17 @@ first_of_goes at size place rest (block ∷ next ∷ more) behind left =
     or_next_goes at size _ _ (block_goes at size place rest block behind left)
     (first_of_goes at size (record place { block = place.block + 1 }) rest (next ∷ more) behind left)
 
-decided_goes : (at size node start : ℕ) (t : Try) → Goes at size t → Advances at size (decided node start t)
-decided_goes at size node start (Decides chain) goes = goes
-decided_goes at size node start (Refuses code) goes = tt
+answer_goes : (at size node start : ℕ) (t : Try) → Goes at size t → Advances at size (chain_answer node start t)
+answer_goes at size node start (Accept chain) goes = goes
+answer_goes at size node start (Refuse code) goes = tt
+answer_goes at size node start (More place) goes = tt
 
 -- a field that a chain takes ends behind the place that it was sought from, and before the end of the text
 pub chain_advances : (verbs : _) (node : ℕ) (text : List ℕ) (at : ℕ) → Advances at (length text) (chain_at verbs node text at)
 unfolding chain_at
 chain_advances verbs node text at =
     let start = skip text at in
-    decided_goes at (length text) node start _
+    answer_goes at (length text) node start _
     (first_of_goes at (length text) (record { node = node; block = 0; start = start }) (drop start text) (blocks verbs node)
     (omega arith) (length-drop start text))
 
@@ -96,7 +99,7 @@ one_parse verbs node text at (f ∷ fields) (g ∷ others) ending other p q =
 parses_after : (verbs : _) (node : ℕ) (text : List ℕ) (at : ℕ) (behind : Field → Parse) (chain : Chain)
     → chain_at verbs node text at ≡ chain → Advances at (length text) chain
     → ((field : Field) → at < field.end → field.end < length text → Parses verbs field.next text field.end (behind field).fields (behind field).ending)
-    → Parses verbs node text at (after behind chain).fields (after behind chain).ending
+    → Parses verbs node text at (chain_parse behind chain).fields (chain_parse behind chain).ending
 parses_after verbs node text at behind (Takes field) e advances more = (e, more field advances.0 advances.1)
 parses_after verbs node text at behind (Ends ending) e advances more = e
 

@@ -1,5 +1,6 @@
 -- The bytes that one key shows.
 use Rattle.std.specs.Prelude.{ℕ, ◌-◌, ◌==◌, Bool, List, [], ◌∷◌, ◌++◌, length, map, nat_lt, is_some, codes, if◌then◌else◌}
+use Rattle.cm_text.specs.declared.text.TheConstants.{LINE_LIMIT}
 use Rattle.cm_text.specs.Shown.{bell, control_c, end_of_line, question, rubout}
 use Rattle.cm_io.specs.Pieces.{times}
 use Rattle.cm_line.specs.declared.key.KeyClass.{KeyClass}
@@ -13,14 +14,14 @@ use Rattle.cm_state.specs.declared.prompt.Prompt.TheVariants.{Main, Sub}
 use Rattle.cm_state.specs.declared.code.Code.{Code}
 use Rattle.cm_state.specs.Code.{code_text}
 use Rattle.cm_state.specs.Held.{Held}
-use Rattle.cm_state.specs.Edit.{edited, met}
+use Rattle.cm_state.specs.Edit.{edited, met_line}
 
 -- a TAB is shown as one space
-abbrev pub shown_byte : ℕ → ℕ
-shown_byte byte = if byte == 9 then 32 else byte
+abbrev pub screen_byte : ℕ → ℕ
+screen_byte byte = if byte == 9 then 32 else byte
 
-abbrev pub shown : List ℕ → List ℕ
-shown line = map shown_byte line
+abbrev pub screen_line : List ℕ → List ℕ
+screen_line line = map screen_byte line
 
 unfoldable pub prompt_text : Prompt → List ℕ
 prompt_text Main = codes "@"
@@ -28,7 +29,7 @@ prompt_text Sub = codes "@@"
 
 -- why a line is refused
 unfoldable pub refusal : Code → List ℕ
-refusal code = question ++ code_text code ++ end_of_line
+refusal code = question ++ (code_text code ++ end_of_line)
 
 -- what a finished line shows besides
 unfoldable pub complaint : Ending → List ℕ
@@ -42,16 +43,17 @@ taken_away before now = if before == 0 then bell else times (before - now) rubou
 
 -- the echo of a key on a line of this size, with or without kept bytes, that left the session so
 abbrev pub echo_of : KeyClass → ℕ → ℕ → Bool → Held → List ℕ
-echo_of Text key size kept now = if nat_lt size 255 then shown_byte key ∷ [] else bell
+echo_of Text key size kept now = if nat_lt size LINE_LIMIT then screen_byte key ∷ [] else bell
 echo_of Rub key size kept now = taken_away size (length now.line)
 echo_of Word key size kept now = taken_away size (length now.line)
 echo_of Erase key size kept now = taken_away size (length now.line)
-echo_of Show key size kept now = end_of_line ++ prompt_text now.prompt ++ shown now.line
-echo_of Back key size kept now = if kept then shown now.line else bell
+echo_of Show key size kept now = end_of_line ++ prompt_text now.prompt ++ screen_line now.line
+echo_of Back key size kept now = if kept then screen_line now.line else bell
 echo_of Stop key size kept now = control_c ++ end_of_line
 echo_of End key size kept now = end_of_line ++ complaint now.ending
 echo_of class key size kept now = bell
 
 -- the bytes that a key shows
 unfoldable pub echo : Verbs → Held → ℕ → List ℕ
-echo verbs held key = echo_of (class_of key) key (length (met held)) (is_some held.kept) (edited verbs held key)
+echo verbs held key =
+    echo_of (class_of key) key (length (met_line held)) (is_some held.kept) (edited verbs held key)

@@ -1,5 +1,6 @@
 -- What one key makes of a session (COMND's editing keys).
 use Rattle.std.specs.Prelude.{ℕ, ◌-◌, Bool, true, false, List, [], ◌∷◌, ◌++◌, length, take, Option, Some, None, unwrap_or, nat_lt, if◌then◌else◌}
+use Rattle.cm_text.specs.declared.text.TheConstants.{LINE_LIMIT}
 use Rattle.cm_text.specs.Text.{finished}
 use Rattle.cm_line.specs.declared.key.KeyClass.{KeyClass}
 use Rattle.cm_line.specs.declared.key.KeyClass.TheVariants.{Text, End, Rub, Word, Erase, Show, Back, Stop, Escape, Part, Help, Other}
@@ -12,12 +13,12 @@ use Rattle.cm_state.specs.Held.{Held}
 use Rattle.cm_state.specs.Parse.{parse_of}
 
 -- the line that a key meets: none behind a finished text
-abbrev pub met : Held → List ℕ
-met held = if held.is_finished then [] else held.line
+abbrev pub met_line : Held → List ℕ
+met_line held = if held.is_finished then [] else held.line
 
 -- the line after a key, CR left out
 abbrev pub edit : KeyClass → ℕ → List ℕ → Option (List ℕ) → List ℕ
-edit Text key line kept = if nat_lt (length line) 255 then line ++ key ∷ [] else line
+edit Text key line kept = if nat_lt (length line) LINE_LIMIT then line ++ key ∷ [] else line
 edit Rub key line kept = take (length line - 1) line
 edit Word key line kept = take (word_start line) line
 edit Erase key line kept = []
@@ -45,7 +46,7 @@ before_fault line (ending.Fault fault) = Some (take fault.at line)
 unfoldable pub edited : Verbs → Held → ℕ → Held
 edited verbs held key =
     let class = class_of key in
-    let line = edit class key (met held) held.kept in
+    let line = edit class key (met_line held) held.kept in
     let parse = parse_of verbs held.node (if is_end class then finished line else line) in
     record held {
       line = line;

@@ -30,16 +30,16 @@ with_field field parse = record { fields = field ∷ parse.fields; ending = pars
 abbrev pub open_at : ℕ → ℕ → Ending
 open_at node at = ending.Open (record { node = node; block = Some 0; at = at })
 
--- the parse after a chain has answered: its field and what comes behind it, or the ending
-abbrev pub after : (Field → Parse) → Chain → Parse
-after behind (Takes field) = with_field field (behind field)
-after behind (Ends ending) = record { fields = []; ending = ending }
+-- the parse by a chain's answer: its field and what comes behind it, or the ending
+abbrev pub chain_parse : (Field → Parse) → Chain → Parse
+chain_parse behind (Takes field) = with_field field (behind field)
+chain_parse behind (Ends ending) = record { fields = []; ending = ending }
 
 -- the parse from a node and a place on, in at most so many trials
 abbrev pub parse_from : Verbs → List ℕ → ℕ → ℕ → ℕ → Parse
 parse_from verbs text zero node at = record { fields = []; ending = open_at node at }
 parse_from verbs text (suc trials) node at =
-    after (λ field. parse_from verbs text trials field.next field.end) (chain_at verbs node text at)
+    chain_parse (λ field. parse_from verbs text trials field.next field.end) (chain_at verbs node text at)
 
 -- the parse of a text; each field ends behind the one before, so that more trials than bytes are never wanted
 unfoldable pub parse_of : Verbs → ℕ → List ℕ → Parse

@@ -4,13 +4,14 @@ ghost use Rattle.std.specs.List.{prefix_len};
 ghost use Rattle.cm_text.specs.Bytes.{is_blank, is_word};
 ghost use Rattle.cm_state.specs.Chain.{Advances, blocks, chain_at, confirm, first_of, key, keyword, skip, undecided};
 
+use crate::node::{COMMANDS, TOPICS};
 use crate::{Code, Ending, Fault, Field, Open, Verbs};
 use cm_tables::{Look, Table};
-use cm_text::{is_blank, is_word};
+use cm_text::{TEXT_LIMIT, is_blank, is_word};
 
 // What a chain makes of a text from a place on.
 #[derive(Clone, Copy, Debug)]
-pub enum Chain {
+pub(crate) enum Chain {
     // It takes a field.
     Takes(Field),
     // No field follows, and the parse ends so.
@@ -19,34 +20,32 @@ pub enum Chain {
 
 // Where a block is tried.
 #[derive(Clone, Copy)]
-pub struct Place {
-    pub node: u16,
-    pub block: u8,
-    pub start: u16,
+pub(crate) struct Place {
+    pub(crate) node: u16,
+    pub(crate) block: u8,
+    pub(crate) start: u16,
 }
 
-// What a block answers: a decision, or the code with which it refuses.
+// What a block answers.
 #[derive(Clone, Copy)]
-pub enum Try {
-    Decides(Chain),
-    Refuses(Code),
+pub(crate) enum Try {
+    // It takes a field, or the end of the line.
+    Accept(Chain),
+    // It takes nothing, and this is why.
+    Refuse(Code),
+    // The text ends before it can tell.
+    More(Open),
 }
-
-// The node of the commands.
-const COMMANDS: u16 = 0;
-
-// The node of what INFORMATION tells about.
-const TOPICS: u16 = 27;
 
 // The text ends before the block can decide.
 fn undecided(place: Place) -> Try
     ensures { result ≡ undecided place }
 {
-    Try::Decides(Chain::Ends(Ending::Open(Open {
+    Try::More(Open {
         node: place.node,
         block: Some(place.block),
         at: place.start,
-    })))
+    })
 }
 
 // An end of the line confirms it, any other byte does not.
@@ -55,12 +54,12 @@ fn confirm(place: Place, rest: &[u8]) -> Try
 {
     match rest {
         [] => undecided(place),
-        [b'\r', ..] => Try::Decides(Chain::Ends(Ending::Done)),
-        _ => Try::Refuses(Code::NotConfirmed),
+        [b'\r', ..] => Try::Accept(Chain::Ends(Ending::Done)),
+        _ => Try::Refuse(Code::NotConfirmed),
     }
 }
 
-// How many word bytes the text begins with.
+// The length of the run of word bytes that the text begins with.
 fn word_run(rest: &[u8]) -> usize
     ensures value { result ≡ prefix_len is_word rest.now }
     ensures within { result ≤ length rest.now }
@@ -68,7 +67,7 @@ fn word_run(rest: &[u8]) -> usize
     rest.iter().take_while(|byte| is_word(**byte)).count()
 }
 
-// How many blanks the text begins with.
+// The length of the run of blanks that the text begins with.
 fn blank_run(rest: &[u8]) -> usize
     ensures value { result ≡ prefix_len is_blank rest.now }
     ensures within { result ≤ length rest.now }
@@ -83,7 +82,7 @@ fn keyword(place: Place, table: &Table, entry: u16, size: u16) -> Try
     ensures { result ≡ keyword place table.now entry size }
 {
     let found = table.entry(entry);
-    Try::Decides(Chain::Takes(Field {
+    Try::Accept(Chain::Takes(Field {
         node: place.node,
         block: place.block,
         entry,
@@ -96,7 +95,7 @@ fn keyword(place: Place, table: &Table, entry: u16, size: u16) -> Try
 
 // A keyword is a run of word bytes, and the byte behind it decides.
 fn key(place: Place, table: &Table, rest: &[u8]) -> Try
-    requires { place.start + length rest.now ≤ 256 }
+    requires { place.start + length rest.now ≤ TEXT_LIMIT }
     ensures { result ≡ key place table.now rest.now }
 {
     let size = word_run(rest);
@@ -104,11 +103,11 @@ fn key(place: Place, table: &Table, rest: &[u8]) -> Try
         return undecided(place);
     }
     if size == 0 {
-        return Try::Refuses(Code::NotKeyword);
+        return Try::Refuse(Code::NotKeyword);
     }
     match table.look(&rest[..size]) {
-        Look::None => Try::Refuses(Code::NotKeyword),
-        Look::Ambiguous => Try::Refuses(Code::Ambiguous),
+        Look::None => Try::Refuse(Code::NotKeyword),
+        Look::Ambiguous => Try::Refuse(Code::Ambiguous),
         Look::Abbrev(entry) | Look::Exact(entry) => keyword(place, table, entry, size as u16),
     }
 }
@@ -122,10 +121,10 @@ fn skip(text: &[u8], at: usize) -> usize
     at + blank_run(&text[at..])
 }
 
-/// What the chain of a node makes of a text from a place on.
+// What the chain of a node makes of a text from a place on.
 #[tactic(auto, unfolding(crate::specs::Chain::chain_at))]
-pub fn try_chain(verbs: &Verbs, node: u16, text: &[u8], at: u16) -> Chain
-    requires short { length text.now ≤ 256 }
+pub(crate) fn try_chain(verbs: &Verbs, node: u16, text: &[u8], at: u16) -> Chain
+    requires short { length text.now ≤ TEXT_LIMIT }
     requires place { at ≤ length text.now }
     ensures value { result ≡ chain_at verbs.now node text.now at }
     ensures advances { Advances at (length text.now) result }
@@ -138,8 +137,9 @@ pub fn try_chain(verbs: &Verbs, node: u16, text: &[u8], at: u16) -> Chain
         start: start as u16,
     };
     match first_of(verbs, place, rest) {
-        Try::Decides(chain) => chain,
-        Try::Refuses(code) => Chain::Ends(Ending::Fault(Fault {
+        Try::Accept(chain) => chain,
+        Try::More(open) => Chain::Ends(Ending::Open(open)),
+        Try::Refuse(code) => Chain::Ends(Ending::Fault(Fault {
             code,
             node,
             at: place.start,
@@ -147,15 +147,16 @@ pub fn try_chain(verbs: &Verbs, node: u16, text: &[u8], at: u16) -> Chain
     }
 }
 
-// The first block of the node's chain that decides, or the refusal of the last.
+// The answer of the first block of the node's chain that does not refuse, or the refusal of the last.
 fn first_of(verbs: &Verbs, place: Place, rest: &[u8]) -> Try
-    requires { place.start + length rest.now ≤ 256 }
-    ensures { place.block ≡ 0 → result ≡ first_of place rest.now (blocks verbs.now place.node) }
+    requires first { place.block ≡ 0 }
+    requires short { place.start + length rest.now ≤ TEXT_LIMIT }
+    ensures { result ≡ first_of place rest.now (blocks verbs.now place.node) }
 {
     match place.node {
         COMMANDS => match confirm(place, rest) {
-            Try::Refuses(_) => key(Place { block: 1, ..place }, &verbs.first, rest),
-            decided => decided,
+            Try::Refuse(_) => key(Place { block: 1, ..place }, &verbs.first, rest),
+            answer => answer,
         },
         TOPICS => key(place, &verbs.second, rest),
         _ => confirm(place, rest),

@@ -4,48 +4,48 @@
 ghost use Rattle.std.specs.Prelude.{◌≡◌, ◌≤◌, ◌++◌, length};
 ghost use Rattle.cm_io.specs.Told.{Adds};
 ghost use Rattle.cm_io.specs.Fault.{PutCause};
-ghost use Rattle.cm_text.specs.Shown.{control_c, end_of_line};
-ghost use Rattle.cm_state.specs.Echo.{complaint, refusal, prompt_text, shown, shown_byte, taken_away};
+ghost use Rattle.cm_text.specs.Shown.{end_of_line};
+ghost use Rattle.cm_state.specs.Echo.{complaint, refusal, prompt_text, screen_byte, screen_line, taken_away};
 
 use crate::{Code, Ending, Prompt};
 use arrayvec::ArrayVec;
-use cm_io::{Put, Sink, put_times};
-use cm_text::{bell, control_c, end_of_line, question, rubout};
+use cm_io::{Put, Sink, put_line, put_times};
+use cm_text::{LINE_LIMIT, bell, end_of_line, question, rubout};
 
-/// A TAB is shown as one space.
-pub fn shown_byte(byte: u8) -> u8
-    ensures { result ≡ shown_byte byte }
+// A TAB is shown as one space.
+pub(crate) fn screen_byte(byte: u8) -> u8
+    ensures { result ≡ screen_byte byte }
 {
     if byte == b'\t' { b' ' } else { byte }
 }
 
 // The bytes of a line as they are shown.
-fn shown(line: &[u8]) -> ArrayVec<u8, 255>
-    requires { length line.now ≤ 255 }
-    ensures { result.items ≡ shown line.now }
+fn screen_line(line: &[u8]) -> ArrayVec<u8, LINE_LIMIT>
+    requires { length line.now ≤ LINE_LIMIT }
+    ensures { result.items ≡ screen_line line.now }
 {
     let mut bytes = ArrayVec::new();
     for byte in line {
-        bytes.push(shown_byte(*byte));
+        bytes.push(screen_byte(*byte));
     }
     bytes
 }
 
-/// Shows a line.
-pub fn put_line<S: Sink>(line: &[u8], sink: &mut S) -> Put
-    requires { length line.now ≤ 255 }
-    ensures bytes { Adds (S.told sink.old) (S.told sink.new) (shown line.now) result }
+// Shows a line.
+pub(crate) fn put_screen_line<S: Sink>(line: &[u8], sink: &mut S) -> Put
+    requires { length line.now ≤ LINE_LIMIT }
+    ensures bytes { Adds (S.told sink.old) (S.told sink.new) (screen_line line.now) result }
     ensures later { S.faults sink.old ≤ S.faults sink.new }
     ensures cause { PutCause (S.faults sink.old) (S.faults sink.new) result }
 {
-    sink.put(shown(line).as_slice())
+    sink.put(screen_line(line).as_slice())
 }
 
-/// Shows the end of the line, and the line again behind its prompt.
-pub fn put_again<S: Sink>(prompt: Prompt, line: &[u8], sink: &mut S) -> Put
-    requires { length line.now ≤ 255 }
+// Shows the end of the line, and the line again behind its prompt.
+pub(crate) fn put_again<S: Sink>(prompt: Prompt, line: &[u8], sink: &mut S) -> Put
+    requires { length line.now ≤ LINE_LIMIT }
     ensures bytes { Adds (S.told sink.old) (S.told sink.new)
-        (end_of_line ++ prompt_text prompt ++ shown line.now) result }
+        (end_of_line ++ prompt_text prompt ++ screen_line line.now) result }
     ensures later { S.faults sink.old ≤ S.faults sink.new }
     ensures cause { PutCause (S.faults sink.old) (S.faults sink.new) result }
 {
@@ -55,12 +55,12 @@ pub fn put_again<S: Sink>(prompt: Prompt, line: &[u8], sink: &mut S) -> Put
     if let Put::Failed = sink.put(prompt.text().as_bytes()) {
         return Put::Failed;
     }
-    put_line(line, sink)
+    put_screen_line(line, sink)
 }
 
-/// Takes bytes from the screen: from a line of the first size to one of the second.
-pub fn put_taken<S: Sink>(before: usize, now: usize, sink: &mut S) -> Put
-    requires { before ≤ 255 }
+// Takes bytes from the screen: from a line of the first size to one of the second.
+pub(crate) fn put_taken<S: Sink>(before: usize, now: usize, sink: &mut S) -> Put
+    requires { before ≤ LINE_LIMIT }
     ensures bytes { Adds (S.told sink.old) (S.told sink.new) (taken_away before now) result }
     ensures later { S.faults sink.old ≤ S.faults sink.new }
     ensures cause { PutCause (S.faults sink.old) (S.faults sink.new) result }
@@ -68,11 +68,11 @@ pub fn put_taken<S: Sink>(before: usize, now: usize, sink: &mut S) -> Put
     if before == 0 {
         return sink.put(bell());
     }
-    put_times(sink, rubout(), before.saturating_sub(now) as u32)
+    put_times(before.saturating_sub(now) as u32, rubout(), sink)
 }
 
-/// Ends the line on the screen, and shows what a refused line shows.
-pub fn put_end<S: Sink>(ending: Ending, sink: &mut S) -> Put
+// Ends the line on the screen, and shows what a refused line shows.
+pub(crate) fn put_end<S: Sink>(ending: Ending, sink: &mut S) -> Put
     ensures bytes { Adds (S.told sink.old) (S.told sink.new) (end_of_line ++ complaint ending) result }
     ensures later { S.faults sink.old ≤ S.faults sink.new }
     ensures cause { PutCause (S.faults sink.old) (S.faults sink.new) result }
@@ -106,20 +106,5 @@ fn put_refusal<S: Sink>(code: Code, sink: &mut S) -> Put
     if let Put::Failed = sink.put(question()) {
         return Put::Failed;
     }
-    if let Put::Failed = sink.put(code.text().as_bytes()) {
-        return Put::Failed;
-    }
-    sink.put(end_of_line())
-}
-
-/// Shows that a line is given up.
-pub fn put_stop<S: Sink>(sink: &mut S) -> Put
-    ensures bytes { Adds (S.told sink.old) (S.told sink.new) (control_c ++ end_of_line) result }
-    ensures later { S.faults sink.old ≤ S.faults sink.new }
-    ensures cause { PutCause (S.faults sink.old) (S.faults sink.new) result }
-{
-    if let Put::Failed = sink.put(control_c()) {
-        return Put::Failed;
-    }
-    sink.put(end_of_line())
+    put_line(code.text().as_bytes(), sink)
 }

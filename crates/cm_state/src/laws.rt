@@ -5,7 +5,7 @@ ghost use Rattle.cm_line.specs.Keys.{class_of};
 ghost use Rattle.cm_state.specs.declared.verbs.Verbs.{Verbs};
 ghost use Rattle.cm_state.specs.declared.field.Field.{Field};
 ghost use Rattle.cm_state.specs.declared.field.Ending.{Ending};
-ghost use Rattle.cm_state.specs.Edit.{edit, met};
+ghost use Rattle.cm_state.specs.Edit.{edit, met_line};
 ghost use Rattle.cm_state.specs.Held.{Held};
 ghost use Rattle.cm_state.specs.Parse.{IsClosed, IsParse, open_at, parse_of};
 
@@ -14,7 +14,8 @@ ghost use Rattle.cm_state.specs.Parse.{IsClosed, IsParse, open_at, parse_of};
 pub fn one_parse()
     ensures is_one { (verbs : Verbs) → (node : ℕ) → (text : List ℕ)
         → IsParse verbs node text (parse_of verbs node text).fields (parse_of verbs node text).ending }
-    ensures no_other { (verbs : Verbs) → (node : ℕ) → (text : List ℕ) → (fields : List Field) → (ending : Ending)
+    ensures no_other { (verbs : Verbs) → (node : ℕ) → (text : List ℕ)
+        → (fields : List Field) → (ending : Ending)
         → IsParse verbs node text fields ending
         → (fields ≡ (parse_of verbs node text).fields) × (ending ≡ (parse_of verbs node text).ending) }
 {}
@@ -22,7 +23,8 @@ pub fn one_parse()
 /// The parse of a finished text is decided: it is done or refused, and never open.
 #[tactic(auto, using(crate::proofs::Closing::finished_closes))]
 pub fn a_finished_text_is_decided()
-    ensures { (verbs : Verbs) → (node : ℕ) → (line : List ℕ) → (fields : List Field) → (ending : Ending)
+    ensures { (verbs : Verbs) → (node : ℕ) → (line : List ℕ)
+        → (fields : List Field) → (ending : Ending)
         → IsParse verbs node (finished line) fields ending → IsClosed ending }
 {}
 
@@ -34,6 +36,6 @@ pub fn a_start_is_a_parse()
 
 /// What a key makes of a line is a line, where the bytes kept for control-H are one.
 pub fn the_edit_is_a_line()
-    ensures { (held : Held) → (key : ℕ) → IsLine (met held) → IfSome held.kept IsLine
-        → IsLine (edit (class_of key) key (met held) held.kept) }
+    ensures { (held : Held) → (key : ℕ) → IsLine (met_line held) → IfSome held.kept IsLine
+        → IsLine (edit (class_of key) key (met_line held) held.kept) }
 {}

@@ -5,14 +5,16 @@ ghost use Rattle.cm_state.specs.Parse.{IsParse};
 use crate::chain::{Chain, try_chain};
 use crate::{Ending, Field, Verbs};
 use arrayvec::ArrayVec;
+use cm_text::{LINE_LIMIT, TEXT_LIMIT};
 
-// The fields of a text of at most 255 bytes: each takes one byte or more.
-pub type Fields = ArrayVec<Field, 255>;
+// The fields of a text, each of which takes one byte or more of the line.
+pub(crate) type Fields = ArrayVec<Field, LINE_LIMIT>;
 
-/// The parse of a text from a node on: puts its fields in place of those that were held, and answers its ending.
+// The parse of a text from a node on: puts its fields in place of those that were held, and answers its
+// ending.
 #[tactic(auto, unfolding(crate::specs::Parse::IsParse))]
-pub fn parse(verbs: &Verbs, start: u16, text: &[u8], fields: &mut Fields) -> Ending
-    requires { length text.now ≤ 256 }
+pub(crate) fn parse(verbs: &Verbs, start: u16, text: &[u8], fields: &mut Fields) -> Ending
+    requires { length text.now ≤ TEXT_LIMIT }
     ensures { IsParse verbs.now start text.now fields.new.items result }
 {
     fields.clear();

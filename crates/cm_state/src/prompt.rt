@@ -12,9 +12,8 @@ pub enum Prompt {
 }
 
 impl Prompt {
-    /// The text of the prompt.
     #[tactic(auto, unfolding(crate::specs::Echo::prompt_text))]
-    pub fn text(self) -> &'static str
+    pub(crate) fn text(self) -> &'static str
         ensures { result.now ≡ prompt_text self }
     {
         match self {

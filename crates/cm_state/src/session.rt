@@ -6,21 +6,22 @@ ghost use Rattle.cm_line.specs.declared.key.KeyClass.TheVariants as class;
 ghost use Rattle.cm_line.specs.Keys.{class_of};
 ghost use Rattle.cm_io.specs.Told.{Adds};
 ghost use Rattle.cm_io.specs.Fault.{PutCause};
-ghost use Rattle.cm_state.specs.Edit.{edit, edited, met, before_fault, is_end};
-ghost use Rattle.cm_state.specs.Echo.{echo, echo_of, prompt_text, shown};
-ghost use Rattle.cm_state.specs.Log.{head_log, log_line, size_log};
+ghost use Rattle.cm_state.specs.Edit.{edit, edited, met_line, before_fault, is_end};
+ghost use Rattle.cm_state.specs.Echo.{echo, echo_of, prompt_text};
+ghost use Rattle.cm_state.specs.Log.{log_line};
 ghost use Rattle.cm_state.specs.Turn.{put_of, turn_of};
 ghost use Rattle.cm_state.specs.Held.{Held, at_start, text_of};
 ghost use Rattle.cm_state.specs.Parse.{IsParse, open_at, parse_of};
 
-use crate::echo::{put_again, put_end, put_line, put_stop, put_taken, shown_byte};
-use crate::log::{put_ending, put_fields, put_marked, put_single};
+use crate::echo::{put_again, put_end, put_screen_line, put_taken, screen_byte};
+use crate::log::{line_feed, put_fields, put_head};
+use crate::node::COMMANDS;
 use crate::parse::{Fields, parse};
 use crate::{Ending, Field, Open, Prompt, Turn, Verbs};
 use arrayvec::ArrayVec;
-use cm_io::{Put, Sink, put_hex};
+use cm_io::{Put, Sink, put_line};
 use cm_line::{KeyClass, Line};
-use cm_text::bell;
+use cm_text::{LINE_LIMIT, TEXT_LIMIT, bell, control_c};
 use std::marker::Model;
 
 /// A command line: the line under edit, its parse as it then stands, and what control-H may bring back.
@@ -30,16 +31,12 @@ pub struct Session {
     prompt: Prompt,
     line: Line,
     is_finished: bool,
-    // The line and CR, where it is finished.
-    text: ArrayVec<u8, 256>,
     fields: Fields,
     ending: Ending,
     kept: Option<Line>,
 }
 
 impl Model for Session {
-    ghost use Rattle.std.specs.Prelude.{◌≡◌, [], if◌then◌else◌};
-    ghost use Rattle.cm_text.specs.Text.{finished};
     ghost use Rattle.cm_state.specs.Held.{Held};
 
     ghost Value = { Held };
@@ -53,23 +50,20 @@ impl Model for Session {
       ending = s.ending;
       kept = s.kept;
     } };
-
-    ghost invariant = { λ s. s.text.items ≡ (if s.is_finished then finished s.line else []) };
 }
 
 impl Session {
     /// A session at its start: an empty line for a command, and nothing kept.
     pub fn new() -> Session
-        ensures { result ≡ at_start 0 Prompt.Main None }
+        ensures { result ≡ at_start COMMANDS Prompt.Main None }
     {
         Session {
-            node: 0,
+            node: COMMANDS,
             prompt: Prompt::Main,
             line: Line::new(),
             is_finished: false,
-            text: ArrayVec::new(),
             fields: Fields::new(),
-            ending: open_at(0),
+            ending: open_at(COMMANDS),
             kept: None,
         }
     }
@@ -105,7 +99,8 @@ impl Session {
         ensures turn { put_of result ≡ Put.Done → result ≡ turn_of (class_of key) self.new.ending }
 
         // What the key shows.
-        ensures bytes { Adds (S.told sink.old) (S.told sink.new) (echo verbs.now self.old key) (put_of result) }
+        ensures bytes { Adds (S.told sink.old) (S.told sink.new)
+            (echo verbs.now self.old key) (put_of result) }
         ensures later { S.faults sink.old ≤ S.faults sink.new }
         ensures cause { PutCause (S.faults sink.old) (S.faults sink.new) (put_of result) }
     {
@@ -121,8 +116,8 @@ impl Session {
 
     // The size of the line that a key meets.
     fn met_size(&self) -> usize
-        ensures value { result ≡ length (met self.now) }
-        ensures within { result ≤ 255 }
+        ensures value { result ≡ length (met_line self.now) }
+        ensures within { result ≤ LINE_LIMIT }
     {
         if self.is_finished {
             0
@@ -145,18 +140,19 @@ impl Session {
 
     // Shows the echo of a key on a line of this size, with or without kept bytes.
     fn echo<S: Sink>(&self, class: KeyClass, key: u8, size: usize, kept: bool, sink: &mut S) -> Put
-        requires { size ≤ 255 }
-        ensures bytes { Adds (S.told sink.old) (S.told sink.new) (echo_of class key size kept self.now) result }
+        requires { size ≤ LINE_LIMIT }
+        ensures bytes { Adds (S.told sink.old) (S.told sink.new)
+            (echo_of class key size kept self.now) result }
         ensures later { S.faults sink.old ≤ S.faults sink.new }
         ensures cause { PutCause (S.faults sink.old) (S.faults sink.new) result }
     {
         let line = self.line.bytes();
         match class {
-            KeyClass::Text if size < 255 => sink.put(&[shown_byte(key)]),
+            KeyClass::Text if size < LINE_LIMIT => sink.put(&[screen_byte(key)]),
             KeyClass::Rub | KeyClass::Word | KeyClass::Erase => put_taken(size, line.len(), sink),
             KeyClass::Show => put_again(self.prompt, line, sink),
-            KeyClass::Back if kept => put_line(line, sink),
-            KeyClass::Stop => put_stop(sink),
+            KeyClass::Back if kept => put_screen_line(line, sink),
+            KeyClass::Stop => put_line(control_c(), sink),
             KeyClass::End => put_end(self.ending, sink),
             _ => sink.put(bell()),
         }
@@ -170,52 +166,22 @@ impl Session {
         ensures later { S.faults sink.old ≤ S.faults sink.new }
         ensures cause { PutCause (S.faults sink.old) (S.faults sink.new) result }
     {
-        if let Put::Failed = self.log_head(key, sink) {
+        if let Put::Failed = put_head(key, self.line.bytes().len(), self.ending, sink) {
             return Put::Failed;
         }
         if let Put::Failed = put_fields(self.fields.as_slice(), sink) {
             return Put::Failed;
         }
-        put_single(b'\n', sink)
-    }
-
-    // The key, the length of the line and the ending.
-    #[tactic(auto, using(crate::proofs::Putting::pieces), unfolding(crate::specs::Log::head_log))]
-    fn log_head<S: Sink>(&self, key: u8, sink: &mut S) -> Put
-        ensures bytes { Adds (S.told sink.old) (S.told sink.new) (head_log key self.now) result }
-        ensures later { S.faults sink.old ≤ S.faults sink.new }
-        ensures cause { PutCause (S.faults sink.old) (S.faults sink.new) result }
-    {
-        if let Put::Failed = self.log_size(key, sink) {
-            return Put::Failed;
-        }
-        if let Put::Failed = put_single(b' ', sink) {
-            return Put::Failed;
-        }
-        put_ending(self.ending, sink)
-    }
-
-    // The key and the length of the line.
-    #[tactic(auto, using(crate::proofs::Putting::pieces), unfolding(crate::specs::Log::size_log))]
-    fn log_size<S: Sink>(&self, key: u8, sink: &mut S) -> Put
-        ensures bytes { Adds (S.told sink.old) (S.told sink.new) (size_log key self.now) result }
-        ensures later { S.faults sink.old ≤ S.faults sink.new }
-        ensures cause { PutCause (S.faults sink.old) (S.faults sink.new) result }
-    {
-        if let Put::Failed = put_hex(sink, key) {
-            return Put::Failed;
-        }
-        put_marked(b' ', self.line.bytes().len() as u64, sink)
+        sink.put(line_feed())
     }
 
     // A key behind a finished text meets an empty line.
     fn renew(&mut self)
-        ensures { self.new ≡ record self.old { line = met self.old; is_finished = false } }
+        ensures { self.new ≡ record self.old { line = met_line self.old; is_finished = false } }
     {
         if self.is_finished {
             self.is_finished = false;
             self.line.cut(0);
-            self.text.clear();
         }
     }
 
@@ -243,10 +209,7 @@ impl Session {
                     self.line = kept;
                 }
             }
-            KeyClass::End => {
-                self.text = finished(self.line.bytes());
-                self.is_finished = true;
-            }
+            KeyClass::End => self.is_finished = true,
             _ => {}
         }
         self.kept = None;
@@ -260,8 +223,8 @@ impl Session {
         ensures same { self.new
             ≡ record self.old { fields = self.new.fields; ending = self.new.ending; kept = self.new.kept } }
     {
-        let text = text_held(self.is_finished, &self.text, &self.line);
-        self.ending = parse(verbs, self.node, text, &mut self.fields);
+        let text = self.text();
+        self.ending = parse(verbs, self.node, text.as_slice(), &mut self.fields);
         self.kept = before_fault(self.is_finished, &self.line, self.ending);
     }
 
@@ -279,10 +242,10 @@ impl Session {
     }
 
     /// The whole text: the line, or the line and the CR that finished it.
-    pub fn text(&self) -> &[u8]
-        ensures { result.now ≡ text_of self.now }
+    pub fn text(&self) -> ArrayVec<u8, TEXT_LIMIT>
+        ensures { result.items ≡ text_of self.now }
     {
-        text_held(self.is_finished, &self.text, &self.line)
+        text_of(self.line.bytes(), self.is_finished)
     }
 
     /// How many fields are held.
@@ -308,28 +271,16 @@ impl Session {
     }
 }
 
-// The finished text where the line is finished, else the line.
-fn text_held<'a>(is_finished: bool, text: &'a ArrayVec<u8, 256>, line: &'a Line) -> &'a [u8]
-    ensures value { result.now ≡ (if is_finished then text.now.items else line.now) }
-    ensures fits { length result.now ≤ 256 }
-{
-    if is_finished {
-        text.as_slice()
-    } else {
-        line.bytes()
-    }
-}
-
-// The line, finished.
-fn finished(line: &[u8]) -> ArrayVec<u8, 256>
-    requires { length line.now ≤ 255 }
-    ensures { result.items ≡ finished line.now }
+// A line, and behind it the CR that finished it, if one did.
+fn text_of(line: &[u8], is_finished: bool) -> ArrayVec<u8, TEXT_LIMIT>
+    requires { length line.now ≤ LINE_LIMIT }
+    ensures { result.items ≡ (if is_finished then finished line.now else line.now) }
 {
     let mut text = ArrayVec::new();
-    for byte in line {
-        text.push(*byte);
+    let _ = text.try_extend_from_slice(line);
+    if is_finished {
+        text.push(b'\r');
     }
-    text.push(b'\r');
     text
 }
 
@@ -338,19 +289,19 @@ fn before_fault(is_finished: bool, line: &Line, ending: Ending) -> Option<Line>
     ensures { result ≡ (if is_finished then before_fault line.now ending else None) }
 {
     match ending {
-        Ending::Fault(fault) if is_finished => Some(front(line, usize::from(fault.at))),
+        Ending::Fault(fault) if is_finished => Some(prefix(line, usize::from(fault.at))),
         _ => None,
     }
 }
 
 // The first bytes of a line.
-fn front(line: &Line, size: usize) -> Line
+fn prefix(line: &Line, size: usize) -> Line
     ensures { result ≡ take size line.now }
 {
     let bytes = line.bytes();
-    let mut front = Line::new();
-    front.append(&bytes[..size.min(bytes.len())]);
-    front
+    let mut prefix = Line::new();
+    prefix.append(&bytes[..size.min(bytes.len())]);
+    prefix
 }
 
 // The start of a parse at a node.

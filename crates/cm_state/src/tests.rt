@@ -1,8 +1,6 @@
 // Sessions by example.
-use crate::{
-    Code, Ending, Fault, Field, Open, Prompt, Session, Turn, Verbs, a_finished_text_is_decided,
-    a_start_is_a_parse, one_parse, the_edit_is_a_line,
-};
+use crate::node::TOPICS;
+use crate::{COMMANDS, Code, Ending, Fault, Field, Open, Prompt, Session, Turn, Verbs};
 use cm_io::{MemSink, NoMemory, Put};
 use std::alloc::Global;
 use std::process::Abort;
@@ -31,7 +29,7 @@ impl Run {
 
     // Begins a line at the commands.
     fn begin(&mut self, rt: &impl Abort) {
-        let begun = self.session.begin(0, Prompt::Main, &mut self.shown);
+        let begun = self.session.begin(COMMANDS, Prompt::Main, &mut self.shown);
         assert_eq!(rt; begun, Put::Done);
     }
 
@@ -222,16 +220,16 @@ fn tells_what_it_holds(rt: HostRuntime) -> Result<(), Fail> {
     assert_eq!(rt; *run.session.field(0), information);
     let confirmed = run.session.key(b'\r', &run.verbs, &mut run.shown);
     assert_eq!(rt; confirmed, Turn::Confirmed);
-    assert_eq!(rt; run.session.text(), b"INF VER\r".as_slice());
+    assert_eq!(rt; run.session.text().as_slice(), b"INF VER\r".as_slice());
     assert_eq!(rt; run.session.held(), 2);
     assert_eq!(rt; run.session.field(1).code, 4);
     assert_eq!(rt; *run.session.ending(), Ending::Done);
 
-    let begun = run.session.begin(27, Prompt::Sub, &mut run.shown);
+    let begun = run.session.begin(TOPICS, Prompt::Sub, &mut run.shown);
     assert_eq!(rt; begun, Put::Done);
     assert_eq!(rt; run.shown.bytes(), b"INF VER\r\n@@".as_slice());
     assert_eq!(rt; run.session.held(), 0);
-    assert_eq!(rt; run.session.text(), b"".as_slice());
+    assert_eq!(rt; run.session.text().as_slice(), b"".as_slice());
     Ok(())
 }
 
@@ -240,22 +238,17 @@ fn goes_on_behind_a_sink_that_fails(rt: HostRuntime) -> Result<(), Fail> {
     let verbs = Verbs::new(rt.alloc())?;
     let mut session = Session::new();
     let mut shown = MemSink::new(rt.alloc(), 3)?;
-    assert_eq!(rt; session.begin(0, Prompt::Main, &mut shown), Put::Done);
+    assert_eq!(rt;
+        session.begin(COMMANDS, Prompt::Main, &mut shown),
+        Put::Done
+    );
     assert_eq!(rt; session.key(b'L', &verbs, &mut shown), Turn::Edited);
     assert_eq!(rt; session.key(b'\n', &verbs, &mut shown), Turn::Failed);
     assert_eq!(rt; shown.bytes(), b"@L\r".as_slice());
-    assert_eq!(rt; session.text(), b"L\r".as_slice());
+    assert_eq!(rt; session.text().as_slice(), b"L\r".as_slice());
 
     let mut logged = MemSink::new(rt.alloc(), 8)?;
     assert_eq!(rt; session.log_line(b'\n', &mut logged), Put::Failed);
     assert_eq!(rt; logged.bytes(), b"0a 1 F2.".as_slice());
     Ok(())
-}
-
-#[test]
-fn the_laws_hold() {
-    one_parse();
-    a_finished_text_is_decided();
-    a_start_is_a_parse();
-    the_edit_is_a_line();
 }

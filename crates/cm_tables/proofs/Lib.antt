@@ -1,2 +1,2 @@
-pub mod SearchLemmas
-pub mod WithinLemmas
+mod SearchLemmas
+mod WithinLemmas

@@ -3,14 +3,14 @@ use Rattle.std.proofs.Common.{◌≡◌, ℕ, ◌+◌, Bool, true, false, cond, 
 use Rattle.std.specs.List.{enumerate_from, filter, position, position_or_len}
 use Rattle.std.proofs.lemmas.Bool.Decides.{nat_tests}
 use Rattle.cm_text.specs.Case.{begins_with, equals}
-use Rattle.cm_tables.specs.Look.{abbreviated, by_equal, exact, is_recognised, look, under}
+use Rattle.cm_tables.specs.Look.{abbreviated, by_equal, exact, is_recognised, look, candidates}
 use Rattle.cm_tables.specs.declared.entry.Entry.{Entry}
 use Rattle.cm_tables.specs.declared.table.Look.{Look}
 use Rattle.cm_tables.specs.declared.table.Look.TheVariants as looks
 
 -- the entries from a position on that the atom may abbreviate
-abbrev pub under_from : ℕ → List Entry → List ℕ → List (ℕ × Entry)
-under_from position table atom =
+abbrev pub candidates_from : ℕ → List Entry → List ℕ → List (ℕ × Entry)
+candidates_from position table atom =
     filter (λ (e : ℕ × Entry). is_recognised e.1.flag && begins_with e.1.text atom) (enumerate_from position table)
 
 -- what a walk gives that has found the one so far, and comes to these
@@ -68,7 +68,7 @@ exact_is_look table atom i d found = by (ltb n (length table)) refl found
     n : ℕ
     n = position_or_len test table
 
-    by : (b : Bool) → ltb n (length table) ≡ b → Some i ≡ cond b (Some n) None → exact i (get_or table i d).flag ≡ by_equal (passing test 0 table) (under table atom)
+    by : (b : Bool) → ltb n (length table) ≡ b → Some i ≡ cond b (Some n) None → exact i (get_or table i d).flag ≡ by_equal (passing test 0 table) (candidates table atom)
     by false e f = cc
     by true e f =
         let first = passing-first test 0 table d e in
@@ -77,7 +77,7 @@ exact_is_look table atom i d found = by (ltb n (length table)) refl found
 
 -- with none, those count that the atom may abbreviate
 pub abbreviated_is_look : (table : List Entry) (atom : List ℕ)
-    → None ≡ position (λ entry. equals entry.text atom) table → abbreviated (under table atom) ≡ look table atom
+    → None ≡ position (λ entry. equals entry.text atom) table → abbreviated (candidates table atom) ≡ look table atom
 unfolding look
 abbreviated_is_look table atom missing = by (ltb n (length table)) refl missing
   where
@@ -87,6 +87,6 @@ abbreviated_is_look table atom missing = by (ltb n (length table)) refl missing
     n : ℕ
     n = position_or_len test table
 
-    by : (b : Bool) → ltb n (length table) ≡ b → None ≡ cond b (Some n) None → abbreviated (under table atom) ≡ by_equal (passing test 0 table) (under table atom)
+    by : (b : Bool) → ltb n (length table) ≡ b → None ≡ cond b (Some n) None → abbreviated (candidates table atom) ≡ by_equal (passing test 0 table) (candidates table atom)
     by false e f = rw (passing-nil test 0 table e) refl
     by true e f = cc

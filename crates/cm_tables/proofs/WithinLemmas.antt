@@ -2,11 +2,12 @@
 use Rattle.std.proofs.Common.{◌≡◌, ℕ, ◌+◌, ◌<◌, ◌≤◌, Bool, true, false, cond, ltb, List, [], ◌∷◌, length, Option, Some, None, slice_get, arith, refl}
 use Rattle.std.specs.List.{enumerate_from, filter}
 use Rattle.std.proofs.lemmas.Option.{slice_get_within}
-use Rattle.cm_tables.specs.Look.{IsWithin, abbreviated, by_equal, equal_to, exact, look, under}
-use Rattle.cm_tables.specs.Order.{is_target, or_fault, table_fault, target_fault, targets_fault, texts_fault}
+use Rattle.cm_tables.specs.Look.{IsWithin, abbreviated, by_equal, equal_entries, exact, look, candidates}
+use Rattle.cm_tables.specs.Order.{is_target, first_fault, table_fault, target_fault, targets_fault, texts_fault}
 use Rattle.cm_tables.specs.declared.entry.Entry.{Entry}
 use Rattle.cm_tables.specs.declared.entry.Flag.{Flag}
 use Rattle.cm_tables.specs.declared.entry.Flag.TheVariants.{Plain, Invisible, NoRecognise, Short}
+use Rattle.cm_tables.specs.declared.fault.TheConstants.{ENTRY_LIMIT}
 use Rattle.cm_tables.specs.declared.table.TableFault.{TableFault}
 use Rattle.cm_tables.specs.declared.table.TableFault.TheVariants.{TooMany, BadTarget}
 
@@ -45,7 +46,7 @@ stands-within table position text (Short target) e = by (is_target text (slice_g
     by false h e = cc
 
 -- two faults are none only where both are
-both-none : (first later : Option TableFault) → or_fault first later ≡ None → (first ≡ None) × (later ≡ None)
+both-none : (first later : Option TableFault) → first_fault first later ≡ None → (first ≡ None) × (later ≡ None)
 both-none None later e = (refl, e)
 both-none (Some fault) later e = cc
 
@@ -90,9 +91,9 @@ by_equal-within (e ∷ more) abbreviations count all others = exact-within e.0 e
 -- a list with no fault has none at its targets
 no-targets_fault : (table : List Entry) → table_fault table ≡ None → targets_fault table 0 table ≡ None
 unfolding table_fault
-no-targets_fault table e = by (ltb 1024 (length table)) e
+no-targets_fault table e = by (ltb ENTRY_LIMIT (length table)) e
   where
-    by : (b : Bool) → cond b (Some TooMany) (or_fault (texts_fault 0 None table) (targets_fault table 0 table)) ≡ None
+    by : (b : Bool) → cond b (Some TooMany) (first_fault (texts_fault 0 None table) (targets_fault table 0 table)) ≡ None
         → targets_fault table 0 table ≡ None
     by true e = cc
     by false e = (both-none (texts_fault 0 None table) (targets_fault table 0 table) e).1
@@ -102,5 +103,5 @@ pub look-within : (table : List Entry) (atom : List ℕ) → table_fault table �
 unfolding look
 look-within table atom e =
     let all = all-stand-within table 0 table (no-targets_fault table e) in
-    by_equal-within (equal_to table atom) (under table atom) (length table)
+    by_equal-within (equal_entries table atom) (candidates table atom) (length table)
     (places-within _ 0 table (length table) (omega arith) all) (places-within _ 0 table (length table) (omega arith) all)

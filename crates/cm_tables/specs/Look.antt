@@ -16,13 +16,14 @@ is_recognised NoRecognise = false
 is_recognised (Short target) = false
 
 -- the entries whose text is the atom, each with its position
-abbrev pub equal_to : List Entry → List ℕ → List (ℕ × Entry)
-equal_to table atom = filter (λ (e : ℕ × Entry). equals e.1.text atom) (enumerate_from 0 table)
+abbrev pub equal_entries : List Entry → List ℕ → List (ℕ × Entry)
+equal_entries table atom = filter (λ (e : ℕ × Entry). equals e.1.text atom) (enumerate_from 0 table)
 
 -- the entries that the atom may abbreviate, each with its position
-abbrev pub under : List Entry → List ℕ → List (ℕ × Entry)
-under table atom =
-    filter (λ (e : ℕ × Entry). is_recognised e.1.flag && begins_with e.1.text atom) (enumerate_from 0 table)
+abbrev pub candidates : List Entry → List ℕ → List (ℕ × Entry)
+candidates table atom =
+    filter (λ (e : ℕ × Entry). is_recognised e.1.flag && begins_with e.1.text atom)
+    (enumerate_from 0 table)
 
 -- what an entry gives whose text is the atom: a Short entry gives the one that it stands for
 abbrev pub exact : ℕ → Flag → Look
@@ -43,7 +44,7 @@ by_equal [] abbreviations = abbreviated abbreviations
 by_equal (e ∷ more) abbreviations = exact e.0 e.1.flag
 
 unfoldable pub look : List Entry → List ℕ → Look
-look table atom = by_equal (equal_to table atom) (under table atom)
+look table atom = by_equal (equal_entries table atom) (candidates table atom)
 
 -- a position that the look-up gives is below the number of entries
 abbrev pub IsWithin : Look → ℕ → Type 0

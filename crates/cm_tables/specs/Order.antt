@@ -10,6 +10,7 @@ use Rattle.cm_tables.specs.Look.{is_recognised}
 use Rattle.cm_tables.specs.declared.entry.Entry.{Entry}
 use Rattle.cm_tables.specs.declared.entry.Flag.{Flag}
 use Rattle.cm_tables.specs.declared.entry.Flag.TheVariants.{Plain, Invisible, NoRecognise, Short}
+use Rattle.cm_tables.specs.declared.fault.TheConstants.{ENTRY_LIMIT}
 use Rattle.cm_tables.specs.declared.table.TableFault.{TableFault}
 use Rattle.cm_tables.specs.declared.table.TableFault.TheVariants.{TooMany, BadText, Repeat, Order, BadTarget}
 use Rattle.std.specs.declared.cmp.Ordering.TheVariants.{Less, Equal, Greater}
@@ -23,9 +24,9 @@ abbrev pub is_keyword : List ℕ → Bool
 is_keyword text = nat_lt 0 (length text) && list_all is_keyword_byte text
 
 -- the first of two faults
-abbrev pub or_fault : Option TableFault → Option TableFault → Option TableFault
-or_fault None later = later
-or_fault (Some fault) later = Some fault
+abbrev pub first_fault : Option TableFault → Option TableFault → Option TableFault
+first_fault None later = later
+first_fault (Some fault) later = Some fault
 
 -- the fault of a text by its order to the text before it
 abbrev pub by_order : ℕ → Ordering → Option TableFault
@@ -46,9 +47,10 @@ text_fault position before text =
 abbrev pub texts_fault : ℕ → Option (List ℕ) → List Entry → Option TableFault
 texts_fault position before [] = None
 texts_fault position before (entry ∷ more) =
-    or_fault (text_fault position before entry.text) (texts_fault (position + 1) (Some entry.text) more)
+    first_fault (text_fault position before entry.text) (texts_fault (position + 1) (Some entry.text) more)
 
--- what a Short entry may stand for: an entry of the table that an abbreviation may stand for, whose text goes on from its own
+-- what a Short entry may stand for: an entry of the table that an abbreviation may stand for, whose text goes
+-- on from its own
 abbrev pub is_target : List ℕ → Option Entry → Bool
 is_target text None = false
 is_target text (Some entry) = is_recognised entry.flag && begins_with entry.text text
@@ -64,9 +66,10 @@ target_fault table position text (Short target) =
 abbrev pub targets_fault : List Entry → ℕ → List Entry → Option TableFault
 targets_fault table position [] = None
 targets_fault table position (entry ∷ more) =
-    or_fault (target_fault table position entry.text entry.flag) (targets_fault table (position + 1) more)
+    first_fault (target_fault table position entry.text entry.flag) (targets_fault table (position + 1) more)
 
 -- the first fault of all: the number of entries, then the texts in order, then the targets in order
 unfoldable pub table_fault : List Entry → Option TableFault
 table_fault table =
-    if nat_lt 1024 (length table) then Some TooMany else or_fault (texts_fault 0 None table) (targets_fault table 0 table)
+    if nat_lt ENTRY_LIMIT (length table) then Some TooMany
+    else first_fault (texts_fault 0 None table) (targets_fault table 0 table)

@@ -8,7 +8,7 @@ use cm_text::begins_with;
 use std::cmp::Ordering;
 
 // The most entries that a table may have.
-const MOST_ENTRIES: usize = 1024;
+pub(crate) const ENTRY_LIMIT: usize = 1024;
 
 fn is_keyword_byte(byte: u8) -> bool
     ensures { result ≡ is_keyword_byte byte }
@@ -38,7 +38,7 @@ fn text_fault(position: u16, before: Option<&[u8]>, text: &[u8]) -> Option<Table
 
 // The first fault of the texts.
 fn texts_fault(entries: &[Entry]) -> Option<TableFault>
-    requires { length entries.now ≤ 1024 }
+    requires { length entries.now ≤ ENTRY_LIMIT }
     ensures { result ≡ texts_fault 0 None entries.now }
 {
     let mut before = None;
@@ -77,7 +77,7 @@ fn target_fault(entries: &[Entry], position: u16, entry: &Entry) -> Option<Table
 
 // The first fault of what the entries stand for.
 fn targets_fault(entries: &[Entry]) -> Option<TableFault>
-    requires { length entries.now ≤ 1024 }
+    requires { length entries.now ≤ ENTRY_LIMIT }
     ensures { result ≡ targets_fault entries.now 0 entries.now }
 {
     for (position, entry) in entries.iter().enumerate() {
@@ -89,13 +89,12 @@ fn targets_fault(entries: &[Entry]) -> Option<TableFault>
     None
 }
 
-/// The first fault of all.
 #[tactic(auto, unfolding(crate::specs::Order::table_fault))]
 pub(crate) fn table_fault(entries: &[Entry]) -> Option<TableFault>
     ensures first { result ≡ table_fault entries.now }
-    ensures few { IfNone result (length entries.now ≤ 1024) }
+    ensures few { IfNone result (length entries.now ≤ ENTRY_LIMIT) }
 {
-    if entries.len() > MOST_ENTRIES {
+    if entries.len() > ENTRY_LIMIT {
         return Some(TableFault::TooMany);
     }
     texts_fault(entries).or_else(|| targets_fault(entries))

@@ -1,8 +1,9 @@
 // The look-up of an atom in the entries of a table.
 ghost use Rattle.std.specs.Prelude.{◌≡◌, ◌≤◌, ◌&&◌, length, position};
 ghost use Rattle.cm_text.specs.Case.{begins_with, equals};
-ghost use Rattle.cm_tables.specs.Look.{abbreviated, exact, is_recognised, look, under};
+ghost use Rattle.cm_tables.specs.Look.{abbreviated, exact, is_recognised, look, candidates};
 
+use crate::fault::ENTRY_LIMIT;
 use crate::{Entry, Flag, Look};
 use cm_text::{begins_with, equals};
 
@@ -35,8 +36,8 @@ fn may_abbreviate(atom: &[u8], entry: &Entry) -> bool
 
 // What the entries give that the atom may abbreviate.
 fn abbreviated(entries: &[Entry], atom: &[u8]) -> Look
-    requires { length entries.now ≤ 1024 }
-    ensures { result ≡ abbreviated (under entries.now atom.now) }
+    requires { length entries.now ≤ ENTRY_LIMIT }
+    ensures { result ≡ abbreviated (candidates entries.now atom.now) }
 {
     let mut found = None;
     for (position, entry) in entries.iter().enumerate() {
@@ -50,10 +51,10 @@ fn abbreviated(entries: &[Entry], atom: &[u8]) -> Look
     found.map_or(Look::None, Look::Abbrev)
 }
 
-/// What the entries give for an atom.
+// What the entries give for an atom.
 #[tactic(auto, unfolding(crate::specs::Look::look))]
 pub(crate) fn look(entries: &[Entry], atom: &[u8]) -> Look
-    requires { length entries.now ≤ 1024 }
+    requires { length entries.now ≤ ENTRY_LIMIT }
     ensures { result ≡ look entries.now atom.now }
 {
     match position_of(entries, atom) {

@@ -3,7 +3,7 @@ ghost use Rattle.std.specs.Prelude.{◌≡◌, ◌<◌, ◌≤◌, List, length,
 ghost use Rattle.cm_tables.specs.Look.{IsWithin, look};
 ghost use Rattle.cm_tables.specs.Order.{table_fault};
 
-use crate::fault::table_fault;
+use crate::fault::{ENTRY_LIMIT, table_fault};
 use crate::{Entry, search};
 use std::marker::Model;
 use thiserror::Error;
@@ -50,20 +50,23 @@ pub struct Table {
 impl Model for Table {
     ghost use Rattle.std.specs.Prelude.{◌≡◌, ◌≤◌, List, None, vec_len};
     ghost use Rattle.cm_tables.specs.declared.entry.Entry.{Entry};
+    ghost use Rattle.cm_tables.specs.declared.fault.TheConstants.{ENTRY_LIMIT};
     ghost use Rattle.cm_tables.specs.Order.{table_fault};
 
     ghost Value = { List Entry };
 
     ghost view = { λ table. table.entries.items };
 
-    ghost invariant = { λ table. (vec_len table.entries ≤ 1024) × (table_fault table.entries.items ≡ None) };
+    ghost invariant = { λ table. (vec_len table.entries ≤ ENTRY_LIMIT)
+        × (table_fault table.entries.items ≡ None) };
 }
 
 impl Table {
     /// The table with these entries, or the first fault: their number, then their texts in order, then
     /// the targets of the Short entries in order.
     pub fn new(entries: Vec<Entry>) -> Result<Table, TableFault>
-        ensures { MatchResult result (λ table. (table_fault entries.items ≡ None) × (table ≡ entries.items))
+        ensures { MatchResult result
+            (λ table. (table_fault entries.items ≡ None) × (table ≡ entries.items))
             (λ fault. table_fault entries.items ≡ Some fault) }
     {
         match table_fault(&entries) {
@@ -83,9 +86,16 @@ impl Table {
     /// How many entries there are.
     pub fn len(&self) -> u16
         ensures value { result ≡ length self.now }
-        ensures most { result ≤ 1024 }
+        ensures most { result ≤ ENTRY_LIMIT }
     {
         self.entries.len() as u16
+    }
+
+    /// The entries in order.
+    pub fn entries(&self) -> &[Entry]
+        ensures { result.now ≡ self.now }
+    {
+        &self.entries
     }
 
     /// What the table has for an atom.

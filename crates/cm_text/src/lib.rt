@@ -5,8 +5,10 @@ mod bytes;
 mod case;
 mod name;
 mod shown;
+mod text;
 
 pub use bytes::{is_blank, is_name, is_text, is_word};
 pub use case::{begins_with, equals};
-pub use name::Name;
+pub use name::{NAME_LIMIT, Name};
 pub use shown::{bell, control_c, end_of_line, question, rubout};
+pub use text::{LINE_LIMIT, TEXT_LIMIT};

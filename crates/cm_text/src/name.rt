@@ -4,10 +4,13 @@ ghost use Rattle.std.specs.Prelude.{◌≡◌, ◌≤◌, ℕ, List, length};
 use arrayvec::ArrayString;
 use std::marker::Model;
 
+/// The most bytes that a name has.
+pub const NAME_LIMIT: usize = 39;
+
 /// A text of at most 39 bytes, kept in the value itself. Contracts see its bytes.
 #[derive(Clone, Debug, Drop)]
 pub struct Name {
-    text: ArrayString<39>,
+    text: ArrayString<NAME_LIMIT>,
 }
 
 impl Model for Name {
@@ -19,7 +22,7 @@ impl Model for Name {
 impl Name {
     /// The name with this text.
     pub fn new(text: &str) -> Name
-        requires { length text.now ≤ 39 }
+        requires { length text.now ≤ NAME_LIMIT }
         ensures { result ≡ text.now }
     {
         let mut name = ArrayString::new();
@@ -49,7 +52,7 @@ mod tests {
     #[test]
     fn a_name_is_its_text(rt: HostRuntime) {
         for text in ["", "EXIT", "A-NAME-OF-THIRTY-NINE-BYTES-IN-LENGTH-1"] {
-            assert!(rt; text.len() <= 39, "{text} is too long");
+            assert!(rt; text.len() <= NAME_LIMIT, "{text} is too long");
             let name = Name::new(text);
             assert_eq!(rt; name.as_str(), text);
             assert_eq!(rt; name.as_bytes(), text.as_bytes());

@@ -2,7 +2,7 @@
 ghost use Rattle.std.specs.Prelude.{◌≤◌, length};
 
 use crate::{Entry, Flag, Look, Table, TableFault};
-use cm_text::Name;
+use cm_text::{NAME_LIMIT, Name};
 use std::alloc::{AllocError, Global};
 use std::process::Abort;
 use std::test::Fail;
@@ -12,7 +12,7 @@ const fn plain(text: &str) -> (&str, Flag) {
 }
 
 fn entry(text: &str, flag: Flag) -> Entry
-    requires { length text.now ≤ 39 }
+    requires { length text.now ≤ NAME_LIMIT }
 {
     Entry {
         text: Name::new(text),
@@ -30,7 +30,7 @@ fn entries(
 ) -> Result<Vec<Entry>, AllocError> {
     let mut entries = Vec::new(alloc);
     for (text, flag) in keywords {
-        assert!(rt; text.len() <= 39);
+        assert!(rt; text.len() <= NAME_LIMIT);
         entries.push(entry(text, *flag))?;
     }
     Ok(entries)

@@ -1,0 +1,3 @@
+pub mod Switches
+pub mod Trials
+pub mod Wells

@@ -1,0 +1,46 @@
+-- Every function is local: keywords, switches, and with those of the crates below each function of a block.
+use Rattle.std.proofs.Common.{◌≡◌, ℕ, ◌-◌, List, length, drop, subst, length-drop}
+use Rattle.cm_text.specs.Bytes.{is_name, is_word}
+use Rattle.cm_tables.specs.declared.entry.Entry.{Entry}
+use Rattle.cm_fields.specs.declared.trial.Try.{Try}
+use Rattle.cm_fields.specs.Local.{IsLocal, IsSeen}
+use Rattle.cm_fields.specs.Run.{number_of, word_of}
+use Rattle.cm_fields.specs.Text.{is_inside, text_of}
+use Rattle.cm_fields.proofs.Marks.{comma_is_local, confirm_is_local}
+use Rattle.cm_fields.proofs.Phrases.{noise_is_local, token_is_local}
+use Rattle.cm_fields.proofs.Quoting.{quoted_is_local}
+use Rattle.cm_fields.proofs.Runs.{run_is_local}
+use Rattle.cm_hooks.specs.Field.{hook_of}
+use Rattle.cm_blocks.specs.declared.function.Function.{Function}
+use Rattle.cm_blocks.specs.declared.function.Function.TheVariants.{Key, Switch, Noise, Number, Word, Quoted, Token, Text, Comma, Confirm, Hook}
+use Rattle.cm_blocks.specs.Keyword.{entry_position, key_value}
+use Rattle.cm_blocks.specs.Setting.{Setting}
+use Rattle.cm_blocks.specs.Trial.{table_of, trial}
+use Rattle.cm_blocks.proofs.Switches.{switch_is_local}
+
+pub trial_is_local : (s : Setting) (function : Function) → IsLocal (trial s function)
+unfolding trial
+trial_is_local s (Key table) =
+    run_is_local is_word (λ at run. key_value (table_of s.graph table) (entry_position (table_of s.graph table) run))
+trial_is_local s (Switch table) = switch_is_local (table_of s.graph table)
+trial_is_local s (Noise text) = noise_is_local text
+trial_is_local s Number = run_is_local is_word (λ at. number_of)
+trial_is_local s Word = run_is_local is_word word_of
+trial_is_local s Quoted = quoted_is_local
+trial_is_local s (Token text) = token_is_local text
+trial_is_local s Text = run_is_local is_inside text_of
+trial_is_local s Comma = comma_is_local
+trial_is_local s Confirm = confirm_is_local
+trial_is_local s (Hook id) = run_is_local is_name (λ at. hook_of s.meanings.verdict id)
+
+-- no decision looks further than the text
+pub trial_seen : (s : Setting) (function : Function) (rest : List ℕ) (at : ℕ)
+    → IsSeen (length rest) (trial s function rest at)
+trial_seen s function rest at = (trial_is_local s function).seen rest at
+
+-- the same of an answer to what stands in a text from a place on
+pub seen_from : (trial : List ℕ → ℕ → Try) → IsLocal trial → (text : List ℕ) (at : ℕ) (answer : Try)
+    → answer ≡ trial (drop at text) at → IsSeen (length text - at) answer
+seen_from trial local text at answer is =
+    let size = length-drop at text in
+    rw is (subst (λ n. IsSeen n (trial (drop at text) at)) size (local.seen (drop at text) at))

@@ -1,0 +1,134 @@
+-- What an accepted grammar is: as many nodes as there may be, each of them well.
+use Rattle.std.proofs.Common.{◌≡◌, ℕ, zero, suc, ◌+◌, ◌≤◌, ◌<◌, max, Bool, true, false, not, ◌&&◌, ◌==◌, if◌then◌else◌, nat_lt, nat_le, List, [], ◌∷◌, length, get_or, Option, Some, None, slice_get, refl, arith}
+use Rattle.std.specs.List.{All, list_all}
+use Rattle.std.specs.Option.{option_map_or}
+use Rattle.std.proofs.lemmas.Bool.Decides.{nat_tests}
+use Rattle.std.proofs.lemmas.List.Sums.{AllPass-from_list_all}
+use Rattle.std.proofs.lemmas.Option.{slice_get_read}
+use Rattle.cm_tables.specs.declared.entry.Entry.{Entry}
+use Rattle.cm_blocks.specs.declared.grammar.GrammarFault.{GrammarFault}
+use Rattle.cm_blocks.specs.declared.node.Block.{Block}
+use Rattle.cm_blocks.specs.declared.node.Node.{Node}
+use Rattle.cm_blocks.specs.Fault.{grammar_fault, has_flags, has_phrase, has_size, has_table, has_texts, is_shown, leads_within, node_fault, nodes_fault, or_fault}
+use Rattle.cm_blocks.specs.Grammar.{Graph, blocks_limit, hook_count, hook_limit, nodes_limit}
+use Rattle.cm_blocks.specs.Well.{IsWell, IsWellBlock}
+
+-- a test that gives no fault is passed, and what comes behind it gives none
+record Passes (test : Bool) (rest : Option GrammarFault) : Type 0 where
+  passed : test ≡ true
+  none : rest ≡ None
+
+passes : (test : Bool) (fault : GrammarFault) (rest : Option GrammarFault)
+    → (if not test then Some fault else rest) ≡ None → Passes test rest
+passes true fault rest none = record { passed = refl; none = none }
+passes false fault rest none = cc
+
+-- a test that gives a fault is not passed
+record Fails (test : Bool) (rest : Option GrammarFault) : Type 0 where
+  failed : test ≡ false
+  none : rest ≡ None
+
+fails : (test : Bool) (fault : GrammarFault) (rest : Option GrammarFault)
+    → (if test then Some fault else rest) ≡ None → Fails test rest
+fails false fault rest none = record { failed = refl; none = none }
+fails true fault rest none = cc
+
+record Both (first later : Option GrammarFault) : Type 0 where
+  first_none : first ≡ None
+  later_none : later ≡ None
+
+both : (first later : Option GrammarFault) → or_fault first later ≡ None → Both first later
+both None later none = record { first_none = refl; later_none = none }
+both (Some fault) later none = cc
+
+both_true : (a b : Bool) → (a && b) ≡ true → (a ≡ true) × (b ≡ true)
+both_true true b is = (refl, is)
+both_true false b is = cc
+
+-- there are as many nodes and tables as there may be
+pub sizes : (graph : Graph) → grammar_fault graph ≡ None → has_size graph ≡ true
+unfolding grammar_fault
+sizes graph none = (passes (has_size graph) _ _ none).passed
+
+pub nodes_few : (graph : Graph) → grammar_fault graph ≡ None → length graph.nodes ≤ 1024
+nodes_few graph none =
+    let sized = both_true (nat_lt 0 (length graph.nodes) && nat_le (length graph.nodes) 1024) _ (sizes graph none) in
+    let few = both_true (nat_lt 0 (length graph.nodes)) _ sized.0 in
+    grind (arith, nat_tests)
+
+-- no node has a fault
+all_none : (graph : Graph) → grammar_fault graph ≡ None
+    → nodes_fault graph.tables (length graph.nodes) 0 graph.nodes ≡ None
+unfolding grammar_fault
+all_none graph none = (both _ _ (passes (has_size graph) _ _ none).none).first_none
+
+node_none : (tables : List (List Entry)) (count number : ℕ) (nodes : List Node) (place : ℕ) (node : Node)
+    → nodes_fault tables count number nodes ≡ None → slice_get nodes place ≡ Some node
+    → (at : ℕ) × (node_fault tables count at node ≡ None)
+node_none tables count number [] place node none found = cc
+node_none tables count number (first ∷ more) zero node none found =
+    let parts = both (node_fault tables count number first) _ none in
+    let same : first ≡ node = cc in
+    (number, rw (← same) parts.first_none)
+node_none tables count number (first ∷ more) (suc place) node none found =
+    let parts = both (node_fault tables count number first) _ none in
+    node_none tables count (number + 1) more place node parts.later_none found
+
+-- the hooks of a block, and of a node, are among those that the grammar wants
+limit_at : (blocks : List Block) (place : ℕ) (d : Block) → place < length blocks
+    → hook_limit (get_or blocks place d).function ≤ blocks_limit blocks
+limit_at [] place d below = absurd (omega arith)
+limit_at (block ∷ more) zero d below = omega arith
+limit_at (block ∷ more) (suc place) d below = let later = limit_at more place d (omega arith) in omega arith
+
+limit_of : (nodes : List Node) (place : ℕ) (node : Node) → slice_get nodes place ≡ Some node
+    → blocks_limit node.chain ≤ nodes_limit nodes
+limit_of [] place node found = cc
+limit_of (first ∷ more) zero node found = let same : first ≡ node = cc in rw (← same) (omega arith)
+limit_of (first ∷ more) (suc place) node found = let later = limit_of more place node found in omega arith
+
+-- the tests that a node passes which has no fault
+record Tests (tables : List (List Entry)) (count : ℕ) (node : Node) : Type 0 where
+  some : (length node.chain == 0) ≡ false
+  few : nat_lt 16 (length node.chain) ≡ false
+  have_tables : list_all (λ (block : Block). has_table tables block.function) node.chain ≡ true
+  lead : list_all (leads_within tables count) node.chain ≡ true
+  texts : (option_map_or is_shown node.default true && list_all has_texts node.chain) ≡ true
+
+tests : (tables : List (List Entry)) (count number : ℕ) (node : Node) → node_fault tables count number node ≡ None
+    → Tests tables count node
+tests tables count number node none =
+    let first = fails (length node.chain == 0) _ _ none in
+    let second = fails (nat_lt 16 (length node.chain)) _ _ first.none in
+    let third = passes (list_all (λ (block : Block). has_table tables block.function) node.chain) _ _ second.none in
+    let fourth = passes (list_all (leads_within tables count) node.chain) _ _ third.none in
+    let fifth = passes (option_map_or is_shown node.default true && list_all has_texts node.chain) _ _ fourth.none in
+    record { some = first.failed; few = second.failed; have_tables = third.passed; lead = fourth.passed; texts = fifth.passed }
+
+-- each node of an accepted grammar is well
+pub well_node : (graph : Graph) (place : ℕ) (node : Node) → grammar_fault graph ≡ None
+    → slice_get graph.nodes place ≡ Some node → IsWell graph node
+well_node graph place node none found =
+    let at = node_none graph.tables (length graph.nodes) 0 graph.nodes place node (all_none graph none) found in
+    let passed = tests graph.tables (length graph.nodes) at.0 node at.1 in
+    let limit = limit_of graph.nodes place node found in
+    let texts = both_true (option_map_or is_shown node.default true) _ passed.texts in
+    let is_some = passed.some in
+    let is_few = passed.few in
+    record {
+      some = grind (arith, nat_tests);
+      few = grind (arith, nat_tests);
+      blocks = λ k d below. record {
+        table = AllPass-from_list_all _ node.chain passed.have_tables k d below;
+        leads = AllPass-from_list_all _ node.chain passed.lead k d below;
+        hook = (let here = limit_at node.chain k d below in omega arith);
+        phrase = (both_true (has_phrase (get_or node.chain k d).function) _
+            (AllPass-from_list_all has_texts node.chain texts.1 k d below)).0;
+      };
+    }
+
+-- the same of a node that was read at its place
+pub well_read : (graph : Graph) (place : ℕ) (node : Node) → grammar_fault graph ≡ None → place < length graph.nodes
+    → node ≡ get_or graph.nodes place node → IsWell graph node
+well_read graph place node none below read =
+    well_node graph place node none (slice_get_read graph.nodes (length graph.nodes) place node refl below read)

@@ -1,0 +1,22 @@
+-- Each function looks at no more than there is.
+use Rattle.cm_fields.proofs.Phrases.{noise_is_local, token_is_local}
+use Rattle.cm_fields.proofs.Quoting.{quoted_is_local}
+use Rattle.cm_blocks.proofs.Switches.{switch_is_local}
+use Rattle.cm_blocks.proofs.Trials.{seen_from}
+use Rattle.cm_blocks.proofs.chain.try_function.Goals as goal
+
+pub returns-in-Switch-clause-seen : goal.returns-in-Switch-clause-seen
+returns-in-Switch-clause-seen g c =
+    seen_from _ (switch_is_local _) c.args.text.now c.args.at c.switch.result c.switch.ensures
+
+pub returns-in-Noise-clause-seen : goal.returns-in-Noise-clause-seen
+returns-in-Noise-clause-seen g c =
+    seen_from _ (noise_is_local _) c.args.text.now c.args.at c.noise.result c.noise.ensures
+
+pub returns-in-Quoted-clause-seen : goal.returns-in-Quoted-clause-seen
+returns-in-Quoted-clause-seen g c =
+    seen_from _ quoted_is_local c.args.text.now c.args.at c.quoted.result c.quoted.ensures
+
+pub returns-in-Token-clause-seen : goal.returns-in-Token-clause-seen
+returns-in-Token-clause-seen g c =
+    seen_from _ (token_is_local _) c.args.text.now c.args.at c.token.result c.token.ensures

@@ -1,0 +1,10 @@
+pub mod Chain
+pub mod Fault
+pub mod Grammar
+pub mod Kept
+pub mod Keyword
+pub mod Parse
+pub mod Setting
+pub mod Taken
+pub mod Trial
+pub mod Well

@@ -1,0 +1,87 @@
+-- The parse of a whole text: its fields, and what stands behind the last.
+use Rattle.std.specs.Prelude.{◌≡◌, ℕ, zero, suc, ◌+◌, ◌<◌, ◌≤◌, List, [], ◌∷◌, ◌++◌, length, Some}
+use Rattle.cm_fields.specs.declared.code.Code.TheVariants.{TooMany}
+use Rattle.cm_blocks.specs.declared.field.Chain.{Chain}
+use Rattle.cm_blocks.specs.declared.field.Chain.TheVariants as chain
+use Rattle.cm_blocks.specs.declared.field.Ending.{Ending}
+use Rattle.cm_blocks.specs.declared.field.Ending.TheVariants as ending
+use Rattle.cm_blocks.specs.declared.field.TheConstants.{MOST_FIELDS}
+use Rattle.cm_blocks.specs.Chain.{chain_at}
+use Rattle.cm_blocks.specs.Setting.{Setting}
+use Rattle.cm_blocks.specs.Taken.{Taken}
+
+pub record Parse : Type 0 where
+  pub fields : List Taken
+  pub ending : Ending
+
+-- how a parse ends whose next trial answers so; a field is one too many
+abbrev pub ending_of : Chain → Ending
+ending_of (chain.Field field) = ending.Fault (record { code = TooMany; node = field.node; at = field.start })
+ending_of (chain.Done place) = ending.Done
+ending_of (chain.Fault fault) = ending.Fault fault
+ending_of (chain.Open place) = ending.Open place
+
+-- behind these fields the parse goes on so
+abbrev pub with_fields : List Taken → Parse → Parse
+with_fields fields parse = record { fields = fields ++ parse.fields; ending = parse.ending }
+
+-- the parse after a chain has answered: its field and what comes behind it, or the ending
+abbrev pub after_chain : (Taken → Parse) → Chain → Parse
+after_chain behind (chain.Field field) = with_fields (field ∷ []) (behind field)
+after_chain behind (chain.Done place) = record { fields = []; ending = ending.Done }
+after_chain behind (chain.Fault fault) = record { fields = []; ending = ending.Fault fault }
+after_chain behind (chain.Open place) = record { fields = []; ending = ending.Open place }
+
+-- the parse from a node and a place on, with room for so many fields
+abbrev pub parse_from : Setting → List ℕ → ℕ → ℕ → ℕ → Parse
+parse_from s text zero node at = record { fields = []; ending = ending_of (chain_at s node text at).chain }
+parse_from s text (suc room) node at =
+    after_chain (λ field. parse_from s text room field.next field.end) (chain_at s node text at).chain
+
+-- the parse of a text from a node on
+unfoldable pub parse_of : Setting → ℕ → List ℕ → Parse
+parse_of s node text = parse_from s text MOST_FIELDS node 0
+
+-- the node and the place behind fields, or those from which they are sought
+abbrev pub node_behind : ℕ → List Taken → ℕ
+node_behind node [] = node
+node_behind node (field ∷ fields) = node_behind field.next fields
+
+abbrev pub place_behind : ℕ → List Taken → ℕ
+place_behind at [] = at
+place_behind at (field ∷ fields) = place_behind field.end fields
+
+-- each field is what the chain answers behind the one before
+abbrev pub Follow : Setting → List ℕ → ℕ → ℕ → List Taken → Type 0
+Follow s text node at [] = Unit {0}
+Follow s text node at (field ∷ fields) =
+    ((chain_at s node text at).chain ≡ chain.Field field) × Follow s text field.next field.end fields
+
+-- the chain takes no further field
+abbrev pub IsLast : Chain → Type 0
+IsLast (chain.Field field) = ⊥
+IsLast (chain.Done place) = Unit {0}
+IsLast (chain.Fault fault) = Unit {0}
+IsLast (chain.Open place) = Unit {0}
+
+-- from a node and a place on, a text has these fields, of which there is room for so many, and ends so
+pub record Parses (s : Setting) (text : List ℕ) (room node at : ℕ) (fields : List Taken) (ends : Ending) : Type 0 where
+  pub few : length fields ≤ room
+  pub follow : Follow s text node at fields
+  pub ending : ends ≡ ending_of (chain_at s (node_behind node fields) text (place_behind at fields)).chain
+  pub last : length fields < room
+      → IsLast (chain_at s (node_behind node fields) text (place_behind at fields)).chain
+
+-- the fields and the ending are the parse of the whole text
+abbrev pub IsParse : Setting → ℕ → List ℕ → List Taken → Ending → Type 0
+IsParse s node text fields ends = Parses s text MOST_FIELDS node 0 fields ends
+
+-- the start of a parse: the first block of the node wants more
+abbrev pub open_at : ℕ → ℕ → Ending
+open_at node at = ending.Open (record { node = node; block = Some 0; at = at })
+
+-- the parse has come to a decision
+abbrev pub IsClosed : Ending → Type 0
+IsClosed (ending.Open place) = ⊥
+IsClosed ending.Done = Unit {0}
+IsClosed (ending.Fault fault) = Unit {0}

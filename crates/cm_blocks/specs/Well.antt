@@ -1,0 +1,20 @@
+-- What is true of each node of a grammar.
+use Rattle.std.specs.Prelude.{ℕ, ◌≡◌, ◌<◌, ◌≤◌, true, length, All}
+use Rattle.cm_blocks.specs.declared.node.Block.{Block}
+use Rattle.cm_blocks.specs.declared.node.Node.{Node}
+use Rattle.cm_blocks.specs.Fault.{has_phrase, has_table, leads_within}
+use Rattle.cm_blocks.specs.Grammar.{Graph, hook_count, hook_limit}
+
+-- the table and the nodes that a block names are there, its hook is one of those that the grammar wants, and
+-- its phrase is one that it may read
+pub record IsWellBlock (graph : Graph) (block : Block) : Type 0 where
+  pub table : has_table graph.tables block.function ≡ true
+  pub leads : leads_within graph.tables (length graph.nodes) block ≡ true
+  pub hook : hook_limit block.function ≤ hook_count graph
+  pub phrase : has_phrase block.function ≡ true
+
+-- a node has 1 to 16 blocks, each of them well
+pub record IsWell (graph : Graph) (node : Node) : Type 0 where
+  pub some : 0 < length node.chain
+  pub few : length node.chain ≤ 16
+  pub blocks : All (IsWellBlock graph) node.chain

@@ -1,0 +1,143 @@
+// Grammars.
+ghost use Rattle.std.specs.Prelude.{◌≡◌, ◌≤◌, ◌<◌, Some, None, MatchResult, length, slice_get};
+ghost use Rattle.cm_blocks.specs.Fault.{grammar_fault};
+ghost use Rattle.cm_blocks.specs.Grammar.{Graph, blocks_limit, hook_count, hook_limit, nodes_limit};
+ghost use Rattle.cm_blocks.specs.Well.{IsWell};
+
+use crate::fault::grammar_fault;
+use crate::{Block, Function, Node};
+use cm_tables::Table;
+use std::marker::Model;
+use thiserror::Error;
+
+/// Why nodes and tables are no grammar. A number is that of the node at fault, from 0.
+#[derive(Debug, PartialEq, Eq, Drop, Error)]
+pub enum GrammarFault {
+    /// There is no node, or there are more than 1,024 nodes or 64 tables.
+    #[error("TooMany")]
+    TooMany,
+    /// The node has no block.
+    #[error("EmptyChain")]
+    EmptyChain(u16),
+    /// The node has more than 16 blocks.
+    #[error("ChainLong")]
+    ChainLong(u16),
+    /// A block names a table that is not there.
+    #[error("TableRange")]
+    TableRange(u16),
+    /// A block, or an entry of its table, leads to a node that is not there.
+    #[error("NextRange")]
+    NextRange(u16),
+    /// A default, a help text, a guide word or a token has a byte that is no printing one or is `?`; or a guide
+    /// word or a token is empty; or a guide word has a parenthesis.
+    #[error("BadText")]
+    BadText(u16),
+    /// A block takes all generations and no wildcards.
+    #[error("BadFlags")]
+    BadFlags(u16),
+    /// No block of any node confirms a line.
+    #[error("NoConfirm")]
+    NoConfirm,
+}
+
+/// A grammar: nodes, each a chain of function blocks, and the keyword tables that they name. Contracts see the
+/// lists of both.
+#[derive(Debug, Drop)]
+pub struct Grammar {
+    nodes: Vec<Node>,
+    tables: Vec<Table>,
+}
+
+impl Model for Grammar {
+    ghost use Rattle.std.specs.Prelude.{◌≡◌, None};
+    ghost use Rattle.cm_blocks.specs.Fault.{grammar_fault};
+    ghost use Rattle.cm_blocks.specs.Grammar.{Graph};
+
+    ghost Value = { Graph };
+
+    ghost view = { λ grammar. record { nodes = grammar.nodes.items; tables = grammar.tables.items } };
+
+    ghost invariant = { λ grammar. grammar_fault
+        (record { nodes = grammar.nodes.items; tables = grammar.tables.items }) ≡ None };
+}
+
+impl Grammar {
+    /// The grammar with these nodes and tables, or the first fault: the numbers of nodes and tables, then for
+    /// the least node at fault its chain, tables, next nodes, texts and flags in this order, then that none
+    /// confirms.
+    pub fn new(nodes: Vec<Node>, tables: Vec<Table>) -> Result<Grammar, GrammarFault>
+        ensures { MatchResult result
+            (λ grammar. (grammar_fault grammar ≡ None)
+            × (grammar ≡ record { nodes = nodes.items; tables = tables.items }))
+            (λ fault. grammar_fault (record { nodes = nodes.items; tables = tables.items }) ≡ Some fault) }
+    {
+        match grammar_fault(&nodes, &tables) {
+            Some(fault) => Err(fault),
+            None => Ok(Grammar { nodes, tables }),
+        }
+    }
+
+    /// How many hooks the grammar wants: one past the greatest id, 0 with none.
+    pub fn hooks(&self) -> u16
+        ensures { result ≡ hook_count self.now }
+    {
+        nodes_limit(&self.nodes)
+    }
+
+    /// How many nodes there are.
+    pub fn nodes(&self) -> u16
+        ensures { result ≡ length self.now.nodes }
+    {
+        self.nodes.len() as u16
+    }
+
+    /// A node, by its number from 0.
+    pub fn node(&self, number: u16) -> &Node
+        requires { number < length self.now.nodes }
+        ensures value { slice_get self.now.nodes number ≡ Some result.now }
+        // Its blocks name tables and nodes that are there.
+        ensures well { IsWell self.now result.now }
+    {
+        &self.nodes[usize::from(number)]
+    }
+
+    /// A keyword table, by its number from 0.
+    pub fn table(&self, number: u16) -> &Table
+        requires { number < length self.now.tables }
+        ensures { slice_get self.now.tables number ≡ Some result.now }
+    {
+        &self.tables[usize::from(number)]
+    }
+}
+
+// One past the id of the hook that a block asks, 0 where it asks none.
+fn hook_limit(block: &Block) -> u16
+    ensures value { result ≡ hook_limit block.now.function }
+    ensures most { result ≤ 256 }
+{
+    match block.function {
+        Function::Hook(id) => u16::from(id) + 1,
+        _ => 0,
+    }
+}
+
+fn blocks_limit(blocks: &[Block]) -> u16
+    ensures value { result ≡ blocks_limit blocks.now }
+    ensures most { result ≤ 256 }
+{
+    let mut limit = 0;
+    for block in blocks {
+        limit = hook_limit(block).max(limit);
+    }
+    limit
+}
+
+fn nodes_limit(nodes: &[Node]) -> u16
+    ensures { result ≡ nodes_limit nodes.now }
+{
+    let mut limit = 0;
+    for node in nodes {
+        limit = blocks_limit(node.chain.as_slice()).max(limit);
+    }
+    limit
+}

@@ -1,0 +1,54 @@
+//! Laws of grammars, chains and parses.
+ghost use Rattle.std.specs.Prelude.{◌≡◌, ◌<◌, ◌≤◌, ◌++◌, ℕ, List, [], None, length};
+ghost use Rattle.cm_text.specs.Text.{finished};
+ghost use Rattle.cm_fields.specs.Local.{IsLocal};
+ghost use Rattle.cm_blocks.specs.declared.field.Chain.TheVariants as chain;
+ghost use Rattle.cm_blocks.specs.declared.field.Ending.{Ending};
+ghost use Rattle.cm_blocks.specs.declared.function.Function.{Function};
+ghost use Rattle.cm_blocks.specs.Chain.{chain_at};
+ghost use Rattle.cm_blocks.specs.Fault.{grammar_fault};
+ghost use Rattle.cm_blocks.specs.Kept.{BeginsWith, kept};
+ghost use Rattle.cm_blocks.specs.Parse.{IsClosed, IsParse, open_at, parse_of};
+ghost use Rattle.cm_blocks.specs.Setting.{Setting};
+ghost use Rattle.cm_blocks.specs.Taken.{Taken};
+ghost use Rattle.cm_blocks.specs.Trial.{trial};
+
+/// What a function decides on the first bytes of a text it decides on every text that begins with them.
+pub fn trials_are_local()
+    ensures { (s : Setting) → (function : Function) → IsLocal (trial s function) }
+{}
+
+/// A field is the same on every text that begins with as many bytes as the field needs.
+pub fn a_field_needs_no_more()
+    ensures { (s : Setting) → grammar_fault s.graph ≡ None → (node : ℕ) → (front more other : List ℕ) → (at : ℕ)
+        → (field : Taken) → at ≤ length front
+        → (chain_at s node (front ++ more) at).chain ≡ chain.Field field → field.need ≤ length front
+        → (chain_at s node (front ++ other) at).chain ≡ chain.Field field }
+{}
+
+/// Each text has one parse from each node on: there is one, and any two are the same.
+pub fn one_parse()
+    ensures is_one { (s : Setting) → (node : ℕ) → (text : List ℕ)
+        → IsParse s node text (parse_of s node text).fields (parse_of s node text).ending }
+    ensures no_other { (s : Setting) → (node : ℕ) → (text : List ℕ) → (fields : List Taken) → (ending : Ending)
+        → IsParse s node text fields ending
+        → (fields ≡ (parse_of s node text).fields) × (ending ≡ (parse_of s node text).ending) }
+{}
+
+/// The parse of a finished text is decided: it is done or refused, and never open.
+pub fn a_finished_text_is_decided()
+    ensures { (s : Setting) → grammar_fault s.graph ≡ None → (node : ℕ) → (line : List ℕ)
+        → IsClosed (parse_of s node (finished line)).ending }
+{}
+
+/// The parse of the empty line from a node of a grammar on has no field, and is open at the first block.
+pub fn a_start_is_open()
+    ensures { (s : Setting) → grammar_fault s.graph ≡ None → (node : ℕ) → node < length s.graph.nodes
+        → parse_of s node [] ≡ record { fields = []; ending = open_at node 0 } }
+{}
+
+/// The fields that are kept of an old text are the first fields of the new one.
+pub fn what_is_kept_stands()
+    ensures { (s : Setting) → grammar_fault s.graph ≡ None → (node : ℕ) → (old new : List ℕ)
+        → BeginsWith (kept s node old new) (parse_of s node new).fields }
+{}

@@ -1,0 +1,71 @@
+// The nodes of a grammar.
+ghost use Rattle.std.specs.Prelude.{◌≡◌};
+
+use crate::{Function, Role};
+use cm_files::Flags;
+use cm_text::Name;
+use std::marker::Model;
+
+/// A function block: one way for a field to be read (COMND's function descriptor block).
+#[derive(Debug, Drop)]
+pub struct Block {
+    /// What it reads.
+    pub function: Function,
+    /// How it reads files and directories.
+    pub flags: Flags,
+    /// What `?` says of it, in place of its function's own words.
+    pub help: Option<Name>,
+    /// What its field is for.
+    pub role: Role,
+    /// The node that follows its field; behind a keyword or a switch the entry's node follows.
+    pub next: u16,
+}
+
+/// Blocks in the order in which they are tried. Contracts see the list of them.
+#[derive(Debug, Drop)]
+pub struct Blocks {
+    items: Vec<Block>,
+}
+
+impl Model for Blocks {
+    ghost use Rattle.std.specs.Prelude.{List};
+    ghost use Rattle.cm_blocks.specs.declared.node.Block.{Block};
+
+    ghost Value = { List Block };
+
+    ghost view = { λ blocks. blocks.items.items };
+}
+
+impl Blocks {
+    /// These blocks, in this order.
+    pub fn new(items: Vec<Block>) -> Blocks
+        ensures { result ≡ items.items }
+    {
+        Blocks { items }
+    }
+
+    /// The blocks as a slice.
+    pub fn as_slice(&self) -> &[Block]
+        ensures { result.now ≡ self.now }
+    {
+        &self.items
+    }
+
+    /// Gives the blocks back.
+    pub fn into_vec(self) -> Vec<Block>
+        ensures { result.items ≡ self }
+    {
+        self.items
+    }
+}
+
+/// A place in a line: the blocks that may read the next field there, and how it is read.
+#[derive(Debug, Drop)]
+pub struct Node {
+    /// The blocks, tried in order; the first that does not refuse decides.
+    pub chain: Blocks,
+    /// What stands for the field where the line ends before it.
+    pub default: Option<Name>,
+    /// Whether `!` and `;` are plain bytes here, and begin no comment.
+    pub raw: bool,
+}

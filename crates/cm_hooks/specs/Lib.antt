@@ -1,0 +1,3 @@
+pub mod Field
+pub mod Meanings
+pub mod Ties

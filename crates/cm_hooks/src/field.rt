@@ -1,0 +1,52 @@
+// A field that a stored function judges.
+ghost use Rattle.std.specs.Prelude.{◌≡◌, ◌<◌, ◌≤◌, drop, length};
+ghost use Rattle.std.specs.List.{prefix_len};
+ghost use Rattle.cm_text.specs.Bytes.{is_name};
+ghost use Rattle.cm_hooks.specs.Field.{hook, hook_of};
+ghost use Rattle.cm_hooks.specs.Ties.{Ties, count};
+
+use crate::{Answer, Hooks, Rules};
+use cm_fields::{Code, Try, Value, said};
+use cm_text::is_name;
+
+// What the function with this id makes of a run.
+#[tactic(auto, unfolding(crate::specs::Field::hook_of))]
+fn hook_of<R: Rules>(hooks: &Hooks<R>, id: u8, run: &[u8]) -> Result<Value, Code>
+    requires hooks { Ties R.meanings hooks.now }
+    requires id { id < count hooks.now }
+    requires short { length run.now ≤ 255 }
+    ensures { result ≡ hook_of R.meanings.verdict id run.now }
+{
+    if run.is_empty() {
+        return Err(Code::NoField);
+    }
+    match hooks.ask(id, run).answer() {
+        Answer::Yes(value) => Ok(Value::Hook { id, value }),
+        Answer::No => Err(Code::Rejected),
+    }
+}
+
+// How many name bytes the text begins with.
+fn name_run(rest: &[u8]) -> usize
+    ensures value { result ≡ prefix_len is_name rest.now }
+    ensures within { result ≤ length rest.now }
+{
+    rest.iter().take_while(|byte| is_name(**byte)).count()
+}
+
+/// A field that the program judges: a run of name bytes to which its function with this id says Yes. Refused with
+/// NoField where the run is empty, with Rejected where the function says No.
+pub fn hook_field<R: Rules>(hooks: &Hooks<R>, id: u8, text: &[u8], at: usize) -> Try
+    requires hooks { Ties R.meanings hooks.now }
+    requires id { id < count hooks.now }
+    requires short { length text.now ≤ 256 }
+    requires place { at ≤ length text.now }
+    ensures { result ≡ hook R.meanings.verdict id (drop at text.now) at }
+{
+    let rest = &text[at..];
+    let size = name_run(rest);
+    if size == rest.len() {
+        return Try::More;
+    }
+    said(at, size, size + 1, hook_of(hooks, id, &rest[..size]))
+}

@@ -1,0 +1,81 @@
+// A stored function.
+ghost use Rattle.std.specs.Prelude.{◌≡◌, ◌≤◌, List, ℕ, length};
+
+use crate::{Answer, Rules, Tail};
+use cm_text::Name;
+use std::marker::PhantomData;
+
+type Verdicts = Box<dyn Fn(&[u8]) -> Answer>;
+
+type Completions = Box<dyn Fn(&[u8]) -> Tail>;
+
+type Helps = Box<dyn Fn() -> Name>;
+
+/// A function of a program's own.
+#[derive(Drop)]
+pub struct Hook<R> {
+    id: u8,
+    verdict: Verdicts,
+    completion: Completions,
+    help: Helps,
+    rules: PhantomData<R>,
+    ghost verdict_callable: { (atom : _) → length atom.now ≤ 255 → Verdicts.pre verdict atom },
+    ghost completion_callable: { (atom : _) → length atom.now ≤ 255 → Completions.pre completion atom },
+    ghost help_callable: { Helps.IsAlwaysCallable help },
+}
+
+impl<R: Rules> Hook<R> {
+    ghost use Rattle.cm_hooks.specs.Ties.{Answers, IsCallable, IsTied, id_of};
+
+    pub fn new(id: u8, verdict: Verdicts, completion: Completions, help: Helps) -> Hook<R>
+        requires verdict { IsCallable (Verdicts.pre verdict) }
+        requires completion { IsCallable (Completions.pre completion) }
+        requires help { Helps.IsAlwaysCallable help }
+        requires verdict_means { Answers (Verdicts.post verdict) (R.meanings.verdict id) }
+        requires completion_means { Answers (Completions.post completion) (R.meanings.completion id) }
+        requires help_means { (text : _) → Helps.post help text → text ≡ R.meanings.help id }
+        ensures value { id_of result ≡ id }
+        ensures ties { IsTied R.meanings result }
+    {
+        Hook {
+            id,
+            verdict,
+            completion,
+            help,
+            rules: PhantomData,
+        }
+    }
+
+    // The id that it is stored under.
+    pub(crate) fn id(&self) -> u8
+        ensures { result ≡ id_of self.now }
+    {
+        self.id
+    }
+
+    // What it says of an atom.
+    pub(crate) fn judge(&self, atom: &[u8]) -> Answer
+        requires ties { IsTied R.meanings self.now }
+        requires short { length atom.now ≤ 255 }
+        ensures { result ≡ R.meanings.verdict (id_of self.now) atom.now }
+    {
+        (self.verdict)(atom)
+    }
+
+    // How it completes an atom.
+    pub(crate) fn complete(&self, atom: &[u8]) -> Tail
+        requires ties { IsTied R.meanings self.now }
+        requires short { length atom.now ≤ 255 }
+        ensures { result ≡ R.meanings.completion (id_of self.now) atom.now }
+    {
+        (self.completion)(atom)
+    }
+
+    // What the help says of it.
+    pub(crate) fn help(&self) -> Name
+        requires ties { IsTied R.meanings self.now }
+        ensures { result ≡ R.meanings.help (id_of self.now) }
+    {
+        (self.help)()
+    }
+}

@@ -1,0 +1,119 @@
+// The stored functions, and what they are asked.
+ghost use Rattle.std.specs.Prelude.{◌≡◌, ◌↔◌, ◌+◌, ◌<◌, ◌≤◌, ◌∷◌, ◌++◌, [], ℕ, List, length, IsOk, IfErr, OnErr, OnOk, Some};
+
+use crate::{Answer, Hook, Rules, Tail};
+use arrayvec::ArrayVec;
+use cm_text::Name;
+use std::marker::Model;
+
+/// What a stored function has said of an atom. It comes from `Hooks::ask` alone.
+#[derive(Debug, Drop)]
+pub struct Verdict {
+    answer: Answer,
+}
+
+impl Model for Verdict {
+    ghost use Rattle.cm_hooks.specs.declared.answer.Answer.{Answer};
+
+    ghost Value = { Answer };
+
+    ghost view = { λ verdict. verdict.answer };
+}
+
+impl Verdict {
+    /// The answer.
+    pub fn answer(&self) -> Answer
+        ensures { result ≡ self.now }
+    {
+        self.answer
+    }
+}
+
+/// The functions of a program's own, at most 16, in the order of their ids.
+#[derive(Drop)]
+pub struct Hooks<R> {
+    hooks: ArrayVec<Option<Hook<R>>, 16>,
+}
+
+impl<R: Rules> Hooks<R> {
+    ghost use Rattle.cm_hooks.specs.Ties.{IsTied, Ties, count, held, id_of};
+
+    /// No functions.
+    pub fn new() -> Hooks<R>
+        ensures none { held result ≡ [] }
+        ensures ties { Ties R.meanings result }
+    {
+        Hooks {
+            hooks: ArrayVec::new(),
+        }
+    }
+
+    /// How many functions there are.
+    pub fn len(&self) -> u8
+        ensures value { result ≡ count self.now }
+        ensures most { result ≤ 16 }
+    {
+        self.hooks.len() as u8
+    }
+
+    /// Adds a function behind the others. It comes back, and nothing changes, exactly where there are 16 already or
+    /// its id is not the number of those before it.
+    pub fn push(&mut self, hook: Hook<R>) -> Result<(), Hook<R>>
+        requires hooks { Ties R.meanings self.old }
+        requires hook { IsTied R.meanings hook }
+        ensures fits { IsOk result ↔ ((count self.old < 16) × (id_of hook ≡ count self.old)) }
+        ensures added { OnOk result (held self.new ≡ held self.old ++ Some hook ∷ []) }
+        ensures refused { IfErr result (λ back. (back ≡ hook) × (self.new ≡ self.old)) }
+        ensures ties { Ties R.meanings self.new }
+    {
+        if self.hooks.is_full() || usize::from(hook.id()) != self.hooks.len() {
+            return Err(hook);
+        }
+        self.hooks.push(Some(hook));
+        Ok(())
+    }
+
+    // The hook at its id.
+    fn hook(&self, id: u8) -> &Hook<R>
+        requires hooks { Ties R.meanings self.now }
+        requires id { id < count self.now }
+        ensures value { id_of result.now ≡ id }
+        ensures ties { IsTied R.meanings result.now }
+    {
+        match &self.hooks[usize::from(id)] {
+            Some(hook) => hook,
+            None => unreachable!(),
+        }
+    }
+
+    /// What the function with this id says of an atom.
+    pub fn ask(&self, id: u8, atom: &[u8]) -> Verdict
+        requires hooks { Ties R.meanings self.now }
+        requires id { id < count self.now }
+        requires short { length atom.now ≤ 255 }
+        ensures { result ≡ R.meanings.verdict id atom.now }
+    {
+        Verdict {
+            answer: self.hook(id).judge(atom),
+        }
+    }
+
+    /// How the function with this id completes an atom.
+    pub fn complete(&self, id: u8, atom: &[u8]) -> Tail
+        requires hooks { Ties R.meanings self.now }
+        requires id { id < count self.now }
+        requires short { length atom.now ≤ 255 }
+        ensures { result ≡ R.meanings.completion id atom.now }
+    {
+        self.hook(id).complete(atom)
+    }
+
+    /// What the help says of the function with this id.
+    pub fn help(&self, id: u8) -> Name
+        requires hooks { Ties R.meanings self.now }
+        requires id { id < count self.now }
+        ensures { result ≡ R.meanings.help id }
+    {
+        self.hook(id).help()
+    }
+}

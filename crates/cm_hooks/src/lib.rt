@@ -1,0 +1,16 @@
+//! Functions of a program's own that a grammar may ask: each judges, completes and explains a field.
+#![tactic(auto)]
+
+mod answer;
+mod field;
+mod hook;
+mod hooks;
+mod rules;
+
+pub mod laws;
+
+pub use answer::{Answer, Tail};
+pub use field::hook_field;
+pub use hook::Hook;
+pub use hooks::{Hooks, Verdict};
+pub use rules::Rules;

@@ -1,0 +1,3 @@
+pub mod ExecRules
+pub mod FormName
+pub mod RetentionCount
