@@ -1,6 +1,6 @@
 -- The end of the line decides every trial.
 use Rattle.std.proofs.Common.{◌≡◌, ℕ, zero, suc, ◌+◌, ◌<◌, ◌≤◌, Bool, true, false, not, ◌==◌, ◌&&◌, nat_le, cond, if◌then◌else◌, List, [], ◌∷◌, ◌++◌, length, take, slice_get, Result, Ok, Err, refl, arith, length-append}
-use Rattle.std.specs.List.{common_prefix_len, list_all, prefix_len}
+use Rattle.std.specs.List.{common_prefix_len, prefix_len}
 use Rattle.std.specs.Option.{option_map_or}
 use Rattle.std.proofs.lemmas.Bool.Decides.{nat_tests}
 use Rattle.cm_text.specs.Case.{begins_with}
@@ -10,7 +10,7 @@ use Rattle.cm_fields.specs.declared.quotes.Closing.TheVariants.{Closed, Cut, Unk
 use Rattle.cm_fields.specs.declared.trial.Try.{Try}
 use Rattle.cm_fields.specs.declared.trial.Try.TheVariants.{Accept, Refuse, More}
 use Rattle.cm_fields.specs.declared.value.Value.{Value}
-use Rattle.cm_fields.specs.Finish.{Decides, DecidesFinished}
+use Rattle.cm_fields.specs.Finish.{Decides, DecidesFinished, has_no_end}
 use Rattle.cm_fields.specs.Mark.{comma, confirm}
 use Rattle.cm_fields.specs.Phrase.{is_inside, noise, same_letter, token, typed_noise}
 use Rattle.cm_fields.specs.Quoted.{by_closing, closing, quoted}
@@ -74,10 +74,6 @@ noise_decides phrase (byte ∷ line) at =
     let size : 1 + length line ≡ length (byte ∷ line) = omega arith in
     let typed = typed_decides phrase line at in
     holds_of_choice (Decides at (length (byte ∷ line))) (byte == 40) _ _ (λ _. rw (← size) typed) (λ _. omega arith)
-
--- no byte of the phrase is the end of the line
-abbrev pub has_no_end : List ℕ → Bool
-has_no_end phrase = list_all (λ byte. not (same_letter byte 13)) phrase
 
 same_finishes : (phrase line : List ℕ) → has_no_end phrase ≡ true
     → common_prefix_len same_letter phrase (line ++ 13 ∷ []) ≤ length line

@@ -5,3 +5,4 @@ pub mod Skipping
 pub mod Quoting
 pub mod Marks
 pub mod Phrases
+pub mod Passing

@@ -1,10 +1,7 @@
 -- Trials of a single byte.
-use Rattle.std.proofs.Common.{◌≡◌, ℕ, ◌≤◌, ◌==◌, if◌then◌else◌, List, [], ◌∷◌, ◌++◌, length, refl, arith}
-use Rattle.cm_fields.specs.declared.code.Code.TheVariants.{NotComma, NotConfirmed}
+use Rattle.std.proofs.Common.{◌≡◌, ℕ, ◌==◌, List, [], ◌∷◌, ◌++◌, length, refl, arith}
 use Rattle.cm_fields.specs.declared.value.Value.{Value}
-use Rattle.cm_fields.specs.declared.value.Value.TheVariants.{Comma, Confirm}
-use Rattle.cm_fields.specs.declared.trial.Try.{Try}
-use Rattle.cm_fields.specs.declared.trial.Try.TheVariants.{Accept, Refuse, More}
+use Rattle.cm_fields.specs.declared.trial.Try.TheVariants.{Accept}
 use Rattle.cm_fields.specs.Local.{Holds, IsLocal, IsSeen}
 use Rattle.cm_fields.specs.Mark.{comma, confirm}
 use Rattle.cm_fields.proofs.Holding.{LooksBeyond, Reaches, ReachesIfAccept, holds_beyond, holds_of_choice, holds_same, is_local, reaches_accepted}

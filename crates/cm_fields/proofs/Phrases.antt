@@ -1,5 +1,5 @@
 -- Guide words, fixed texts and the rest of a line.
-use Rattle.std.proofs.Common.{◌≡◌, ◌≢◌, ℕ, zero, suc, ◌+◌, ◌<◌, ◌≤◌, Bool, true, false, ◌==◌, ◌&&◌, cond, if◌then◌else◌, List, [], ◌∷◌, ◌++◌, length, take, slice_get, refl, ap, arith, length-append}
+use Rattle.std.proofs.Common.{◌≡◌, ℕ, zero, suc, ◌+◌, ◌<◌, ◌≤◌, Bool, true, false, ◌==◌, ◌&&◌, cond, if◌then◌else◌, List, [], ◌∷◌, ◌++◌, length, take, slice_get, refl, ap, arith, length-append}
 use Rattle.std.specs.List.{common_prefix_len, prefix_len}
 use Rattle.std.specs.Option.{option_map_or}
 use Rattle.std.proofs.lemmas.Bool.Decides.{nat_tests}
@@ -8,9 +8,9 @@ use Rattle.std.proofs.lemmas.List.Sums.{common_prefix_len-le, prefix_len-le-leng
 use Rattle.cm_text.specs.Case.{begins_with}
 use Rattle.cm_fields.specs.declared.code.Code.TheVariants.{BadNoise, NotToken}
 use Rattle.cm_fields.specs.declared.value.Value.{Value}
-use Rattle.cm_fields.specs.declared.value.Value.TheVariants.{Noise, Text, Token}
+use Rattle.cm_fields.specs.declared.value.Value.TheVariants.{Noise, Token}
 use Rattle.cm_fields.specs.declared.trial.Try.{Try}
-use Rattle.cm_fields.specs.declared.trial.Try.TheVariants.{Accept, Refuse, More}
+use Rattle.cm_fields.specs.declared.trial.Try.TheVariants.{Accept, Refuse}
 use Rattle.cm_fields.specs.Local.{Holds, IsLocal, IsSeen}
 use Rattle.cm_fields.specs.Phrase.{is_inside, noise, same_letter, token, typed_noise}
 use Rattle.cm_fields.proofs.Holding.{LooksBeyond, Reaches, ReachesIfAccept, by_test, holds_beyond, holds_both, holds_of_choice, holds_same, is_local, reaches_accepted}

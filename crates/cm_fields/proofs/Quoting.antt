@@ -1,5 +1,5 @@
 -- The text behind an opening quote: one byte of it, and what decides.
-use Rattle.std.proofs.Common.{◌≡◌, ◌≢◌, ℕ, ◌+◌, ◌-◌, ◌<◌, ◌≤◌, Bool, true, false, ◌==◌, nat_le, if◌then◌else◌, List, [], ◌∷◌, ◌++◌, length, take, drop, get_or, refl, arith, rules}
+use Rattle.std.proofs.Common.{◌≡◌, ◌≢◌, ℕ, ◌+◌, ◌-◌, ◌≤◌, Bool, true, false, ◌==◌, nat_le, if◌then◌else◌, List, [], ◌∷◌, ◌++◌, length, take, drop, get_or, refl, arith}
 use Rattle.std.proofs.lemmas.Bool.Decides.{nat_tests}
 use Rattle.std.proofs.lemmas.List.{take_all}
 use Rattle.cm_fields.specs.declared.run.TheConstants.{MOST_BYTES}
@@ -7,8 +7,7 @@ use Rattle.cm_fields.specs.declared.code.Code.TheVariants.{NotQuoted}
 use Rattle.cm_fields.specs.declared.quotes.Closing.{Closing}
 use Rattle.cm_fields.specs.declared.quotes.Closing.TheVariants.{Closed, Cut, Unknown}
 use Rattle.cm_fields.specs.declared.value.Value.{Value}
-use Rattle.cm_fields.specs.declared.trial.Try.{Try}
-use Rattle.cm_fields.specs.declared.trial.Try.TheVariants.{Accept, Refuse, More}
+use Rattle.cm_fields.specs.declared.trial.Try.TheVariants.{Accept, Refuse}
 use Rattle.cm_fields.specs.Local.{Holds, IsLocal, IsSeen}
 use Rattle.cm_fields.specs.Quoted.{IsWithin, by_closing, closing, quoted}
 use Rattle.cm_fields.proofs.Holding.{LooksBeyond, Reaches, ReachesIfAccept, by_test, holds_beyond, holds_both, holds_of_choice, holds_same, is_local, reaches_accepted}

@@ -2,6 +2,7 @@ pub mod Code
 pub mod Finish
 pub mod Local
 pub mod Mark
+pub mod Passed
 pub mod Phrase
 pub mod Quoted
 pub mod Run

@@ -1,7 +1,9 @@
 //! Laws of the field functions.
-ghost use Rattle.std.specs.Prelude.{◌≡◌, ℕ, ◌<◌, Bool, List, ◌++◌, length, Some};
+ghost use Rattle.std.specs.Prelude.{◌≡◌, ℕ, ◌<◌, Bool, List, ◌++◌, drop, length, None, Some, true};
+ghost use Rattle.cm_fields.specs.Finish.{DecidesFinished, has_no_end};
 ghost use Rattle.cm_fields.specs.Local.{IsLocal};
 ghost use Rattle.cm_fields.specs.Mark.{comma, confirm};
+ghost use Rattle.cm_fields.specs.Passed.{IsOpen, IsPast};
 ghost use Rattle.cm_fields.specs.Phrase.{noise, token};
 ghost use Rattle.cm_fields.specs.Quoted.{quoted};
 ghost use Rattle.cm_fields.specs.Run.{number, word};
@@ -25,4 +27,29 @@ pub fn trials_are_local()
 pub fn skip_stays()
     ensures { (raw : Bool) → (text : List ℕ) → (more : List ℕ) → (at : ℕ) → (place : ℕ)
         → skip raw text at ≡ Some place → place < length text → skip raw (text ++ more) at ≡ Some place }
+{}
+
+/// Skip gives a place exactly where blanks and whole comments reach to it and neither stands behind them, and
+/// none exactly where a comment stands behind them that nothing ends.
+pub fn skip_passes_blanks_and_comments()
+    ensures past { (raw : Bool) → (text : List ℕ) → (at : ℕ) → (place : ℕ)
+        → skip raw text at ≡ Some place → IsPast raw (drop at text) at place }
+    ensures only_past { (raw : Bool) → (text : List ℕ) → (at : ℕ) → (place : ℕ)
+        → IsPast raw (drop at text) at place → skip raw text at ≡ Some place }
+    ensures open_comment { (raw : Bool) → (text : List ℕ) → (at : ℕ)
+        → skip raw text at ≡ None → IsOpen raw (drop at text) }
+    ensures only_open { (raw : Bool) → (text : List ℕ) → (at : ℕ)
+        → IsOpen raw (drop at text) → skip raw text at ≡ None }
+{}
+
+/// A trial of a finished text is a decision, and the end of the line is no part of a field.
+pub fn finished_texts_are_decided()
+    ensures noise { (phrase : List ℕ) → DecidesFinished (noise phrase) }
+    ensures token { (phrase : List ℕ) → has_no_end phrase ≡ true → DecidesFinished (token phrase) }
+    ensures number { DecidesFinished number }
+    ensures word { DecidesFinished word }
+    ensures quoted { DecidesFinished quoted }
+    ensures text { DecidesFinished text_field }
+    ensures comma { DecidesFinished comma }
+    ensures confirm { DecidesFinished confirm }
 {}

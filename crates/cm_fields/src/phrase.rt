@@ -1,5 +1,5 @@
 // Guide words and fixed texts.
-ghost use Rattle.std.specs.Prelude.{◌≡◌, ◌+◌, ◌<◌, ◌≤◌, ◌^◌, drop, length};
+ghost use Rattle.std.specs.Prelude.{◌≡◌, ◌+◌, ◌≤◌, drop, length};
 ghost use Rattle.std.specs.List.{common_prefix_len, prefix_len};
 ghost use Rattle.cm_fields.specs.Phrase.{is_inside, noise, same_letter, token, typed_noise};
 
@@ -34,7 +34,7 @@ fn same_letters(phrase: &[u8], rest: &[u8]) -> usize
 // What stands behind an opening parenthesis.
 #[tactic(auto, unfolding(crate::specs::Phrase::typed_noise))]
 fn typed_noise(phrase: &str, inside: &[u8], at: usize) -> Try
-    requires { at + length inside.now < 2 ^ 15 }
+    requires { at + length inside.now ≤ 256 }
     ensures { result ≡ typed_noise phrase.now inside.now at }
 {
     let size = inside_run(inside);

@@ -1,5 +1,5 @@
 // Quoted texts.
-ghost use Rattle.std.specs.Prelude.{◌≡◌, ◌+◌, ◌<◌, ◌≤◌, ◌^◌, drop, length};
+ghost use Rattle.std.specs.Prelude.{◌≡◌, ◌+◌, ◌≤◌, drop, length};
 ghost use Rattle.cm_fields.specs.Quoted.{IsWithin, by_closing, closing, quoted};
 
 use crate::run::MOST_BYTES;

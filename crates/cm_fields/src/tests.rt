@@ -1,5 +1,5 @@
 // Field functions by example.
-use crate::laws::{skip_stays, trials_are_local};
+use crate::laws::{skip_passes_blanks_and_comments, skip_stays, trials_are_local};
 use crate::{
     Code, Span, Try, Value, comma, confirm, noise, number, quoted, skip, text_field, token, word,
 };
@@ -299,4 +299,5 @@ fn passes_over_blanks_and_comments(rt: HostRuntime) {
 fn the_laws_hold() {
     trials_are_local();
     skip_stays();
+    skip_passes_blanks_and_comments();
 }
