@@ -17,7 +17,8 @@ marked mark number = mark ++ decimal number
 -- ` FCODE.NODE@PLACE`
 unfoldable pub fault_log : Fault → List ℕ
 fault_log fault =
-    marked (codes " F") (code_number fault.code) ++ marked (codes ".") fault.node ++ marked (codes "@") fault.at
+    marked (codes " F") (code_number fault.code)
+    ++ marked (codes ".") fault.node ++ marked (codes "@") fault.at
 
 -- ` O`, ` D` or a fault
 unfoldable pub ending_log : Ending → List ℕ

@@ -1,15 +1,13 @@
 // The commands, and the replies to them.
 #![tactic(auto, using(crate::proofs::Parts::pieces))]
 
-ghost use Rattle.std.specs.Prelude.{◌≡◌, ◌≤◌, ◌++◌};
+ghost use Rattle.std.specs.Prelude.{◌≡◌, ◌≤◌};
 ghost use Rattle.cm_io.specs.Told.{Adds};
 ghost use Rattle.cm_io.specs.Fault.{PutCause};
-ghost use Rattle.cm_text.specs.Shown.{end_of_line};
 ghost use Rattle.ex_program.specs.Command.{command_of, farewell, reply, version};
 
-use cm_io::{Put, Sink};
+use cm_io::{Put, Sink, put_line};
 use cm_state::Session;
-use cm_text::end_of_line;
 
 /// What a confirmed line commands.
 #[derive(Clone, Copy, Debug, PartialEq, Eq)]
@@ -66,16 +64,4 @@ fn farewell() -> &'static [u8]
     ensures { result.now ≡ farewell }
 {
     b"Logged out"
-}
-
-/// Shows a text and the end of its line.
-pub fn put_line<S: Sink>(text: &[u8], screen: &mut S) -> Put
-    ensures bytes { Adds (S.told screen.old) (S.told screen.new) (text.now ++ end_of_line) result }
-    ensures later { S.faults screen.old ≤ S.faults screen.new }
-    ensures cause { PutCause (S.faults screen.old) (S.faults screen.new) result }
-{
-    if let Put::Failed = screen.put(text) {
-        return Put::Failed;
-    }
-    screen.put(end_of_line())
 }

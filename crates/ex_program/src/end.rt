@@ -11,9 +11,8 @@ ghost use Rattle.ex_program.specs.Image.{Keeps, Saves, image};
 ghost use Rattle.ex_program.specs.Messages.{message};
 
 use crate::Status;
-use crate::command::put_line;
 use crate::stop::Stop;
-use cm_io::{Host, Put, Sink};
+use cm_io::{Host, Put, Sink, put_line};
 use cm_text::end_of_line;
 
 // The image.
