@@ -1,3 +1,4 @@
+pub mod Closing
 pub mod Keeping
 pub mod Parsing
 pub mod Standing

@@ -1,0 +1,5 @@
+use Rattle.cm_blocks.proofs.Closing.{finished_closes}
+use Rattle.cm_blocks.proofs.laws.a_finished_text_is_decided.Goals as goal
+
+pub returns : goal.returns
+returns c = finished_closes
