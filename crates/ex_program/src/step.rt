@@ -109,7 +109,7 @@ fn is_logout(command: Command) -> bool
 // next.
 #[tactic(auto, using(crate::proofs::Parts::pieces), unfolding(crate::specs::Run::turn_reply, crate::specs::Run::turn_prompt, crate::specs::Run::world_after_turn))]
 fn take_turn<S: Sink, C: Clock>(turn: Turn, session: &mut Session, screen: &mut S, clock: &mut C) -> Put
-    ensures session { (moments : List ℕ)
+    ensures session { result ≡ Put.Done → (moments : List ℕ)
         → session.new ≡ (world_after_turn (going session.old moments) turn).session }
     ensures moments { IsTrue C.tells 
         → C.left clock.new ≡ (world_after_turn (going session.old (C.left clock.old)) turn).moments }
@@ -129,7 +129,7 @@ fn take_turn<S: Sink, C: Clock>(turn: Turn, session: &mut Session, screen: &mut 
 
 // Does what a confirmed line commands, at the moment of now, and shows the reply and the next prompt.
 fn act<S: Sink, C: Clock>(command: Command, session: &mut Session, screen: &mut S, clock: &mut C) -> Put
-    ensures session { (moments : List ℕ)
+    ensures session { result ≡ Put.Done → (moments : List ℕ)
         → session.new ≡ (world_after_command (going session.old moments) command).session }
     ensures moments { IsTrue C.tells → C.left clock.new ≡ later_moments (C.left clock.old) }
     ensures bytes { Adds (S.told screen.old) (S.told screen.new) (reply command ++ command_prompt command) result }
