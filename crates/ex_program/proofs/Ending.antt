@@ -149,11 +149,14 @@ module _ (writes : Bool) (a b : Scene) (now : Told) (faults : ℕ) (result : Sta
       → Closes stop.LogFailed b.screen now b.screen_faults faults result → Ran writes a final result
   log_failed s cause closes = ran_or writes a final result status.WriteFault closes.0 (record {
     cause = cause_unlogged (counts_of a) (counts_of b) faults cause;
-    ends = inr (cause.0, record {
-      at = record { before = s.0.before; key = s.0.key; keys = s.0.keys; going = s.0.going; below = s.0.below };
-      cut = s.2;
-      screen = tried_later a.screen b.screen now a.screen_faults b.screen_faults faults _ (message result) s.1 earlier closes.1;
-    });
+    ends = inr (
+      cause.0,
+      record {
+        at = record { before = s.0.before; key = s.0.key; keys = s.0.keys; going = s.0.going; below = s.0.below };
+        cut = s.2;
+        screen = tried_later a.screen b.screen now a.screen_faults b.screen_faults faults _ (message result) s.1 earlier closes.1;
+      },
+    );
   })
 
   -- a run that stopped so and closed so stands

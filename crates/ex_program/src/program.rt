@@ -34,15 +34,21 @@ fn run_all<H: Host, K: Source, S: Sink, W: Sink, C: Clock>(
     requires { verbs.now ≡ exec_verbs }
     ensures ran { IsTrue K.tells → IsTrue C.tells → Ran writes
         (record {
-          screen = S.told screen.old; screen_faults = S.faults screen.old;
-          log = W.told log.old; log_faults = W.faults log.old;
-          keys = K.left keys.old; keys_faults = K.faults keys.old;
+          screen = S.told screen.old;
+          screen_faults = S.faults screen.old;
+          log = W.told log.old;
+          log_faults = W.faults log.old;
+          keys = K.left keys.old;
+          keys_faults = K.faults keys.old;
           moments = C.left clock.old;
         })
         (record {
-          screen = S.told screen.new; screen_faults = S.faults screen.new;
-          log = W.told log.new; log_faults = W.faults log.new;
-          keys = K.left keys.new; keys_faults = K.faults keys.new;
+          screen = S.told screen.new;
+          screen_faults = S.faults screen.new;
+          log = W.told log.new;
+          log_faults = W.faults log.new;
+          keys = K.left keys.new;
+          keys_faults = K.faults keys.new;
           moments = C.left clock.new;
         })
         result }
@@ -102,15 +108,21 @@ pub fn exec20<H: Host, K: Source, S: Sink, W: Sink, C: Clock>(
     // What stands, whatever the status: on the screen and in the log ..
     ensures stands { IsTrue K.tells → IsTrue C.tells → Stands (form_of words.now)
         (record {
-          screen = S.told screen.old; screen_faults = S.faults screen.old;
-          log = W.told log.old; log_faults = W.faults log.old;
-          keys = K.left keys.old; keys_faults = K.faults keys.old;
+          screen = S.told screen.old;
+          screen_faults = S.faults screen.old;
+          log = W.told log.old;
+          log_faults = W.faults log.old;
+          keys = K.left keys.old;
+          keys_faults = K.faults keys.old;
           moments = C.left clock.old;
         })
         (record {
-          screen = S.told screen.new; screen_faults = S.faults screen.new;
-          log = W.told log.new; log_faults = W.faults log.new;
-          keys = K.left keys.new; keys_faults = K.faults keys.new;
+          screen = S.told screen.new;
+          screen_faults = S.faults screen.new;
+          log = W.told log.new;
+          log_faults = W.faults log.new;
+          keys = K.left keys.new;
+          keys_faults = K.faults keys.new;
           moments = C.left clock.new;
         })
         result }

@@ -26,15 +26,21 @@ pub fn run<K: Source, S: Sink, W: Sink, C: Clock>(
     requires { verbs.now ≡ exec_verbs }
     ensures stops { IsTrue K.tells → IsTrue C.tells → Stops writes
         (record {
-          screen = S.told screen.old; screen_faults = S.faults screen.old;
-          log = W.told log.old; log_faults = W.faults log.old;
-          keys = K.left keys.old; keys_faults = K.faults keys.old;
+          screen = S.told screen.old;
+          screen_faults = S.faults screen.old;
+          log = W.told log.old;
+          log_faults = W.faults log.old;
+          keys = K.left keys.old;
+          keys_faults = K.faults keys.old;
           moments = C.left clock.old;
         })
         (record {
-          screen = S.told screen.new; screen_faults = S.faults screen.new;
-          log = W.told log.new; log_faults = W.faults log.new;
-          keys = K.left keys.new; keys_faults = K.faults keys.new;
+          screen = S.told screen.new;
+          screen_faults = S.faults screen.new;
+          log = W.told log.new;
+          log_faults = W.faults log.new;
+          keys = K.left keys.new;
+          keys_faults = K.faults keys.new;
           moments = C.left clock.new;
         })
         result }

@@ -108,10 +108,15 @@ fn is_logout(command: Command) -> bool
 // Does what a key came to: a confirmed line acts, and a line that is finished or given up makes way for the
 // next.
 #[tactic(auto, using(crate::proofs::Parts::pieces), unfolding(crate::specs::Run::turn_reply, crate::specs::Run::turn_prompt, crate::specs::Run::world_after_turn))]
-fn take_turn<S: Sink, C: Clock>(turn: Turn, session: &mut Session, screen: &mut S, clock: &mut C) -> Put
+fn take_turn<S: Sink, C: Clock>(
+    turn: Turn,
+    session: &mut Session,
+    screen: &mut S,
+    clock: &mut C,
+) -> Put
     ensures session { result ≡ Put.Done → (moments : List ℕ)
         → session.new ≡ (world_after_turn (going session.old moments) turn).session }
-    ensures moments { IsTrue C.tells 
+    ensures moments { IsTrue C.tells
         → C.left clock.new ≡ (world_after_turn (going session.old (C.left clock.old)) turn).moments }
     ensures bytes { (moments : List ℕ) → Adds (S.told screen.old) (S.told screen.new)
         (turn_bytes (going session.old moments) turn) result }
@@ -128,7 +133,12 @@ fn take_turn<S: Sink, C: Clock>(turn: Turn, session: &mut Session, screen: &mut 
 }
 
 // Does what a confirmed line commands, at the moment of now, and shows the reply and the next prompt.
-fn act<S: Sink, C: Clock>(command: Command, session: &mut Session, screen: &mut S, clock: &mut C) -> Put
+fn act<S: Sink, C: Clock>(
+    command: Command,
+    session: &mut Session,
+    screen: &mut S,
+    clock: &mut C,
+) -> Put
     ensures session { result ≡ Put.Done → (moments : List ℕ)
         → session.new ≡ (world_after_command (going session.old moments) command).session }
     ensures moments { IsTrue C.tells → C.left clock.new ≡ later_moments (C.left clock.old) }
