@@ -21,7 +21,7 @@ use Rattle.ex_program.proofs.Trying.{tried_later, tried_since}
 shown_ended : (world : World) (taken : List ℕ) → (world_after world taken).ended ≡ true → run_keys world taken ++ [] ≡ run_shown world taken
 shown_ended world taken ended = ap (λ (over : Bool). run_keys world taken ++ (if over then [] else end_of_line)) (sym ended)
 
-shown_going : (world : World) (taken : List ℕ) → (world_after world taken).ended ≡ false → run_keys world taken ++ end_of_line ≡ run_shown world taken
+pub shown_going : (world : World) (taken : List ℕ) → (world_after world taken).ended ≡ false → run_keys world taken ++ end_of_line ≡ run_shown world taken
 shown_going world taken going = ap (λ (over : Bool). run_keys world taken ++ (if over then [] else end_of_line)) (sym going)
 
 -- the status is what the run came to, or HostFault in its place

@@ -64,12 +64,12 @@ logged_whole writes world taken rest ended = sym (bytes_logged-append writes wor
     ∙ ap (λ bytes. bytes_logged writes world taken ++ bytes) (bytes_logged-ended writes (world_after world taken) rest ended) ∙ append-nil (bytes_logged writes world taken))
 
 -- a prefix of nothing is nothing
-no_part : (part rest : List ℕ) → part ++ rest ≡ [] → part ≡ []
+pub no_part : (part rest : List ℕ) → part ++ rest ≡ [] → part ≡ []
 no_part [] rest joined = refl
 no_part (byte ∷ part) rest joined = cc
 
 -- keys that were read to their end are those taken
-all_taken : (taken left all : List ℕ) → taken ++ left ≡ all → left ≡ [] → taken ≡ all
+pub all_taken : (taken left all : List ℕ) → taken ++ left ≡ all → left ≡ [] → taken ≡ all
 all_taken taken left all keys none = sym (append-nil taken) ∙ ap (λ rest. taken ++ rest) (sym none) ∙ keys
 
 -- a run that is Done is finished
@@ -106,12 +106,12 @@ pub done_logged : (writes : Bool) (a b : Scene) (result : Status) → Ran writes
 done_logged writes a b result ran done = finished_logged writes a b (done_finished writes a b result ran done)
 
 -- a count that is quiet did not rise
-not_quiet : (before now : ℕ) → Rose before now → IsQuiet before now → ⊥
+pub not_quiet : (before now : ℕ) → Rose before now → IsQuiet before now → ⊥
 unfolding Rose
 not_quiet before now rose quiet = omega arith
 
 -- of two prefixes of one list the shorter is a prefix of the longer
-shorter_prefix : (short left long rest : List ℕ) → short ++ left ≡ long ++ rest → length short ≤ length long → (more : List ℕ) × (short ++ more ≡ long)
+pub shorter_prefix : (short left long rest : List ℕ) → short ++ left ≡ long ++ rest → length short ≤ length long → (more : List ℕ) × (short ++ more ≡ long)
 shorter_prefix [] left long rest same within = (long, refl)
 shorter_prefix (x ∷ short) left [] rest same within = absurd (omega arith)
 shorter_prefix (x ∷ short) left (y ∷ long) rest same within =
