@@ -53,8 +53,8 @@ reply_shown world before key rest going = let last = world_after world before in
       bytes_shown world before ++ sent,
       prompt ++ bytes_shown (step last key) rest,
       regroup (bytes_shown world before) sent replied prompt (bytes_shown (step last key) rest)
-      ∙ ap (λ bytes. bytes_shown world before ++ (bytes ++ bytes_shown (step last key) rest)) (sym (shows_going last key going))
-      ∙ sym (bytes_shown-append world before (key ∷ rest)),
+          ∙ ap (λ bytes. bytes_shown world before ++ (bytes ++ bytes_shown (step last key) rest)) (sym (shows_going last key going))
+          ∙ sym (bytes_shown-append world before (key ∷ rest)),
     )
 
 -- what is all put is put in part

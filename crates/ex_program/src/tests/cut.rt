@@ -20,7 +20,7 @@ fn cut<'a>(
         log,
         out: Some(IMAGE),
         left,
-        acts: 0,
+        next_moment: 1,
     }
 }
 
@@ -80,7 +80,7 @@ fn takes_no_key_behind_a_failed_screen(rt: HostRuntime) -> Result<(), Fail> {
         ),
         // in a reply: the key is logged, and its line has acted
         Case {
-            acts: 1,
+            next_moment: 2,
             ..cut(
                 with_room(14),
                 Status::WriteFault,
@@ -132,13 +132,13 @@ fn leaves_a_line_undone_whose_log_fails(rt: HostRuntime) -> Result<(), Fail> {
     try_cases(&rt, rt.alloc(), &cases)
 }
 
-// A run whose host fails, behind so many lines that acted.
+// A run whose host fails, behind which this moment comes next.
 fn host_fault<'a>(
     given: Given<'a>,
     screen: &'a [u8],
     out: Option<&'a [u8]>,
     left: &'a [u8],
-    acts: u64,
+    next_moment: u64,
 ) -> Case<'a> {
     Case {
         given,
@@ -147,7 +147,7 @@ fn host_fault<'a>(
         log: Log::End(b""),
         out,
         left,
-        acts,
+        next_moment,
     }
 }
 
@@ -159,9 +159,9 @@ fn tells_that_the_host_failed(rt: HostRuntime) -> Result<(), Fail> {
         ..over(b"INF VER\r")
     };
     let cases = [
-        host_fault(failing(&[0]), screen, None, b"", 1),
-        host_fault(failing(&[1]), screen, Some(b""), b"", 1),
-        host_fault(failing(&[2]), screen, Some(IMAGE), b"", 1),
+        host_fault(failing(&[0]), screen, None, b"", 2),
+        host_fault(failing(&[1]), screen, Some(b""), b"", 2),
+        host_fault(failing(&[2]), screen, Some(IMAGE), b"", 2),
         host_fault(
             Given {
                 file_room: 10,
@@ -170,7 +170,7 @@ fn tells_that_the_host_failed(rt: HostRuntime) -> Result<(), Fail> {
             screen,
             Some(b"EXEC20 1\nD"),
             b"",
-            1,
+            2,
         ),
         host_fault(
             Given {
@@ -180,7 +180,7 @@ fn tells_that_the_host_failed(rt: HostRuntime) -> Result<(), Fail> {
             b"@IN\r\n?Host fault\r\n",
             Some(b""),
             b"F VER\r",
-            0,
+            1,
         ),
         host_fault(
             Given {
@@ -190,7 +190,7 @@ fn tells_that_the_host_failed(rt: HostRuntime) -> Result<(), Fail> {
             b"@INF VER\r\n EXE",
             Some(b""),
             b"",
-            1,
+            2,
         ),
         host_fault(
             Given {
@@ -200,7 +200,7 @@ fn tells_that_the_host_failed(rt: HostRuntime) -> Result<(), Fail> {
             b"@I?Host fault\r\n",
             None,
             b"NF VER\r",
-            0,
+            1,
         ),
     ];
     try_cases(&rt, rt.alloc(), &cases)

@@ -100,8 +100,8 @@ impl Log<'_> {
     }
 }
 
-// A run, and what is to stand at its end: besides the outputs, the keys that are left, and how many lines
-// have acted.
+// A run, and what is to stand at its end: besides the outputs, the keys that are left, and the moment that
+// comes next, which is one more than the number of lines that acted.
 #[derive(Clone, Copy)]
 pub struct Case<'a> {
     pub given: Given<'a>,
@@ -110,7 +110,7 @@ pub struct Case<'a> {
     pub log: Log<'a>,
     pub out: Option<&'a [u8]>,
     pub left: &'a [u8],
-    pub acts: u64,
+    pub next_moment: u64,
 }
 
 // Whether these keys are left, and no more.
@@ -137,7 +137,11 @@ pub fn try_cases(rt: &impl Abort, alloc: Global, cases: &[Case<'_>]) -> Result<(
             "IN after {keys:?}"
         );
         assert!(rt; leaves(&mut outcome.keys, case.left), "keys after {keys:?}");
-        assert_eq!(rt; outcome.clock.now(), case.acts + 1, "moment after {keys:?}");
+        assert_eq!(rt;
+            outcome.clock.now(),
+            case.next_moment,
+            "moment after {keys:?}"
+        );
     }
     Ok(())
 }

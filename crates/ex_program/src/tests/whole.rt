@@ -3,8 +3,8 @@ use super::given::{Case, IMAGE, Log, outcome_by, outcome_of, over, try_cases, wo
 use crate::Status;
 use std::test::Fail;
 
-// A run that is Done, in which so many lines act.
-fn done<'a>(keys: &'a [u8], screen: &'a [u8], log: Log<'a>, acts: u64) -> Case<'a> {
+// A run that is Done, behind which this moment comes next.
+fn done<'a>(keys: &'a [u8], screen: &'a [u8], log: Log<'a>, next_moment: u64) -> Case<'a> {
     Case {
         given: over(keys),
         status: Status::Done,
@@ -12,49 +12,49 @@ fn done<'a>(keys: &'a [u8], screen: &'a [u8], log: Log<'a>, acts: u64) -> Case<'
         log,
         out: Some(IMAGE),
         left: b"",
-        acts,
+        next_moment,
     }
 }
 
 #[test]
 fn shows_the_prompt_and_the_end(rt: HostRuntime) -> Result<(), Fail> {
     let cases = [
-        done(b"", b"@\r\n", Log::Whole(b""), 0),
+        done(b"", b"@\r\n", Log::Whole(b""), 1),
         done(
             b"LOGOUT\r",
             b"@LOGOUT\r\nLogged out\r\n",
             Log::End(b"0d 6 D 0.1k10@0-6\n"),
-            1,
+            2,
         ),
         done(
             b"INF VER X\r",
             b"@INF VER X\r\n?Not confirmed\r\n@\r\n",
             Log::End(b"\n0d 9 F25.5@8 0.1k9@0-3 27.0k4@4-7\n"),
-            0,
+            1,
         ),
         done(
             b"L\r\x08",
             b"@L\r\n?Ambiguous keyword\r\n@\r\n",
             Log::Whole(b"4c 1 O\n0d 1 F2.0@0\n08 0 O\n"),
-            0,
+            1,
         ),
         done(
             b"INF X\r\x08",
             b"@INF X\r\n?Unrecognized keyword\r\n@INF \r\n",
             Log::End(b"\n0d 5 F1.27@4 0.1k9@0-3\n08 4 O 0.1k9@0-3\n"),
-            0,
+            1,
         ),
         done(
             b"INF\x03LOG\r",
             b"@INF^C\r\n@LOG\r\nLogged out\r\n",
             Log::End(b"\n03 0 O\n4c 1 O\n4f 2 O\n47 3 O\n0d 3 D 0.1k10@0-3\n"),
-            1,
+            2,
         ),
         done(
             b"A.B-C  \x17\x17\x17\x17",
             b"@A.B-C  \x08 \x08\x08 \x08\x08 \x08\x08 \x08\x08 \x08\x08 \x08\x08 \x08\x07\r\n",
             Log::End(b"\n17 0 O\n17 0 O\n"),
-            0,
+            1,
         ),
     ];
     try_cases(&rt, rt.alloc(), &cases)
@@ -98,7 +98,7 @@ fn takes_a_moment_for_each_line_that_acts(rt: HostRuntime) -> Result<(), Fail> {
         Log::End(
             b"\n0d 0 D\n0a 0 D\n58 1 O\n0d 1 F1.0@0\n4c 1 O\n4f 2 O\n47 3 O\n0d 3 D 0.1k10@0-3\n",
         ),
-        4,
+        5,
     )];
     try_cases(&rt, rt.alloc(), &cases)
 }
@@ -111,7 +111,7 @@ fn leaves_the_keys_behind_logout(rt: HostRuntime) -> Result<(), Fail> {
             b"LOGOUT\rINF VER\r",
             b"@LOGOUT\r\nLogged out\r\n",
             Log::End(b"\n0d 6 D 0.1k10@0-6\n"),
-            1,
+            2,
         )
     }];
     try_cases(&rt, rt.alloc(), &cases)
