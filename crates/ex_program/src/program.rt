@@ -52,7 +52,7 @@ fn run_all<H: Host, K: Source, S: Sink, W: Sink, C: Clock>(
           moments = C.left clock.new;
         })
         result }
-    ensures cause { StatusCause
+    ensures counts { StatusCause
         (record { screen = S.faults screen.old; log = W.faults log.old; keys = K.faults keys.old })
         (record { screen = S.faults screen.new; log = W.faults log.new; keys = K.faults keys.new })
         result }

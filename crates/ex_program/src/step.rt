@@ -139,10 +139,11 @@ fn act<S: Sink, C: Clock>(
     screen: &mut S,
     clock: &mut C,
 ) -> Put
-    ensures session { result ≡ Put.Done → (moments : List ℕ)
+    ensures session { (moments : List ℕ) → result ≡ Put.Done
         → session.new ≡ (world_after_command (going session.old moments) command).session }
     ensures moments { IsTrue C.tells → C.left clock.new ≡ later_moments (C.left clock.old) }
-    ensures bytes { Adds (S.told screen.old) (S.told screen.new) (reply command ++ command_prompt command) result }
+    ensures reply { Adds (S.told screen.old) (S.told screen.new)
+        (reply command ++ command_prompt command) result }
     ensures later { S.faults screen.old ≤ S.faults screen.new }
     ensures cause { PutCause (S.faults screen.old) (S.faults screen.new) result }
 {

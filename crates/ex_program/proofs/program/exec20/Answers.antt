@@ -18,8 +18,8 @@ returns-clause-usage g c =
 
 pub returns-clause-complete : goal.returns-clause-complete
 returns-clause-complete g c = λ keys clock form is few screen log source host.
-    inl (quiet_done _ _ _ _ _ _ _ c.run_all.result screen log source host c.run_all.ensures.cause c.run_all.ensures.host_cause few (c.run_all.ensures.ran keys clock))
+    inl (quiet_done _ _ _ _ _ _ _ c.run_all.result screen log source host c.run_all.ensures.counts c.run_all.ensures.host_cause few (c.run_all.ensures.ran keys clock))
 
 pub returns-clause-limit : goal.returns-clause-limit
 returns-clause-limit g c = λ keys clock form is taken rest all count going screen log source host.
-    inl (quiet_limit _ _ _ _ _ _ _ c.run_all.result screen log source host c.run_all.ensures.cause c.run_all.ensures.host_cause taken rest all count going (c.run_all.ensures.ran keys clock))
+    inl (quiet_limit _ _ _ _ _ _ _ c.run_all.result screen log source host c.run_all.ensures.counts c.run_all.ensures.host_cause taken rest all count going (c.run_all.ensures.ran keys clock))

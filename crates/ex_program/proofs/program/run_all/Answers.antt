@@ -6,8 +6,8 @@ returns-clause-ran g c = λ keys clock.
     closes_ran c.args.writes _ _ _ _ c.close.result c.run-stop.ensures.screen_later c.close.ensures.later c.run-stop.result (c.run-stop.ensures.stops keys clock)
     c.run-stop.ensures.cause c.close.ensures.closes
 
-pub returns-clause-cause : goal.returns-clause-cause
-returns-clause-cause g c =
+pub returns-clause-counts : goal.returns-clause-counts
+returns-clause-counts g c =
     closes_causes _ _ _ _ _ c.close.result c.close.ensures.later c.run-stop.result c.run-stop.ensures.cause c.close.ensures.closes c.close.ensures.quiet
 
 pub returns-clause-past_the_prompt : goal.returns-clause-past_the_prompt

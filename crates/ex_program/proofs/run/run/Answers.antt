@@ -44,10 +44,6 @@ returns-in-LogFailed-clause-stops g c = λ keys clock.
     runs_unlogged c.args.writes _ _ _ _ (c.loop-turn.invariant.runs keys clock) _ c.in-Byte.key (omega arith) (c.in-Byte.ensures.bytes keys)
     took.0 took.1
 
-pub returns-clause-stops : goal.returns-clause-stops
-returns-clause-stops g c = λ keys clock.
-    runs_out c.args.writes _ _ _ _ (c.loop-turn.invariant.runs keys clock) _ (omega arith) refl refl refl
-
 pub loop-turn-preserved : goal.loop-turn-preserved
 loop-turn-preserved g c = record {
   runs = λ keys clock.
@@ -57,3 +53,7 @@ loop-turn-preserved g c = record {
   log = c.in-More.ensures.log_cause ∙ c.loop-turn.invariant.log;
   keys = c.in-Byte.ensures.cause ∙ c.loop-turn.invariant.keys;
 }
+
+pub returns-clause-stops : goal.returns-clause-stops
+returns-clause-stops g c = λ keys clock.
+    runs_out c.args.writes _ _ _ _ (c.loop-turn.invariant.runs keys clock) _ (omega arith) refl refl refl
