@@ -14,7 +14,7 @@ use Rattle.cm_state.specs.Verbs.{exec_verbs}
 use Rattle.ex_program.specs.Cause.{IsQuiet}
 use Rattle.ex_program.specs.Cut.{ClosingCut, RunCut, ScreenCut, Unlogged, run_echo}
 use Rattle.ex_program.specs.End.{Ended, Ends, Ran}
-use Rattle.ex_program.specs.Run.{World, bytes_logged, bytes_shown, closing, key_reply, key_turn, logs, run_keys, run_shown, shows, starting, step, turn_prompt, turn_reply, with_key, world_after, world_after_turn}
+use Rattle.ex_program.specs.Run.{World, bytes_logged, bytes_shown, closing, key_bytes, key_turn, logs, run_keys, run_shown, shows, starting, step, turn_prompt, turn_reply, with_key, world_after, world_after_turn}
 use Rattle.ex_program.specs.Scene.{AtKey, LoggedOut, ReadOut, Scene, Tried, has_ended, outputs_at, world_at}
 use Rattle.ex_program.specs.Step.{EchoCut, ReplyCut}
 use Rattle.ex_program.specs.declared.run.TheConstants.{KEY_LIMIT}
@@ -35,7 +35,7 @@ others_rest world turns.Abandoned other = (refl, refl, refl)
 others_rest world turns.Failed other = (refl, refl, refl)
 
 -- what a key shows in a run that goes on
-shows_going : (world : World) (key : ℕ) → world.ended ≡ false → shows world key ≡ echo exec_verbs world.session key ++ key_reply world key
+shows_going : (world : World) (key : ℕ) → world.ended ≡ false → shows world key ≡ echo exec_verbs world.session key ++ key_bytes world key
 unfolding shows
 shows_going world key going = rw going refl
 
@@ -80,15 +80,15 @@ module _ (writes : Bool) (a b : Scene) (at : AtKey a b) where
       ∙ ap (λ bytes. prompt_text Main ++ bytes) (sym (bytes_shown-push w at.before at.key))
 
   -- a part of what the key shows is a part of what the keys show
-  shown_part : AddsPart (outputs_at writes a at.before).screen b.screen (echo exec_verbs world.session at.key ++ key_reply world at.key)
+  shown_part : AddsPart (outputs_at writes a at.before).screen b.screen (echo exec_verbs world.session at.key ++ key_bytes world at.key)
       → AddsPart a.screen b.screen (run_keys w taken)
   shown_part part = subst (λ bytes. AddsPart a.screen b.screen bytes) keys_push
       (adds_late a.screen b.screen (run_keys w at.before) (shows world at.key)
       (subst (λ bytes. AddsPart (outputs_at writes a at.before).screen b.screen bytes) (sym (shows_going world at.key at.going)) part))
 
-  key_part : RunCut writes a b at → AddsPart (outputs_at writes a at.before).screen b.screen (echo exec_verbs world.session at.key ++ key_reply world at.key)
-  key_part (inl cut) = adds_early _ b.screen (echo exec_verbs world.session at.key) (key_reply world at.key) cut.screen
-  key_part (inr cut) = adds_late _ b.screen (echo exec_verbs world.session at.key) (key_reply world at.key) cut.screen
+  key_part : RunCut writes a b at → AddsPart (outputs_at writes a at.before).screen b.screen (echo exec_verbs world.session at.key ++ key_bytes world at.key)
+  key_part (inl cut) = adds_early _ b.screen (echo exec_verbs world.session at.key) (key_bytes world at.key) cut.screen
+  key_part (inr cut) = adds_late _ b.screen (echo exec_verbs world.session at.key) (key_bytes world at.key) cut.screen
 
   cut_screen : RunCut writes a b at → AddsPart a.screen b.screen (run_keys w taken)
   cut_screen cut = shown_part (key_part cut)
@@ -119,7 +119,7 @@ module _ (writes : Bool) (a b : Scene) where
 
   unlogged_part : (unlogged : Unlogged writes a b []) → AddsPart a.screen b.screen (run_keys (starting a.moments) (unlogged.at.before ++ unlogged.at.key ∷ []))
   unlogged_part unlogged = let at = unlogged.at in let world = world_at a unlogged.at.before in
-      shown_part writes a b at (adds_early _ b.screen (echo exec_verbs world.session unlogged.at.key) (key_reply world unlogged.at.key)
+      shown_part writes a b at (adds_early _ b.screen (echo exec_verbs world.session unlogged.at.key) (key_bytes world unlogged.at.key)
       (adds_whole _ b.screen (echo exec_verbs world.session unlogged.at.key) (unlogged_screen unlogged ∙ add_append a.screen (run_keys (starting a.moments) unlogged.at.before) (echo exec_verbs world.session unlogged.at.key))))
 
   cut_ends : Ends writes a b [] status.WriteFault → IsCut writes a b

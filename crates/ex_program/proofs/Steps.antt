@@ -18,7 +18,7 @@ use Rattle.ex_program.specs.Run.{World, key_turn, logs, shows, step, turn_bytes,
 use Rattle.ex_program.specs.Step.{EchoCut, KeyCut, LogCut, Outputs, ReplyCut, Stepped, going}
 
 -- a turn that is no failure is told
-pub not_failed : (turn : Turn) → (turn ≡ turns.Failed → ⊥) → put_of turn ≡ Done
+not_failed : (turn : Turn) → (turn ≡ turns.Failed → ⊥) → put_of turn ≡ Done
 not_failed turns.Edited other = refl
 not_failed turns.Confirmed other = refl
 not_failed turns.Abandoned other = refl
@@ -26,7 +26,7 @@ not_failed (turns.Refused fault) other = refl
 not_failed turns.Failed other = absurd (other refl)
 
 -- a put that is done puts all
-pub all_put : (before now : Told) (bytes : List ℕ) (put : Put) → put ≡ Done → Adds before now bytes put → now ≡ add before bytes
+all_put : (before now : Told) (bytes : List ℕ) (put : Put) → put ≡ Done → Adds before now bytes put → now ≡ add before bytes
 all_put before now bytes put done adds = subst (Adds before now bytes) done adds
 
 abbrev outputs : Told → Told → Outputs
@@ -51,13 +51,14 @@ parts world next later ended value is_value held moved ends =
     ∙ ap (λ (over : Bool). record { session = next; moments = later; ended = over }) (sym ends ∙ is_value)
 
 -- behind an echo that is whole
-module _ (writes : Bool) (verbs : Verbs) (old typed : Held) (key : ℕ) (moments : List ℕ) (told echoed : Told) (exec : verbs ≡ exec_verbs)
-    (is_typed : typed ≡ edited verbs old key) (is_echoed : echoed ≡ add told (echo verbs old key)) where
+module _ (writes : Bool) (verbs : Verbs) (old typed : Held) (key : ℕ) (moments : List ℕ) (turn : Turn) (told echoed : Told)
+    (exec : verbs ≡ exec_verbs) (other : turn ≡ turns.Failed → ⊥)
+    (is_typed : typed ≡ edited verbs old key) (is_put : Adds told echoed (echo verbs old key) (put_of turn)) where
   with_exec : typed ≡ edited exec_verbs old key
   with_exec = is_typed ∙ ap (λ (tables : Verbs). edited tables old key) exec
 
   pub echo_whole : echoed ≡ add told (echo exec_verbs old key)
-  echo_whole = is_echoed ∙ ap (λ (tables : Verbs). add told (echo tables old key)) exec
+  echo_whole = all_put told echoed (echo verbs old key) (put_of turn) (not_failed turn other) is_put ∙ ap (λ (tables : Verbs). add told (echo tables old key)) exec
 
   -- what is logged of a key is what the step logs
   as_logged : (if writes then log_line key typed else []) ≡ logs writes (going old moments) key
@@ -73,13 +74,13 @@ module _ (writes : Bool) (verbs : Verbs) (old typed : Held) (key : ℕ) (moments
   }
 
   -- and behind a log line that is whole
-  module _ (turn : Turn) (screen log logged : Told) (is_turn : turn ≡ turn_of (class_of key) typed.ending)
+  module _ (screen log logged : Told) (is_turn : put_of turn ≡ Done → turn ≡ turn_of (class_of key) typed.ending)
       (is_logged : logged ≡ add log (if writes then log_line key typed else [])) where
     log_whole : logged ≡ add log (logs writes (going old moments) key)
     log_whole = is_logged ∙ ap (λ bytes. add log bytes) as_logged
 
     same_turn : turn ≡ key_turn (going old moments) key
-    same_turn = is_turn ∙ ap (λ (held : Held). turn_of (class_of key) held.ending) with_exec
+    same_turn = is_turn (not_failed turn other) ∙ ap (λ (held : Held). turn_of (class_of key) held.ending) with_exec
 
     as_replied : turn_bytes (going typed moments) turn ≡ turn_bytes (with_key (going old moments) key) (key_turn (going old moments) key)
     as_replied =

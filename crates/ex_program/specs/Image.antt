@@ -7,7 +7,7 @@ use Rattle.ex_program.specs.declared.status.Status.{Status}
 use Rattle.ex_program.specs.declared.status.Status.TheVariants as status
 
 -- a record of the image: a line ended by a line feed
-abbrev pub image_line : List ℕ → List ℕ
+abbrev image_line : List ℕ → List ℕ
 image_line text = text ++ 10 ∷ []
 
 unfoldable pub image : List ℕ
@@ -17,7 +17,8 @@ image =
 
 -- a file is absent, as before, or holds a prefix of the image
 abbrev pub HoldsPart : Option (List ℕ) → Option (List ℕ) → Type 0
-HoldsPart before now = (now ≡ None) ⊎ (now ≡ before) ⊎ ((part : List ℕ) × IsPart part image × (now ≡ Some part))
+HoldsPart before now =
+    (now ≡ None) ⊎ (now ≡ before) ⊎ ((part : List ℕ) × IsPart part image × (now ≡ Some part))
 
 -- saving the image leaves it in the file; where it fails, a prefix of it or less
 abbrev pub Saves : Option (List ℕ) → Option (List ℕ) → Put → Type 0

@@ -32,7 +32,7 @@ abbrev pub next_line : World → World
 next_line world = record world { session = at_start COMMANDS Main world.session.kept }
 
 -- a moment is taken
-abbrev pub next_time : World → World
+abbrev next_time : World → World
 next_time world = record world { moments = later_moments world.moments }
 
 -- a command takes a moment; LOGOUT ends the run, and behind any other the next line begins
@@ -84,15 +84,15 @@ abbrev pub key_turn : World → ℕ → Turn
 key_turn world key = turn_of (class_of key) (with_key world key).session.ending
 
 -- what the key shows behind its echo
-abbrev pub key_reply : World → ℕ → List ℕ
-key_reply world key = turn_bytes (with_key world key) (key_turn world key)
+abbrev pub key_bytes : World → ℕ → List ℕ
+key_bytes world key = turn_bytes (with_key world key) (key_turn world key)
 
 -- the world after a key, what the key shows, and what it logs; after LOGOUT nothing more
 unfoldable pub step : World → ℕ → World
 step world key = if world.ended then world else world_after_turn (with_key world key) (key_turn world key)
 
 unfoldable pub shows : World → ℕ → List ℕ
-shows world key = if world.ended then [] else echo exec_verbs world.session key ++ key_reply world key
+shows world key = if world.ended then [] else echo exec_verbs world.session key ++ key_bytes world key
 
 unfoldable pub logs : Bool → World → ℕ → List ℕ
 logs writes world key =

@@ -5,7 +5,7 @@ use Rattle.cm_io.specs.Fault.{Rose}
 use Rattle.cm_state.specs.Echo.{echo}
 use Rattle.cm_state.specs.Held.{Held}
 use Rattle.cm_state.specs.Verbs.{exec_verbs}
-use Rattle.ex_program.specs.Run.{World, key_reply, logs, shows, step}
+use Rattle.ex_program.specs.Run.{World, key_bytes, logs, shows, step}
 use Rattle.ex_program.specs.declared.step.Step.{Step}
 use Rattle.ex_program.specs.declared.step.Step.TheVariants as steps
 
@@ -19,7 +19,8 @@ abbrev pub going : Held → List ℕ → World
 going session moments = record { session = session; moments = moments; ended = false }
 
 -- all that a key shows and logs is put, and it leads to this world
-pub record Stepped (writes : Bool) (world : World) (key : ℕ) (before now : Outputs) (next : World) : Type 0 where
+pub record Stepped (writes : Bool) (world : World) (key : ℕ) (before now : Outputs) (next : World)
+    : Type 0 where
   pub screen : now.screen ≡ add before.screen (shows world key)
   pub log : now.log ≡ add before.log (logs writes world key)
   pub leads : step world key ≡ next
@@ -31,8 +32,10 @@ pub record EchoCut (world : World) (key : ℕ) (before now : Outputs) (later : L
   pub moments : later ≡ world.moments
 
 -- what a key shows behind its echo was cut: the key is logged, and its line has acted
-pub record ReplyCut (writes : Bool) (world : World) (key : ℕ) (before now : Outputs) (later : List ℕ) : Type 0 where
-  pub screen : AddsPart (add before.screen (echo exec_verbs world.session key)) now.screen (key_reply world key)
+pub record ReplyCut (writes : Bool) (world : World) (key : ℕ) (before now : Outputs) (later : List ℕ)
+    : Type 0 where
+  pub screen : AddsPart (add before.screen (echo exec_verbs world.session key)) now.screen
+      (key_bytes world key)
   pub log : now.log ≡ add before.log (logs writes world key)
   pub moments : later ≡ (step world key).moments
 
@@ -42,7 +45,8 @@ KeyCut writes world key before now later =
     EchoCut world key before now later ⊎ ReplyCut writes world key before now later
 
 -- the log line of a key was cut, behind the echo: the key takes no moment, and its line does not act
-pub record LogCut (writes : Bool) (world : World) (key : ℕ) (before now : Told) (later : List ℕ) : Type 0 where
+pub record LogCut (writes : Bool) (world : World) (key : ℕ) (before now : Told) (later : List ℕ)
+    : Type 0 where
   pub log : AddsPart before now (logs writes world key)
   pub moments : later ≡ world.moments
 
@@ -52,7 +56,8 @@ Took writes world key before now session moments steps.More =
     Stepped writes world key before now (going session moments)
 Took writes world key before now session moments steps.Over =
     Stepped writes world key before now (record (going session moments) { ended = true })
-Took writes world key before now session moments steps.ScreenFailed = KeyCut writes world key before now moments
+Took writes world key before now session moments steps.ScreenFailed =
+    KeyCut writes world key before now moments
 Took writes world key before now session moments steps.LogFailed =
     (now.screen ≡ add before.screen (echo exec_verbs world.session key))
     × LogCut writes world key before.log now.log moments

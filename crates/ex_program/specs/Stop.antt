@@ -56,7 +56,8 @@ IsRun result = Unit {0}
 
 -- what the end of a run shows, by how it stopped; a screen that failed is given no more
 abbrev pub Closes : Stop → Told → Told → ℕ → ℕ → Status → Type 0
-Closes stop.LoggedOut before now f g result = IsOr result status.Done × Tried before now f g [] (message result)
+Closes stop.LoggedOut before now f g result =
+    IsOr result status.Done × Tried before now f g [] (message result)
 Closes stop.KeysEnded before now f g result =
     (IsOr result status.Done × Tried before now f g end_of_line (message result))
     ⊎ (IsOr result status.WriteFault × AddsPart before now end_of_line × Rose f g)

@@ -21,8 +21,8 @@ loop-turn-init g c =
 
 pub returns-in-End-clause-stops : goal.returns-in-End-clause-stops
 returns-in-End-clause-stops g c = λ keys clock.
-    let got = c.in-End.ensures.bytes keys in
-    runs_ended c.args.writes _ _ _ _ (c.loop-turn.invariant.runs keys clock) _ (omega arith) (got.1 ∙ sym got.0) got.1 refl refl
+    runs_ended c.args.writes _ _ _ _ (c.loop-turn.invariant.runs keys clock) _ (omega arith)
+    ((c.in-End.ensures.bytes keys).1 ∙ sym (c.in-End.ensures.bytes keys).0) (c.in-End.ensures.bytes keys).1 refl refl
 
 pub returns-in-Failed-get-clause-stops : goal.returns-in-Failed-get-clause-stops
 returns-in-Failed-get-clause-stops g c = λ keys clock.
@@ -40,9 +40,8 @@ returns-in-ScreenFailed-clause-stops g c = λ keys clock.
 
 pub returns-in-LogFailed-clause-stops : goal.returns-in-LogFailed-clause-stops
 returns-in-LogFailed-clause-stops g c = λ keys clock.
-    let took = c.in-LogFailed.ensures.took clock in
     runs_unlogged c.args.writes _ _ _ _ (c.loop-turn.invariant.runs keys clock) _ c.in-Byte.key (omega arith) (c.in-Byte.ensures.bytes keys)
-    took.0 took.1
+    (c.in-LogFailed.ensures.took clock).0 (c.in-LogFailed.ensures.took clock).1
 
 pub loop-turn-preserved : goal.loop-turn-preserved
 loop-turn-preserved g c = record {
