@@ -20,8 +20,11 @@ pub enum Command {
     Logout,
 }
 
-// The code of LOGOUT in the table of commands.
-const LOGOUT: u16 = 10;
+/// The node that a command line begins at.
+pub const COMMANDS: u16 = 0;
+
+/// The code of LOGOUT in the table of commands.
+pub const LOGOUT: u16 = 10;
 
 /// What the line that a session holds commands, where it is confirmed.
 pub fn command_of(session: &Session) -> Command
