@@ -7,7 +7,7 @@ use Rattle.cm_state.specs.declared.prompt.Prompt.TheVariants.{Main}
 use Rattle.cm_state.specs.Echo.{echo, prompt_text}
 use Rattle.cm_state.specs.Held.{Held, at_start}
 use Rattle.cm_state.specs.Verbs.{exec_verbs}
-use Rattle.ex_program.specs.declared.command.TheConstants.{COMMANDS}
+use Rattle.cm_state.specs.declared.node.TheConstants.{COMMANDS}
 use Rattle.ex_program.specs.declared.run.TheConstants.{KEY_LIMIT}
 use Rattle.ex_program.specs.declared.stop.Stop.TheVariants as stop
 use Rattle.ex_program.specs.Cut.{run_echo}

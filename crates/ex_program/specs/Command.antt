@@ -4,7 +4,7 @@ use Rattle.cm_text.specs.Shown.{end_of_line}
 use Rattle.cm_state.specs.declared.field.Field.{Field}
 use Rattle.ex_program.specs.declared.command.Command.{Command}
 use Rattle.ex_program.specs.declared.command.Command.TheVariants.{Empty, Version, Logout}
-use Rattle.ex_program.specs.declared.command.TheConstants.{LOGOUT}
+use Rattle.cm_state.specs.declared.verbs.TheConstants.{LOGOUT}
 
 -- the code of the first keyword names the command: it is LOGOUT, or else INFORMATION, which tells of VERSION
 -- alone

@@ -15,7 +15,7 @@ use Rattle.cm_state.specs.Verbs.{exec_verbs}
 use Rattle.ex_program.specs.Command.{command_of, reply}
 use Rattle.ex_program.specs.declared.command.Command.{Command}
 use Rattle.ex_program.specs.declared.command.Command.TheVariants.{Empty, Version, Logout}
-use Rattle.ex_program.specs.declared.command.TheConstants.{COMMANDS}
+use Rattle.cm_state.specs.declared.node.TheConstants.{COMMANDS}
 
 -- what a run goes on from: the session, the moments to come, and whether LOGOUT has acted
 pub record World : Type 0 where

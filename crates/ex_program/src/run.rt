@@ -4,11 +4,10 @@ ghost use Rattle.cm_state.specs.Verbs.{exec_verbs};
 ghost use Rattle.ex_program.specs.Cause.{StopCause};
 ghost use Rattle.ex_program.specs.Stop.{Stops};
 
-use crate::command::COMMANDS;
 use crate::step::{Step, take_key};
 use crate::stop::Stop;
 use cm_io::{Clock, Got, Put, Sink, Source};
-use cm_state::{Prompt, Session, Verbs};
+use cm_state::{COMMANDS, Prompt, Session, Verbs};
 
 /// The most keys that a run takes.
 pub const KEY_LIMIT: u32 = 16_777_216;

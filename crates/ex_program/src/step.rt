@@ -13,9 +13,9 @@ ghost use Rattle.ex_program.specs.Command.{command_of, reply};
 ghost use Rattle.ex_program.specs.Run.{command_prompt, turn_bytes, world_after_command, world_after_turn};
 ghost use Rattle.ex_program.specs.Step.{LogCause, ScreenCause, Took, going};
 
-use crate::command::{COMMANDS, Command, command_of, put_reply};
+use crate::command::{Command, command_of, put_reply};
 use cm_io::{Clock, Put, Sink};
-use cm_state::{Prompt, Session, Turn, Verbs};
+use cm_state::{COMMANDS, Prompt, Session, Turn, Verbs};
 
 /// What a key of a run came to.
 #[derive(Clone, Copy, Debug)]

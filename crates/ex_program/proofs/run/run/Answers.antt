@@ -1,7 +1,7 @@
 use Rattle.std.proofs.Common.{◌≡◌, ◌∙◌, ap, arith, refl, sym, None}
 use Rattle.cm_state.specs.declared.prompt.Prompt.TheVariants.{Main}
 use Rattle.cm_state.specs.Held.{Held, at_start}
-use Rattle.ex_program.specs.declared.command.TheConstants.{COMMANDS}
+use Rattle.cm_state.specs.declared.node.TheConstants.{COMMANDS}
 use Rattle.ex_program.proofs.Running.{cut_first, runs_cut, runs_ended, runs_first, runs_more, runs_out, runs_over, runs_unlogged, runs_unread}
 use Rattle.ex_program.proofs.run.run.Goals as goal
 
