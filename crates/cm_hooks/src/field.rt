@@ -1,11 +1,21 @@
 // A field that a stored function judges.
 ghost use Rattle.std.specs.Prelude.{◌≡◌, ◌<◌, ◌≤◌, drop, length};
+ghost use Rattle.std.specs.List.{prefix_len};
+ghost use Rattle.cm_text.specs.Bytes.{is_name};
 ghost use Rattle.cm_hooks.specs.Field.{hook, hook_of};
 ghost use Rattle.cm_hooks.specs.Ties.{Ties, count};
 
 use crate::{Answer, Hooks, Rules};
 use cm_fields::{Code, Try, Value};
 use cm_text::is_name;
+
+// How many name bytes a text begins with.
+fn run_len(text: &[u8]) -> usize
+    ensures value { result ≡ prefix_len is_name text.now }
+    ensures within { result ≤ length text.now }
+{
+    text.iter().take_while(|byte| is_name(**byte)).count()
+}
 
 // What the function with this id makes of a run.
 #[tactic(auto, unfolding(crate::specs::Field::hook_of))]
@@ -34,9 +44,10 @@ pub fn hook_field<R: Rules>(hooks: &Hooks<R>, id: u8, text: &[u8], at: usize) ->
     ensures { result ≡ hook R.meanings.verdict id (drop at text.now) at }
 {
     let rest = &text[at..];
-    let Some(size) = rest.iter().position(|byte| !is_name(*byte)) else {
+    let size = run_len(rest);
+    if size == rest.len() {
         return Try::More;
-    };
+    }
     let looked = size as u16 + 1;
     match hook_of(hooks, id, &rest[..size]) {
         Ok(value) => Try::Accept {

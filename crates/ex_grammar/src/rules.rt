@@ -13,7 +13,7 @@ pub struct ExecRules;
 
 impl Rules for ExecRules {
     ghost use Rattle.ex_grammar.specs.ExecRules.{exec_meanings};
-    ghost use Rattle.ex_grammar.proofs.ExecLawful.{exec_lawful};
+    ghost use Rattle.ex_grammar.specs.ExecLaws.{exec_lawful};
 
     ghost meanings = { exec_meanings };
 
