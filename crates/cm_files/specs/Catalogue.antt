@@ -47,7 +47,7 @@ by_bytes = slice_cmp nat_cmp
 abbrev pub by_file : FileRow → FileRow → Ordering
 by_file =
     then_cmp (on (λ row. row.directory) nat_cmp) (then_cmp (on (λ row. row.name) by_bytes)
-        (then_cmp (on (λ row. row.kind) by_bytes) (on (λ row. row.generation) nat_cmp)))
+    (then_cmp (on (λ row. row.kind) by_bytes) (on (λ row. row.generation) nat_cmp)))
 
 -- name bytes with no small letter
 abbrev pub is_upper_name : List ℕ → Bool
@@ -57,12 +57,12 @@ is_upper_name = list_all (λ byte. is_name byte && not (is_ascii_lowercase byte)
 abbrev pub is_directory_name : List ℕ → Bool
 is_directory_name name =
     nat_le (length name) 39
-        && list_all (λ part. nat_lt 0 (length part) && is_upper_name part) (slice_split (λ byte. byte == 46) name)
+    && list_all (λ part. nat_lt 0 (length part) && is_upper_name part) (slice_split (λ byte. byte == 46) name)
 
 abbrev pub is_row : ℕ → FileRow → Bool
 is_row directories row =
     nat_lt row.directory directories && nat_lt 0 (length row.name) && nat_le (length row.name) 39 && is_upper_name row.name
-        && nat_le (length row.kind) 39 && is_upper_name row.kind && nat_lt 0 row.generation && nat_le row.generation 131071
+    && nat_le (length row.kind) 39 && is_upper_name row.kind && nat_lt 0 row.generation && nat_le row.generation 131071
 
 abbrev pub is_logical : ℕ → LogicalName → Bool
 is_logical directories entry =

@@ -42,3 +42,6 @@ pub trait Names {
         requires row { i < length (rows_of (catalogue self.now) directory) }
         ensures { slice_get (rows_of (catalogue self.now) directory) i ≡ Some (row_of directory result) };
 }
+
+#[cfg(test)]
+mod tests;

@@ -21,7 +21,6 @@ module _ {R I J K : Type 0} {F : I → Type 0} {G : J → Type 0} {H : K → Typ
     {v : Mut ((i : I) × F i) (Bor (List ℕ) × Unit {0}) Answer}
     {c : Mut ((j : J) × G j) (Bor (List ℕ) × Unit {0}) Tail}
     {h : Mut ((k : K) × H k) (Unit {0}) (List ℕ)} where
-
   -- the id of a hook
   abbrev pub id_of : Hook R I J K F G H v c h → ℕ
   id_of hook = hook.id

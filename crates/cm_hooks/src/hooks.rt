@@ -117,3 +117,6 @@ impl<R: Rules> Hooks<R> {
         self.hook(id).help()
     }
 }
+
+#[cfg(test)]
+mod tests;

@@ -5,9 +5,8 @@ mod answer;
 mod field;
 mod hook;
 mod hooks;
-mod rules;
-
 pub mod laws;
+mod rules;
 
 pub use answer::{Answer, Tail};
 pub use field::hook_field;

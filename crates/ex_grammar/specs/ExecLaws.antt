@@ -86,18 +86,21 @@ whole_taken form atom a b c number some short begins is_narrow is_normal is_wide
 completes_by : (atom : List ℕ) (a b c : Bool) → 0 < length atom → begins_with narrow atom ≡ a → begins_with normal atom ≡ b
     → begins_with wide atom ≡ c → Completes form_verdict atom (goes_on (rests (length atom) (passing a b c)))
 completes_by atom false false false some is_narrow is_normal is_wide = tt
-completes_by atom true false false some is_narrow is_normal is_wide =
-    (list_all-drop is_name (length atom) narrow narrow_is_name,
-    whole_taken narrow atom true false false 0 some (omega arith) is_narrow (begins_whole narrow atom is_narrow)
-    (begins_longer normal atom _ is_normal) (begins_longer wide atom _ is_wide) refl)
-completes_by atom false true false some is_narrow is_normal is_wide =
-    (list_all-drop is_name (length atom) normal normal_is_name,
-    whole_taken normal atom false true false 1 some (omega arith) is_normal (begins_longer narrow atom _ is_narrow)
-    (begins_whole normal atom is_normal) (begins_longer wide atom _ is_wide) refl)
-completes_by atom false false true some is_narrow is_normal is_wide =
-    (list_all-drop is_name (length atom) wide wide_is_name,
-    whole_taken wide atom false false true 2 some (omega arith) is_wide (begins_longer narrow atom _ is_narrow)
-    (begins_longer normal atom _ is_normal) (begins_whole wide atom is_wide) refl)
+completes_by atom true false false some is_narrow is_normal is_wide = (
+  list_all-drop is_name (length atom) narrow narrow_is_name,
+  whole_taken narrow atom true false false 0 some (omega arith) is_narrow (begins_whole narrow atom is_narrow)
+      (begins_longer normal atom _ is_normal) (begins_longer wide atom _ is_wide) refl,
+)
+completes_by atom false true false some is_narrow is_normal is_wide = (
+  list_all-drop is_name (length atom) normal normal_is_name,
+  whole_taken normal atom false true false 1 some (omega arith) is_normal (begins_longer narrow atom _ is_narrow)
+      (begins_whole normal atom is_normal) (begins_longer wide atom _ is_wide) refl,
+)
+completes_by atom false false true some is_narrow is_normal is_wide = (
+  list_all-drop is_name (length atom) wide wide_is_name,
+  whole_taken wide atom false false true 2 some (omega arith) is_wide (begins_longer narrow atom _ is_narrow)
+      (begins_longer normal atom _ is_normal) (begins_whole wide atom is_wide) refl,
+)
 completes_by atom true true false some is_narrow is_normal is_wide =
     list_all-take is_name _ (drop (length atom) normal) (list_all-drop is_name (length atom) normal normal_is_name)
 completes_by atom true false true some is_narrow is_normal is_wide =
@@ -128,5 +131,4 @@ rule_completes id atom = by (id == 1) refl
 
 -- the law of the EXEC's rules
 pub exec_lawful : IsLawful exec_meanings
-unfolding exec_meanings
 exec_lawful = record { completes = λ id atom short. rule_completes id atom }

@@ -25,5 +25,5 @@ unfoldable pub rule_help : ℕ → List ℕ
 rule_help id =
     if id == 0 then codes "logical name" else (if id == 1 then codes "form name" else codes "number from 0 to 63")
 
-unfoldable pub exec_meanings : Meanings
+abbrev pub exec_meanings : Meanings
 exec_meanings = record { verdict = rule_verdict; completion = rule_completion; help = rule_help }

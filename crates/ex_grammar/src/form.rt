@@ -10,7 +10,9 @@ use cm_text::{Name, begins_with};
 
 // The forms, in the order of their numbers.
 const NARROW: &str = "NARROW";
+
 const NORMAL: &str = "NORMAL";
+
 const WIDE: &str = "WIDE";
 
 // The number of the one form that begins with an atom.
@@ -34,7 +36,10 @@ fn shared_len(text: &[u8], other: &[u8]) -> usize
     ensures value { result ≡ common_prefix_len ◌==◌ text.now other.now }
     ensures within { result ≤ length text.now }
 {
-    text.iter().zip(other).take_while(|(byte, next)| byte == next).count()
+    text.iter()
+        .zip(other)
+        .take_while(|(byte, next)| byte == next)
+        .count()
 }
 
 // What a text begins with as another does.

@@ -71,3 +71,6 @@ pub fn rule_help(id: u8) -> Name
         _ => "number from 0 to 63",
     })
 }
+
+#[cfg(test)]
+mod tests;
