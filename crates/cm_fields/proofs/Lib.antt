@@ -1,0 +1,7 @@
+pub mod Holding
+pub mod Runs
+pub mod Skipping
+pub mod Quoting
+pub mod Marks
+pub mod Phrases
+pub mod Passing

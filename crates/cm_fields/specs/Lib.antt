@@ -1,6 +1,7 @@
 pub mod Code
 pub mod Local
 pub mod Mark
+pub mod Passed
 pub mod Phrase
 pub mod Quoted
 pub mod Run

@@ -1,5 +1,5 @@
 -- Guide words and fixed texts (.CMNOI, .CMTOK). Letters have no case.
-use Rattle.std.specs.Prelude.{ℕ, ◌+◌, ◌==◌, not, ◌||◌, ◌&&◌, Bool, if◌then◌else◌, true, false, List, [], ◌∷◌, length, take, Some, slice_get}
+use Rattle.std.specs.Prelude.{ℕ, ◌+◌, ◌==◌, not, ◌||◌, ◌&&◌, Bool, if◌then◌else◌, true, false, List, [], ◌∷◌, length, take, slice_get}
 use Rattle.std.specs.Char.{to_ascii_lowercase}
 use Rattle.std.specs.List.{prefix_len, common_prefix_len}
 use Rattle.std.specs.Option.{option_map_or}

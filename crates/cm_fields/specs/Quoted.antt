@@ -1,20 +1,16 @@
 -- A quoted text (.CMQST): from a quote to a quote that no quote follows; a quote inside stands twice.
-use Rattle.std.specs.Prelude.{ℕ, ◌+◌, ◌==◌, nat_le, if◌then◌else◌, List, [], ◌∷◌}
-use Rattle.cm_fields.specs.declared.TheConstants.{MOST_BYTES}
+use Rattle.std.specs.Prelude.{ℕ, ◌+◌, ◌==◌, ◌≤◌, nat_le, if◌then◌else◌, List, [], ◌∷◌}
+use Rattle.cm_fields.specs.declared.run.TheConstants.{MOST_BYTES}
 use Rattle.cm_fields.specs.declared.code.Code.TheVariants.{NotQuoted, NoQuote, FieldLong}
+use Rattle.cm_fields.specs.declared.quotes.Closing.{Closing}
+use Rattle.cm_fields.specs.declared.quotes.Closing.TheVariants.{Closed, Cut, Unknown}
 use Rattle.cm_fields.specs.declared.trial.Try.{Try}
 use Rattle.cm_fields.specs.declared.trial.Try.TheVariants.{Accept, Refuse, More}
 use Rattle.cm_fields.specs.declared.value.Value.TheVariants.{Quoted}
 use Rattle.cm_fields.specs.Try.{span}
 
--- how the text behind the opening quote goes on: the closing quote stands behind so many bytes, which write so
--- many; the line ends behind so many bytes; or the text ends before that is known
-pub data Closing : Type 0 where
-  Closed : ℕ → ℕ → Closing
-  Cut : ℕ → Closing
-  Unknown : Closing
-
--- behind so many bytes, which write so many
+-- how the text behind the opening quote goes on, behind so many bytes of it, which write so many: the closing
+-- quote stands there; the line ends there; or the text ends before that is known
 abbrev pub closing : ℕ → ℕ → List ℕ → Closing
 closing size written [] = Unknown
 closing size written (byte ∷ []) = if byte == 13 then Cut size else Unknown
@@ -23,6 +19,12 @@ closing size written (byte ∷ next ∷ more) =
     else (if byte == 34
     then (if next == 34 then closing (size + 2) (written + 1) more else Closed size written)
     else closing (size + 1) (written + 1) (next ∷ more))
+
+-- what is found stands within so many bytes
+abbrev pub IsWithin : ℕ → Closing → Type 0
+IsWithin most (Closed size written) = size + 2 ≤ most
+IsWithin most (Cut size) = size + 1 ≤ most
+IsWithin most Unknown = Unit {0}
 
 -- the byte behind the closing quote decides
 abbrev pub by_closing : ℕ → Closing → Try

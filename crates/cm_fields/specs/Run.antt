@@ -1,9 +1,10 @@
 -- Numbers and words, each a run of word bytes (.CMNUM, .CMFLD).
-use Rattle.std.specs.Prelude.{ℕ, Bool, ◌&&◌, ◌==◌, nat_lt, nat_le, if◌then◌else◌, List, length, Result, Ok, Err}
-use Rattle.std.specs.Str.{all_ascii_digits}
+use Rattle.std.specs.Prelude.{ℕ, ◌&&◌, ◌==◌, nat_lt, nat_le, if◌then◌else◌, List, length, Result, Ok, Err}
+use Rattle.std.specs.Char.{is_ascii_digit}
+use Rattle.std.specs.List.{list_all}
 use Rattle.std.specs.Str.Parse.{digits_value}
 use Rattle.cm_text.specs.Bytes.{is_word}
-use Rattle.cm_fields.specs.declared.TheConstants.{MOST_NUMBER, MOST_BYTES}
+use Rattle.cm_fields.specs.declared.run.TheConstants.{MOST_NUMBER, MOST_BYTES}
 use Rattle.cm_fields.specs.declared.code.Code.{Code}
 use Rattle.cm_fields.specs.declared.code.Code.TheVariants.{BadNumber, NumberRange, NoField, FieldLong}
 use Rattle.cm_fields.specs.declared.trial.Try.{Try}
@@ -14,7 +15,7 @@ use Rattle.cm_fields.specs.Try.{by_run, span}
 -- digits alone, at least one, of a value that is not too large
 unfoldable pub number_of : List ℕ → Result Value Code
 number_of run =
-    if nat_lt 0 (length run) && all_ascii_digits run
+    if nat_lt 0 (length run) && list_all is_ascii_digit run
     then (if nat_le (digits_value 10 run) MOST_NUMBER then Ok (Number (digits_value 10 run)) else Err NumberRange)
     else Err BadNumber
 

@@ -1,6 +1,6 @@
 -- Blanks and comments before a field. A comment goes from `!` to the next `!`, or from `;` or an unclosed `!`
 -- to the end of the line.
-use Rattle.std.specs.Prelude.{ℕ, ◌+◌, ◌==◌, ◌||◌, Bool, if◌then◌else◌, List, [], ◌∷◌, drop, Option, Some, None}
+use Rattle.std.specs.Prelude.{ℕ, ◌+◌, ◌==◌, Bool, if◌then◌else◌, List, [], ◌∷◌, drop, Option, Some, None}
 use Rattle.cm_text.specs.Bytes.{is_blank}
 use Rattle.cm_fields.specs.declared.skipped.Comment.{Comment}
 use Rattle.cm_fields.specs.declared.skipped.Comment.TheVariants.{Outside, ToMark, ToEnd}

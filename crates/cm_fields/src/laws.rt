@@ -1,10 +1,12 @@
 //! Laws of the field functions.
-ghost use Rattle.std.specs.Prelude.{ℕ, List};
+ghost use Rattle.std.specs.Prelude.{◌≡◌, ℕ, ◌<◌, Bool, List, ◌++◌, drop, length, None, Some};
 ghost use Rattle.cm_fields.specs.Local.{IsLocal};
 ghost use Rattle.cm_fields.specs.Mark.{comma, confirm};
+ghost use Rattle.cm_fields.specs.Passed.{IsOpen, IsPast};
 ghost use Rattle.cm_fields.specs.Phrase.{noise, token};
 ghost use Rattle.cm_fields.specs.Quoted.{quoted};
 ghost use Rattle.cm_fields.specs.Run.{number, word};
+ghost use Rattle.cm_fields.specs.Skip.{skip};
 ghost use Rattle.cm_fields.specs.Text.{text_field};
 
 /// What a trial decides on the first bytes of a text it decides on every text that begins with them, with the
@@ -18,4 +20,23 @@ pub fn trials_are_local()
     ensures text { IsLocal text_field }
     ensures comma { IsLocal comma }
     ensures confirm { IsLocal confirm }
+{}
+
+/// A place that skip gives before the end of a text is the one that it gives on every longer text.
+pub fn skip_stays()
+    ensures { (raw : Bool) → (text : List ℕ) → (more : List ℕ) → (at : ℕ) → (place : ℕ)
+        → skip raw text at ≡ Some place → place < length text → skip raw (text ++ more) at ≡ Some place }
+{}
+
+/// Skip gives a place exactly where blanks and whole comments reach to it and neither stands behind them, and
+/// none exactly where a comment stands behind them that nothing ends.
+pub fn skip_passes_blanks_and_comments()
+    ensures past { (raw : Bool) → (text : List ℕ) → (at : ℕ) → (place : ℕ)
+        → skip raw text at ≡ Some place → IsPast raw (drop at text) at place }
+    ensures only_past { (raw : Bool) → (text : List ℕ) → (at : ℕ) → (place : ℕ)
+        → IsPast raw (drop at text) at place → skip raw text at ≡ Some place }
+    ensures open_comment { (raw : Bool) → (text : List ℕ) → (at : ℕ)
+        → skip raw text at ≡ None → IsOpen raw (drop at text) }
+    ensures only_open { (raw : Bool) → (text : List ℕ) → (at : ℕ)
+        → IsOpen raw (drop at text) → skip raw text at ≡ None }
 {}

@@ -3,16 +3,17 @@
 #![tactic(auto)]
 
 mod code;
+pub mod laws;
 mod mark;
 mod phrase;
 mod quotes;
 mod run;
 mod skipped;
+#[cfg(test)]
+mod tests;
 mod text;
 mod trial;
 mod value;
-
-pub mod laws;
 
 pub use code::Code;
 pub use mark::{comma, confirm};
@@ -22,4 +23,4 @@ pub use run::{number, word};
 pub use skipped::skip;
 pub use text::text_field;
 pub use trial::Try;
-pub use value::{Gen, Spec, Span, Value};
+pub use value::{Gen, Span, Spec, Value};

@@ -2,7 +2,8 @@
 ghost use Rattle.std.specs.Prelude.{◌≡◌, ◌≤◌, drop, length};
 ghost use Rattle.cm_fields.specs.Mark.{comma, confirm};
 
-use crate::Try;
+use crate::trial::said;
+use crate::{Code, Try, Value};
 
 /// A comma (.CMCMA). Any other byte is refused with NotComma.
 pub fn comma(text: &[u8], at: usize) -> Try
@@ -10,7 +11,11 @@ pub fn comma(text: &[u8], at: usize) -> Try
     requires place { at ≤ length text.now }
     ensures { result ≡ comma (drop at text.now) at }
 {
-    Try::More
+    match &text[at..] {
+        [] => Try::More,
+        [b',', ..] => said(at, 1, 1, Ok(Value::Comma)),
+        _ => said(at, 0, 1, Err(Code::NotComma)),
+    }
 }
 
 /// The end of the line (.CMCFM): a carriage return, which itself is left. Any other byte is refused with
@@ -20,5 +25,9 @@ pub fn confirm(text: &[u8], at: usize) -> Try
     requires place { at ≤ length text.now }
     ensures { result ≡ confirm (drop at text.now) at }
 {
-    Try::More
+    match &text[at..] {
+        [] => Try::More,
+        [b'\r', ..] => said(at, 0, 1, Ok(Value::Confirm)),
+        _ => said(at, 0, 1, Err(Code::NotConfirmed)),
+    }
 }

@@ -1,14 +1,78 @@
 // Numbers and words, each a run of word bytes.
-ghost use Rattle.std.specs.Prelude.{◌≡◌, ◌≤◌, drop, length};
-ghost use Rattle.cm_fields.specs.Run.{number, word};
+ghost use Rattle.std.specs.Prelude.{◌≡◌, ◌+◌, ◌<◌, ◌≤◌, ◌^◌, true, drop, length, nat_le, if◌then◌else◌};
+ghost use Rattle.std.specs.Char.{is_ascii_digit};
+ghost use Rattle.std.specs.List.{list_all, prefix_len};
+ghost use Rattle.std.specs.Str.Parse.{digits_value};
+ghost use Rattle.cm_text.specs.Bytes.{is_word};
+ghost use Rattle.cm_fields.specs.Run.{number, number_of, word, word_of};
 
-use crate::Try;
+use crate::trial::{said, span_of};
+use crate::{Code, Try, Value};
+use cm_text::is_word;
 
 /// The last number (35 bits, the half of a word's range).
 pub const MOST_NUMBER: u64 = 34_359_738_367;
 
 /// The most bytes of a word, and of what a quoted text writes.
 pub const MOST_BYTES: usize = 39;
+
+// How many word bytes the text begins with.
+fn word_run(rest: &[u8]) -> usize
+    ensures value { result ≡ prefix_len is_word rest.now }
+    ensures within { result ≤ length rest.now }
+{
+    rest.iter().take_while(|byte| is_word(**byte)).count()
+}
+
+// Whether all bytes are digits.
+fn are_digits(run: &[u8]) -> bool
+    ensures { result ≡ list_all is_ascii_digit run.now }
+{
+    run.iter().all(|byte| byte.is_ascii_digit())
+}
+
+// The number that digits write; none where it is too large.
+fn value_of(digits: &[u8]) -> Option<u64>
+    requires { list_all is_ascii_digit digits.now ≡ true }
+    ensures { let value = digits_value 10 digits.now in
+        result ≡ (if nat_le value MOST_NUMBER then Some value else None) }
+{
+    let mut value = 0;
+    for digit in digits {
+        value = 10 * value + u64::from(digit - b'0');
+        if value > MOST_NUMBER {
+            return None;
+        }
+    }
+    Some(value)
+}
+
+// What a run says as a number.
+#[tactic(auto, unfolding(crate::specs::Run::number_of))]
+fn number_of(run: &[u8]) -> Result<Value, Code>
+    ensures { result ≡ number_of run.now }
+{
+    if run.is_empty() || !are_digits(run) {
+        return Err(Code::BadNumber);
+    }
+    match value_of(run) {
+        Some(value) => Ok(Value::Number(value)),
+        None => Err(Code::NumberRange),
+    }
+}
+
+// What a run says as a word, from this place on.
+#[tactic(auto, unfolding(crate::specs::Run::word_of))]
+fn word_of(at: usize, run: &[u8]) -> Result<Value, Code>
+    requires { at + length run.now < 2 ^ 16 }
+    ensures { result ≡ word_of at run.now }
+{
+    match run.len() {
+        0 => Err(Code::NoField),
+        size @ 1..=MOST_BYTES => Ok(Value::Word(span_of(at, size))),
+        _ => Err(Code::FieldLong),
+    }
+}
 
 /// A decimal number (.CMNUM): a run of word bytes that are digits alone. Refused with BadNumber where the
 /// run is empty or has another byte, with NumberRange where the number is above 34,359,738,367.
@@ -17,7 +81,12 @@ pub fn number(text: &[u8], at: usize) -> Try
     requires place { at ≤ length text.now }
     ensures { result ≡ number (drop at text.now) at }
 {
-    Try::More
+    let rest = &text[at..];
+    let size = word_run(rest);
+    if size == rest.len() {
+        return Try::More;
+    }
+    said(at, size, size + 1, number_of(&rest[..size]))
 }
 
 /// A word (.CMFLD): a run of 1 to 39 word bytes. Refused with NoField where the run is empty, with
@@ -27,5 +96,10 @@ pub fn word(text: &[u8], at: usize) -> Try
     requires place { at ≤ length text.now }
     ensures { result ≡ word (drop at text.now) at }
 {
-    Try::More
+    let rest = &text[at..];
+    let size = word_run(rest);
+    if size == rest.len() {
+        return Try::More;
+    }
+    said(at, size, size + 1, word_of(at, &rest[..size]))
 }

@@ -1,6 +1,8 @@
 // Blanks and comments before a field.
 ghost use Rattle.std.specs.Prelude.{◌≡◌, ◌≤◌, length, IfSome};
-ghost use Rattle.cm_fields.specs.Skip.{skip};
+ghost use Rattle.cm_fields.specs.Skip.{ended, passed, skip};
+
+use cm_text::is_blank;
 
 // Whether a byte stands in a comment, and what ends that.
 #[derive(Clone, Copy)]
@@ -13,6 +15,20 @@ enum Comment {
     ToEnd,
 }
 
+// Where the text goes on behind a byte that is passed over; none where the byte is not passed.
+fn passed(raw: bool, comment: Comment, byte: u8) -> Option<Comment>
+    ensures { result ≡ passed raw comment byte }
+{
+    match (comment, byte) {
+        (Comment::Outside, _) if is_blank(byte) => Some(Comment::Outside),
+        (Comment::Outside, b'!') if !raw => Some(Comment::ToMark),
+        (Comment::Outside, b';') if !raw => Some(Comment::ToEnd),
+        (Comment::Outside, _) | (_, b'\r') => None,
+        (Comment::ToMark, b'!') => Some(Comment::Outside),
+        (inside, _) => Some(inside),
+    }
+}
+
 /// The first place at or behind `at` that is past blanks and, unless the text is raw, comments. A comment goes
 /// from `!` to the next `!`, or from `;` or an unclosed `!` to the carriage return. None exactly where a comment
 /// is not ended in a text that is not finished.
@@ -21,5 +37,15 @@ pub fn skip(raw: bool, text: &[u8], at: usize) -> Option<usize>
     ensures value { result ≡ skip raw text.now at }
     ensures within { IfSome result (λ place. (at ≤ place) × (place ≤ length text.now)) }
 {
-    None
+    let mut comment = Comment::Outside;
+    for (size, byte) in text[at..].iter().enumerate() {
+        match passed(raw, comment, *byte) {
+            Some(next) => comment = next,
+            None => return Some(at + size),
+        }
+    }
+    match comment {
+        Comment::Outside => Some(text.len()),
+        Comment::ToMark | Comment::ToEnd => None,
+    }
 }

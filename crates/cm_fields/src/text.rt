@@ -1,8 +1,26 @@
 // The rest of the line.
-ghost use Rattle.std.specs.Prelude.{◌≡◌, ◌≤◌, drop, length};
-ghost use Rattle.cm_fields.specs.Text.{text_field};
+ghost use Rattle.std.specs.Prelude.{◌≡◌, ◌+◌, ◌<◌, ◌≤◌, ◌^◌, drop, length};
+ghost use Rattle.std.specs.List.{prefix_len};
+ghost use Rattle.cm_fields.specs.Text.{is_inside, text_field, text_of};
 
-use crate::Try;
+use crate::trial::{said, span_of};
+use crate::{Code, Try, Value};
+
+// How many bytes stand before the end of the line.
+fn inside_run(rest: &[u8]) -> usize
+    ensures value { result ≡ prefix_len is_inside rest.now }
+    ensures within { result ≤ length rest.now }
+{
+    rest.iter().take_while(|byte| **byte != b'\r').count()
+}
+
+// What stands there, from this place on.
+fn text_of(at: usize, run: &[u8]) -> Result<Value, Code>
+    requires { at + length run.now < 2 ^ 16 }
+    ensures { result ≡ text_of at run.now }
+{
+    Ok(Value::Text(span_of(at, run.len())))
+}
 
 /// The rest of the line (.CMTXT), up to the carriage return; never refused.
 pub fn text_field(text: &[u8], at: usize) -> Try
@@ -10,5 +28,10 @@ pub fn text_field(text: &[u8], at: usize) -> Try
     requires place { at ≤ length text.now }
     ensures { result ≡ text_field (drop at text.now) at }
 {
-    Try::More
+    let rest = &text[at..];
+    let size = inside_run(rest);
+    if size == rest.len() {
+        return Try::More;
+    }
+    said(at, size, size + 1, text_of(at, &rest[..size]))
 }

@@ -1,8 +1,8 @@
 // What a field function makes of a text.
-ghost use Rattle.std.specs.Prelude.{◌≡◌, ◌+◌, ◌≤◌, ◌<◌, ◌^◌};
-ghost use Rattle.cm_fields.specs.Try.{said};
+ghost use Rattle.std.specs.Prelude.{◌≡◌, ◌+◌, ◌<◌, ◌^◌};
+ghost use Rattle.cm_fields.specs.Try.{said, span};
 
-use crate::{Code, Value};
+use crate::{Code, Span, Value};
 
 /// What a field function makes of a text from a place on.
 #[derive(Clone, Copy, Debug, PartialEq, Eq)]
@@ -25,4 +25,34 @@ pub enum Try {
     },
     /// The text ends before the function can decide.
     More,
+}
+
+// A value, of a field of this size, or a refusal; so many bytes decide.
+pub(crate) fn said(at: usize, size: usize, looked: usize, decision: Result<Value, Code>) -> Try
+    requires field { at + size < 2 ^ 16 }
+    requires looked { looked < 2 ^ 16 }
+    ensures { result ≡ said at size looked decision }
+{
+    match decision {
+        Ok(value) => Try::Accept {
+            value,
+            looked: looked as u16,
+            end: (at + size) as u16,
+        },
+        Err(code) => Try::Refuse {
+            code,
+            looked: looked as u16,
+        },
+    }
+}
+
+// The part of a text that begins at this place, of this size.
+pub(crate) fn span_of(at: usize, size: usize) -> Span
+    requires { at + size < 2 ^ 16 }
+    ensures { result ≡ span at size }
+{
+    Span {
+        start: at as u16,
+        end: (at + size) as u16,
+    }
 }

@@ -1,0 +1,191 @@
+-- The text behind an opening quote: one byte of it, and what decides.
+use Rattle.std.proofs.Common.{◌≡◌, ◌≢◌, ℕ, ◌+◌, ◌-◌, ◌≤◌, Bool, true, false, ◌==◌, nat_le, if◌then◌else◌, List, [], ◌∷◌, ◌++◌, length, take, drop, get_or, refl, arith}
+use Rattle.std.proofs.lemmas.Bool.Decides.{nat_tests}
+use Rattle.std.proofs.lemmas.List.{take_all}
+use Rattle.cm_fields.specs.declared.run.TheConstants.{MOST_BYTES}
+use Rattle.cm_fields.specs.declared.code.Code.TheVariants.{NotQuoted}
+use Rattle.cm_fields.specs.declared.quotes.Closing.{Closing}
+use Rattle.cm_fields.specs.declared.quotes.Closing.TheVariants.{Closed, Cut, Unknown}
+use Rattle.cm_fields.specs.declared.value.Value.{Value}
+use Rattle.cm_fields.specs.declared.trial.Try.TheVariants.{Accept, Refuse}
+use Rattle.cm_fields.specs.Local.{Holds, IsLocal, IsSeen}
+use Rattle.cm_fields.specs.Quoted.{IsWithin, by_closing, closing, quoted}
+use Rattle.cm_fields.proofs.Holding.{LooksBeyond, Reaches, ReachesIfAccept, by_test, holds_beyond, holds_both, holds_of_choice, holds_same, is_local, reaches_accepted}
+
+differs : (byte other : ℕ) → byte ≢ other → (byte == other) ≡ false
+differs byte other unequal = grind (arith, nat_tests)
+
+-- behind a byte that is neither a quote nor the end of the line
+pub plain_passed : (size written : ℕ) (inside : List ℕ) → 1 ≤ length inside → get_or inside 0 0 ≢ 13
+    → get_or inside 0 0 ≢ 34 → closing size written inside ≡ closing (size + 1) (written + 1) (take (length inside - 1) (drop 1 inside))
+plain_passed size written [] some inner plain = absurd (omega arith)
+plain_passed size written (byte ∷ []) some inner plain = let end = differs byte 13 inner in rw end
+plain_passed size written (byte ∷ next ∷ more) some inner plain =
+    let end = differs byte 13 inner in
+    let quote = differs byte 34 plain in
+    let rest : take (length (byte ∷ next ∷ more) - 1) (next ∷ more) ≡ next ∷ more = take_all _ (next ∷ more) (omega arith) in
+    rw (end, quote, rest)
+
+-- behind a quote that stands twice
+pub quote_passed : (size written : ℕ) (inside : List ℕ) → 2 ≤ length inside → get_or inside 0 0 ≡ 34
+    → get_or inside 1 0 ≡ 34 → closing size written inside ≡ closing (size + 2) (written + 1) (take (length inside - 2) (drop 2 inside))
+quote_passed size written [] some quote second = absurd (omega arith)
+quote_passed size written (byte ∷ []) some quote second = absurd (omega arith)
+quote_passed size written (byte ∷ next ∷ more) some quote second =
+    let rest : take (length (byte ∷ next ∷ more) - 2) more ≡ more = take_all _ more (omega arith) in
+    rw (quote, second, rest)
+
+-- what is found stands behind at least so many bytes
+abbrev IsBehind : ℕ → Closing → Type 0
+IsBehind least (Closed size written) = least ≤ size
+IsBehind least (Cut size) = least ≤ size
+IsBehind least Unknown = Unit {0}
+
+behind_less : (less least : ℕ) (found : Closing) → less ≤ least → IsBehind least found → IsBehind less found
+behind_less less least (Closed size written) below is = omega arith
+behind_less less least (Cut size) below is = omega arith
+behind_less less least Unknown below is = tt
+
+-- what holds of both ways of a choice holds of it
+of_choice : (P : Closing → Type 0) (test : Bool) (t u : Closing) → P t → P u → P (if test then t else u)
+of_choice P true t u first second = first
+of_choice P false t u first second = second
+
+closing_behind : (size written : ℕ) (inside : List ℕ) → IsBehind size (closing size written inside)
+closing_behind size written [] = tt
+closing_behind size written (byte ∷ []) = of_choice (IsBehind size) (byte == 13) (Cut size) Unknown (omega arith) tt
+closing_behind size written (byte ∷ next ∷ more) =
+    of_choice (IsBehind size) (byte == 13) (Cut size) _ (omega arith)
+    (of_choice (IsBehind size) (byte == 34) _ _
+    (of_choice (IsBehind size) (next == 34) _ (Closed size written)
+    (behind_less size (size + 2) _ (omega arith) (closing_behind (size + 2) (written + 1) more)) (omega arith))
+    (behind_less size (size + 1) _ (omega arith) (closing_behind (size + 1) (written + 1) (next ∷ more))))
+
+closing_within : (most size written : ℕ) (inside : List ℕ) → size + length inside ≤ most
+    → IsWithin most (closing size written inside)
+closing_within most size written [] within = tt
+closing_within most size written (byte ∷ []) within = of_choice (IsWithin most) (byte == 13) (Cut size) Unknown (omega arith) tt
+closing_within most size written (byte ∷ next ∷ more) within =
+    of_choice (IsWithin most) (byte == 13) (Cut size) _ (omega arith)
+    (of_choice (IsWithin most) (byte == 34) _ _
+    (of_choice (IsWithin most) (next == 34) _ (Closed size written)
+    (closing_within most (size + 2) (written + 1) more (omega arith)) (omega arith))
+    (closing_within most (size + 1) (written + 1) (next ∷ more) (omega arith)))
+
+-- the other is this one, where so many bytes decide this one
+abbrev ClosingHolds : ℕ → Closing → Closing → Type 0
+ClosingHolds end (Closed size written) other = size + 2 ≤ end → other ≡ Closed size written
+ClosingHolds end (Cut size) other = size + 1 ≤ end → other ≡ Cut size
+ClosingHolds end Unknown other = Unit {0}
+
+closing_beyond : (end least : ℕ) (found other : Closing) → IsBehind least found → end ≤ least → ClosingHolds end found other
+closing_beyond end least (Closed size written) other is beyond = λ seen. absurd (omega arith)
+closing_beyond end least (Cut size) other is beyond = λ seen. absurd (omega arith)
+closing_beyond end least Unknown other is beyond = tt
+
+closing_both : (end : ℕ) (test : Bool) (t u t' u' : Closing) → ClosingHolds end t t' → ClosingHolds end u u'
+    → ClosingHolds end (if test then t else u) (if test then t' else u')
+closing_both end true t u t' u' first second = first
+closing_both end false t u t' u' first second = second
+
+cut_same : (end size : ℕ) (byte : ℕ) (u u' : Closing) → ClosingHolds end u u'
+    → ClosingHolds end (if byte == 13 then Cut size else u) (if byte == 13 then Cut size else u')
+cut_same end size byte u u' rest = closing_both end (byte == 13) (Cut size) u (Cut size) u' (λ seen. refl) rest
+
+-- one byte decides of no quote and no plain byte how the text goes on
+quote_beyond : (end size written byte next : ℕ) (more : List ℕ) (other : Closing) → end ≤ size + 1
+    → ClosingHolds end
+    (if byte == 34 then (if next == 34 then closing (size + 2) (written + 1) more else Closed size written)
+    else closing (size + 1) (written + 1) (next ∷ more)) other
+quote_beyond end size written byte next more other room =
+    of_choice (λ found. ClosingHolds end found other) (byte == 34) _ _
+    (of_choice (λ found. ClosingHolds end found other) (next == 34) _ (Closed size written)
+    (closing_beyond end (size + 2) _ other (closing_behind (size + 2) (written + 1) more) (omega arith))
+    (λ seen. absurd (omega arith)))
+    (closing_beyond end (size + 1) _ other (closing_behind (size + 1) (written + 1) (next ∷ more)) (omega arith))
+
+-- behind the last byte of the front, which alone decides only the end of the line
+last_holds : (end size written byte : ℕ) (more other : List ℕ) → end ≤ size + 1
+    → ClosingHolds end (closing size written (byte ∷ more)) (closing size written (byte ∷ other))
+last_holds end size written byte [] [] room = cut_same end size byte _ _ tt
+last_holds end size written byte [] (next ∷ other) room = cut_same end size byte _ _ tt
+last_holds end size written byte (next ∷ more) [] room = cut_same end size byte _ _ (quote_beyond end size written byte next more Unknown room)
+last_holds end size written byte (next ∷ more) (second ∷ other) room =
+    cut_same end size byte _ _ (quote_beyond end size written byte next more _ room)
+
+closing_holds : (end size written : ℕ) (front more other : List ℕ) → end ≤ size + length front
+    → ClosingHolds end (closing size written (front ++ more)) (closing size written (front ++ other))
+closing_holds end size written [] more other room =
+    closing_beyond end size (closing size written more) _ (closing_behind size written more) (omega arith)
+closing_holds end size written (byte ∷ []) more other room = last_holds end size written byte more other (omega arith)
+closing_holds end size written (byte ∷ next ∷ front) more other room =
+    cut_same end size byte _ _
+    (closing_both end (byte == 34) _ _ _ _
+    (closing_both end (next == 34) _ (Closed size written) _ (Closed size written)
+    (closing_holds end (size + 2) (written + 1) front more other (omega arith)) (λ seen. refl))
+    (closing_holds end (size + 1) (written + 1) (next ∷ front) more other (omega arith)))
+
+-- from how the text goes on to the trial
+by_closing_beyond : (size at : ℕ) (found : Closing) → size ≤ 1 → LooksBeyond size (by_closing at found)
+by_closing_beyond size at (Closed length written) room =
+    holds_of_choice (LooksBeyond size) (nat_le written MOST_BYTES) _ _ (λ _. omega arith) (λ _. omega arith)
+by_closing_beyond size at (Cut length) room = omega arith
+by_closing_beyond size at Unknown room = tt
+
+by_closing_holds : (end at : ℕ) (found other : Closing) → ClosingHolds end found other
+    → Holds (1 + end) (by_closing at found) (by_closing at other)
+by_closing_holds end at (Closed size written) other holds =
+    by_test _ (nat_le (size + 2) end)
+    (λ seen. holds_same _ _ _ (let same = holds (grind (arith, nat_tests)) in rw same))
+    (λ unseen. holds_beyond _ _ _ (holds_of_choice (LooksBeyond (1 + end)) (nat_le written MOST_BYTES) _ _
+    (λ _. grind (arith, nat_tests)) (λ _. grind (arith, nat_tests))))
+by_closing_holds end at (Cut size) other holds = λ seen. let same = holds (omega arith) in rw same
+by_closing_holds end at Unknown other holds = tt
+
+by_closing_seen : (most at : ℕ) (found : Closing) → IsWithin most found → IsSeen (1 + most) (by_closing at found)
+by_closing_seen most at (Closed size written) within =
+    holds_of_choice (IsSeen (1 + most)) (nat_le written MOST_BYTES) _ _ (λ _. omega arith) (λ _. omega arith)
+by_closing_seen most at (Cut size) within = omega arith
+by_closing_seen most at Unknown within = tt
+
+by_closing_reaches : (most at : ℕ) (found : Closing) → IsWithin most found → ReachesIfAccept at (1 + most) (by_closing at found)
+by_closing_reaches most at (Closed size written) within =
+    holds_of_choice (ReachesIfAccept at (1 + most)) (nat_le written MOST_BYTES) _ _
+    (λ _. record { some = omega arith; begins = omega arith; seen = omega arith; within = omega arith }) (λ _. tt)
+by_closing_reaches most at (Cut size) within = tt
+by_closing_reaches most at Unknown within = tt
+
+-- what the first bytes decide of a quoted text they decide however the text goes on
+quoted_decided : (front more other : List ℕ) (at : ℕ) → Holds (length front) (quoted (front ++ more) at) (quoted (front ++ other) at)
+quoted_decided [] [] other at = tt
+quoted_decided [] (byte ∷ more) other at =
+    holds_beyond _ _ _ (holds_of_choice (LooksBeyond 0) (byte == 34) _ _
+    (λ _. by_closing_beyond 0 at (closing 0 0 more) (omega arith)) (λ _. omega arith))
+quoted_decided (byte ∷ front) more other at =
+    let end = closing_holds (length front) 0 0 front more other (omega arith) in
+    let decided = by_closing_holds (length front) at _ _ end in
+    let size : 1 + length front ≡ length (byte ∷ front) = omega arith in
+    holds_both (length (byte ∷ front)) (byte == 34) _ (Refuse NotQuoted 1) _ (Refuse NotQuoted 1)
+    (rw (← size) decided) (λ seen. refl)
+
+quoted_seen : (rest : List ℕ) (at : ℕ) → IsSeen (length rest) (quoted rest at)
+quoted_seen [] at = tt
+quoted_seen (byte ∷ rest) at =
+    let size : 1 + length rest ≡ length (byte ∷ rest) = omega arith in
+    let within = by_closing_seen (length rest) at _ (closing_within (length rest) 0 0 rest (omega arith)) in
+    holds_of_choice (IsSeen (length (byte ∷ rest))) (byte == 34) _ _ (λ _. rw (← size) within) (λ _. omega arith)
+
+pub quoted_is_local : IsLocal quoted
+quoted_is_local = is_local quoted quoted_decided quoted_seen
+
+quoted_reaches_if : (rest : List ℕ) (at : ℕ) → ReachesIfAccept at (length rest) (quoted rest at)
+quoted_reaches_if [] at = tt
+quoted_reaches_if (byte ∷ rest) at =
+    let size : 1 + length rest ≡ length (byte ∷ rest) = omega arith in
+    let reached = by_closing_reaches (length rest) at _ (closing_within (length rest) 0 0 rest (omega arith)) in
+    holds_of_choice (ReachesIfAccept at (length (byte ∷ rest))) (byte == 34) _ _ (λ _. rw (← size) reached) (λ _. tt)
+
+-- an accepted quoted text ends in the text, and the byte behind it was looked at
+pub quoted_reaches : (rest : List ℕ) (at : ℕ) (value : Value) (looked end : ℕ) → quoted rest at ≡ Accept value looked end
+    → Reaches at (length rest) looked end
+quoted_reaches rest at value looked end is = reaches_accepted at (length rest) (quoted rest at) value looked end (quoted_reaches_if rest at) is
