@@ -24,8 +24,8 @@ fn are_name_bytes(name: &[u8]) -> bool
     name.iter().all(|byte| is_name(*byte))
 }
 
-/// Whether a name can be given a directory to stand for: 1 to 39 name bytes that begin with a letter, and not PS,
-/// DSK or TTY, which are devices. Letters have no case.
+/// Whether a name can be given a directory to stand for: 1 to 39 name bytes that begin with a letter, and not
+/// PS, DSK or TTY, which are devices. Letters have no case.
 #[tactic(auto, unfolding(crate::specs::LogicalName::is_logical_name))]
 pub fn is_logical_name(name: &[u8]) -> bool
     ensures { result ≡ is_logical_name name.now }

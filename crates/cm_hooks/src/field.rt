@@ -1,4 +1,4 @@
-// A field that a stored function judges.
+// A field that a hook judges.
 ghost use Rattle.std.specs.Prelude.{◌≡◌, ◌<◌, ◌≤◌, drop, length};
 ghost use Rattle.std.specs.List.{prefix_len};
 ghost use Rattle.cm_text.specs.Bytes.{is_name};
@@ -17,7 +17,7 @@ fn run_len(text: &[u8]) -> usize
     text.iter().take_while(|byte| is_name(**byte)).count()
 }
 
-// What the function with this id makes of a run.
+// What the hook with this id makes of a run.
 #[tactic(auto, unfolding(crate::specs::Field::hook_of))]
 fn hook_of<R: Rules>(hooks: &Hooks<R>, id: u8, run: &[u8]) -> Result<Value, Code>
     requires hooks { Ties R.meanings hooks.now }
@@ -34,8 +34,8 @@ fn hook_of<R: Rules>(hooks: &Hooks<R>, id: u8, run: &[u8]) -> Result<Value, Code
     }
 }
 
-/// A field that the program judges: a run of name bytes to which its function with this id says Yes. Refused with
-/// NoField where the run is empty, with Rejected where the function says No.
+/// A field of the program's own: a run of name bytes that its hook with this id takes. Refused with NoField
+/// where the run is empty, with Rejected where the hook says No.
 pub fn hook_field<R: Rules>(hooks: &Hooks<R>, id: u8, text: &[u8], at: usize) -> Try
     requires hooks { Ties R.meanings hooks.now }
     requires id { id < count hooks.now }

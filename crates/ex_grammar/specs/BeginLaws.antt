@@ -44,11 +44,14 @@ begins_whole text other begins =
     let parts : lower (take (length other) text) ++ lower (drop (length other) text) ≡ lower text =
     sym (map-append to_ascii_lowercase (take (length other) text) (drop (length other) text))
     ∙ ap lower (take-append-drop (length other) text) in
-    let joined : lower other ++ lower (drop (length other) text) ≡ lower text = rw (← begins_same text other begins) parts in
-    same_begins text whole (ap lower all ∙ sym joined ∙ sym (map-append to_ascii_lowercase other (drop (length other) text)))
+    let joined : lower other ++ lower (drop (length other) text) ≡ lower text =
+    rw (← begins_same text other begins) parts in
+    same_begins text whole
+    (ap lower all ∙ sym joined ∙ sym (map-append to_ascii_lowercase other (drop (length other) text)))
 
 -- a text that does not begin with another does not begin with what is longer
-pub begins_longer : (text other more : List ℕ) → begins_with text other ≡ false → begins_with text (other ++ more) ≡ false
+pub begins_longer : (text other more : List ℕ) → begins_with text other ≡ false
+    → begins_with text (other ++ more) ≡ false
 begins_longer text other more begins = by (begins_with text (other ++ more)) refl
   where
     shorter : begins_with text (other ++ more) ≡ true → begins_with text other ≡ true
@@ -56,7 +59,8 @@ begins_longer text other more begins = by (begins_with text (other ++ more)) ref
         let same = ap (take (length other)) (begins_same text (other ++ more) longer) in
         let within : length other ≤ length (other ++ more) = simp length-append (omega arith) in
         let size = length-map other to_ascii_lowercase in
-        let first : take (length other) (lower (take (length (other ++ more)) text)) ≡ lower (take (length other) text) =
+        let first : take (length other) (lower (take (length (other ++ more)) text))
+        ≡ lower (take (length other) text) =
         take-map to_ascii_lowercase (length other) (take (length (other ++ more)) text)
         ∙ ap lower (take-take (length other) (length (other ++ more)) text within) in
         let second : take (length other) (lower (other ++ more)) ≡ lower other =

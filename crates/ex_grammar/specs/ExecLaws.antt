@@ -1,11 +1,10 @@
--- What the EXEC's own functions complete they take.
-use Rattle.std.proofs.Common.{◌≡◌, ℕ, ◌+◌, ◌<◌, ◌≤◌, Bool, true, false, cond, not, ◌&&◌, ◌==◌, List, [], ◌∷◌, ◌++◌, length, take, drop, codes, zero, suc, refl, arith, subst, sym, length-append}
+-- What the EXEC's hooks complete whole they take.
+use Rattle.std.proofs.Common.{◌≡◌, ℕ, ◌<◌, ◌≤◌, Bool, true, false, cond, ◌&&◌, ◌==◌, List, [], ◌∷◌, ◌++◌, length, take, drop, codes, zero, suc, refl, arith, subst, length-append}
 use Rattle.std.specs.List.{list_all}
 use Rattle.std.proofs.lemmas.Bool.Decides.{nat_tests}
 use Rattle.cm_text.specs.Bytes.{is_name, is_word}
 use Rattle.cm_text.specs.Case.{begins_with}
-use Rattle.cm_hooks.specs.declared.answer.Answer.{Answer}
-use Rattle.cm_hooks.specs.declared.answer.Answer.TheVariants.{Yes, No}
+use Rattle.cm_hooks.specs.declared.answer.Answer.TheVariants.{Yes}
 use Rattle.cm_hooks.specs.declared.answer.Tail.TheVariants as tails
 use Rattle.cm_hooks.specs.Meanings.{Completes, IsLawful, IsTaken, IsYes}
 use Rattle.ex_grammar.specs.BeginLaws.{begins_longer, begins_whole, length-whole}
@@ -62,7 +61,8 @@ wide_is_name = refl
 
 -- an atom is taken that is not empty and with which one form begins
 taken : (atom : List ℕ) (a b c : Bool) (number : ℕ) → 0 < length atom → begins_with narrow atom ≡ a
-    → begins_with normal atom ≡ b → begins_with wide atom ≡ c → only (passing a b c) ≡ Yes number → IsYes (form_verdict atom)
+    → begins_with normal atom ≡ b → begins_with wide atom ≡ c → only (passing a b c) ≡ Yes number
+    → IsYes (form_verdict atom)
 unfolding form_verdict
 taken atom a b c number some is_narrow is_normal is_wide one =
     let full : (length atom == 0) ≡ false = grind (arith, nat_tests) in
@@ -71,7 +71,8 @@ taken atom a b c number some is_narrow is_normal is_wide one =
 -- so it is of an atom with the rest of the form
 whole_taken : (form atom : List ℕ) (a b c : Bool) (number : ℕ) → 0 < length atom → length form ≤ 255
     → begins_with form atom ≡ true
-    → begins_with narrow (atom ++ drop (length atom) form) ≡ a → begins_with normal (atom ++ drop (length atom) form) ≡ b
+    → begins_with narrow (atom ++ drop (length atom) form) ≡ a
+    → begins_with normal (atom ++ drop (length atom) form) ≡ b
     → begins_with wide (atom ++ drop (length atom) form) ≡ c → only (passing a b c) ≡ Yes number
     → IsTaken form_verdict (atom ++ drop (length atom) form)
 whole_taken form atom a b c number some short begins is_narrow is_normal is_wide one =
@@ -83,8 +84,8 @@ whole_taken form atom a b c number some short begins is_narrow is_normal is_wide
     }
 
 -- whichever forms begin with an atom
-completes_by : (atom : List ℕ) (a b c : Bool) → 0 < length atom → begins_with narrow atom ≡ a → begins_with normal atom ≡ b
-    → begins_with wide atom ≡ c → Completes form_verdict atom (goes_on (rests (length atom) (passing a b c)))
+completes_by : (atom : List ℕ) (a b c : Bool) → 0 < length atom → begins_with narrow atom ≡ a
+    → begins_with normal atom ≡ b → begins_with wide atom ≡ c → Completes form_verdict atom (goes_on (rests (length atom) (passing a b c)))
 completes_by atom false false false some is_narrow is_normal is_wide = tt
 completes_by atom true false false some is_narrow is_normal is_wide = (
   list_all-drop is_name (length atom) narrow narrow_is_name,

@@ -54,7 +54,8 @@ fn shared<'a>(other: &[u8], text: &'a str) -> &'a str
 fn with_form(tail: Tail, form: &str, atom: &[u8]) -> Tail
     requires short { length form.now ≤ 39 }
     requires ascii { IsAscii form.now }
-    ensures { result ≡ (if begins_with form.now atom.now then joined tail (drop (length atom.now) form.now) else tail) }
+    ensures { result ≡
+        (if begins_with form.now atom.now then joined tail (drop (length atom.now) form.now) else tail) }
 {
     if !begins_with(form.as_bytes(), atom) {
         return tail;

@@ -4,8 +4,8 @@ ghost use Rattle.std.specs.Prelude.{◌≡◌};
 use super::*;
 use std::process::Abort;
 
-// Directories OPERATOR, which is connected, and SMITH; SYS stands for SMITH; A.FOR.1, A.FOR.2, which is marked deleted,
-// and AB.TXT.1 in OPERATOR, and HELLO..7 in SMITH.
+// Directories OPERATOR, which is connected, and SMITH; SYS stands for SMITH; A.FOR.1, A.FOR.2, which is
+// marked deleted, and AB.TXT.1 in OPERATOR, and HELLO..7 in SMITH.
 struct Sample;
 
 impl Names for Sample {

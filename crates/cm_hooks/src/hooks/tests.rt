@@ -1,4 +1,4 @@
-// Stored functions over a small set of meanings.
+// Hooks over a small set of meanings.
 ghost use Rattle.std.specs.Prelude.{◌≡◌, ◌+◌, ◌==◌, ◌≤◌, [], ◌∷◌, if◌then◌else◌, length};
 ghost use Rattle.cm_hooks.specs.Ties.{Ties, count};
 
@@ -37,7 +37,7 @@ fn answers_by_id(rt: &impl Abort, hooks: &Hooks<Sample>)
     assert_eq!(rt; hooks.help(15).as_str(), "X");
 }
 
-// What the function with the id 2 makes of texts.
+// What the hook with the id 2 makes of texts.
 fn judges_fields(rt: &impl Abort, hooks: &Hooks<Sample>)
     requires hooks { Ties ⟦<Sample as Rules>⟧.meanings hooks.now }
     requires all { count hooks.now ≡ 16 }
@@ -72,7 +72,7 @@ fn refused(code: Code, looked: u16) -> Try {
 fn hooks_are_held_in_the_order_of_their_ids(rt: HostRuntime) -> Result<(), Fail> {
     let alloc = rt.alloc();
     let mut hooks: Hooks<Sample> = Hooks::new();
-    // The seventeenth is refused, with the id that is next too.
+    // The seventeenth is refused, whichever its id.
     let ids = [
         1, 0, 0, 2, 1, 2, 3, 4, 5, 6, 7, 8, 9, 10, 11, 12, 13, 14, 16, 15, 16, 15,
     ];
@@ -80,7 +80,8 @@ fn hooks_are_held_in_the_order_of_their_ids(rt: HostRuntime) -> Result<(), Fail>
         let id = *id;
         let held = hooks.len();
         let verdict = move |atom: &[u8]| -> Answer
-            ensures { result ≡ (if length atom.now == 3 then Answer.No else Answer.Yes (length atom.now + id)) }
+            ensures { result ≡
+                (if length atom.now == 3 then Answer.No else Answer.Yes (length atom.now + id)) }
         {
             match atom.len() {
                 3 => Answer::No,

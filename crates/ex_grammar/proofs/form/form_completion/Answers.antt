@@ -1,4 +1,4 @@
-use Rattle.std.proofs.Common.{◌≡◌, length, codes}
+use Rattle.std.proofs.Common.{length, codes}
 use Rattle.cm_text.specs.Case.{begins_with}
 use Rattle.ex_grammar.specs.FormName.{form_completion}
 use Rattle.ex_grammar.proofs.Joining.{joined_three}
