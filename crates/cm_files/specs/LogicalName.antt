@@ -14,4 +14,4 @@ begins_with_letter (byte ∷ more) = is_ascii_alphabetic byte
 unfoldable pub is_logical_name : List ℕ → Bool
 is_logical_name name =
     nat_le (length name) 39 && begins_with_letter name && list_all is_name name
-        && not (equals name (codes "PS")) && not (equals name (codes "DSK")) && not (equals name (codes "TTY"))
+    && not (equals name (codes "PS")) && not (equals name (codes "DSK")) && not (equals name (codes "TTY"))

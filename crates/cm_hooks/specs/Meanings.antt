@@ -1,4 +1,4 @@
--- What the functions of a program's own mean: for each id and atom a verdict and a completion, for each id a help text.
+-- What hooks mean: for each id and atom a verdict and a completion, for each id a help text.
 use Rattle.std.specs.Prelude.{ℕ, ◌≡◌, ◌≤◌, ◌++◌, true, List, length}
 use Rattle.std.specs.List.{list_all}
 use Rattle.cm_text.specs.Bytes.{is_name}
@@ -31,4 +31,5 @@ Completes verdict atom (tails.Whole text) = (list_all is_name text ≡ true) × 
 
 -- so it is for each id and each atom of at most 255 bytes
 pub record IsLawful (meanings : Meanings) : Type 0 where
-  pub completes : (id : ℕ) (atom : List ℕ) → length atom ≤ 255 → Completes (meanings.verdict id) atom (meanings.completion id atom)
+  pub completes : (id : ℕ) (atom : List ℕ) → length atom ≤ 255
+      → Completes (meanings.verdict id) atom (meanings.completion id atom)

@@ -1,4 +1,4 @@
-// A stored function.
+// One hook.
 ghost use Rattle.std.specs.Prelude.{◌≡◌, ◌≤◌, List, ℕ, length};
 
 use crate::{Answer, Rules, Tail};
@@ -11,7 +11,8 @@ type Completions = Box<dyn Fn(&[u8]) -> Tail>;
 
 type Helps = Box<dyn Fn() -> Name>;
 
-/// A function of a program's own.
+/// What a program stores for one kind of field of its own, under an id: functions that judge an atom,
+/// complete one, and give the help text. `R` says what the three mean.
 #[derive(Drop)]
 pub struct Hook<R> {
     id: u8,
@@ -27,6 +28,8 @@ pub struct Hook<R> {
 impl<R: Rules> Hook<R> {
     ghost use Rattle.cm_hooks.specs.Ties.{Answers, IsCallable, IsTied, id_of};
 
+    /// The hook with these functions. Each may be called on every atom of at most 255 bytes, and answers what
+    /// is meant by the id.
     pub fn new(id: u8, verdict: Verdicts, completion: Completions, help: Helps) -> Hook<R>
         requires verdict { IsCallable (Verdicts.pre verdict) }
         requires completion { IsCallable (Completions.pre completion) }
@@ -53,7 +56,7 @@ impl<R: Rules> Hook<R> {
         self.id
     }
 
-    // What it says of an atom.
+    // Whether it takes an atom.
     pub(crate) fn judge(&self, atom: &[u8]) -> Answer
         requires ties { IsTied R.meanings self.now }
         requires short { length atom.now ≤ 255 }
