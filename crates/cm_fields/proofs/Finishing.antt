@@ -80,14 +80,14 @@ same_finishes : (phrase line : List ℕ) → has_no_end phrase ≡ true
     → common_prefix_len same_letter phrase (line ++ 13 ∷ []) ≤ length line
 same_finishes [] line plain = omega arith
 same_finishes (letter ∷ phrase) [] plain = by (same_letter letter 13) (first_true _ _ plain)
-    where
+  where
     by : (test : Bool) → not test ≡ true → cond test (1 + common_prefix_len same_letter phrase []) 0 ≤ 0
     by true is = cc
     by false is = omega arith
 same_finishes (letter ∷ phrase) (byte ∷ line) plain =
     run_one (same_letter letter byte) (length line) (common_prefix_len same_letter phrase (line ++ 13 ∷ []))
     (same_finishes phrase line (rest_true (not (same_letter letter 13)) _ plain))
-    where
+  where
     rest_true : (a b : Bool) → (a && b) ≡ true → b ≡ true
     rest_true true b is = is
     rest_true false b is = cc

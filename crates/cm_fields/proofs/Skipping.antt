@@ -125,7 +125,7 @@ finds_before_end : (raw : Bool) (comment : Comment) (at : ℕ) (rest : List ℕ)
 finds_before_end raw comment at [] =
     record { place = at; is = rw (end_not_passed raw comment) refl; behind = omega arith; within = omega arith }
 finds_before_end raw comment at (byte ∷ rest) = by (passed raw comment byte) (λ next. finds_before_end raw next (at + 1) rest)
-    where
+  where
     by : (next : Option Comment) → ((next : Comment) → IsFound (skip_from raw next (at + 1) (rest ++ 13 ∷ [])) (at + 1) (at + 1 + length rest))
         → IsFound (or_later at next (λ next. skip_from raw next (at + 1) (rest ++ 13 ∷ []))) at (at + length (byte ∷ rest))
     by None later = record { place = at; is = refl; behind = omega arith; within = omega arith }
