@@ -9,7 +9,6 @@ use Rattle.cm_blocks.specs.Fault.{grammar_fault}
 use Rattle.cm_blocks.specs.Kept.{BeginsWith, common, cost, cost_behind, kept, needing}
 use Rattle.cm_blocks.specs.Parse.{IsClosed, IsParse, Parse, parse_of}
 use Rattle.cm_blocks.specs.Setting.{Setting}
-use Rattle.cm_blocks.specs.Taken.{Taken}
 use Rattle.cm_blocks.proofs.Closing.{finished_closes}
 use Rattle.cm_blocks.proofs.Parsing.{parse_of_parses}
 use Rattle.cm_blocks.proofs.Standing.{kept_begins}

@@ -1,5 +1,5 @@
 -- A parse that goes on behind fields: one field more, or its end.
-use Rattle.std.proofs.Common.{◌≡◌, ℕ, zero, suc, ◌+◌, ◌-◌, ◌<◌, ◌≤◌, List, [], ◌∷◌, ◌++◌, length, refl, ap, sym, ◌∙◌, append_assoc, append-nil, arith, length-append}
+use Rattle.std.proofs.Common.{◌≡◌, ℕ, zero, suc, ◌+◌, ◌-◌, ◌<◌, List, [], ◌∷◌, ◌++◌, length, refl, ap, sym, ◌∙◌, append_assoc, append-nil, arith, length-append}
 use Rattle.cm_blocks.specs.declared.field.Chain.{Chain}
 use Rattle.cm_blocks.specs.declared.field.Chain.TheVariants as chain
 use Rattle.cm_blocks.specs.declared.field.Ending.{Ending}

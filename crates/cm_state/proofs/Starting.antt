@@ -1,12 +1,11 @@
 -- What a session holds that is ready for a key, and which fields a parse of the new text begins with.
-use Rattle.std.proofs.Common.{◌≡◌, ℕ, ◌-◌, ◌<◌, ◌≤◌, ◌==◌, ◌&&◌, nat_le, nat_lt, Bool, true, false, if◌then◌else◌, List, [], ◌∷◌, length, Option, None, refl, ap, sym, subst, ◌∙◌, arith}
-use Rattle.std.specs.List.{common_prefix_len}
+use Rattle.std.proofs.Common.{◌≡◌, ℕ, ◌<◌, ◌==◌, ◌&&◌, nat_le, nat_lt, Bool, true, false, if◌then◌else◌, List, [], length, Option, None, refl, ap, sym, subst, arith}
 use Rattle.std.proofs.lemmas.Bool.Decides.{nat_tests}
 use Rattle.std.proofs.lemmas.List.Sums.{common_prefix_len-le}
 use Rattle.cm_blocks.specs.declared.fault.TheConstants.{NODE_LIMIT, TABLE_LIMIT}
-use Rattle.cm_blocks.specs.Fault.{grammar_fault, has_size}
+use Rattle.cm_blocks.specs.Fault.{grammar_fault}
 use Rattle.cm_blocks.specs.Grammar.{Graph}
-use Rattle.cm_blocks.specs.Kept.{common, cost, cost_behind, kept, needing}
+use Rattle.cm_blocks.specs.Kept.{cost, cost_behind, kept, needing}
 use Rattle.cm_blocks.specs.Parse.{IsParse, Parse, open_at, parse_of}
 use Rattle.cm_blocks.specs.Setting.{Setting}
 use Rattle.cm_blocks.specs.Taken.{Taken}

@@ -1,5 +1,4 @@
-use Rattle.std.proofs.Common.{◌≡◌, ◌+◌, ◌-◌, ◌<◌, ◌≤◌, length, sym, ◌∙◌, arith, length-append, [], ◌∷◌}
-use Rattle.cm_blocks.specs.declared.field.Chain.TheVariants as chain
+use Rattle.std.proofs.Common.{◌-◌, ◌<◌, length, sym, ◌∙◌, arith, length-append, [], ◌∷◌}
 use Rattle.cm_blocks.specs.declared.field.TheConstants.{FIELD_LIMIT}
 use Rattle.cm_blocks.specs.Setting.{setting}
 use Rattle.cm_state.proofs.Going.{ends_there, turns}

@@ -1,4 +1,4 @@
-use Rattle.std.proofs.Common.{◌+◌, ℕ, ap, refl, rules, ◌∙◌, arith}
+use Rattle.std.proofs.Common.{◌+◌, ℕ, ap, refl, ◌∙◌, arith}
 use Rattle.cm_blocks.specs.Setting.{setting}
 use Rattle.cm_state.proofs.Editing.{takes, trimmed_starts, trims}
 use Rattle.cm_state.proofs.session.Session.take.Goals as goal

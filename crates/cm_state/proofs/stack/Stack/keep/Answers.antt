@@ -1,4 +1,4 @@
-use Rattle.std.proofs.Common.{ℕ, ◌≤◌, length, arith, sym, ◌∙◌, ap}
+use Rattle.std.proofs.Common.{arith, ◌∙◌, ap}
 use Rattle.cm_blocks.specs.Kept.{needing}
 use Rattle.cm_state.proofs.Stacking.{cut}
 use Rattle.cm_state.proofs.stack.Stack.keep.Goals as goal
