@@ -1,8 +1,8 @@
-mod Closing
 mod Editing
+mod Fronts
+mod Going
 mod Lines
 mod Logging
-mod Parsing
 pub mod Putting
+mod Stacking
 mod Starting
-mod Tables
