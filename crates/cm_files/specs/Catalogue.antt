@@ -1,11 +1,12 @@
--- A catalogue: directories, the connected one, logical names and the rows of files, each a flat list in ascending order.
-use Rattle.std.specs.Prelude.{ℕ, ◌≡◌, ◌<◌, ◌==◌, Bool, true, false, not, ◌&&◌, nat_lt, nat_le, List, [], ◌∷◌, length, filter, find, Option}
+-- A catalogue: directories, the connected one, logical names and files, each a flat list in ascending order.
+use Rattle.std.specs.Prelude.{ℕ, ◌≡◌, ◌<◌, ◌==◌, Bool, true, not, ◌&&◌, nat_lt, nat_le, List, [], ◌∷◌, length, filter, find, Option}
 use Rattle.std.specs.Char.{is_ascii_lowercase}
 use Rattle.std.specs.Cmp.Lexicographic.{slice_cmp}
 use Rattle.std.specs.List.{list_all, slice_split}
 use Rattle.std.specs.Option.{option_map}
 use Rattle.std.specs.Ordering.{is_lt, nat_cmp, on, then_cmp}
 use Rattle.std.specs.declared.cmp.Ordering.{Ordering}
+use Rattle.cm_text.specs.declared.name.TheConstants.{NAME_LIMIT}
 use Rattle.cm_text.specs.Bytes.{is_name}
 use Rattle.cm_text.specs.Case.{equals}
 use Rattle.cm_files.specs.declared.row.FileRow.{FileRow}
@@ -13,7 +14,8 @@ use Rattle.cm_files.specs.declared.row.LogicalName.{LogicalName}
 use Rattle.cm_files.specs.declared.row.Row.{Row}
 use Rattle.cm_files.specs.LogicalName.{is_logical_name}
 
--- the names of directories, by number; the number of the connected one; what logical names stand for; the files
+-- the names of directories, by number; the number of the connected one; what logical names stand for; the
+-- files
 pub record Catalogue : Type 0 where
   pub directories : List (List ℕ)
   pub connected : ℕ
@@ -31,7 +33,13 @@ logical_of c name = option_map (λ entry. entry.directory) (find (λ entry. equa
 -- a row as a catalogue has it, of this directory
 abbrev pub row_of : ℕ → Row → FileRow
 row_of directory row =
-    record { directory = directory; name = row.name.now; kind = row.kind.now; generation = row.generation; deleted = row.deleted }
+    record {
+      directory = directory;
+      name = row.name.now;
+      kind = row.kind.now;
+      generation = row.generation;
+      deleted = row.deleted;
+    }
 
 -- each stands below the next
 abbrev pub ascends : {X : Type 0} → (X → X → Ordering) → List X → Bool
@@ -47,28 +55,31 @@ by_bytes = slice_cmp nat_cmp
 abbrev pub by_file : FileRow → FileRow → Ordering
 by_file =
     then_cmp (on (λ row. row.directory) nat_cmp) (then_cmp (on (λ row. row.name) by_bytes)
-        (then_cmp (on (λ row. row.kind) by_bytes) (on (λ row. row.generation) nat_cmp)))
+    (then_cmp (on (λ row. row.kind) by_bytes) (on (λ row. row.generation) nat_cmp)))
 
 -- name bytes with no small letter
 abbrev pub is_upper_name : List ℕ → Bool
 is_upper_name = list_all (λ byte. is_name byte && not (is_ascii_lowercase byte))
 
--- 1 to 39 bytes: parts with single points between, none of them empty
+-- at most 39 bytes: parts that are not empty, with single points between
 abbrev pub is_directory_name : List ℕ → Bool
 is_directory_name name =
-    nat_le (length name) 39
-        && list_all (λ part. nat_lt 0 (length part) && is_upper_name part) (slice_split (λ byte. byte == 46) name)
+    nat_le (length name) NAME_LIMIT
+    && list_all (λ part. nat_lt 0 (length part) && is_upper_name part) (slice_split (λ byte. byte == 46) name)
 
+-- a file of one of so many directories: a name of 1 to 39 bytes, a type of at most 39, a generation from 1 to 131071
 abbrev pub is_row : ℕ → FileRow → Bool
 is_row directories row =
-    nat_lt row.directory directories && nat_lt 0 (length row.name) && nat_le (length row.name) 39 && is_upper_name row.name
-        && nat_le (length row.kind) 39 && is_upper_name row.kind && nat_lt 0 row.generation && nat_le row.generation 131071
+    nat_lt row.directory directories && nat_lt 0 (length row.name) && nat_le (length row.name) NAME_LIMIT
+    && is_upper_name row.name && nat_le (length row.kind) NAME_LIMIT && is_upper_name row.kind
+    && nat_lt 0 row.generation && nat_le row.generation 131071
 
+-- a logical name that stands for one of so many directories
 abbrev pub is_logical : ℕ → LogicalName → Bool
 is_logical directories entry =
     nat_lt entry.directory directories && is_logical_name entry.name && is_upper_name entry.name
 
--- names, types and generations have their forms, each list ascends, and each number of a directory is in range
+-- names, types and generations have their forms, each list ascends, and each directory meant is there
 pub record IsCatalogue (c : Catalogue) : Type 0 where
   pub directories_ascend : ascends by_bytes c.directories ≡ true
   pub directory_names : list_all is_directory_name c.directories ≡ true

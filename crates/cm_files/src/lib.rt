@@ -1,4 +1,4 @@
-//! File specifications and the catalogue that they are looked up in.
+//! The catalogue that file specifications are looked up in, and logical names.
 #![tactic(auto)]
 
 mod flags;

@@ -4,9 +4,9 @@ ghost use Rattle.cm_files.specs.Catalogue.{Catalogue, IsCatalogue, logical_of, r
 
 use crate::Row;
 
-/// The names that a file specification may mean. Directories, logical names and files are each in ascending order of
-/// their bytes, a beginning before what is longer, and none stands twice; generations ascend by value. Each name has
-/// its form, in upper case.
+/// The names that a file specification may mean. Directories, logical names and files are each in ascending
+/// order of their bytes, a beginning before what is longer, and none stands twice; generations ascend by
+/// value. Each name has its form, in upper case.
 pub trait Names {
     ghost catalogue: { Self → Catalogue };
 
@@ -25,8 +25,8 @@ pub trait Names {
         ensures value { result ≡ (catalogue self.now).connected }
         ensures within { result < length (catalogue self.now).directories };
 
-    /// The number of the directory that a logical name stands for, with no regard to the case of letters. None where
-    /// there is no such logical name.
+    /// The number of the directory that a logical name stands for, with no regard to the case of letters.
+    /// None where there is no such logical name.
     fn logical(&self, name: &[u8]) -> Option<u16>
         ensures value { result ≡ logical_of (catalogue self.now) name.now }
         ensures within { IfSome result (λ directory. directory < length (catalogue self.now).directories) };
@@ -42,3 +42,6 @@ pub trait Names {
         requires row { i < length (rows_of (catalogue self.now) directory) }
         ensures { slice_get (rows_of (catalogue self.now) directory) i ≡ Some (row_of directory result) };
 }
+
+#[cfg(test)]
+mod tests;

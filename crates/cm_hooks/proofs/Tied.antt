@@ -1,5 +1,5 @@
 -- Lists of hooks that answer what is meant.
-use Rattle.std.proofs.Common.{◌≡◌, ℕ, zero, suc, ◌+◌, ◌<◌, List, [], ◌∷◌, ◌++◌, length, get_or, Option, Some, None, arith, subst, sym}
+use Rattle.std.proofs.Common.{◌≡◌, ℕ, zero, suc, ◌+◌, ◌<◌, List, [], ◌∷◌, ◌++◌, length, get_or, Option, Some, arith, subst, sym}
 use Rattle.std.specs.Borrow.{Bor}
 use Rattle.std.specs.Fn.{Mut}
 use Rattle.cm_hooks.specs.declared.answer.Answer.{Answer}
@@ -12,7 +12,6 @@ module _ {R I J K : Type 0} {F : I → Type 0} {G : J → Type 0} {H : K → Typ
     {v : Mut ((i : I) × F i) (Bor (List ℕ) × Unit {0}) Answer}
     {c : Mut ((j : J) × G j) (Bor (List ℕ) × Unit {0}) Tail}
     {h : Mut ((k : K) × H k) (Unit {0}) (List ℕ)} where
-
   -- so it is at any place of them
   tied-at : (meanings : Meanings) (id : ℕ) (hooks : List (Option (Hook R I J K F G H v c h))) (i : ℕ)
       (other : Option (Hook R I J K F G H v c h)) → i < length hooks → AreTied meanings id hooks
@@ -33,7 +32,7 @@ module _ {R I J K : Type 0} {F : I → Type 0} {G : J → Type 0} {H : K → Typ
       let here : hook ≡ get_or hooks id hook = rw (← same, ← place) is in
       let there : 0 + id ≡ id = omega arith in
       subst (λ x. IsTiedAt meanings id x) (sym here)
-          (subst (λ n. IsTiedAt meanings n (get_or hooks id hook)) there (tied-at meanings 0 hooks id hook within ties))
+      (subst (λ n. IsTiedAt meanings n (get_or hooks id hook)) there (tied-at meanings 0 hooks id hook within ties))
 
   -- one more, with the next id
   pub tied-append : (meanings : Meanings) (id : ℕ) (hooks : List (Option (Hook R I J K F G H v c h)))

@@ -1,4 +1,4 @@
--- A field that a function of the program's own judges.
+-- A field that a hook judges.
 use Rattle.std.specs.Prelude.{ℕ, ◌==◌, if◌then◌else◌, List, length, Result, Ok, Err}
 use Rattle.cm_text.specs.Bytes.{is_name}
 use Rattle.cm_fields.specs.declared.code.Code.{Code}
@@ -10,7 +10,7 @@ use Rattle.cm_fields.specs.Try.{by_run}
 use Rattle.cm_hooks.specs.declared.answer.Answer.{Answer}
 use Rattle.cm_hooks.specs.declared.answer.Answer.TheVariants.{Yes, No}
 
--- what the answer of the function with this id makes of the field
+-- what the answer of the hook with this id makes of the field
 abbrev pub judged : ℕ → Answer → Result Value Code
 judged id (Yes value) = Ok (values.Hook id value)
 judged id No = Err Rejected

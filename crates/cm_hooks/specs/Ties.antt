@@ -1,7 +1,9 @@
--- The stored functions answer what a set of meanings says.
+-- Hooks answer what a set of meanings says. A hook in an antt file has a type for each of its boxed
+-- functions, and what those may be called on and answer (v, c, h).
 use Rattle.std.specs.Prelude.{ℕ, ◌≡◌, ◌+◌, ◌≤◌, List, [], ◌∷◌, length, Option, Some, None}
 use Rattle.std.specs.Borrow.{Bor}
 use Rattle.std.specs.Fn.{Mut}
+use Rattle.cm_text.specs.declared.text.TheConstants.{LINE_LIMIT}
 use Rattle.cm_hooks.specs.declared.answer.Answer.{Answer}
 use Rattle.cm_hooks.specs.declared.answer.Tail.{Tail}
 use Rattle.cm_hooks.specs.declared.hook.Hook.{Hook}
@@ -10,28 +12,30 @@ use Rattle.cm_hooks.specs.Meanings.{Meanings}
 
 -- it may be called on each atom of at most 255 bytes
 abbrev pub IsCallable : (Bor (List ℕ) → Type 0) → Type 0
-IsCallable pre = (atom : Bor (List ℕ)) → length atom.now ≤ 255 → pre atom
+IsCallable pre = (atom : Bor (List ℕ)) → length atom.now ≤ LINE_LIMIT → pre atom
 
 -- what it answers to each atom of at most 255 bytes is what is meant
 abbrev pub Answers : {A : Type 0} → (Bor (List ℕ) → A → Type 0) → (List ℕ → A) → Type 0
 Answers {A} post meaning =
-    (atom : Bor (List ℕ)) → length atom.now ≤ 255 → (answer : A) → post atom answer → answer ≡ meaning atom.now
+    (atom : Bor (List ℕ)) → length atom.now ≤ LINE_LIMIT → (answer : A) → post atom answer
+    → answer ≡ meaning atom.now
 
 module _ {R I J K : Type 0} {F : I → Type 0} {G : J → Type 0} {H : K → Type 0}
     {v : Mut ((i : I) × F i) (Bor (List ℕ) × Unit {0}) Answer}
     {c : Mut ((j : J) × G j) (Bor (List ℕ) × Unit {0}) Tail}
     {h : Mut ((k : K) × H k) (Unit {0}) (List ℕ)} where
-
   -- the id of a hook
   abbrev pub id_of : Hook R I J K F G H v c h → ℕ
   id_of hook = hook.id
 
   -- its three functions answer what is meant by its id
   pub record IsTied (meanings : Meanings) (hook : Hook R I J K F G H v c h) : Type 0 where
-    pub verdict : Answers (λ atom. v.post (hook.verdict.vtable, hook.verdict.value) (atom, tt)) (meanings.verdict hook.id)
-    pub completion :
-        Answers (λ atom. c.post (hook.completion.vtable, hook.completion.value) (atom, tt)) (meanings.completion hook.id)
-    pub help : (text : List ℕ) → h.post (hook.help.vtable, hook.help.value) tt text → text ≡ meanings.help hook.id
+    pub verdict :
+        Answers (λ atom. v.post (hook.verdict.vtable, hook.verdict.value) (atom, tt)) (meanings.verdict hook.id)
+    pub completion : Answers (λ atom. c.post (hook.completion.vtable, hook.completion.value) (atom, tt))
+        (meanings.completion hook.id)
+    pub help : (text : List ℕ) → h.post (hook.help.vtable, hook.help.value) tt text
+        → text ≡ meanings.help hook.id
 
   -- the hooks, each at its place
   abbrev pub held : Hooks R I J K F G H v c h → List (Option (Hook R I J K F G H v c h))

@@ -1,11 +1,11 @@
-// What a function of a program's own answers.
+// What a hook answers.
 
 use cm_text::Name;
 
-/// Whether a field is taken.
+/// Whether an atom is taken as a field.
 #[derive(Clone, Copy, Debug, PartialEq, Eq)]
 pub enum Answer {
-    /// It is, with this value.
+    /// It is, and stands for this value.
     Yes(u64),
     /// It is not.
     No,

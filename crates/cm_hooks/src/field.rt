@@ -1,4 +1,4 @@
-// A field that a stored function judges.
+// A field that a hook judges.
 ghost use Rattle.std.specs.Prelude.{◌≡◌, ◌<◌, ◌≤◌, drop, length};
 ghost use Rattle.std.specs.List.{prefix_len};
 ghost use Rattle.cm_text.specs.Bytes.{is_name};
@@ -7,14 +7,22 @@ ghost use Rattle.cm_hooks.specs.Ties.{Ties, count};
 
 use crate::{Answer, Hooks, Rules};
 use cm_fields::{Code, Try, Value, said};
-use cm_text::is_name;
+use cm_text::{LINE_LIMIT, TEXT_LIMIT, is_name};
 
-// What the function with this id makes of a run.
+// How many name bytes a text begins with.
+fn run_len(text: &[u8]) -> usize
+    ensures value { result ≡ prefix_len is_name text.now }
+    ensures within { result ≤ length text.now }
+{
+    text.iter().take_while(|byte| is_name(**byte)).count()
+}
+
+// What the hook with this id makes of a run.
 #[tactic(auto, unfolding(crate::specs::Field::hook_of))]
 fn hook_of<R: Rules>(hooks: &Hooks<R>, id: u8, run: &[u8]) -> Result<Value, Code>
     requires hooks { Ties R.meanings hooks.now }
     requires id { id < count hooks.now }
-    requires short { length run.now ≤ 255 }
+    requires short { length run.now ≤ LINE_LIMIT }
     ensures { result ≡ hook_of R.meanings.verdict id run.now }
 {
     if run.is_empty() {
@@ -26,25 +34,17 @@ fn hook_of<R: Rules>(hooks: &Hooks<R>, id: u8, run: &[u8]) -> Result<Value, Code
     }
 }
 
-// How many name bytes the text begins with.
-fn name_run(rest: &[u8]) -> usize
-    ensures value { result ≡ prefix_len is_name rest.now }
-    ensures within { result ≤ length rest.now }
-{
-    rest.iter().take_while(|byte| is_name(**byte)).count()
-}
-
-/// A field that the program judges: a run of name bytes to which its function with this id says Yes. Refused with
-/// NoField where the run is empty, with Rejected where the function says No.
+/// A field of the program's own: a run of name bytes that its hook with this id takes. Refused with NoField
+/// where the run is empty, with Rejected where the hook says No.
 pub fn hook_field<R: Rules>(hooks: &Hooks<R>, id: u8, text: &[u8], at: usize) -> Try
     requires hooks { Ties R.meanings hooks.now }
     requires id { id < count hooks.now }
-    requires short { length text.now ≤ 256 }
+    requires short { length text.now ≤ TEXT_LIMIT }
     requires place { at ≤ length text.now }
     ensures { result ≡ hook R.meanings.verdict id (drop at text.now) at }
 {
     let rest = &text[at..];
-    let size = name_run(rest);
+    let size = run_len(rest);
     if size == rest.len() {
         return Try::More;
     }

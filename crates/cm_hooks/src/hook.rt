@@ -1,5 +1,6 @@
-// A stored function.
+// One hook.
 ghost use Rattle.std.specs.Prelude.{◌≡◌, ◌≤◌, List, ℕ, length};
+ghost use Rattle.cm_text.specs.declared.text.TheConstants.{LINE_LIMIT};
 
 use crate::{Answer, Rules, Tail};
 use cm_text::Name;
@@ -11,7 +12,8 @@ type Completions = Box<dyn Fn(&[u8]) -> Tail>;
 
 type Helps = Box<dyn Fn() -> Name>;
 
-/// A function of a program's own.
+/// What a program stores for one kind of field of its own, under an id: functions that judge an atom,
+/// complete one, and give the help text. `R` says what the three mean.
 #[derive(Drop)]
 pub struct Hook<R> {
     id: u8,
@@ -19,14 +21,16 @@ pub struct Hook<R> {
     completion: Completions,
     help: Helps,
     rules: PhantomData<R>,
-    ghost verdict_callable: { (atom : _) → length atom.now ≤ 255 → Verdicts.pre verdict atom },
-    ghost completion_callable: { (atom : _) → length atom.now ≤ 255 → Completions.pre completion atom },
+    ghost verdict_callable: { (atom : _) → length atom.now ≤ LINE_LIMIT → Verdicts.pre verdict atom },
+    ghost completion_callable: { (atom : _) → length atom.now ≤ LINE_LIMIT → Completions.pre completion atom },
     ghost help_callable: { Helps.IsAlwaysCallable help },
 }
 
 impl<R: Rules> Hook<R> {
     ghost use Rattle.cm_hooks.specs.Ties.{Answers, IsCallable, IsTied, id_of};
 
+    /// The hook with these functions. Each may be called on every atom of at most 255 bytes, and answers what
+    /// is meant by the id.
     pub fn new(id: u8, verdict: Verdicts, completion: Completions, help: Helps) -> Hook<R>
         requires verdict { IsCallable (Verdicts.pre verdict) }
         requires completion { IsCallable (Completions.pre completion) }
@@ -53,10 +57,10 @@ impl<R: Rules> Hook<R> {
         self.id
     }
 
-    // What it says of an atom.
+    // Whether it takes an atom.
     pub(crate) fn judge(&self, atom: &[u8]) -> Answer
         requires ties { IsTied R.meanings self.now }
-        requires short { length atom.now ≤ 255 }
+        requires short { length atom.now ≤ LINE_LIMIT }
         ensures { result ≡ R.meanings.verdict (id_of self.now) atom.now }
     {
         (self.verdict)(atom)
@@ -65,7 +69,7 @@ impl<R: Rules> Hook<R> {
     // How it completes an atom.
     pub(crate) fn complete(&self, atom: &[u8]) -> Tail
         requires ties { IsTied R.meanings self.now }
-        requires short { length atom.now ≤ 255 }
+        requires short { length atom.now ≤ LINE_LIMIT }
         ensures { result ≡ R.meanings.completion (id_of self.now) atom.now }
     {
         (self.completion)(atom)

@@ -1,12 +1,12 @@
-// The stored functions, and what they are asked.
-ghost use Rattle.std.specs.Prelude.{◌≡◌, ◌↔◌, ◌+◌, ◌<◌, ◌≤◌, ◌∷◌, ◌++◌, [], ℕ, List, length, IsOk, IfErr, OnErr, OnOk, Some};
+// The hooks of a program, and what they are asked.
+ghost use Rattle.std.specs.Prelude.{◌≡◌, ◌↔◌, ◌<◌, ◌≤◌, ◌∷◌, ◌++◌, [], length, IsOk, IfErr, OnOk, Some};
 
 use crate::{Answer, Hook, Rules, Tail};
 use arrayvec::ArrayVec;
-use cm_text::Name;
+use cm_text::{LINE_LIMIT, Name};
 use std::marker::Model;
 
-/// What a stored function has said of an atom. It comes from `Hooks::ask` alone.
+/// What a hook has said of an atom. It comes from `Hooks::ask` alone.
 #[derive(Debug, Drop)]
 pub struct Verdict {
     answer: Answer,
@@ -29,7 +29,7 @@ impl Verdict {
     }
 }
 
-/// The functions of a program's own, at most 16, in the order of their ids.
+/// The hooks of a program, at most 16, each at the place of its id.
 #[derive(Drop)]
 pub struct Hooks<R> {
     hooks: ArrayVec<Option<Hook<R>>, 16>,
@@ -38,7 +38,7 @@ pub struct Hooks<R> {
 impl<R: Rules> Hooks<R> {
     ghost use Rattle.cm_hooks.specs.Ties.{IsTied, Ties, count, held, id_of};
 
-    /// No functions.
+    /// No hooks.
     pub fn new() -> Hooks<R>
         ensures none { held result ≡ [] }
         ensures ties { Ties R.meanings result }
@@ -48,7 +48,7 @@ impl<R: Rules> Hooks<R> {
         }
     }
 
-    /// How many functions there are.
+    /// How many hooks there are.
     pub fn len(&self) -> u8
         ensures value { result ≡ count self.now }
         ensures most { result ≤ 16 }
@@ -56,8 +56,8 @@ impl<R: Rules> Hooks<R> {
         self.hooks.len() as u8
     }
 
-    /// Adds a function behind the others. It comes back, and nothing changes, exactly where there are 16 already or
-    /// its id is not the number of those before it.
+    /// Adds a hook behind the others. It comes back, and nothing changes, exactly where 16 are held already
+    /// or its id is not the number held.
     pub fn push(&mut self, hook: Hook<R>) -> Result<(), Hook<R>>
         requires hooks { Ties R.meanings self.old }
         requires hook { IsTied R.meanings hook }
@@ -86,11 +86,11 @@ impl<R: Rules> Hooks<R> {
         }
     }
 
-    /// What the function with this id says of an atom.
+    /// What the hook with this id says of an atom.
     pub fn ask(&self, id: u8, atom: &[u8]) -> Verdict
         requires hooks { Ties R.meanings self.now }
         requires id { id < count self.now }
-        requires short { length atom.now ≤ 255 }
+        requires short { length atom.now ≤ LINE_LIMIT }
         ensures { result ≡ R.meanings.verdict id atom.now }
     {
         Verdict {
@@ -98,17 +98,17 @@ impl<R: Rules> Hooks<R> {
         }
     }
 
-    /// How the function with this id completes an atom.
+    /// How the hook with this id completes an atom.
     pub fn complete(&self, id: u8, atom: &[u8]) -> Tail
         requires hooks { Ties R.meanings self.now }
         requires id { id < count self.now }
-        requires short { length atom.now ≤ 255 }
+        requires short { length atom.now ≤ LINE_LIMIT }
         ensures { result ≡ R.meanings.completion id atom.now }
     {
         self.hook(id).complete(atom)
     }
 
-    /// What the help says of the function with this id.
+    /// The help text of the hook with this id.
     pub fn help(&self, id: u8) -> Name
         requires hooks { Ties R.meanings self.now }
         requires id { id < count self.now }
@@ -117,3 +117,6 @@ impl<R: Rules> Hooks<R> {
         self.hook(id).help()
     }
 }
+
+#[cfg(test)]
+mod tests;

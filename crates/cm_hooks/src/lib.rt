@@ -1,13 +1,13 @@
-//! Functions of a program's own that a grammar may ask: each judges, completes and explains a field.
+//! Hooks: what a program stores for its own kinds of field. A grammar names each by its id, and asks it to
+//! judge an atom, to complete one, and for its help text.
 #![tactic(auto)]
 
 mod answer;
 mod field;
 mod hook;
 mod hooks;
-mod rules;
-
 pub mod laws;
+mod rules;
 
 pub use answer::{Answer, Tail};
 pub use field::hook_field;

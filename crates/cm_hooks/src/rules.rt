@@ -1,8 +1,8 @@
-// What the functions of a program's own mean.
+// What hooks mean.
 
-/// A set of meanings for the functions of a program's own, by their ids: what each answers to an atom, how each
-/// completes one, and its help text. It has no code. Where it completes an atom, that is by name bytes, and an atom
-/// that it completes whole it takes.
+/// A set of meanings for hooks, by their ids: whether an atom is taken, how it is completed, and the help
+/// text. It has no code: contracts cite it. What completes an atom is name bytes, and an atom with its whole
+/// completion has at most 255 bytes and is taken.
 pub trait Rules {
     ghost use Rattle.cm_hooks.specs.Meanings.{IsLawful, Meanings};
 

@@ -1,1 +1,1 @@
-pub mod ExecLawful
+pub mod Joining

@@ -1,4 +1,4 @@
--- What the EXEC's own functions mean: 0 a logical name, 1 the name of a form, 2 a retention count.
+-- What the EXEC's hooks mean: 0 a logical name, 1 the name of a form, 2 a retention count.
 use Rattle.std.specs.Prelude.{ℕ, ◌==◌, if◌then◌else◌, List, length, codes}
 use Rattle.cm_files.specs.LogicalName.{is_logical_name}
 use Rattle.cm_hooks.specs.declared.answer.Answer.{Answer}
@@ -23,7 +23,8 @@ rule_completion id atom = if id == 1 then form_completion atom else tails.None
 
 unfoldable pub rule_help : ℕ → List ℕ
 rule_help id =
-    if id == 0 then codes "logical name" else (if id == 1 then codes "form name" else codes "number from 0 to 63")
+    if id == 0 then codes "logical name"
+    else (if id == 1 then codes "form name" else codes "number from 0 to 63")
 
-unfoldable pub exec_meanings : Meanings
+abbrev pub exec_meanings : Meanings
 exec_meanings = record { verdict = rule_verdict; completion = rule_completion; help = rule_help }

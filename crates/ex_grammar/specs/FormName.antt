@@ -27,22 +27,27 @@ form_verdict atom = if length atom == 0 then No else only (under atom)
 
 -- what two texts begin with
 abbrev pub shared : List ℕ → List ℕ → List ℕ
-shared text other = take (common_prefix_len ◌==◌ text other) text
+shared other text = take (common_prefix_len ◌==◌ text other) text
 
--- what all of them begin with
-abbrev pub shared_by : List (List ℕ) → List ℕ
-shared_by [] = []
-shared_by (text ∷ more) = fold shared text more
+-- what several texts begin with, the first of them this one
+abbrev pub shared_by : List ℕ → List (List ℕ) → List ℕ
+shared_by text more = fold shared text more
 
--- how an atom goes on: with the rest of the only form, or with what the rests of several share
+-- how an atom goes on: with the rest of the only form, or with what the rests of several begin with
 abbrev pub goes_on : List (List ℕ) → Tail
 goes_on [] = tails.None
 goes_on (rest ∷ []) = tails.Whole rest
-goes_on (rest ∷ other ∷ more) = tails.Part (shared_by (rest ∷ other ∷ more))
+goes_on (rest ∷ other ∷ more) = tails.Part (shared_by rest (other ∷ more))
 
--- what of each form is left behind an atom
+-- what is left of each form behind an atom of this size
 abbrev pub rests : ℕ → List (ℕ × List ℕ) → List (List ℕ)
 rests size found = map (λ (form : ℕ × List ℕ). drop size form.1) found
 
 unfoldable pub form_completion : List ℕ → Tail
 form_completion atom = if length atom == 0 then tails.None else goes_on (rests (length atom) (under atom))
+
+-- a completion with the rest of one form more
+abbrev pub joined : Tail → List ℕ → Tail
+joined tails.None rest = tails.Whole rest
+joined (tails.Part text) rest = tails.Part (shared text rest)
+joined (tails.Whole text) rest = tails.Part (shared text rest)

@@ -1,3 +1,5 @@
+pub mod BeginLaws
+pub mod ExecLaws
 pub mod ExecRules
 pub mod FormName
 pub mod RetentionCount

@@ -1,4 +1,4 @@
-//! The grammar of the EXEC: what its own functions say of a field.
+//! The EXEC's rules: what its own kinds of field take, how they are completed, and their help texts.
 #![tactic(auto)]
 
 mod form;

@@ -1,4 +1,4 @@
-// What the EXEC's own functions mean, and the functions.
+// What the EXEC's hooks mean, and the functions that they call.
 ghost use Rattle.std.specs.Prelude.{◌≡◌, ◌<◌, ◌≤◌, length};
 ghost use Rattle.ex_grammar.specs.ExecRules.{logical_verdict, rule_completion, rule_help, rule_verdict};
 
@@ -6,14 +6,14 @@ use crate::form::{form_completion, form_verdict};
 use crate::retention::retention_verdict;
 use cm_files::is_logical_name;
 use cm_hooks::{Answer, Rules, Tail};
-use cm_text::Name;
+use cm_text::{LINE_LIMIT, Name};
 
-/// The EXEC's rules: 0 is a logical name, 1 the name of a form, 2 a retention count.
+/// What the EXEC's hooks mean: 0 is a logical name, 1 the name of a form, 2 a retention count.
 pub struct ExecRules;
 
 impl Rules for ExecRules {
     ghost use Rattle.ex_grammar.specs.ExecRules.{exec_meanings};
-    ghost use Rattle.ex_grammar.proofs.ExecLawful.{exec_lawful};
+    ghost use Rattle.ex_grammar.specs.ExecLaws.{exec_lawful};
 
     ghost meanings = { exec_meanings };
 
@@ -31,12 +31,12 @@ fn logical_verdict(atom: &[u8]) -> Answer
     }
 }
 
-/// Whether an atom is what the rule with this id takes: a logical name, with the number of its bytes; the name of a
-/// form, NARROW (0), NORMAL (1) or WIDE (2), or what abbreviates it alone, with its number; a retention count from 0
-/// to 63, with its value. Letters have no case.
+/// Whether an atom is what the rule with this id takes: a logical name, with the number of its bytes; the
+/// name of a form, NARROW (0), NORMAL (1) or WIDE (2), or what abbreviates it alone, with its number; a
+/// retention count from 0 to 63, with its value. Letters have no case.
 pub fn rule_verdict(id: u8, atom: &[u8]) -> Answer
     requires id { id < 3 }
-    requires short { length atom.now ≤ 255 }
+    requires short { length atom.now ≤ LINE_LIMIT }
     ensures { result ≡ rule_verdict id atom.now }
 {
     match id {
@@ -46,11 +46,11 @@ pub fn rule_verdict(id: u8, atom: &[u8]) -> Answer
     }
 }
 
-/// How the rule with this id completes an atom: to the name of a form, or as far as several go together. An empty
-/// atom, and one of another rule, is not completed.
+/// How the rule with this id completes an atom: to the name of a form, or as far as several go together. An
+/// empty atom, and one of another rule, is not completed.
 pub fn rule_completion(id: u8, atom: &[u8]) -> Tail
     requires id { id < 3 }
-    requires short { length atom.now ≤ 255 }
+    requires short { length atom.now ≤ LINE_LIMIT }
     ensures { result ≡ rule_completion id atom.now }
 {
     match id {
@@ -59,7 +59,7 @@ pub fn rule_completion(id: u8, atom: &[u8]) -> Tail
     }
 }
 
-/// What the help says of the rule with this id.
+/// The help text of the rule with this id.
 #[tactic(auto, unfolding(crate::specs::ExecRules::rule_help))]
 pub fn rule_help(id: u8) -> Name
     requires { id < 3 }
@@ -71,3 +71,6 @@ pub fn rule_help(id: u8) -> Name
         _ => "number from 0 to 63",
     })
 }
+
+#[cfg(test)]
+mod tests;

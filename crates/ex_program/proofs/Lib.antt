@@ -5,3 +5,4 @@ pub mod Running
 pub mod Trying
 pub mod Ending
 pub mod Meaning
+pub mod Refusing

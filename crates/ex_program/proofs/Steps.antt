@@ -1,9 +1,10 @@
 -- What the parts of a step come to.
-use Rattle.std.proofs.Common.{◌≡◌, ℕ, Bool, List, [], ◌++◌, if◌then◌else◌, refl, sym, ap, ◌∙◌, subst}
+use Rattle.std.proofs.Common.{◌≡◌, ℕ, Bool, List, [], ◌++◌, if◌then◌else◌, refl, sym, ap, ◌∙◌, subst, inl, inr}
 use Rattle.cm_io.specs.Told.{Told, add, Adds, AddsPart}
 use Rattle.cm_io.specs.declared.sink.Put.{Put}
 use Rattle.cm_io.specs.declared.sink.Put.TheVariants.{Done}
-use Rattle.cm_io.proofs.Adding.{add_append, adds_late}
+use Rattle.cm_io.proofs.Adding.{add_append}
+use Rattle.cm_line.specs.Keys.{class_of}
 use Rattle.cm_state.specs.Echo.{echo}
 use Rattle.cm_state.specs.Edit.{edited}
 use Rattle.cm_state.specs.Held.{Held}
@@ -13,74 +14,11 @@ use Rattle.cm_state.specs.Verbs.{exec_verbs}
 use Rattle.cm_state.specs.declared.turn.Turn.{Turn}
 use Rattle.cm_state.specs.declared.turn.Turn.TheVariants as turns
 use Rattle.cm_state.specs.declared.verbs.Verbs.{Verbs}
-use Rattle.cm_line.specs.Keys.{class_of}
-use Rattle.ex_program.specs.Run.{answered, answer, logs, step, shows}
-use Rattle.ex_program.specs.Step.{Answers, IsNotLog, LeadsTo, LogCause, ScreenCause, going}
-use Rattle.ex_program.specs.declared.step.Step.{Step}
-use Rattle.ex_program.specs.declared.step.Step.TheVariants as steps
-use Rattle.ex_program.proofs.Parts.{adds_whole}
-
--- an answer behind bytes that are put is one with them before it
-pub answers_behind : (step : Step) (before middle now : Told) (first second : List ℕ) → middle ≡ add before first
-    → Answers middle now second step → Answers before now (first ++ second) step
-answers_behind steps.More before middle now first second put answers =
-    answers ∙ ap (λ told. add told second) put ∙ sym (add_append before first second)
-answers_behind steps.Over before middle now first second put answers =
-    answers ∙ ap (λ told. add told second) put ∙ sym (add_append before first second)
-answers_behind steps.ScreenFailed before middle now first second put answers =
-    adds_late before now first second (subst (λ told. AddsPart told now second) put answers)
-answers_behind steps.LogFailed before middle now first second put answers =
-    adds_late before now first second (subst (λ told. AddsPart told now second) put answers)
-
--- what is all put is put, however the step came out
-pub answers_whole : (step : Step) (before now : Told) (bytes : List ℕ) → now ≡ add before bytes → Answers before now bytes step
-answers_whole steps.More before now bytes put = put
-answers_whole steps.Over before now bytes put = put
-answers_whole steps.ScreenFailed before now bytes put = adds_whole before now bytes put
-answers_whole steps.LogFailed before now bytes put = adds_whole before now bytes put
-
--- where the log did not fail its count stayed
-pub log_stays : (step : Step) (before now : ℕ) → now ≡ before → IsNotLog step → LogCause before now step
-log_stays steps.More before now same other = same
-log_stays steps.Over before now same other = same
-log_stays steps.ScreenFailed before now same other = same
-log_stays steps.LogFailed before now same other = absurd other
-
--- the screen's count goes on from where it stayed
-pub screen_goes_on : (step : Step) (before middle now : ℕ) → middle ≡ before → ScreenCause middle now step → ScreenCause before now step
-screen_goes_on step before middle now same cause = subst (λ faults. ScreenCause faults now step) same cause
-
--- the answer to a key leads where the step does
-pub step_leads : (result : Step) (old typed now : Held) (turn : Turn) (key : ℕ) (before after : List ℕ)
-    → typed ≡ edited exec_verbs old key → turn ≡ turn_of (class_of key) typed.ending
-    → LeadsTo result (answered (going typed before) turn) now after
-    → LeadsTo result (step (going old before) key) now after
-unfolding step
-step_leads result old typed now turn key before after is_typed is_turn leads =
-    let same : answered (going typed before) turn ≡ answered (going (edited exec_verbs old key) before) (turn_of (class_of key) (edited exec_verbs old key).ending) = cc in
-    subst (λ world. LeadsTo result world now after) same leads
-
--- the echo and the answer to a key are what the step shows
-pub step_shows : (result : Step) (told final : Told) (old typed : Held) (turn : Turn) (key : ℕ) (moments : List ℕ)
-    → typed ≡ edited exec_verbs old key → turn ≡ turn_of (class_of key) typed.ending
-    → Answers told final (echo exec_verbs old key ++ answer (going typed moments) turn) result
-    → Answers told final (shows (going old moments) key) result
-unfolding shows
-step_shows result told final old typed turn key moments is_typed is_turn answers =
-    let same : answer (going typed moments) turn ≡ answer (going (edited exec_verbs old key) moments) (turn_of (class_of key) (edited exec_verbs old key).ending) = cc in
-    subst (λ bytes. Answers told final (echo exec_verbs old key ++ bytes) result) same answers
-
--- the line of the log is what the step logs
-pub step_logs : (told final : Told) (writes : Bool) (old typed : Held) (key : ℕ) (moments : List ℕ)
-    → typed ≡ edited exec_verbs old key
-    → final ≡ add told (if writes then log_line key typed else [])
-    → final ≡ add told (logs writes (going old moments) key)
-unfolding logs
-step_logs told final writes old typed key moments is_typed put =
-    subst (λ held. final ≡ add told (if writes then log_line key held else [])) is_typed put
+use Rattle.ex_program.specs.Run.{World, key_turn, logs, shows, step, turn_bytes, with_key, world_after_turn}
+use Rattle.ex_program.specs.Step.{KeyCut, LogCut, Outputs, Stepped, going}
 
 -- a turn that is no failure is told
-pub not_failed : (turn : Turn) → (turn ≡ turns.Failed → ⊥) → put_of turn ≡ Done
+not_failed : (turn : Turn) → (turn ≡ turns.Failed → ⊥) → put_of turn ≡ Done
 not_failed turns.Edited other = refl
 not_failed turns.Confirmed other = refl
 not_failed turns.Abandoned other = refl
@@ -88,13 +26,100 @@ not_failed (turns.Refused fault) other = refl
 not_failed turns.Failed other = absurd (other refl)
 
 -- a put that is done puts all
-pub all_put : (before now : Told) (bytes : List ℕ) (put : Put) → put ≡ Done → Adds before now bytes put → now ≡ add before bytes
+all_put : (before now : Told) (bytes : List ℕ) (put : Put) → put ≡ Done → Adds before now bytes put → now ≡ add before bytes
 all_put before now bytes put done adds = subst (Adds before now bytes) done adds
 
--- the tables of a session are those of the EXEC
-pub edited_by_exec : (verbs : Verbs) (old typed : Held) (key : ℕ) → verbs ≡ exec_verbs → typed ≡ edited verbs old key → typed ≡ edited exec_verbs old key
-edited_by_exec verbs old typed key exec is = cc
+abbrev outputs : Told → Told → Outputs
+outputs screen log = record { screen = screen; log = log }
 
-pub echo_by_exec : (verbs : Verbs) (told middle : Told) (old : Held) (key : ℕ) → verbs ≡ exec_verbs
-    → middle ≡ add told (echo verbs old key) → middle ≡ add told (echo exec_verbs old key)
-echo_by_exec verbs told middle old key exec is = cc
+-- where the echo is cut
+pub cut_echo : (writes : Bool) (verbs : Verbs) (old : Held) (key : ℕ) (moments : List ℕ) (told now log : Told) → verbs ≡ exec_verbs
+    → AddsPart told now (echo verbs old key)
+    → KeyCut writes (going old moments) key (outputs told log) (outputs now log) moments
+cut_echo writes verbs old key moments told now log exec part = inl (record {
+  screen = subst (λ (tables : Verbs). AddsPart told now (echo tables old key)) exec part;
+  log = refl;
+  moments = refl;
+})
+
+-- a world is what its parts are
+parts : (world : World) (next : Held) (later : List ℕ) (ended value : Bool) → ended ≡ value → next ≡ world.session → later ≡ world.moments → ended ≡ world.ended
+    → world ≡ record { session = next; moments = later; ended = value }
+parts world next later ended value is_value held moved ends =
+    ap (λ (session : Held). record world { session = session }) (sym held)
+    ∙ ap (λ (times : List ℕ). record world { session = next; moments = times }) (sym moved)
+    ∙ ap (λ (over : Bool). record { session = next; moments = later; ended = over }) (sym ends ∙ is_value)
+
+-- behind an echo that is whole
+module _ (writes : Bool) (verbs : Verbs) (old typed : Held) (key : ℕ) (moments : List ℕ) (turn : Turn) (told echoed : Told)
+    (exec : verbs ≡ exec_verbs) (other : turn ≡ turns.Failed → ⊥)
+    (is_typed : typed ≡ edited verbs old key) (is_put : Adds told echoed (echo verbs old key) (put_of turn)) where
+  with_exec : typed ≡ edited exec_verbs old key
+  with_exec = is_typed ∙ ap (λ (tables : Verbs). edited tables old key) exec
+
+  pub echo_whole : echoed ≡ add told (echo exec_verbs old key)
+  echo_whole = all_put told echoed (echo verbs old key) (put_of turn) (not_failed turn other) is_put ∙ ap (λ (tables : Verbs). add told (echo tables old key)) exec
+
+  -- what is logged of a key is what the step logs
+  as_logged : (if writes then log_line key typed else []) ≡ logs writes (going old moments) key
+  unfolding logs
+  as_logged = ap (λ (held : Held). if writes then log_line key held else []) with_exec
+
+  -- where the log is cut
+  pub cut_log : (log now : Told) → AddsPart log now (if writes then log_line key typed else [])
+      → LogCut writes (going old moments) key log now moments
+  cut_log log now part = record {
+    log = subst (λ bytes. AddsPart log now bytes) as_logged part;
+    moments = refl;
+  }
+
+  -- and behind a log line that is whole
+  module _ (screen log logged : Told) (is_turn : put_of turn ≡ Done → turn ≡ turn_of (class_of key) typed.ending)
+      (is_logged : logged ≡ add log (if writes then log_line key typed else [])) where
+    log_whole : logged ≡ add log (logs writes (going old moments) key)
+    log_whole = is_logged ∙ ap (λ bytes. add log bytes) as_logged
+
+    same_turn : turn ≡ key_turn (going old moments) key
+    same_turn = is_turn (not_failed turn other) ∙ ap (λ (held : Held). turn_of (class_of key) held.ending) with_exec
+
+    as_replied : turn_bytes (going typed moments) turn ≡ turn_bytes (with_key (going old moments) key) (key_turn (going old moments) key)
+    as_replied =
+        ap (λ (held : Held). turn_bytes (going held moments) turn) with_exec
+        ∙ ap (λ (to : Turn). turn_bytes (with_key (going old moments) key) to) same_turn
+
+    as_step : world_after_turn (going typed moments) turn ≡ step (going old moments) key
+    unfolding step
+    as_step =
+        ap (λ (held : Held). world_after_turn (going held moments) turn) with_exec
+        ∙ ap (λ (to : Turn). world_after_turn (with_key (going old moments) key) to) same_turn
+
+    -- where the reply is cut
+    pub cut_reply : (later : List ℕ) → AddsPart echoed screen (turn_bytes (going typed moments) turn)
+        → later ≡ (world_after_turn (going typed moments) turn).moments
+        → KeyCut writes (going old moments) key (outputs told log) (outputs screen logged) later
+    cut_reply later part moved = inr (record {
+      screen = subst (λ bytes. AddsPart (add told (echo exec_verbs old key)) screen bytes) as_replied
+          (subst (λ before. AddsPart before screen (turn_bytes (going typed moments) turn)) echo_whole part);
+      log = log_whole;
+      moments = moved ∙ ap (λ (next : World). next.moments) as_step;
+    })
+
+    -- the echo and the reply are what the step shows
+    as_shown : echo exec_verbs old key ++ turn_bytes (going typed moments) turn ≡ shows (going old moments) key
+    unfolding shows
+    as_shown = ap (λ bytes. echo exec_verbs old key ++ bytes) as_replied
+
+    -- where all is put
+    pub stepped : (next : Held) (later : List ℕ) (ended value : Bool) → ended ≡ value
+        → screen ≡ add echoed (turn_bytes (going typed moments) turn)
+        → next ≡ (world_after_turn (going typed moments) turn).session
+        → later ≡ (world_after_turn (going typed moments) turn).moments
+        → ended ≡ (world_after_turn (going typed moments) turn).ended
+        → Stepped writes (going old moments) key (outputs told log) (outputs screen logged) (record { session = next; moments = later; ended = value })
+    stepped next later ended value is_value put held moved ends = record {
+      screen = put ∙ ap (λ before. add before (turn_bytes (going typed moments) turn)) echo_whole
+          ∙ sym (add_append told (echo exec_verbs old key) (turn_bytes (going typed moments) turn))
+          ∙ ap (λ bytes. add told bytes) as_shown;
+      log = log_whole;
+      leads = sym as_step ∙ parts (world_after_turn (going typed moments) turn) next later ended value is_value held moved ends;
+    }

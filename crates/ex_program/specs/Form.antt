@@ -1,6 +1,7 @@
 -- What the words of the program ask for.
 use Rattle.std.specs.Prelude.{ℕ, Bool, true, false, not, ◌&&◌, ◌==◌, List, [], ◌∷◌, ◌++◌, length, Option, Some, None, nat_lt, nat_le, codes, if◌then◌else◌}
 use Rattle.std.specs.Str.{bytes_eq}
+use Rattle.ex_program.specs.declared.words.TheConstants.{LONGEST_WORD, MOST_WORDS}
 
 -- the words so far, or None where they are too many or one is too long
 abbrev pub Given : Type 0
@@ -10,7 +11,7 @@ Given = Option (List (List ℕ))
 abbrev pub with_word : Given → List ℕ → Given
 with_word None word = None
 with_word (Some words) word =
-    if nat_lt (length words) 4 && nat_le (length word) 255 then Some (words ++ word ∷ []) else None
+    if nat_lt (length words) MOST_WORDS && nat_le (length word) LONGEST_WORD then Some (words ++ word ∷ []) else None
 
 -- whether there is a log, and the file that the image is written to
 pub record Form : Type 0 where

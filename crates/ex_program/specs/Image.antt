@@ -7,7 +7,7 @@ use Rattle.ex_program.specs.declared.status.Status.{Status}
 use Rattle.ex_program.specs.declared.status.Status.TheVariants as status
 
 -- a record of the image: a line ended by a line feed
-abbrev pub image_line : List ℕ → List ℕ
+abbrev image_line : List ℕ → List ℕ
 image_line text = text ++ 10 ∷ []
 
 unfoldable pub image : List ℕ
@@ -15,18 +15,19 @@ image =
     image_line (codes "EXEC20 1") ++ image_line (codes "D OPERATOR 1")
     ++ image_line (codes "C OPERATOR") ++ image_line (codes "E")
 
--- a file is absent, as before, or holds a front of the image
+-- a file is absent, as before, or holds a prefix of the image
 abbrev pub HoldsPart : Option (List ℕ) → Option (List ℕ) → Type 0
-HoldsPart before now = (now ≡ None) ⊎ (now ≡ before) ⊎ ((part : List ℕ) × IsPart part image × (now ≡ Some part))
+HoldsPart before now =
+    (now ≡ None) ⊎ (now ≡ before) ⊎ ((part : List ℕ) × IsPart part image × (now ≡ Some part))
 
--- writing the image leaves it in the file; where it fails, a front of it or less
-abbrev pub Keeps : Option (List ℕ) → Option (List ℕ) → Put → Type 0
-Keeps before now Done = now ≡ Some image
-Keeps before now Failed = HoldsPart before now
+-- saving the image leaves it in the file; where it fails, a prefix of it or less
+abbrev pub Saves : Option (List ℕ) → Option (List ℕ) → Put → Type 0
+Saves before now Done = now ≡ Some image
+Saves before now Failed = HoldsPart before now
 
 -- what a run leaves of the file that the image is written to
-abbrev pub Saves : Option (List ℕ) → Option (List ℕ) → Status → Type 0
-Saves before now status.HostFault = HoldsPart before now
-Saves before now status.Usage = now ≡ before
-Saves before now status.NoMemory = now ≡ before
-Saves before now result = now ≡ Some image
+abbrev pub Keeps : Option (List ℕ) → Option (List ℕ) → Status → Type 0
+Keeps before now status.HostFault = HoldsPart before now
+Keeps before now status.Usage = now ≡ before
+Keeps before now status.NoMemory = now ≡ before
+Keeps before now result = now ≡ Some image

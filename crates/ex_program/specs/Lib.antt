@@ -1,8 +1,11 @@
 pub mod Cause
 pub mod Command
+pub mod Cut
 pub mod End
 pub mod Form
 pub mod Image
 pub mod Messages
 pub mod Run
+pub mod Scene
 pub mod Step
+pub mod Stop

@@ -20,6 +20,12 @@ message status.Done = []
 message status.WriteFault = []
 message result = message_text result ++ end_of_line
 
+-- nothing is said of these
+abbrev pub IsSilent : Status → Type 0
+IsSilent status.Done = Unit {0}
+IsSilent status.WriteFault = Unit {0}
+IsSilent result = ⊥
+
 -- the number that the process ends with
 abbrev pub number_of : Status → ℕ
 number_of status.Done = 0

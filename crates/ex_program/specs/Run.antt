@@ -15,6 +15,7 @@ use Rattle.cm_state.specs.Verbs.{exec_verbs}
 use Rattle.ex_program.specs.Command.{command_of, reply}
 use Rattle.ex_program.specs.declared.command.Command.{Command}
 use Rattle.ex_program.specs.declared.command.Command.TheVariants.{Empty, Version, Logout}
+use Rattle.cm_state.specs.declared.node.TheConstants.{COMMANDS}
 
 -- what a run goes on from: the session, the moments to come, and whether LOGOUT has acted
 pub record World : Type 0 where
@@ -24,90 +25,99 @@ pub record World : Type 0 where
 
 -- a run begins at the first prompt
 abbrev pub starting : List ℕ → World
-starting moments = record { session = at_start 0 Main None; moments = moments; ended = false }
+starting moments = record { session = at_start COMMANDS Main None; moments = moments; ended = false }
 
 -- the next line begins; what is kept for control-H stays
 abbrev pub next_line : World → World
-next_line world = record world { session = at_start 0 Main world.session.kept }
+next_line world = record world { session = at_start COMMANDS Main world.session.kept }
 
--- LOGOUT ends the run, and behind any other command the next line begins
-abbrev pub obeyed : World → Command → World
-obeyed world Empty = next_line world
-obeyed world Version = next_line world
-obeyed world Logout = record world { ended = true }
+-- a moment is taken
+abbrev next_time : World → World
+next_time world = record world { moments = later_moments world.moments }
 
--- a command acts: it takes a moment
-abbrev pub acted : World → Command → World
-acted world command = obeyed (record world { moments = later_moments world.moments }) command
-
--- what a key that came to this leads to; only a confirmed line acts
-unfoldable pub answered : World → Turn → World
-answered world turn.Edited = world
-answered world turn.Confirmed = acted world (command_of world.session.fields)
-answered world (turn.Refused fault) = next_line world
-answered world turn.Abandoned = next_line world
-answered world turn.Failed = world
+-- a command takes a moment; LOGOUT ends the run, and behind any other the next line begins
+abbrev pub world_after_command : World → Command → World
+world_after_command world Empty = next_line (next_time world)
+world_after_command world Version = next_line (next_time world)
+world_after_command world Logout = record (next_time world) { ended = true }
 
 -- the prompt of the next line, of which there is none after LOGOUT
-abbrev pub next_prompt : Command → List ℕ
-next_prompt Empty = prompt_text Main
-next_prompt Version = prompt_text Main
-next_prompt Logout = []
+abbrev pub command_prompt : Command → List ℕ
+command_prompt Empty = prompt_text Main
+command_prompt Version = prompt_text Main
+command_prompt Logout = []
 
--- what a command shows
-abbrev pub acting : Command → List ℕ
-acting command = reply command ++ next_prompt command
+-- what a key that came to this leads to; only a confirmed line acts
+unfoldable pub world_after_turn : World → Turn → World
+world_after_turn world turn.Edited = world
+world_after_turn world turn.Confirmed = world_after_command world (command_of world.session.fields)
+world_after_turn world (turn.Refused fault) = next_line world
+world_after_turn world turn.Abandoned = next_line world
+world_after_turn world turn.Failed = world
 
--- what is shown behind the echo
-unfoldable pub answer : World → Turn → List ℕ
-answer world turn.Edited = []
-answer world turn.Confirmed = acting (command_of world.session.fields)
-answer world (turn.Refused fault) = prompt_text Main
-answer world turn.Abandoned = prompt_text Main
-answer world turn.Failed = []
+-- the reply of the line that acts
+unfoldable pub turn_reply : World → Turn → List ℕ
+turn_reply world turn.Edited = []
+turn_reply world turn.Confirmed = reply (command_of world.session.fields)
+turn_reply world (turn.Refused fault) = []
+turn_reply world turn.Abandoned = []
+turn_reply world turn.Failed = []
+
+-- the prompt of the line that begins
+unfoldable pub turn_prompt : World → Turn → List ℕ
+turn_prompt world turn.Edited = []
+turn_prompt world turn.Confirmed = command_prompt (command_of world.session.fields)
+turn_prompt world (turn.Refused fault) = prompt_text Main
+turn_prompt world turn.Abandoned = prompt_text Main
+turn_prompt world turn.Failed = []
+
+-- what a key that came to this shows behind its echo
+abbrev pub turn_bytes : World → Turn → List ℕ
+turn_bytes world turn = turn_reply world turn ++ turn_prompt world turn
 
 -- the session has taken a key
 abbrev pub with_key : World → ℕ → World
 with_key world key = record world { session = edited exec_verbs world.session key }
 
 -- what the key comes to
-abbrev pub turn_after : World → ℕ → Turn
-turn_after world key = turn_of (class_of key) (with_key world key).session.ending
+abbrev pub key_turn : World → ℕ → Turn
+key_turn world key = turn_of (class_of key) (with_key world key).session.ending
+
+-- what the key shows behind its echo
+abbrev pub key_bytes : World → ℕ → List ℕ
+key_bytes world key = turn_bytes (with_key world key) (key_turn world key)
 
 -- the world after a key, what the key shows, and what it logs; after LOGOUT nothing more
 unfoldable pub step : World → ℕ → World
-step world key = if world.ended then world else answered (with_key world key) (turn_after world key)
+step world key = if world.ended then world else world_after_turn (with_key world key) (key_turn world key)
 
 unfoldable pub shows : World → ℕ → List ℕ
-shows world key =
-    if world.ended
-    then []
-    else echo exec_verbs world.session key ++ answer (with_key world key) (turn_after world key)
+shows world key = if world.ended then [] else echo exec_verbs world.session key ++ key_bytes world key
 
 unfoldable pub logs : Bool → World → ℕ → List ℕ
 logs writes world key =
     if world.ended then [] else (if writes then log_line key (with_key world key).session else [])
 
 -- the same over keys in order
-abbrev pub after : World → List ℕ → World
-after world [] = world
-after world (key ∷ keys) = after (step world key) keys
+abbrev pub world_after : World → List ℕ → World
+world_after world [] = world
+world_after world (key ∷ keys) = world_after (step world key) keys
 
-abbrev pub shown : World → List ℕ → List ℕ
-shown world [] = []
-shown world (key ∷ keys) = shows world key ++ shown (step world key) keys
+abbrev pub bytes_shown : World → List ℕ → List ℕ
+bytes_shown world [] = []
+bytes_shown world (key ∷ keys) = shows world key ++ bytes_shown (step world key) keys
 
-abbrev pub logged : Bool → World → List ℕ → List ℕ
-logged writes world [] = []
-logged writes world (key ∷ keys) = logs writes world key ++ logged writes (step world key) keys
+abbrev pub bytes_logged : Bool → World → List ℕ → List ℕ
+bytes_logged writes world [] = []
+bytes_logged writes world (key ∷ keys) = logs writes world key ++ bytes_logged writes (step world key) keys
 
 -- the first prompt, and what the keys show
 abbrev pub run_keys : World → List ℕ → List ℕ
-run_keys world keys = prompt_text Main ++ shown world keys
+run_keys world keys = prompt_text Main ++ bytes_shown world keys
 
 -- a run whose keys end, and not LOGOUT ends it, ends the line that is open
 abbrev pub closing : World → List ℕ → List ℕ
-closing world keys = if (after world keys).ended then [] else end_of_line
+closing world keys = if (world_after world keys).ended then [] else end_of_line
 
 -- all that a whole run shows
 abbrev pub run_shown : World → List ℕ → List ℕ

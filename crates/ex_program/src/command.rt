@@ -7,7 +7,7 @@ ghost use Rattle.cm_io.specs.Fault.{PutCause};
 ghost use Rattle.ex_program.specs.Command.{command_of, farewell, reply, version};
 
 use cm_io::{Put, Sink, put_line};
-use cm_state::Session;
+use cm_state::{LOGOUT, Session};
 
 /// What a confirmed line commands.
 #[derive(Clone, Copy, Debug, PartialEq, Eq)]
@@ -20,8 +20,6 @@ pub enum Command {
     Logout,
 }
 
-// The code of LOGOUT in the table of commands.
-const LOGOUT: u16 = 10;
 
 /// What the line that a session holds commands, where it is confirmed.
 pub fn command_of(session: &Session) -> Command

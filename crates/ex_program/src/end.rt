@@ -6,16 +6,16 @@ ghost use Rattle.cm_io.specs.Fault.{PutCause};
 ghost use Rattle.cm_io.specs.Host.{KeepsOthers};
 ghost use Rattle.cm_text.specs.Shown.{end_of_line};
 ghost use Rattle.ex_program.specs.Cause.{HostCause};
-ghost use Rattle.ex_program.specs.End.{Closes, IsEnd, IsOr, Tried};
 ghost use Rattle.ex_program.specs.Image.{Keeps, Saves, image};
-ghost use Rattle.ex_program.specs.Messages.{message};
+ghost use Rattle.ex_program.specs.Messages.{IsSilent, message};
+ghost use Rattle.ex_program.specs.Scene.{Tried};
+ghost use Rattle.ex_program.specs.Stop.{Closes, IsEnd, IsOr};
 
 use crate::Status;
 use crate::stop::Stop;
 use cm_io::{Host, Put, Sink, put_line};
 use cm_text::end_of_line;
 
-// The image.
 #[tactic(auto, unfolding(crate::specs::Image::image))]
 fn image() -> &'static [u8]
     ensures { result.now ≡ image }
@@ -23,9 +23,9 @@ fn image() -> &'static [u8]
     b"EXEC20 1\nD OPERATOR 1\nC OPERATOR\nE\n"
 }
 
-/// Writes the image to a file. Where the host fails, the file is absent, as before, or holds a front of it.
+/// Writes the image to a file. Where the host fails, the file is absent, as before, or holds a prefix of it.
 pub fn save<H: Host>(out: &str, host: &mut H) -> Put
-    ensures saved { IsTrue H.tells → Keeps (H.files host.old out.now) (H.files host.new out.now) result }
+    ensures saved { IsTrue H.tells → Saves (H.files host.old out.now) (H.files host.new out.now) result }
     ensures others { IsTrue H.tells → KeepsOthers out.now (H.files host.old) (H.files host.new) }
     ensures later { H.faults host.old ≤ H.faults host.new }
     ensures cause { PutCause (H.faults host.old) (H.faults host.new) result }
@@ -46,7 +46,7 @@ pub fn show_message<S: Sink>(status: Status, screen: &mut S)
     ensures shown { Tried (S.told screen.old) (S.told screen.new)
         (S.faults screen.old) (S.faults screen.new) [] (message status) }
     ensures later { S.faults screen.old ≤ S.faults screen.new }
-    ensures quiet { status ≡ Status.Done → S.faults screen.new ≡ S.faults screen.old }
+    ensures quiet { IsSilent status → S.faults screen.new ≡ S.faults screen.old }
 {
     if let Status::Done | Status::WriteFault = status {
         return;
@@ -58,7 +58,7 @@ pub fn show_message<S: Sink>(status: Status, screen: &mut S)
 pub fn keep<H: Host>(status: Status, out: &str, host: &mut H) -> Status
     requires { IsEnd status }
     ensures status { IsOr result status }
-    ensures saved { IsTrue H.tells → Saves (H.files host.old out.now) (H.files host.new out.now) result }
+    ensures kept { IsTrue H.tells → Keeps (H.files host.old out.now) (H.files host.new out.now) result }
     ensures others { IsTrue H.tells → KeepsOthers out.now (H.files host.old) (H.files host.new) }
     ensures later { H.faults host.old ≤ H.faults host.new }
     ensures cause { HostCause (H.faults host.old) (H.faults host.new) result }
@@ -76,9 +76,9 @@ pub fn finish<H: Host, S: Sink>(status: Status, out: &str, host: &mut H, screen:
     ensures shown { Tried (S.told screen.old) (S.told screen.new)
         (S.faults screen.old) (S.faults screen.new) [] (message result) }
     ensures later { S.faults screen.old ≤ S.faults screen.new }
-    ensures quiet { result ≡ Status.Done → S.faults screen.new ≡ S.faults screen.old }
+    ensures quiet { IsSilent result → S.faults screen.new ≡ S.faults screen.old }
 
-    ensures saved { IsTrue H.tells → Saves (H.files host.old out.now) (H.files host.new out.now) result }
+    ensures kept { IsTrue H.tells → Keeps (H.files host.old out.now) (H.files host.new out.now) result }
     ensures others { IsTrue H.tells → KeepsOthers out.now (H.files host.old) (H.files host.new) }
     ensures host_later { H.faults host.old ≤ H.faults host.new }
     ensures host_cause { HostCause (H.faults host.old) (H.faults host.new) result }
@@ -97,7 +97,7 @@ pub fn halt<H: Host, S: Sink>(status: Status, out: &str, host: &mut H, screen: &
         (S.faults screen.old) (S.faults screen.new) [] (end_of_line ++ message result) }
     ensures later { S.faults screen.old ≤ S.faults screen.new }
 
-    ensures saved { IsTrue H.tells → Saves (H.files host.old out.now) (H.files host.new out.now) result }
+    ensures kept { IsTrue H.tells → Keeps (H.files host.old out.now) (H.files host.new out.now) result }
     ensures others { IsTrue H.tells → KeepsOthers out.now (H.files host.old) (H.files host.new) }
     ensures host_later { H.faults host.old ≤ H.faults host.new }
     ensures host_cause { HostCause (H.faults host.old) (H.faults host.new) result }
@@ -115,7 +115,7 @@ pub fn close<H: Host, S: Sink>(stop: Stop, out: &str, host: &mut H, screen: &mut
     ensures later { S.faults screen.old ≤ S.faults screen.new }
     ensures quiet { result ≡ Status.Done → S.faults screen.new ≡ S.faults screen.old }
 
-    ensures saved { IsTrue H.tells → Saves (H.files host.old out.now) (H.files host.new out.now) result }
+    ensures kept { IsTrue H.tells → Keeps (H.files host.old out.now) (H.files host.new out.now) result }
     ensures others { IsTrue H.tells → KeepsOthers out.now (H.files host.old) (H.files host.new) }
     ensures host_later { H.faults host.old ≤ H.faults host.new }
     ensures host_cause { HostCause (H.faults host.old) (H.faults host.new) result }
@@ -137,7 +137,7 @@ fn end_line<H: Host, S: Sink>(out: &str, host: &mut H, screen: &mut S) -> Status
     ensures later { S.faults screen.old ≤ S.faults screen.new }
     ensures quiet { result ≡ Status.Done → S.faults screen.new ≡ S.faults screen.old }
 
-    ensures saved { IsTrue H.tells → Saves (H.files host.old out.now) (H.files host.new out.now) result }
+    ensures kept { IsTrue H.tells → Keeps (H.files host.old out.now) (H.files host.new out.now) result }
     ensures others { IsTrue H.tells → KeepsOthers out.now (H.files host.old) (H.files host.new) }
     ensures host_later { H.faults host.old ≤ H.faults host.new }
     ensures host_cause { HostCause (H.faults host.old) (H.faults host.new) result }

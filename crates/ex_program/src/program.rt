@@ -3,12 +3,15 @@ ghost use Rattle.std.specs.Prelude.{◌≡◌, ◌⊎◌, ◌≤◌, ◌<◌, �
 ghost use Rattle.cm_io.specs.Host.{KeepsOthers};
 ghost use Rattle.cm_io.specs.Told.{add};
 ghost use Rattle.cm_state.specs.Verbs.{exec_verbs};
-ghost use Rattle.ex_program.specs.Cause.{HostCause, IsQuiet, StatusCause, counts};
-ghost use Rattle.ex_program.specs.End.{IsRun, Leaves, Ran, Stands, Tried, key_limit, scene};
+ghost use Rattle.ex_program.specs.Cause.{HostCause, IsQuiet, StatusCause};
+ghost use Rattle.ex_program.specs.End.{Leaves, Ran, Stands};
 ghost use Rattle.ex_program.specs.Form.{Form, form_of};
-ghost use Rattle.ex_program.specs.Image.{Saves, image};
+ghost use Rattle.ex_program.specs.Image.{Keeps, image};
 ghost use Rattle.ex_program.specs.Messages.{message};
-ghost use Rattle.ex_program.specs.Run.{after, logged, run_shown, starting};
+ghost use Rattle.ex_program.specs.Run.{bytes_logged, run_shown, starting, world_after};
+ghost use Rattle.ex_program.specs.Scene.{Tried};
+ghost use Rattle.ex_program.specs.Stop.{IsRun};
+ghost use Rattle.ex_program.specs.declared.run.TheConstants.{KEY_LIMIT};
 
 use crate::end::{close, show_message};
 use crate::run::run;
@@ -30,14 +33,30 @@ fn run_all<H: Host, K: Source, S: Sink, W: Sink, C: Clock>(
 ) -> Status
     requires { verbs.now ≡ exec_verbs }
     ensures ran { IsTrue K.tells → IsTrue C.tells → Ran writes
-        (scene (S.told screen.old) (S.faults screen.old) (W.told log.old) (W.faults log.old)
-        (K.left keys.old) (C.left clock.old))
-        (scene (S.told screen.new) (S.faults screen.new) (W.told log.new) (W.faults log.new)
-        (K.left keys.new) (C.left clock.new))
+        (record {
+          screen = S.told screen.old;
+          screen_faults = S.faults screen.old;
+          log = W.told log.old;
+          log_faults = W.faults log.old;
+          keys = K.left keys.old;
+          keys_faults = K.faults keys.old;
+          moments = C.left clock.old;
+        })
+        (record {
+          screen = S.told screen.new;
+          screen_faults = S.faults screen.new;
+          log = W.told log.new;
+          log_faults = W.faults log.new;
+          keys = K.left keys.new;
+          keys_faults = K.faults keys.new;
+          moments = C.left clock.new;
+        })
         result }
-    ensures cause { StatusCause (counts (S.faults screen.old) (W.faults log.old) (K.faults keys.old))
-        (counts (S.faults screen.new) (W.faults log.new) (K.faults keys.new)) result }
-    ensures saved { IsTrue H.tells → Saves (H.files host.old out.now) (H.files host.new out.now) result }
+    ensures counts { StatusCause
+        (record { screen = S.faults screen.old; log = W.faults log.old; keys = K.faults keys.old })
+        (record { screen = S.faults screen.new; log = W.faults log.new; keys = K.faults keys.new })
+        result }
+    ensures kept { IsTrue H.tells → Keeps (H.files host.old out.now) (H.files host.new out.now) result }
     ensures others { IsTrue H.tells → KeepsOthers out.now (H.files host.old) (H.files host.new) }
     ensures host_cause { HostCause (H.faults host.old) (H.faults host.new) result }
     ensures past_the_prompt { IsRun result }
@@ -81,17 +100,31 @@ pub fn exec20<H: Host, K: Source, S: Sink, W: Sink, C: Clock>(
     ensures done_logged { IsTrue K.tells → IsTrue C.tells → result ≡ Status.Done
         → (form : Form) → form_of words.now ≡ Some form
         → W.told log.new ≡ add (W.told log.old)
-        (logged form.logs (starting (C.left clock.old)) (K.left keys.old)) }
+        (bytes_logged form.logs (starting (C.left clock.old)) (K.left keys.old)) }
     // .. and OUT holds the image.
     ensures done_saved { IsTrue H.tells → result ≡ Status.Done
         → (form : Form) → form_of words.now ≡ Some form → H.files host.new form.out ≡ Some image }
 
     // What stands, whatever the status: on the screen and in the log ..
     ensures stands { IsTrue K.tells → IsTrue C.tells → Stands (form_of words.now)
-        (scene (S.told screen.old) (S.faults screen.old) (W.told log.old) (W.faults log.old)
-        (K.left keys.old) (C.left clock.old))
-        (scene (S.told screen.new) (S.faults screen.new) (W.told log.new) (W.faults log.new)
-        (K.left keys.new) (C.left clock.new))
+        (record {
+          screen = S.told screen.old;
+          screen_faults = S.faults screen.old;
+          log = W.told log.old;
+          log_faults = W.faults log.old;
+          keys = K.left keys.old;
+          keys_faults = K.faults keys.old;
+          moments = C.left clock.old;
+        })
+        (record {
+          screen = S.told screen.new;
+          screen_faults = S.faults screen.new;
+          log = W.told log.new;
+          log_faults = W.faults log.new;
+          keys = K.left keys.new;
+          keys_faults = K.faults keys.new;
+          moments = C.left clock.new;
+        })
         result }
     // .. and in the files.
     ensures files { IsTrue H.tells → Leaves (form_of words.now)
@@ -99,20 +132,22 @@ pub fn exec20<H: Host, K: Source, S: Sink, W: Sink, C: Clock>(
 
     // When each status may come.
     ensures usage { (result ≡ Status.Usage) ↔ (form_of words.now ≡ None) }
-    ensures cause { StatusCause (counts (S.faults screen.old) (W.faults log.old) (K.faults keys.old))
-        (counts (S.faults screen.new) (W.faults log.new) (K.faults keys.new)) result }
+    ensures cause { StatusCause
+        (record { screen = S.faults screen.old; log = W.faults log.old; keys = K.faults keys.old })
+        (record { screen = S.faults screen.new; log = W.faults log.new; keys = K.faults keys.new })
+        result }
     ensures host_cause { HostCause (H.faults host.old) (H.faults host.new) result }
 
     // With words of a form, fewer keys than a run takes, and nothing outside that fails, the run is Done.
     ensures complete { IsTrue K.tells → IsTrue C.tells → (form : Form) → form_of words.now ≡ Some form
-        → length (K.left keys.old) < key_limit
+        → length (K.left keys.old) < KEY_LIMIT
         → IsQuiet (S.faults screen.old) (S.faults screen.new) → IsQuiet (W.faults log.old) (W.faults log.new)
         → IsQuiet (K.faults keys.old) (K.faults keys.new) → IsQuiet (H.faults host.old) (H.faults host.new)
         → (result ≡ Status.Done) ⊎ (result ≡ Status.NoMemory) }
     // With as many keys as a run takes, in which LOGOUT does not act, it is KeyLimit.
     ensures limit { IsTrue K.tells → IsTrue C.tells → (form : Form) → form_of words.now ≡ Some form
-        → (taken rest : List ℕ) → taken ++ rest ≡ K.left keys.old → length taken ≡ key_limit
-        → (after (starting (C.left clock.old)) taken).ended ≡ false
+        → (taken rest : List ℕ) → taken ++ rest ≡ K.left keys.old → length taken ≡ KEY_LIMIT
+        → (world_after (starting (C.left clock.old)) taken).ended ≡ false
         → IsQuiet (S.faults screen.old) (S.faults screen.new) → IsQuiet (W.faults log.old) (W.faults log.new)
         → IsQuiet (K.faults keys.old) (K.faults keys.new) → IsQuiet (H.faults host.old) (H.faults host.new)
         → (result ≡ Status.KeyLimit) ⊎ (result ≡ Status.NoMemory) }

@@ -1,13 +1,13 @@
 // The run over the keys.
 ghost use Rattle.std.specs.Prelude.{◌≡◌, ◌≤◌, IsTrue};
 ghost use Rattle.cm_state.specs.Verbs.{exec_verbs};
-ghost use Rattle.ex_program.specs.Cause.{Causes, counts};
-ghost use Rattle.ex_program.specs.End.{Stops, scene};
+ghost use Rattle.ex_program.specs.Cause.{StopCause};
+ghost use Rattle.ex_program.specs.Stop.{Stops};
 
 use crate::step::{Step, take_key};
 use crate::stop::Stop;
 use cm_io::{Clock, Got, Put, Sink, Source};
-use cm_state::{Prompt, Session, Verbs};
+use cm_state::{COMMANDS, Prompt, Session, Verbs};
 
 /// The most keys that a run takes.
 pub const KEY_LIMIT: u32 = 16_777_216;
@@ -24,19 +24,35 @@ pub fn run<K: Source, S: Sink, W: Sink, C: Clock>(
 ) -> Stop
     requires { verbs.now ≡ exec_verbs }
     ensures stops { IsTrue K.tells → IsTrue C.tells → Stops writes
-        (scene (S.told screen.old) (S.faults screen.old) (W.told log.old) (W.faults log.old)
-        (K.left keys.old) (C.left clock.old))
-        (scene (S.told screen.new) (S.faults screen.new) (W.told log.new) (W.faults log.new)
-        (K.left keys.new) (C.left clock.new))
+        (record {
+          screen = S.told screen.old;
+          screen_faults = S.faults screen.old;
+          log = W.told log.old;
+          log_faults = W.faults log.old;
+          keys = K.left keys.old;
+          keys_faults = K.faults keys.old;
+          moments = C.left clock.old;
+        })
+        (record {
+          screen = S.told screen.new;
+          screen_faults = S.faults screen.new;
+          log = W.told log.new;
+          log_faults = W.faults log.new;
+          keys = K.left keys.new;
+          keys_faults = K.faults keys.new;
+          moments = C.left clock.new;
+        })
         result }
-    ensures causes { Causes (counts (S.faults screen.old) (W.faults log.old) (K.faults keys.old))
-        (counts (S.faults screen.new) (W.faults log.new) (K.faults keys.new)) result }
+    ensures cause { StopCause
+        (record { screen = S.faults screen.old; log = W.faults log.old; keys = K.faults keys.old })
+        (record { screen = S.faults screen.new; log = W.faults log.new; keys = K.faults keys.new })
+        result }
     ensures screen_later { S.faults screen.old ≤ S.faults screen.new }
     ensures log_later { W.faults log.old ≤ W.faults log.new }
     ensures keys_later { K.faults keys.old ≤ K.faults keys.new }
 {
     let mut session = Session::new();
-    if let Put::Failed = session.begin(0, Prompt::Main, screen) {
+    if let Put::Failed = session.begin(COMMANDS, Prompt::Main, screen) {
         return Stop::ScreenFailed;
     }
     for _turn in 0..KEY_LIMIT {

@@ -1,20 +1,21 @@
 // What one key of a run does: edits the line, and acts where it confirms one.
-#![tactic(auto, using(crate::proofs::Parts::fronts))]
+#![tactic(auto, using(crate::proofs::Parts::pieces))]
 
 ghost use Rattle.std.specs.Prelude.{◌≡◌, ◌≤◌, ◌++◌, [], IsTrue, ℕ, List, if◌then◌else◌};
 ghost use Rattle.cm_io.specs.Told.{Adds};
 ghost use Rattle.cm_io.specs.Fault.{PutCause};
+ghost use Rattle.cm_io.specs.Clock.{later_moments};
 ghost use Rattle.cm_state.specs.Echo.{prompt_text};
-ghost use Rattle.cm_state.specs.Held.{at_start};
+ghost use Rattle.cm_state.specs.Held.{Held, at_start};
 ghost use Rattle.cm_state.specs.Log.{log_line};
 ghost use Rattle.cm_state.specs.Verbs.{exec_verbs};
-ghost use Rattle.ex_program.specs.Command.{command_of};
-ghost use Rattle.ex_program.specs.Run.{acted, acting, answer, answered, logs, next_prompt, obeyed, shows, step};
-ghost use Rattle.ex_program.specs.Step.{Answers, GoesOn, IsNotLog, LeadsTo, LogCause, ScreenCause, going};
+ghost use Rattle.ex_program.specs.Command.{command_of, reply};
+ghost use Rattle.ex_program.specs.Run.{command_prompt, turn_bytes, world_after_command, world_after_turn};
+ghost use Rattle.ex_program.specs.Step.{LogCause, ScreenCause, Took, going};
 
 use crate::command::{Command, command_of, put_reply};
 use cm_io::{Clock, Put, Sink};
-use cm_state::{Prompt, Session, Turn, Verbs};
+use cm_state::{COMMANDS, Prompt, Session, Turn, Verbs};
 
 /// What a key of a run came to.
 #[derive(Clone, Copy, Debug)]
@@ -29,12 +30,8 @@ pub enum Step {
     LogFailed,
 }
 
-// The node that a command line begins at.
-const COMMANDS: u16 = 0;
-
-/// Takes one key of a run that is not over: edits the line and shows the echo, logs the key, and answers
-/// it. Only a confirmed line acts.
-#[tactic(auto, using(crate::proofs::Parts::fronts), unfolding(crate::specs::Run::logs, crate::specs::Run::shows, crate::specs::Run::step))]
+/// Takes one key of a run that is not over: edits the line and shows the echo, logs the key, and only then
+/// does what the key came to. Only a confirmed line acts.
 pub fn take_key<S: Sink, W: Sink, C: Clock>(
     writes: bool,
     key: u8,
@@ -45,16 +42,12 @@ pub fn take_key<S: Sink, W: Sink, C: Clock>(
     clock: &mut C,
 ) -> Step
     requires { verbs.now ≡ exec_verbs }
-    ensures leads { IsTrue C.tells → LeadsTo result
-        (step (going session.old (C.left clock.old)) key) session.new (C.left clock.new) }
-
-    ensures shown { Answers (S.told screen.old) (S.told screen.new)
-        (shows (going session.old (C.left clock.old)) key) result }
+    ensures took { IsTrue C.tells → Took writes (going session.old (C.left clock.old)) key
+        (record { screen = S.told screen.old; log = W.told log.old })
+        (record { screen = S.told screen.new; log = W.told log.new })
+        session.new (C.left clock.new) result }
     ensures screen_later { S.faults screen.old ≤ S.faults screen.new }
     ensures screen_cause { ScreenCause (S.faults screen.old) (S.faults screen.new) result }
-
-    ensures logged { Answers (W.told log.old) (W.told log.new)
-        (logs writes (going session.old (C.left clock.old)) key) result }
     ensures log_later { W.faults log.old ≤ W.faults log.new }
     ensures log_cause { LogCause (W.faults log.old) (W.faults log.new) result }
 {
@@ -65,7 +58,12 @@ pub fn take_key<S: Sink, W: Sink, C: Clock>(
     if let Put::Failed = log_key(writes, key, session, log) {
         return Step::LogFailed;
     }
-    answer(turn, session, screen, clock)
+    let is_last = is_last(turn, session);
+    match take_turn(turn, session, screen, clock) {
+        Put::Failed => Step::ScreenFailed,
+        Put::Done if is_last => Step::Over,
+        Put::Done => Step::More,
+    }
 }
 
 // Logs a key, where there is a log.
@@ -82,86 +80,100 @@ fn log_key<W: Sink>(writes: bool, key: u8, session: &Session, log: &mut W) -> Pu
     }
 }
 
-// Answers a key that came to this turn: a confirmed line acts, and a line that is finished or given up
-// makes way for the next.
-#[tactic(auto, using(crate::proofs::Parts::fronts), unfolding(crate::specs::Run::answer, crate::specs::Run::answered))]
-fn answer<S: Sink, C: Clock>(
+// Whether a key that came to this turn is the last of the run: it confirms LOGOUT.
+#[tactic(auto, unfolding(crate::specs::Run::world_after_turn))]
+fn is_last(turn: Turn, session: &Session) -> bool
+    ensures { (moments : List ℕ) → result ≡ (world_after_turn (going session.now moments) turn).ended }
+{
+    match turn {
+        Turn::Edited => false,
+        Turn::Confirmed => is_logout(command_of(session)),
+        Turn::Refused(_) => false,
+        Turn::Abandoned => false,
+        Turn::Failed => false,
+    }
+}
+
+fn is_logout(command: Command) -> bool
+    ensures { (session : Held) → (moments : List ℕ)
+        → result ≡ (world_after_command (going session moments) command).ended }
+{
+    match command {
+        Command::Empty => false,
+        Command::Version => false,
+        Command::Logout => true,
+    }
+}
+
+// Does what a key came to: a confirmed line acts, and a line that is finished or given up makes way for the
+// next.
+#[tactic(auto, using(crate::proofs::Parts::pieces), unfolding(crate::specs::Run::turn_reply, crate::specs::Run::turn_prompt, crate::specs::Run::world_after_turn))]
+fn take_turn<S: Sink, C: Clock>(
     turn: Turn,
     session: &mut Session,
     screen: &mut S,
     clock: &mut C,
-) -> Step
-    ensures leads { IsTrue C.tells → LeadsTo result
-        (answered (going session.old (C.left clock.old)) turn) session.new (C.left clock.new) }
-    ensures bytes { Answers (S.told screen.old) (S.told screen.new)
-        (answer (going session.old (C.left clock.old)) turn) result }
+) -> Put
+    ensures session { result ≡ Put.Done → (moments : List ℕ)
+        → session.new ≡ (world_after_turn (going session.old moments) turn).session }
+    ensures moments { IsTrue C.tells
+        → C.left clock.new ≡ (world_after_turn (going session.old (C.left clock.old)) turn).moments }
+    ensures bytes { (moments : List ℕ) → Adds (S.told screen.old) (S.told screen.new)
+        (turn_bytes (going session.old moments) turn) result }
     ensures later { S.faults screen.old ≤ S.faults screen.new }
-    ensures cause { ScreenCause (S.faults screen.old) (S.faults screen.new) result }
-    ensures not_log { IsNotLog result }
+    ensures cause { PutCause (S.faults screen.old) (S.faults screen.new) result }
 {
     match turn {
-        Turn::Edited | Turn::Failed => Step::More,
-        Turn::Confirmed => act(session, screen, clock),
-        Turn::Refused(_) | Turn::Abandoned => next_line(session, screen),
+        Turn::Edited => Put::Done,
+        Turn::Confirmed => act(command_of(session), session, screen, clock),
+        Turn::Refused(_) => next_line(session, screen),
+        Turn::Abandoned => next_line(session, screen),
+        Turn::Failed => Put::Done,
     }
 }
 
-// Does what a confirmed line commands, at the moment of now, and shows the reply.
-fn act<S: Sink, C: Clock>(session: &mut Session, screen: &mut S, clock: &mut C) -> Step
-    ensures leads { IsTrue C.tells → LeadsTo result
-        (acted (going session.old (C.left clock.old)) (command_of session.old.fields))
-        session.new (C.left clock.new) }
-    ensures bytes { Answers (S.told screen.old) (S.told screen.new)
-        (acting (command_of session.old.fields)) result }
+// Does what a confirmed line commands, at the moment of now, and shows the reply and the next prompt.
+fn act<S: Sink, C: Clock>(
+    command: Command,
+    session: &mut Session,
+    screen: &mut S,
+    clock: &mut C,
+) -> Put
+    ensures session { (moments : List ℕ) → result ≡ Put.Done
+        → session.new ≡ (world_after_command (going session.old moments) command).session }
+    ensures moments { IsTrue C.tells → C.left clock.new ≡ later_moments (C.left clock.old) }
+    ensures reply { Adds (S.told screen.old) (S.told screen.new)
+        (reply command ++ command_prompt command) result }
     ensures later { S.faults screen.old ≤ S.faults screen.new }
-    ensures cause { ScreenCause (S.faults screen.old) (S.faults screen.new) result }
-    ensures not_log { IsNotLog result }
+    ensures cause { PutCause (S.faults screen.old) (S.faults screen.new) result }
 {
     let _moment = clock.now();
-    obey(command_of(session), session, screen)
-}
-
-// Shows the reply to a command, and begins the next line or ends the run.
-fn obey<S: Sink>(command: Command, session: &mut Session, screen: &mut S) -> Step
-    ensures leads { (moments : List ℕ) → LeadsTo result
-        (obeyed (going session.old moments) command) session.new moments }
-    ensures bytes { Answers (S.told screen.old) (S.told screen.new) (acting command) result }
-    ensures later { S.faults screen.old ≤ S.faults screen.new }
-    ensures cause { ScreenCause (S.faults screen.old) (S.faults screen.new) result }
-    ensures not_log { IsNotLog result }
-{
     if let Put::Failed = put_reply(command, screen) {
-        return Step::ScreenFailed;
+        return Put::Failed;
     }
     go_on(command, session, screen)
 }
 
-// Behind the reply to a command, begins the next line or ends the run.
-fn go_on<S: Sink>(command: Command, session: &mut Session, screen: &mut S) -> Step
-    ensures leads { (moments : List ℕ) → LeadsTo result
-        (obeyed (going session.old moments) command) session.new moments }
-    ensures bytes { Answers (S.told screen.old) (S.told screen.new) (next_prompt command) result }
+// Behind the reply to a command, begins the next line, unless the run is over.
+fn go_on<S: Sink>(command: Command, session: &mut Session, screen: &mut S) -> Put
+    ensures session { (moments : List ℕ)
+        → session.new ≡ (world_after_command (going session.old moments) command).session }
+    ensures bytes { Adds (S.told screen.old) (S.told screen.new) (command_prompt command) result }
     ensures later { S.faults screen.old ≤ S.faults screen.new }
-    ensures cause { ScreenCause (S.faults screen.old) (S.faults screen.new) result }
-    ensures not_log { IsNotLog result }
+    ensures cause { PutCause (S.faults screen.old) (S.faults screen.new) result }
 {
     match command {
         Command::Empty => next_line(session, screen),
         Command::Version => next_line(session, screen),
-        Command::Logout => Step::Over,
+        Command::Logout => Put::Done,
     }
 }
 
-// Begins the next line.
-fn next_line<S: Sink>(session: &mut Session, screen: &mut S) -> Step
-    ensures session { session.new ≡ at_start 0 Prompt.Main session.old.kept }
-    ensures bytes { Answers (S.told screen.old) (S.told screen.new) (prompt_text Prompt.Main) result }
+fn next_line<S: Sink>(session: &mut Session, screen: &mut S) -> Put
+    ensures session { session.new ≡ at_start COMMANDS Prompt.Main session.old.kept }
+    ensures bytes { Adds (S.told screen.old) (S.told screen.new) (prompt_text Prompt.Main) result }
     ensures later { S.faults screen.old ≤ S.faults screen.new }
-    ensures cause { ScreenCause (S.faults screen.old) (S.faults screen.new) result }
-    ensures going { GoesOn result }
+    ensures cause { PutCause (S.faults screen.old) (S.faults screen.new) result }
 {
-    match session.begin(COMMANDS, Prompt::Main, screen) {
-        Put::Done => Step::More,
-        Put::Failed => Step::ScreenFailed,
-    }
+    session.begin(COMMANDS, Prompt::Main, screen)
 }

@@ -1,5 +1,3 @@
-// Why a run takes no more keys.
-
 /// Why a run takes no more keys.
 #[derive(Clone, Copy, Debug)]
 pub enum Stop {

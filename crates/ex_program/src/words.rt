@@ -7,13 +7,16 @@ ghost use Rattle.ex_program.specs.Form.{form_of, form_of_words, is_name, with_wo
 use arrayvec::{ArrayString, ArrayVec};
 use std::marker::Model;
 
-/// How many words are held.
-pub const MOST_WORDS: usize = 4;
+// How many words are held.
+const MOST_WORDS: usize = 4;
 
-// A word of at most 255 bytes. Contracts see its bytes.
+// How many bytes a word may have.
+const LONGEST_WORD: usize = 255;
+
+// Contracts see the bytes of a word.
 #[derive(Drop)]
 struct Word {
-    text: ArrayString<255>,
+    text: ArrayString<LONGEST_WORD>,
 }
 
 impl Model for Word {
@@ -34,7 +37,7 @@ impl Default for Word {
 /// the words, and none where they are too many.
 #[derive(Drop)]
 pub struct Words {
-    words: ArrayVec<Word, 4>,
+    words: ArrayVec<Word, MOST_WORDS>,
     too_many: bool,
 }
 
@@ -101,7 +104,7 @@ impl Words {
 
 // A word, unless it is too long.
 fn word_of(text: &str) -> Option<Word>
-    ensures { result ≡ (if nat_le (length text.now) 255 then Some text.now else None) }
+    ensures { result ≡ (if nat_le (length text.now) LONGEST_WORD then Some text.now else None) }
 {
     let mut word = ArrayString::new();
     match word.try_push_str(text) {

@@ -1,6 +1,5 @@
 use Rattle.std.proofs.Common.{◌≡◌}
 use Rattle.std.specs.Bool.{IsTrue}
-use Rattle.ex_program.specs.End.{scene}
 use Rattle.ex_program.proofs.Running.{Runs}
 use Rattle.ex_program.proofs.run.run.Given as goal
 
@@ -8,8 +7,24 @@ use Rattle.ex_program.proofs.run.run.Given as goal
 abbrev pub invariant-loop-turn : goal.invariant-loop-turn
 invariant-loop-turn g l = record {
   runs : IsTrue g.K.Source.tells → IsTrue g.C.Clock.tells → Runs l.writes
-      (scene (g.S.Sink.told l.fn.screen) (g.S.Sink.faults l.fn.screen) (g.W.Sink.told l.fn.log) (g.W.Sink.faults l.fn.log) (g.K.Source.left l.fn.keys) (g.C.Clock.left l.fn.clock))
-      (scene (g.S.Sink.told l.screen) (g.S.Sink.faults l.screen) (g.W.Sink.told l.log) (g.W.Sink.faults l.log) (g.K.Source.left l.keys) (g.C.Clock.left l.clock))
+      (record {
+        screen = g.S.Sink.told l.fn.screen;
+        screen_faults = g.S.Sink.faults l.fn.screen;
+        log = g.W.Sink.told l.fn.log;
+        log_faults = g.W.Sink.faults l.fn.log;
+        keys = g.K.Source.left l.fn.keys;
+        keys_faults = g.K.Source.faults l.fn.keys;
+        moments = g.C.Clock.left l.fn.clock;
+      })
+      (record {
+        screen = g.S.Sink.told l.screen;
+        screen_faults = g.S.Sink.faults l.screen;
+        log = g.W.Sink.told l.log;
+        log_faults = g.W.Sink.faults l.log;
+        keys = g.K.Source.left l.keys;
+        keys_faults = g.K.Source.faults l.keys;
+        moments = g.C.Clock.left l.clock;
+      })
       l.session l._turn;
   screen : g.S.Sink.faults l.screen ≡ g.S.Sink.faults l.fn.screen;
   log : g.W.Sink.faults l.log ≡ g.W.Sink.faults l.fn.log;

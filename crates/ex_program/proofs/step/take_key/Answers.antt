@@ -1,28 +1,39 @@
-use Rattle.cm_state.specs.Echo.{echo}
-use Rattle.cm_state.specs.Verbs.{exec_verbs}
-use Rattle.ex_program.specs.Run.{answer}
-use Rattle.ex_program.specs.Step.{going}
-use Rattle.ex_program.proofs.Steps.{all_put, answers_behind, answers_whole, echo_by_exec, edited_by_exec, not_failed, step_leads, step_logs, step_shows}
+use Rattle.std.proofs.Common.{false, refl, true}
+use Rattle.ex_program.proofs.Steps.{cut_echo, cut_log, cut_reply, echo_whole, stepped}
 use Rattle.ex_program.proofs.step.take_key.Goals as goal
 
-pub returns-clause-leads : goal.returns-clause-leads
-returns-clause-leads g c =
-    let told = not_failed c.key-turn.result c.in_default.not-Failed in
-    let typed = edited_by_exec c.args.verbs.now c.args.session.now c.key-turn.new.self c.args.key c.requires c.key-turn.ensures.edited in
-    λ tells. step_leads c.answer.result c.args.session.now c.key-turn.new.self c.answer.new.session c.key-turn.result c.args.key _ _
-    typed (c.key-turn.ensures.turn told) (c.answer.ensures.leads tells)
+pub returns-in-Failed-clause-took : goal.returns-in-Failed-clause-took
+returns-in-Failed-clause-took g c = λ clock.
+    cut_echo c.args.writes c.args.verbs.now c.args.session.now c.args.key _ _ _ _ c.requires c.in-Failed.ensures.bytes
 
-pub returns-clause-shown : goal.returns-clause-shown
-returns-clause-shown g c =
-    let told = not_failed c.key-turn.result c.in_default.not-Failed in
-    let typed = edited_by_exec c.args.verbs.now c.args.session.now c.key-turn.new.self c.args.key c.requires c.key-turn.ensures.edited in
-    let echoed = echo_by_exec c.args.verbs.now _ _ c.args.session.now c.args.key c.requires (all_put _ _ _ _ told c.key-turn.ensures.bytes) in
-    step_shows c.answer.result _ _ c.args.session.now c.key-turn.new.self c.key-turn.result c.args.key (g.C.Clock.left c.args.clock.now)
-    typed (c.key-turn.ensures.turn told)
-    (answers_behind c.answer.result _ _ _ (echo exec_verbs c.args.session.now c.args.key) (answer (going c.key-turn.new.self (g.C.Clock.left c.args.clock.now)) c.key-turn.result) echoed c.answer.ensures.bytes)
+pub returns-in-Failed-log_key-clause-took : goal.returns-in-Failed-log_key-clause-took
+returns-in-Failed-log_key-clause-took g c = λ clock. (
+  echo_whole c.args.writes c.args.verbs.now c.args.session.now c.key-turn.new.self c.args.key (g.C.Clock.left c.args.clock.now) c.key-turn.result _ _
+      c.requires c.in_default.not-Failed c.key-turn.ensures.edited c.key-turn.ensures.bytes,
+  cut_log c.args.writes c.args.verbs.now c.args.session.now c.key-turn.new.self c.args.key (g.C.Clock.left c.args.clock.now) c.key-turn.result _ _
+      c.requires c.in_default.not-Failed c.key-turn.ensures.edited c.key-turn.ensures.bytes
+      _ _ c.in-Failed-log_key.ensures.bytes,
+)
 
-pub returns-clause-logged : goal.returns-clause-logged
-returns-clause-logged g c =
-    let typed = edited_by_exec c.args.verbs.now c.args.session.now c.key-turn.new.self c.args.key c.requires c.key-turn.ensures.edited in
-    answers_whole c.answer.result _ _ _
-    (step_logs _ _ c.args.writes c.args.session.now c.key-turn.new.self c.args.key (g.C.Clock.left c.args.clock.now) typed c.in_default-log_key.ensures.bytes)
+pub returns-in-Failed-take_turn-clause-took : goal.returns-in-Failed-take_turn-clause-took
+returns-in-Failed-take_turn-clause-took g c = λ clock.
+    cut_reply c.args.writes c.args.verbs.now c.args.session.now c.key-turn.new.self c.args.key (g.C.Clock.left c.args.clock.now) c.key-turn.result _ _
+    c.requires c.in_default.not-Failed c.key-turn.ensures.edited c.key-turn.ensures.bytes
+    _ _ _ c.key-turn.ensures.turn c.in_default-log_key.ensures.bytes
+    _ (c.in-Failed-take_turn.ensures.bytes (g.C.Clock.left c.args.clock.now)) (c.in-Failed-take_turn.ensures.moments clock)
+
+pub returns-in-Done-clause-took : goal.returns-in-Done-clause-took
+returns-in-Done-clause-took g c = λ clock. let moments = g.C.Clock.left c.args.clock.now in
+    stepped c.args.writes c.args.verbs.now c.args.session.now c.key-turn.new.self c.args.key moments c.key-turn.result _ _
+    c.requires c.in_default.not-Failed c.key-turn.ensures.edited c.key-turn.ensures.bytes
+    _ _ _ c.key-turn.ensures.turn c.in_default-log_key.ensures.bytes
+    c.take_turn.new.session _ c.is_last-is_last.result true c.if-is_last.true (c.in-Done.ensures.bytes moments)
+    (c.in-Done.ensures.session refl moments) (c.in-Done.ensures.moments clock) (c.is_last-is_last.ensures moments)
+
+pub returns-in-Done-2-clause-took : goal.returns-in-Done-2-clause-took
+returns-in-Done-2-clause-took g c = λ clock. let moments = g.C.Clock.left c.args.clock.now in
+    stepped c.args.writes c.args.verbs.now c.args.session.now c.key-turn.new.self c.args.key moments c.key-turn.result _ _
+    c.requires c.in_default.not-Failed c.key-turn.ensures.edited c.key-turn.ensures.bytes
+    _ _ _ c.key-turn.ensures.turn c.in_default-log_key.ensures.bytes
+    c.take_turn.new.session _ c.is_last-is_last.result false c.if-is_last.false (c.in-Done-2.ensures.bytes moments)
+    (c.in-Done-2.ensures.session refl moments) (c.in-Done-2.ensures.moments clock) (c.is_last-is_last.ensures moments)

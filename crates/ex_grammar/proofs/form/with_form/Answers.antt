@@ -1,0 +1,10 @@
+use Rattle.std.proofs.lemmas.Str.{IsCharBoundary-from_ascii}
+use Rattle.std.proofs.Common.{◌≡◌, true, rules}
+use Rattle.cm_text.specs.Case.{begins_with}
+use Rattle.ex_grammar.specs.BeginLaws.{begins-le}
+use Rattle.ex_grammar.proofs.form.with_form.Goals as goal
+
+pub range_from-rest-requires : goal.range_from-rest-requires
+range_from-rest-requires c =
+    let begins : begins_with c.args.form.now c.args.atom.now ≡ true = search rules in
+    λ _. IsCharBoundary-from_ascii _ _ c.requires.ascii (begins-le _ _ begins)

@@ -1,0 +1,10 @@
+use Rattle.std.proofs.Common.{◌≡◌, ◌≤◌, take}
+use Rattle.std.specs.Str.Parse.{digits_value}
+use Rattle.ex_grammar.specs.declared.retention.TheConstants.{MOST_KEPT}
+use Rattle.ex_grammar.proofs.retention.value_of.Given as goal
+
+abbrev pub invariant-loop-digit : goal.invariant-loop-digit
+invariant-loop-digit l = record {
+  value : l.value ≡ digits_value 10 (take l.digit-index l.digits);
+  small : l.value ≤ MOST_KEPT;
+}

@@ -1,0 +1,71 @@
+-- What the objects outside tell at one moment, and where the keys taken lead.
+use Rattle.std.specs.Prelude.{◌≡◌, ◌⊎◌, ℕ, ◌<◌, Bool, true, false, List, [], ◌∷◌, ◌++◌, length}
+use Rattle.cm_io.specs.Told.{Told, add, IsPart}
+use Rattle.cm_io.specs.Fault.{Rose}
+use Rattle.ex_program.specs.Cause.{Counts}
+use Rattle.ex_program.specs.Run.{World, bytes_logged, run_keys, starting, world_after}
+use Rattle.ex_program.specs.Step.{Outputs}
+use Rattle.ex_program.specs.declared.run.TheConstants.{KEY_LIMIT}
+
+pub record Scene : Type 0 where
+  pub screen : Told
+  pub screen_faults : ℕ
+  pub log : Told
+  pub log_faults : ℕ
+  pub keys : List ℕ
+  pub keys_faults : ℕ
+  pub moments : List ℕ
+
+abbrev pub outputs_of : Scene → Outputs
+outputs_of scene = record { screen = scene.screen; log = scene.log }
+
+abbrev pub counts_of : Scene → Counts
+counts_of scene = record { screen = scene.screen_faults; log = scene.log_faults; keys = scene.keys_faults }
+
+-- the world behind these keys of a run
+abbrev pub world_at : Scene → List ℕ → World
+world_at scene taken = world_after (starting scene.moments) taken
+
+-- LOGOUT has acted in these keys
+abbrev pub has_ended : Scene → List ℕ → Bool
+has_ended scene taken = (world_at scene taken).ended
+
+-- the screen and the log behind these keys of a run
+abbrev pub outputs_at : Bool → Scene → List ℕ → Outputs
+outputs_at writes scene taken = record {
+  screen = add scene.screen (run_keys (starting scene.moments) taken);
+  log = add scene.log (bytes_logged writes (starting scene.moments) taken);
+}
+
+-- the keys taken are the first of those that there were; log and moments are as they leave them
+pub record Taken (writes : Bool) (a b : Scene) (taken : List ℕ) : Type 0 where
+  pub keys : taken ++ b.keys ≡ a.keys
+  pub log : b.log ≡ (outputs_at writes a taken).log
+  pub moments : b.moments ≡ (world_at a taken).moments
+
+-- LOGOUT acted at the last of these keys
+pub record LoggedOut (scene : Scene) (taken : List ℕ) : Type 0 where
+  pub before : List ℕ
+  pub key : ℕ
+  pub last : before ++ key ∷ [] ≡ taken
+  pub going : has_ended scene before ≡ false
+  pub ended : has_ended scene taken ≡ true
+
+-- the keys were read to their end, and LOGOUT has not acted
+abbrev pub ReadOut : Scene → Scene → List ℕ → Type 0
+ReadOut a b taken = (has_ended a taken ≡ false) × (b.keys ≡ []) × (length taken < KEY_LIMIT)
+
+-- a run that goes on took this key, behind those
+pub record AtKey (a b : Scene) : Type 0 where
+  pub before : List ℕ
+  pub key : ℕ
+  pub keys : before ++ key ∷ b.keys ≡ a.keys
+  pub going : has_ended a before ≡ false
+  pub below : length before < KEY_LIMIT
+
+-- behind these bytes stands the message, or a prefix of it where the screen failed there
+pub record Tried (before now : Told) (before_faults now_faults : ℕ) (bytes message : List ℕ) : Type 0 where
+  pub part : List ℕ
+  pub is_part : IsPart part message
+  pub told : now ≡ add before (bytes ++ part)
+  pub whole : (part ≡ message) ⊎ Rose before_faults now_faults

@@ -1,0 +1,118 @@
+// Whole runs.
+use super::given::{Case, IMAGE, Log, outcome_by, outcome_of, over, try_cases, words_of};
+use crate::Status;
+use std::test::Fail;
+
+// A run that is Done, behind which this moment comes next.
+fn done<'a>(keys: &'a [u8], screen: &'a [u8], log: Log<'a>, next_moment: u64) -> Case<'a> {
+    Case {
+        given: over(keys),
+        status: Status::Done,
+        screen,
+        log,
+        out: Some(IMAGE),
+        left: b"",
+        next_moment,
+    }
+}
+
+#[test]
+fn shows_the_prompt_and_the_end(rt: HostRuntime) -> Result<(), Fail> {
+    let cases = [
+        done(b"", b"@\r\n", Log::Whole(b""), 1),
+        done(
+            b"LOGOUT\r",
+            b"@LOGOUT\r\nLogged out\r\n",
+            Log::End(b"0d 6 D 0.1k10@0-6\n"),
+            2,
+        ),
+        done(
+            b"INF VER X\r",
+            b"@INF VER X\r\n?Not confirmed\r\n@\r\n",
+            Log::End(b"\n0d 9 F25.5@8 0.1k9@0-3 27.0k4@4-7\n"),
+            1,
+        ),
+        done(
+            b"L\r\x08",
+            b"@L\r\n?Ambiguous keyword\r\n@\r\n",
+            Log::Whole(b"4c 1 O\n0d 1 F2.0@0\n08 0 O\n"),
+            1,
+        ),
+        done(
+            b"INF X\r\x08",
+            b"@INF X\r\n?Unrecognized keyword\r\n@INF \r\n",
+            Log::End(b"\n0d 5 F1.27@4 0.1k9@0-3\n08 4 O 0.1k9@0-3\n"),
+            1,
+        ),
+        done(
+            b"INF\x03LOG\r",
+            b"@INF^C\r\n@LOG\r\nLogged out\r\n",
+            Log::End(b"\n03 0 O\n4c 1 O\n4f 2 O\n47 3 O\n0d 3 D 0.1k10@0-3\n"),
+            2,
+        ),
+        done(
+            b"A.B-C  \x17\x17\x17\x17",
+            b"@A.B-C  \x08 \x08\x08 \x08\x08 \x08\x08 \x08\x08 \x08\x08 \x08\x08 \x08\x07\r\n",
+            Log::End(b"\n17 0 O\n17 0 O\n"),
+            1,
+        ),
+    ];
+    try_cases(&rt, rt.alloc(), &cases)
+}
+
+#[test]
+fn logs_each_key_where_the_words_ask_for_it(rt: HostRuntime) -> Result<(), Fail> {
+    let screen = b"@INF VER\r\n EXEC20 1\r\n@LOG\x08 \x08G\r\nLogged out\r\n".as_slice();
+    let log =
+        b"49 1 O\n4e 2 O\n46 3 O\n20 4 O 0.1k9@0-3\n56 5 O 0.1k9@0-3\n45 6 O 0.1k9@0-3\n52 7 O 0.1k9@0-3\n0d 7 D 0.1k9@0-3 27.0k4@4-7\n4c 1 O\n4f 2 O\n47 3 O\n7f 2 O\n47 3 O\n0d 3 D 0.1k10@0-3\n".as_slice();
+    let logged = over(b"INF VER\rLOG\x7fG\r");
+    for (words, log) in [
+        (["-w", "-n", "OUT"].as_slice(), log),
+        (["-n", "OUT"].as_slice(), b"".as_slice()),
+    ] {
+        let outcome = outcome_by(rt.alloc(), &words_of(words), &logged)?;
+        assert_eq!(rt; outcome.status, Status::Done);
+        assert_eq!(rt; outcome.screen.bytes(), screen);
+        assert_eq!(rt; outcome.log.bytes(), log);
+        assert!(rt; outcome.host.file("OUT") == Some(IMAGE));
+    }
+    Ok(())
+}
+
+#[test]
+fn refuses_a_key_past_a_full_line(rt: HostRuntime) -> Result<(), Fail> {
+    let outcome = outcome_of(rt.alloc(), &over(&[b'A'; 256]))?;
+    assert_eq!(rt; outcome.status, Status::Done);
+    assert_eq!(rt; outcome.screen.bytes().len(), 1 + 255 + 1 + 2);
+    assert!(rt; outcome.screen.bytes().starts_with(b"@AAAA"));
+    assert!(rt; outcome.screen.bytes().ends_with(b"AAAA\x07\r\n"));
+    assert!(rt; outcome.log.bytes().ends_with(b"\n41 255 O\n41 255 O\n"));
+    Ok(())
+}
+
+#[test]
+fn takes_a_moment_for_each_line_that_acts(rt: HostRuntime) -> Result<(), Fail> {
+    let cases = [done(
+        b"INF VER\r\r\nX\rLOG\r",
+        b"@INF VER\r\n EXEC20 1\r\n@\r\n@\r\n@X\r\n?Unrecognized keyword\r\n@LOG\r\nLogged out\r\n",
+        Log::End(
+            b"\n0d 0 D\n0a 0 D\n58 1 O\n0d 1 F1.0@0\n4c 1 O\n4f 2 O\n47 3 O\n0d 3 D 0.1k10@0-3\n",
+        ),
+        5,
+    )];
+    try_cases(&rt, rt.alloc(), &cases)
+}
+
+#[test]
+fn leaves_the_keys_behind_logout(rt: HostRuntime) -> Result<(), Fail> {
+    let cases = [Case {
+        left: b"INF VER\r",
+        ..done(
+            b"LOGOUT\rINF VER\r",
+            b"@LOGOUT\r\nLogged out\r\n",
+            Log::End(b"\n0d 6 D 0.1k10@0-6\n"),
+            2,
+        )
+    }];
+    try_cases(&rt, rt.alloc(), &cases)
+}
