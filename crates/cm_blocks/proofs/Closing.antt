@@ -1,23 +1,20 @@
 -- The parse of a finished text is decided.
-use Rattle.std.proofs.Common.{◌≡◌, ℕ, zero, suc, ◌+◌, ◌<◌, ◌≤◌, max, Bool, true, false, not, ◌==◌, ◌&&◌, nat_le, if◌then◌else◌, List, [], ◌∷◌, ◌++◌, length, drop, take, Option, Some, None, unwrap_or, slice_get, Result, Ok, Err, refl, ap, sym, subst, ◌∙◌, arith, length-drop}
-use Rattle.std.specs.Char.{to_ascii_lowercase}
-use Rattle.std.specs.List.{All, list_all, prefix_len}
-use Rattle.std.specs.Option.{option_map_or}
+use Rattle.std.proofs.Common.{◌≡◌, ℕ, zero, suc, ◌+◌, ◌<◌, ◌≤◌, Bool, true, not, ◌==◌, ◌&&◌, nat_le, List, [], ◌∷◌, length, drop, take, Option, Some, None, unwrap_or, slice_get, Result, Ok, Err, refl, ap, sym, subst, ◌∙◌, arith, length-drop}
+use Rattle.std.specs.List.{All, prefix_len}
 use Rattle.std.proofs.lemmas.Bool.Decides.{nat_tests}
 use Rattle.std.proofs.lemmas.List.{drop-append-le}
 use Rattle.cm_text.specs.Bytes.{is_name, is_word}
 use Rattle.cm_text.specs.Text.{finished}
 use Rattle.cm_tables.specs.declared.entry.Entry.{Entry}
 use Rattle.cm_fields.specs.declared.code.Code.{Code}
-use Rattle.cm_fields.specs.declared.code.Code.TheVariants.{NeedColon, NotConfirmed}
+use Rattle.cm_fields.specs.declared.code.Code.TheVariants.{NotConfirmed}
 use Rattle.cm_fields.specs.declared.trial.Try.{Try}
 use Rattle.cm_fields.specs.declared.trial.Try.TheVariants.{Accept, Refuse, More}
 use Rattle.cm_fields.specs.Finish.{Decides, DecidesFinished, has_no_end}
 use Rattle.cm_fields.specs.Phrase.{same_letter}
 use Rattle.cm_fields.specs.Run.{number_of, word_of}
-use Rattle.cm_fields.specs.Skip.{skip}
 use Rattle.cm_fields.specs.Text.{is_inside, text_of}
-use Rattle.cm_fields.proofs.Finishing.{comma_decides, confirm_decides, first_true, mark_inside, noise_decides, not_all, quoted_decides, run_decides, run_finishes, token_decides}
+use Rattle.cm_fields.proofs.Finishing.{comma_decides, confirm_decides, mark_inside, noise_decides, not_all, quoted_decides, run_decides, run_finishes, token_decides}
 use Rattle.cm_fields.proofs.Holding.{holds_of_choice}
 use Rattle.cm_fields.proofs.Skipping.{skip_finds}
 use Rattle.cm_hooks.specs.Field.{hook_of}
@@ -29,14 +26,14 @@ use Rattle.cm_blocks.specs.declared.function.Function.{Function}
 use Rattle.cm_blocks.specs.declared.function.Function.TheVariants.{Key, Switch, Noise, Number, Word, Quoted, Token, Text, Comma, Confirm, Hook}
 use Rattle.cm_blocks.specs.declared.node.Block.{Block}
 use Rattle.cm_blocks.specs.declared.node.Node.{Node}
-use Rattle.cm_blocks.specs.Chain.{Counted, at_node, by_default, chain_at, code_of, default_place, default_rest, defaulted, is_confirm, is_line_end, on_default, on_text, or_later, past_skip, typed, walk}
+use Rattle.cm_blocks.specs.Chain.{Counted, at_node, by_default, chain_at, default_place, default_rest, defaulted, is_confirm, is_line_end, on_default, on_text, or_later, past_skip, typed, walk}
 use Rattle.cm_blocks.specs.Fault.{grammar_fault, has_phrase, is_shown, is_shown_byte}
 use Rattle.cm_blocks.specs.Grammar.{Graph}
 use Rattle.cm_blocks.specs.Keyword.{behind_slash, entry_position, has_colon, key_value, named_switch, switch}
 use Rattle.cm_blocks.specs.Parse.{IsClosed, Parse, after_chain, ending_of, parse_from, parse_of}
 use Rattle.cm_blocks.specs.Setting.{Setting}
 use Rattle.cm_blocks.specs.Taken.{Taken}
-use Rattle.cm_blocks.specs.Trial.{looked_of, table_of, trial}
+use Rattle.cm_blocks.specs.Trial.{table_of, trial}
 use Rattle.cm_blocks.specs.Well.{IsWell, IsWellBlock}
 use Rattle.cm_blocks.proofs.Walks.{of_choice}
 use Rattle.cm_blocks.proofs.Wells.{both_true, well_node}
@@ -152,10 +149,10 @@ default_decides s number node start size text well within =
     let found = skip_finds node.raw text 0 (omega arith) in
     let place : default_place node.raw text ≡ found.place = ap (λ (place : Option ℕ). unwrap_or place 0) found.is in
     let rest : default_rest node.raw text ≡ finished (drop found.place text) =
-        ap (λ (at : ℕ). drop at (finished text)) place ∙ drop-append-le found.place text (13 ∷ []) found.within in
+    ap (λ (at : ℕ). drop at (finished text)) place ∙ drop-append-le found.place text (13 ∷ []) found.within in
     defaulted_decides number start (default_place node.raw text) (length (drop found.place text)) size _ within
     (subst (λ (line : List ℕ). WalkDecides (default_place node.raw text) (length (drop found.place text))
-        (walk s line (default_place node.raw text) 0 0 NotConfirmed node.chain)) (sym rest)
+    (walk s line (default_place node.raw text) 0 0 NotConfirmed node.chain)) (sym rest)
     (walk_decides s (drop found.place text) (default_place node.raw text) 0 0 NotConfirmed node.chain well.blocks))
 
 choice_decides : (s : Setting) (number : ℕ) (node : Node) (line : List ℕ) (start : ℕ) (default : Option (List ℕ)) → IsWell s.graph node
@@ -169,7 +166,7 @@ chain_decides : (s : Setting) (number : ℕ) (line : List ℕ) (at : ℕ) → gr
     → ChainDecides (length line) (chain_at s number (finished line) at).chain
 unfolding chain_at
 chain_decides s number line at none within = by (slice_get s.graph.nodes number) refl
-    where
+  where
     by : (found : Option Node) → slice_get s.graph.nodes number ≡ found
         → ChainDecides (length line) (at_node s number (finished line) at found).chain
     by None is = tt
@@ -191,9 +188,10 @@ closed_from s none line zero node at within = ending_decides (length line) _ (ch
 closed_from s none line (suc room) node at within =
     by (chain_at s node (finished line) at).chain (chain_decides s node line at none within)
     (λ field near. closed_from s none line room field.next field.end near)
-    where
+  where
     behind : Taken → Parse
     behind field = parse_from s (finished line) room field.next field.end
+
     by : (answer : Chain) → ChainDecides (length line) answer
         → ((field : Taken) → field.end ≤ length line → IsClosed (behind field).ending) → IsClosed (after_chain behind answer).ending
     by (chain.Field field) decided later = later field decided

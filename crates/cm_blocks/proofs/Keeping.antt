@@ -16,7 +16,7 @@ use Rattle.cm_blocks.specs.declared.field.Chain.TheVariants as chain
 use Rattle.cm_blocks.specs.declared.function.Role.{Role}
 use Rattle.cm_blocks.specs.declared.node.Block.{Block}
 use Rattle.cm_blocks.specs.declared.node.Node.{Node}
-use Rattle.cm_blocks.specs.Chain.{ChainLeads, Counted, Leads, at_node, by_default, chain_at, code_of, is_confirm, is_line_end, on_default, on_text, or_later, past_skip, typed, walk}
+use Rattle.cm_blocks.specs.Chain.{ChainLeads, Leads, at_node, by_default, chain_at, code_of, is_confirm, is_line_end, on_default, on_text, or_later, past_skip, typed, walk}
 use Rattle.cm_blocks.specs.Fault.{grammar_fault}
 use Rattle.cm_blocks.specs.Setting.{Setting}
 use Rattle.cm_blocks.specs.Taken.{Taken}
@@ -30,11 +30,11 @@ use Rattle.cm_blocks.proofs.Wells.{well_node}
 walk_step : (s : Setting) (rest : List ℕ) (at number looked : ℕ) (code : Code) (block : Block) (blocks : List Block) (answer : Try)
     → trial s block.function rest at ≡ answer
     → walk s rest at number looked code (block ∷ blocks)
-        ≡ or_later s.graph number (max looked (looked_of (length rest) answer)) block answer
-            (walk s rest at (number + 1) (max looked (looked_of (length rest) answer)) (code_of code answer) blocks)
+    ≡ or_later s.graph number (max looked (looked_of (length rest) answer)) block answer
+    (walk s rest at (number + 1) (max looked (looked_of (length rest) answer)) (code_of code answer) blocks)
 walk_step s rest at number looked code block blocks answer is =
     ap (λ (t : Try). or_later s.graph number (max looked (looked_of (length rest) t)) block t
-        (walk s rest at (number + 1) (max looked (looked_of (length rest) t)) (code_of code t) blocks)) is
+    (walk s rest at (number + 1) (max looked (looked_of (length rest) t)) (code_of code t) blocks)) is
 
 -- so many bytes decide what a walk takes, or more
 abbrev TakesLeast : ℕ → Walk → Type 0
@@ -52,10 +52,10 @@ walk_least : (s : Setting) (rest : List ℕ) (at number looked : ℕ) (code : Co
 walk_least s rest at number looked code [] = tt
 walk_least s rest at number looked code (block ∷ blocks) =
     by (trial s block.function rest at) (λ seen later. walk_least s rest at (number + 1) seen later blocks)
-    where
+  where
     by : (answer : Try) → ((seen : ℕ) (later : Code) → TakesLeast seen (walk s rest at (number + 1) seen later blocks))
         → TakesLeast looked (or_later s.graph number (max looked (looked_of (length rest) answer)) block answer
-            (walk s rest at (number + 1) (max looked (looked_of (length rest) answer)) (code_of code answer) blocks))
+        (walk s rest at (number + 1) (max looked (looked_of (length rest) answer)) (code_of code answer) blocks))
     by (Accept value seen end) after = omega arith
     by (Refuse refusal seen) after = takes_less looked (max looked seen) _ (omega arith) (after (max looked seen) refusal)
     by More after = tt
@@ -80,24 +80,25 @@ walk_keeps s front more other at number looked code [] taken_block role next val
 walk_keeps s front more other at number looked code (block ∷ blocks) taken_block role next value seen end within is =
     by (trial s block.function (front ++ more) at) refl
     (λ first later. walk_keeps s front more other at (number + 1) first later blocks taken_block role next value seen end within)
-    where
+  where
     local : Holds (length front) (trial s block.function (front ++ more) at) (trial s block.function (front ++ other) at)
     local = (trial_is_local s block.function).decided front more other at
+
     by : (answer : Try) → trial s block.function (front ++ more) at ≡ answer
         → ((first : ℕ) (later : Code) → walk s (front ++ more) at (number + 1) first later blocks ≡ Takes taken_block role next value seen end
-            → walk s (front ++ other) at (number + 1) first later blocks ≡ Takes taken_block role next value seen end)
+        → walk s (front ++ other) at (number + 1) first later blocks ≡ Takes taken_block role next value seen end)
         → walk s (front ++ other) at number looked code (block ∷ blocks) ≡ Takes taken_block role next value seen end
     by (Accept found bytes place) t after =
         let first = walk_step s (front ++ more) at number looked code block blocks (Accept found bytes place) t in
         let all : Takes number block.role (next_of s.graph block found) found (max looked bytes) place
-                ≡ Takes taken_block role next value seen end = sym first ∙ is in
+        ≡ Takes taken_block role next value seen end = sym first ∙ is in
         let most : max looked bytes ≡ seen = cc in
         let same = same_accepted (length front) _ (trial s block.function (front ++ other) at) found bytes place local t (omega arith) in
         walk_step s (front ++ other) at number looked code block blocks (Accept found bytes place) same ∙ all
     by (Refuse refusal bytes) t after =
         let first = walk_step s (front ++ more) at number looked code block blocks (Refuse refusal bytes) t in
         let rest : walk s (front ++ more) at (number + 1) (max looked bytes) refusal blocks
-                ≡ Takes taken_block role next value seen end = sym first ∙ is in
+        ≡ Takes taken_block role next value seen end = sym first ∙ is in
         let least = subst (TakesLeast (max looked bytes)) rest (walk_least s (front ++ more) at (number + 1) (max looked bytes) refusal blocks) in
         let same = same_refused (length front) _ (trial s block.function (front ++ other) at) refusal bytes local t (omega arith) in
         walk_step s (front ++ other) at number looked code block blocks (Refuse refusal bytes) same
@@ -126,8 +127,16 @@ typed_field : (number start : ℕ) (walked : Walk) (field : Taken) → typed num
     → IsTyped number start walked field
 typed_field number start (Takes block role next value looked end) field is =
     let same = field_of_choice (is_confirm value) end _ field is in
-    record { block = block; role = role; next = next; value = value; looked = looked; end = end; is = refl;
-        need = sym (ap (λ (taken : Taken). taken.need) same) }
+    record {
+      block = block;
+      role = role;
+      next = next;
+      value = value;
+      looked = looked;
+      end = end;
+      is = refl;
+      need = sym (ap (λ (taken : Taken). taken.need) same);
+    }
 typed_field number start (Wants block) field is = cc
 typed_field number start (Fails code) field is = cc
 
@@ -152,7 +161,7 @@ default_keeps : (s : Setting) (number : ℕ) (node : Node) (front more other : L
 default_keeps s number node front more other start None field some within is = text_keeps s number node front more other start field within is
 default_keeps s number node front more other start (Some text) field some within is =
     by (is_line_end (front ++ more)) (is_line_end (front ++ other)) (line_end_same front more other some) is
-    where
+  where
     by : (test same : Bool) → test ≡ same
         → (if test then on_default s number node start text else on_text s number node (front ++ more) start).chain ≡ chain.Field field
         → (if same then on_default s number node start text else on_text s number node (front ++ other) start).chain ≡ chain.Field field
@@ -172,7 +181,7 @@ node_keeps : (s : Setting) (number : ℕ) (node : Node) (front more other : List
     → (past_skip s number node (front ++ other) at (skip node.raw (front ++ other) at)).chain ≡ chain.Field field
 node_keeps s number node front more other at field well some within need is =
     by (skip node.raw (front ++ more) at) refl is
-    where
+  where
     by : (found : Option ℕ) → skip node.raw (front ++ more) at ≡ found
         → (past_skip s number node (front ++ more) at found).chain ≡ chain.Field field
         → (past_skip s number node (front ++ other) at (skip node.raw (front ++ other) at)).chain ≡ chain.Field field
@@ -187,9 +196,9 @@ node_keeps s number node front more other at field well some within need is =
         let second = drop-append-le start front other (omega arith) in
         let size = length-drop start front in
         let kept = default_keeps s number node (drop start front) more other start node.default field (omega arith) (omega arith)
-            (subst (λ (rest : List ℕ). (by_default s number node rest start node.default).chain ≡ chain.Field field) first is) in
+        (subst (λ (rest : List ℕ). (by_default s number node rest start node.default).chain ≡ chain.Field field) first is) in
         let there : (past_skip s number node (front ++ other) at (Some start)).chain ≡ chain.Field field =
-            subst (λ (rest : List ℕ). (by_default s number node rest start node.default).chain ≡ chain.Field field) (sym second) kept in
+        subst (λ (rest : List ℕ). (by_default s number node rest start node.default).chain ≡ chain.Field field) (sym second) kept in
         subst (λ (found : Option ℕ). (past_skip s number node (front ++ other) at found).chain ≡ chain.Field field) (sym same) there
 
 pub chain_keeps : (s : Setting) → grammar_fault s.graph ≡ None → (number : ℕ) (front more other : List ℕ) (at : ℕ) (field : Taken)
@@ -197,7 +206,7 @@ pub chain_keeps : (s : Setting) → grammar_fault s.graph ≡ None → (number :
     → (chain_at s number (front ++ other) at).chain ≡ chain.Field field
 unfolding chain_at
 chain_keeps s none number front more other at field within is need = by (slice_get s.graph.nodes number) refl is
-    where
+  where
     by : (found : Option Node) → slice_get s.graph.nodes number ≡ found
         → (at_node s number (front ++ more) at found).chain ≡ chain.Field field
         → (at_node s number (front ++ other) at found).chain ≡ chain.Field field

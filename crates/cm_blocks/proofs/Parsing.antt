@@ -1,31 +1,26 @@
 -- Each text has exactly one parse, and the parse of the empty line is open at the first block.
-use Rattle.std.proofs.Common.{◌≡◌, ℕ, zero, suc, ◌+◌, ◌<◌, ◌≤◌, ◌==◌, Bool, true, false, nat_lt, ◌&&◌, List, [], ◌∷◌, ◌++◌, length, drop, Option, Some, None, slice_get, get_or, refl, ap, sym, subst, ◌∙◌, arith}
-use Rattle.std.specs.List.{common_prefix_len}
+use Rattle.std.proofs.Common.{◌≡◌, ℕ, zero, suc, ◌<◌, ◌==◌, true, false, List, [], ◌∷◌, length, Option, Some, None, slice_get, get_or, refl, ap, sym, subst, ◌∙◌, arith}
 use Rattle.std.proofs.lemmas.Bool.Decides.{nat_tests}
 use Rattle.cm_fields.specs.declared.code.Code.{Code}
 use Rattle.cm_fields.specs.declared.code.Code.TheVariants.{NotConfirmed}
-use Rattle.cm_fields.specs.declared.trial.Try.{Try}
 use Rattle.cm_fields.specs.declared.trial.Try.TheVariants.{More}
-use Rattle.cm_fields.specs.Phrase.{same_letter, token}
-use Rattle.cm_fields.specs.Skip.{skip}
-use Rattle.cm_blocks.specs.declared.chain.Walk.{Walk}
+use Rattle.cm_fields.specs.Phrase.{token}
 use Rattle.cm_blocks.specs.declared.chain.Walk.TheVariants.{Wants}
 use Rattle.cm_blocks.specs.declared.field.Chain.{Chain}
 use Rattle.cm_blocks.specs.declared.field.Chain.TheVariants as chain
 use Rattle.cm_blocks.specs.declared.field.Ending.{Ending}
-use Rattle.cm_blocks.specs.declared.field.Ending.TheVariants as ending
 use Rattle.cm_blocks.specs.declared.function.Function.{Function}
 use Rattle.cm_blocks.specs.declared.function.Function.TheVariants.{Key, Switch, Noise, Number, Word, Quoted, Token, Text, Comma, Confirm, Hook}
 use Rattle.cm_blocks.specs.declared.node.Block.{Block}
 use Rattle.cm_blocks.specs.declared.node.Node.{Node}
-use Rattle.cm_blocks.specs.Chain.{at_node, by_default, chain_at, or_later, typed, walk}
+use Rattle.cm_blocks.specs.Chain.{at_node, by_default, chain_at, typed, walk}
 use Rattle.cm_blocks.specs.Fault.{grammar_fault, has_phrase}
-use Rattle.cm_blocks.specs.Parse.{Follow, IsLast, IsParse, Parse, Parses, after_chain, ending_of, node_behind, open_at, parse_from, parse_of, place_behind, with_fields}
+use Rattle.cm_blocks.specs.Parse.{IsLast, IsParse, Parse, Parses, after_chain, ending_of, open_at, parse_from, parse_of, with_fields}
 use Rattle.cm_blocks.specs.Setting.{Setting}
 use Rattle.cm_blocks.specs.Taken.{Taken}
 use Rattle.cm_blocks.specs.Trial.{trial}
 use Rattle.cm_blocks.specs.Well.{IsWell}
-use Rattle.cm_blocks.proofs.Wells.{both_true, well_node}
+use Rattle.cm_blocks.proofs.Wells.{well_node}
 
 -- the parse from a place on is one
 parses_from : (s : Setting) (text : List ℕ) (room node at : ℕ)
@@ -34,9 +29,10 @@ parses_from s text zero node at =
     record { few = omega arith; follow = tt; ending = refl; last = λ below. absurd (omega arith) }
 parses_from s text (suc room) node at =
     by (chain_at s node text at).chain refl (λ field. parses_from s text room field.next field.end)
-    where
+  where
     behind : Taken → Parse
     behind field = parse_from s text room field.next field.end
+
     by : (answer : Chain) → (chain_at s node text at).chain ≡ answer
         → ((field : Taken) → Parses s text room field.next field.end (behind field).fields (behind field).ending)
         → Parses s text (suc room) node at (after_chain behind answer).fields (after_chain behind answer).ending
@@ -64,18 +60,18 @@ only_from : (s : Setting) (text : List ℕ) (room node at : ℕ) (fields : List 
 only_from s text zero node at [] ends parses = ap (λ (e : Ending). let parse : Parse = record { fields = []; ending = e } in parse) parses.ending
 only_from s text zero node at (field ∷ fields) ends parses = absurd (omega (arith, parses.few))
 only_from s text (suc room) node at [] ends parses = by (chain_at s node text at).chain refl (parses.last (omega arith)) parses.ending
-    where
+  where
     by : (answer : Chain) → (chain_at s node text at).chain ≡ answer → IsLast (chain_at s node text at).chain
         → ends ≡ ending_of (chain_at s node text at).chain
         → let parse : Parse = record { fields = []; ending = ends } in
-            parse ≡ after_chain (λ field. parse_from s text room field.next field.end) answer
+        parse ≡ after_chain (λ field. parse_from s text room field.next field.end) answer
     by (chain.Field field) is last ending = absurd (subst IsLast is last)
     by (chain.Done place) is last ending = let e = ending ∙ ap ending_of is in ap (λ (e : Ending). let parse : Parse = record { fields = []; ending = e } in parse) e
     by (chain.Fault fault) is last ending = let e = ending ∙ ap ending_of is in ap (λ (e : Ending). let parse : Parse = record { fields = []; ending = e } in parse) e
     by (chain.Open place) is last ending = let e = ending ∙ ap ending_of is in ap (λ (e : Ending). let parse : Parse = record { fields = []; ending = e } in parse) e
 only_from s text (suc room) node at (field ∷ fields) ends parses =
     let rest = only_from s text room field.next field.end fields ends
-        (record { few = omega (arith, parses.few); follow = parses.follow.1; ending = parses.ending; last = λ below. parses.last (omega arith) }) in
+    (record { few = omega (arith, parses.few); follow = parses.follow.1; ending = parses.ending; last = λ below. parses.last (omega arith) }) in
     ap (with_fields (field ∷ [])) rest
     ∙ sym (ap (after_chain (λ (field : Taken). parse_from s text room field.next field.end)) parses.follow.0)
 
@@ -110,7 +106,7 @@ trial_wants s (Hook id) at phrase = refl
 walk_wants : (s : Setting) (graph_node : Node) (at looked : ℕ) (code : Code) → IsWell s.graph graph_node
     → walk s [] at 0 looked code graph_node.chain ≡ Wants 0
 walk_wants s graph_node at looked code well = by graph_node.chain well.some (λ k d below. (well.blocks k d below).phrase)
-    where
+  where
     by : (blocks : List Block) → 0 < length blocks → ((k : ℕ) (d : Block) → k < length blocks → has_phrase (get_or blocks k d).function ≡ true)
         → walk s [] at 0 looked code blocks ≡ Wants 0
     by [] some phrases = absurd (omega arith)
@@ -126,7 +122,7 @@ some_at (node ∷ nodes) (suc number) below = some_at nodes number (omega arith)
 node_starts : (s : Setting) (number : ℕ) (node : Node) → IsWell s.graph node
     → (at_node s number [] 0 (Some node)).chain ≡ chain.Open (record { node = number; block = Some 0; at = 0 })
 node_starts s number node well = by node.default
-    where
+  where
     by : (default : Option (List ℕ)) → (by_default s number node [] 0 default).chain ≡ chain.Open (record { node = number; block = Some 0; at = 0 })
     by None = ap (typed number 0) (walk_wants s node 0 0 NotConfirmed well)
     by (Some text) = ap (typed number 0) (walk_wants s node 0 0 NotConfirmed well)

@@ -1,10 +1,8 @@
 -- The fields that are kept of an old text are the first fields of the new one, and the parse goes on behind them.
-use Rattle.std.proofs.Common.{◌≡◌, ℕ, zero, suc, ◌+◌, ◌-◌, ◌<◌, ◌≤◌, ◌==◌, Bool, true, false, nat_le, if◌then◌else◌, List, [], ◌∷◌, ◌++◌, length, None, refl, ap, sym, subst, ◌∙◌, arith, length-append}
-use Rattle.std.specs.List.{common_prefix_len}
+use Rattle.std.proofs.Common.{◌≡◌, ℕ, zero, suc, ◌-◌, ◌<◌, ◌≤◌, ◌==◌, Bool, true, false, nat_le, if◌then◌else◌, List, [], ◌∷◌, ◌++◌, length, None, refl, ap, sym, subst, ◌∙◌, arith, length-append}
 use Rattle.std.proofs.lemmas.Bool.Decides.{nat_tests}
 use Rattle.cm_blocks.specs.declared.field.Chain.{Chain}
 use Rattle.cm_blocks.specs.declared.field.Chain.TheVariants as chain
-use Rattle.cm_blocks.specs.declared.field.Ending.{Ending}
 use Rattle.cm_blocks.specs.declared.field.TheConstants.{FIELD_LIMIT}
 use Rattle.cm_blocks.specs.Chain.{ChainLeads, Leads, chain_at}
 use Rattle.cm_blocks.specs.Fault.{grammar_fault}
@@ -28,7 +26,7 @@ parts : (old new : List ℕ) → Parts old new
 parts [] new = record { front = []; more = []; other = new; old_is = refl; new_is = refl; size = refl }
 parts (byte ∷ old) [] = record { front = []; more = byte ∷ old; other = []; old_is = refl; new_is = refl; size = refl }
 parts (byte ∷ old) (letter ∷ new) = by (byte == letter) refl (parts old new)
-    where
+  where
     by : (test : Bool) → (byte == letter) ≡ test → Parts old new → Parts (byte ∷ old) (letter ∷ new)
     by true is later =
         let same : byte ≡ letter = grind (arith, nat_tests) in
@@ -85,22 +83,25 @@ keeps_from s none front more other zero node at within = no_fields s (front ++ o
 keeps_from s none front more other (suc room) node at within =
     by (chain_at s node (front ++ more) at).chain refl
     (λ field near. keeps_from s none front more other room field.next field.end near)
-    where
+  where
     leads : ChainLeads (length s.graph.nodes) at (length (front ++ more)) (chain_at s node (front ++ more) at).chain
     leads = let size = length-append front more in chain_leads s node (front ++ more) at none (omega arith)
+
     stop : GoesOn s (front ++ other) (suc room) node at (length front) []
     stop = no_fields s (front ++ other) (suc room) node at (length front) within
+
     behind : Taken → Parse
     behind field = parse_from s (front ++ more) room field.next field.end
+
     by : (answer : Chain) → (chain_at s node (front ++ more) at).chain ≡ answer
         → ((field : Taken) → field.end ≤ length front → GoesOn s (front ++ other) room field.next field.end (length front)
-            (needing (length front) (behind field).fields))
+        (needing (length front) (behind field).fields))
         → GoesOn s (front ++ other) (suc room) node at (length front) (needing (length front) (after_chain behind answer).fields)
     by (chain.Field field) is later = choice (nat_le field.need (length front)) refl
-        where
+      where
         choice : (test : Bool) → nat_le field.need (length front) ≡ test
             → GoesOn s (front ++ other) (suc room) node at (length front)
-                (if test then field ∷ needing (length front) (behind field).fields else [])
+            (if test then field ∷ needing (length front) (behind field).fields else [])
         choice false test = stop
         choice true test =
             let needs : field.need ≤ length front = grind (arith, nat_tests) in

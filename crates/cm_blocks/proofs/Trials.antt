@@ -1,7 +1,6 @@
 -- Every function is local: keywords, switches, and with those of the crates below each function of a block.
 use Rattle.std.proofs.Common.{◌≡◌, ℕ, ◌-◌, List, length, drop, subst, length-drop}
 use Rattle.cm_text.specs.Bytes.{is_name, is_word}
-use Rattle.cm_tables.specs.declared.entry.Entry.{Entry}
 use Rattle.cm_fields.specs.declared.trial.Try.{Try}
 use Rattle.cm_fields.specs.Local.{IsLocal, IsSeen}
 use Rattle.cm_fields.specs.Run.{number_of, word_of}

@@ -1,5 +1,5 @@
 -- Where a field that a chain takes ends and leads.
-use Rattle.std.proofs.Common.{◌≡◌, ℕ, zero, suc, ◌+◌, ◌-◌, ◌<◌, ◌≤◌, max, Bool, true, false, ◌&&◌, if◌then◌else◌, nat_lt, List, [], ◌∷◌, length, drop, get_or, Option, Some, None, slice_get, refl, subst, sym, arith, length-drop}
+use Rattle.std.proofs.Common.{◌≡◌, ℕ, zero, suc, ◌+◌, ◌<◌, ◌≤◌, max, Bool, true, false, if◌then◌else◌, nat_lt, List, [], ◌∷◌, length, drop, Option, Some, None, slice_get, refl, arith, length-drop}
 use Rattle.std.specs.List.{All, list_all}
 use Rattle.std.proofs.lemmas.Bool.Decides.{nat_tests}
 use Rattle.cm_text.specs.Bytes.{is_name, is_word}
@@ -21,13 +21,11 @@ use Rattle.cm_fields.proofs.Skipping.{skip_within}
 use Rattle.cm_hooks.specs.Field.{hook_of}
 use Rattle.cm_blocks.specs.declared.chain.Walk.{Walk}
 use Rattle.cm_blocks.specs.declared.chain.Walk.TheVariants.{Takes, Wants, Fails}
-use Rattle.cm_blocks.specs.declared.field.Chain.{Chain}
-use Rattle.cm_blocks.specs.declared.field.Chain.TheVariants as chain
 use Rattle.cm_blocks.specs.declared.function.Function.{Function}
 use Rattle.cm_blocks.specs.declared.function.Function.TheVariants.{Key, Switch, Noise, Number, Word, Quoted, Token, Text, Comma, Confirm, Hook}
 use Rattle.cm_blocks.specs.declared.node.Block.{Block}
 use Rattle.cm_blocks.specs.declared.node.Node.{Node}
-use Rattle.cm_blocks.specs.Chain.{ChainLeads, Counted, Leads, at_node, by_default, chain_at, code_of, default_place, default_rest, defaulted, is_confirm, is_line_end, or_later, past_skip, typed, walk}
+use Rattle.cm_blocks.specs.Chain.{ChainLeads, Counted, at_node, by_default, chain_at, default_place, default_rest, defaulted, is_confirm, is_line_end, or_later, past_skip, typed, walk}
 use Rattle.cm_blocks.specs.Fault.{entries_of, grammar_fault, has_phrase, leads_within}
 use Rattle.cm_blocks.specs.Grammar.{Graph}
 use Rattle.cm_blocks.specs.Keyword.{entry_position, key_value}
@@ -83,9 +81,10 @@ keyword_next_below graph count function next position some below all = below
 next_below : (graph : Graph) (count : ℕ) (block : Block) (value : Value) → 0 < count
     → leads_within graph.tables count block ≡ true → next_of graph block value < count
 next_below graph count block value some leads = by value
-    where
+  where
     parts : (block.next < count) × (list_all (λ (entry : Entry). nat_lt entry.next count) (entries_of graph.tables block.function) ≡ true)
     parts = let both = both_true (nat_lt block.next count) _ leads in let test = both.0 in ((grind (arith, nat_tests)), both.1)
+
     by : (value : Value) → next_of graph block value < count
     by (values.Key entry code) = keyword_next_below graph count block.function block.next entry some parts.0 parts.1
     by (values.Switch entry code) = keyword_next_below graph count block.function block.next entry some parts.0 parts.1
@@ -106,15 +105,16 @@ AcceptLeads graph nodes at most looked block More = Unit {0}
 accept_leads : (s : Setting) (block : Block) (rest : List ℕ) (at looked : ℕ) → IsWellBlock s.graph block
     → 0 < length s.graph.nodes
     → AcceptLeads s.graph (length s.graph.nodes) at (length rest) (max looked (looked_of (length rest) (trial s block.function rest at)))
-        block (trial s block.function rest at)
+    block (trial s block.function rest at)
 accept_leads s block rest at looked well some = by (trial s block.function rest at) refl
-    where
+  where
     by : (answer : Try) → trial s block.function rest at ≡ answer
         → AcceptLeads s.graph (length s.graph.nodes) at (length rest) (max looked (looked_of (length rest) answer)) block answer
     by (Accept value seen end) is =
-        let reached = trial_reaches s block.function rest at value seen end well.phrase is in
-        (next_below s.graph (length s.graph.nodes) block value some well.leads,
-        record { some = omega arith; begins = reached.begins; seen = omega arith; within = reached.within })
+        let reached = trial_reaches s block.function rest at value seen end well.phrase is in (
+          next_below s.graph (length s.graph.nodes) block value some well.leads,
+          record { some = omega arith; begins = reached.begins; seen = omega arith; within = reached.within },
+        )
     by (Refuse code seen) is = tt
     by More is = tt
 
@@ -156,7 +156,7 @@ defaulted_leads nodes at size number start from most (Fails code) behind within 
 pub text_leads : (s : Setting) (number : ℕ) (node : Node) (text : List ℕ) (at start : ℕ) → IsWell s.graph node
     → 0 < length s.graph.nodes → at ≤ start → start ≤ length text → (looked : ℕ) (code : Code)
     → ChainLeads (length s.graph.nodes) at (length text)
-        (typed number start (walk s (drop start text) start 0 looked code node.chain))
+    (typed number start (walk s (drop start text) start 0 looked code node.chain))
 text_leads s number node text at start well some behind within looked code =
     let size = length-drop start text in
     typed_leads _ at (length text) number start (length (drop start text)) _ behind (omega arith)
@@ -166,7 +166,7 @@ text_leads s number node text at start well some behind within looked code =
 pub default_leads : (s : Setting) (number : ℕ) (node : Node) (at start size : ℕ) (text : List ℕ) → IsWell s.graph node
     → 0 < length s.graph.nodes → at ≤ start → start ≤ size → (looked : ℕ) (code : Code)
     → ChainLeads (length s.graph.nodes) at size
-        (defaulted number start (walk s (default_rest node.raw text) (default_place node.raw text) 0 looked code node.chain))
+    (defaulted number start (walk s (default_rest node.raw text) (default_place node.raw text) 0 looked code node.chain))
 default_leads s number node at start size text well some behind within looked code =
     defaulted_leads _ at size number start (default_place node.raw text) (length (default_rest node.raw text)) _ behind within
     (walk_leads s (default_rest node.raw text) (default_place node.raw text) 0 looked code node.chain well.blocks some)
@@ -174,7 +174,7 @@ default_leads s number node at start size text well some behind within looked co
 -- a grammar has a node
 pub some_node : (graph : Graph) (place : ℕ) (node : Node) → slice_get graph.nodes place ≡ Some node → 0 < length graph.nodes
 some_node graph place node found = by graph.nodes found
-    where
+  where
     by : (nodes : List Node) → slice_get nodes place ≡ Some node → 0 < length nodes
     by [] found = cc
     by (first ∷ more) found = omega arith
@@ -193,7 +193,7 @@ node_leads : (s : Setting) (number : ℕ) (node : Node) (text : List ℕ) (at : 
     → 0 < length s.graph.nodes → at ≤ length text
     → ChainLeads (length s.graph.nodes) at (length text) (past_skip s number node text at (skip node.raw text at)).chain
 node_leads s number node text at well some within = by (skip node.raw text at) refl
-    where
+  where
     by : (found : Option ℕ) → skip node.raw text at ≡ found
         → ChainLeads (length s.graph.nodes) at (length text) (past_skip s number node text at found).chain
     by None is = tt
@@ -206,7 +206,7 @@ pub chain_leads : (s : Setting) (number : ℕ) (text : List ℕ) (at : ℕ) → 
     → ChainLeads (length s.graph.nodes) at (length text) (chain_at s number text at).chain
 unfolding chain_at
 chain_leads s number text at none within = by (slice_get s.graph.nodes number) refl
-    where
+  where
     by : (found : Option Node) → slice_get s.graph.nodes number ≡ found
         → ChainLeads (length s.graph.nodes) at (length text) (at_node s number text at found).chain
     by None is = tt

@@ -1,6 +1,6 @@
 -- What an accepted grammar is: as many nodes as there may be, each of them well.
-use Rattle.std.proofs.Common.{◌≡◌, ℕ, zero, suc, ◌+◌, ◌≤◌, ◌<◌, max, Bool, true, false, not, ◌&&◌, ◌==◌, if◌then◌else◌, nat_lt, nat_le, List, [], ◌∷◌, length, get_or, Option, Some, None, slice_get, refl, arith}
-use Rattle.std.specs.List.{All, list_all}
+use Rattle.std.proofs.Common.{◌≡◌, ℕ, zero, suc, ◌+◌, ◌≤◌, ◌<◌, Bool, true, false, not, ◌&&◌, ◌==◌, if◌then◌else◌, nat_lt, nat_le, List, [], ◌∷◌, length, get_or, Option, Some, None, slice_get, refl, arith}
+use Rattle.std.specs.List.{list_all}
 use Rattle.std.specs.Option.{option_map_or}
 use Rattle.std.proofs.lemmas.Bool.Decides.{nat_tests}
 use Rattle.std.proofs.lemmas.List.Sums.{AllPass-from_list_all}
@@ -9,9 +9,9 @@ use Rattle.cm_tables.specs.declared.entry.Entry.{Entry}
 use Rattle.cm_blocks.specs.declared.grammar.GrammarFault.{GrammarFault}
 use Rattle.cm_blocks.specs.declared.node.Block.{Block}
 use Rattle.cm_blocks.specs.declared.node.Node.{Node}
-use Rattle.cm_blocks.specs.Fault.{grammar_fault, has_flags, has_phrase, has_size, has_table, has_texts, is_shown, leads_within, node_fault, nodes_fault, or_fault}
-use Rattle.cm_blocks.specs.Grammar.{Graph, blocks_limit, hook_count, hook_limit, nodes_limit}
-use Rattle.cm_blocks.specs.Well.{IsWell, IsWellBlock}
+use Rattle.cm_blocks.specs.Fault.{grammar_fault, has_phrase, has_size, has_table, has_texts, is_shown, leads_within, node_fault, nodes_fault, or_fault}
+use Rattle.cm_blocks.specs.Grammar.{Graph, blocks_limit, hook_limit, nodes_limit}
+use Rattle.cm_blocks.specs.Well.{IsWell}
 
 -- a test that gives no fault is passed, and what comes behind it gives none
 record Passes (test : Bool) (rest : Option GrammarFault) : Type 0 where

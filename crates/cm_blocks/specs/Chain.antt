@@ -1,5 +1,5 @@
 -- What the chain of a node makes of a text from a place on, and what that costs (COMND's function blocks).
-use Rattle.std.specs.Prelude.{◌≡◌, ℕ, ◌+◌, ◌<◌, ◌≤◌, ◌==◌, max, Bool, true, false, if◌then◌else◌, List, [], ◌∷◌, length, drop, Option, Some, None, unwrap_or, slice_get}
+use Rattle.std.specs.Prelude.{ℕ, ◌+◌, ◌<◌, ◌≤◌, ◌==◌, max, Bool, true, false, if◌then◌else◌, List, [], ◌∷◌, length, drop, Option, Some, None, unwrap_or, slice_get}
 use Rattle.cm_text.specs.Text.{finished}
 use Rattle.cm_text.specs.declared.text.TheConstants.{TEXT_LIMIT}
 use Rattle.cm_fields.specs.declared.code.Code.{Code}

@@ -104,4 +104,4 @@ unfoldable pub grammar_fault : Graph → Option GrammarFault
 grammar_fault graph =
     if not (has_size graph) then Some TooMany
     else or_fault (nodes_fault graph.tables (length graph.nodes) 0 graph.nodes)
-        (if list_any chain_confirms graph.nodes then None else Some NoConfirm)
+    (if list_any chain_confirms graph.nodes then None else Some NoConfirm)

@@ -13,7 +13,7 @@ use Rattle.cm_fields.specs.declared.trial.Try.{Try}
 use Rattle.cm_fields.specs.declared.trial.Try.TheVariants.{Accept, Refuse, More}
 use Rattle.cm_fields.specs.declared.value.Value.{Value}
 use Rattle.cm_fields.specs.declared.value.Value.TheVariants.{Key, Switch}
-use Rattle.cm_fields.specs.Try.{by_run, said}
+use Rattle.cm_fields.specs.Try.{by_run}
 
 -- the position of the one entry that is found
 abbrev pub position_of : Look → Result ℕ Code
@@ -56,7 +56,7 @@ behind_slash table rest at =
     let size = prefix_len is_word rest in
     if size == length rest then More
     else named_switch table at size (option_map_or (λ byte. byte == 58) (slice_get rest size) false)
-        (entry_position table (take size rest))
+    (entry_position table (take size rest))
 
 abbrev pub switch : List Entry → List ℕ → ℕ → Try
 switch table [] at = More

@@ -1,5 +1,5 @@
 -- The parse of a whole text: its fields, and what stands behind the last.
-use Rattle.std.specs.Prelude.{◌≡◌, ℕ, zero, suc, ◌+◌, ◌<◌, ◌≤◌, List, [], ◌∷◌, ◌++◌, length, Some}
+use Rattle.std.specs.Prelude.{◌≡◌, ℕ, zero, suc, ◌<◌, ◌≤◌, List, [], ◌∷◌, ◌++◌, length, Some}
 use Rattle.cm_fields.specs.declared.code.Code.TheVariants.{TooMany}
 use Rattle.cm_blocks.specs.declared.field.Chain.{Chain}
 use Rattle.cm_blocks.specs.declared.field.Chain.TheVariants as chain

@@ -1,5 +1,5 @@
 -- What is true of each node of a grammar.
-use Rattle.std.specs.Prelude.{ℕ, ◌≡◌, ◌<◌, ◌≤◌, true, length, All}
+use Rattle.std.specs.Prelude.{◌≡◌, ◌<◌, ◌≤◌, true, length, All}
 use Rattle.cm_blocks.specs.declared.fault.TheConstants.{BLOCK_LIMIT}
 use Rattle.cm_blocks.specs.declared.node.Block.{Block}
 use Rattle.cm_blocks.specs.declared.node.Node.{Node}

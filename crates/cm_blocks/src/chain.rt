@@ -11,8 +11,8 @@ ghost use Rattle.cm_blocks.specs.Setting.{setting};
 ghost use Rattle.cm_blocks.specs.Trial.{entry_next, keyword_next, looked_of, next_of, table_of, trial};
 ghost use Rattle.cm_blocks.specs.Well.{IsWell, IsWellBlock};
 
-use crate::{Block, Chain, Fault, Field, Function, Grammar, Node, Open, Role, Steps, key, switch};
 use crate::fault::BLOCK_LIMIT;
+use crate::{Block, Chain, Fault, Field, Function, Grammar, Node, Open, Role, Steps, key, switch};
 use arrayvec::ArrayVec;
 use cm_fields::{
     Code, Try, Value, comma, confirm, noise, number, quoted, skip, text_field, token, word,
@@ -38,9 +38,13 @@ pub enum Walk {
         end: u16,
     },
     // This block wants more bytes.
-    Wants { block: u8 },
+    Wants {
+        block: u8,
+    },
     // All refuse, the last one so.
-    Fails { code: Code },
+    Fails {
+        code: Code,
+    },
 }
 
 // What a function makes of a text from a place on.
@@ -290,7 +294,15 @@ fn walk_default<N: Names, R: Rules, L: Ledger>(
     let line = finished(text);
     let line = line.as_slice();
     let place = skip(node.raw, line, 0).unwrap_or(0);
-    walk_blocks(grammar, node.chain.as_slice(), line, place, names, hooks, steps)
+    walk_blocks(
+        grammar,
+        node.chain.as_slice(),
+        line,
+        place,
+        names,
+        hooks,
+        steps,
+    )
 }
 
 /// What the chain of a node makes of a text from a place on (COMND).
@@ -338,7 +350,15 @@ pub fn try_chain<N: Names, R: Rules, L: Ledger>(
             defaulted(node, start as u16, walk)
         }
         _ => {
-            let walk = walk_blocks(grammar, found.chain.as_slice(), text, start, names, hooks, steps);
+            let walk = walk_blocks(
+                grammar,
+                found.chain.as_slice(),
+                text,
+                start,
+                names,
+                hooks,
+                steps,
+            );
             typed(node, start as u16, walk)
         }
     }

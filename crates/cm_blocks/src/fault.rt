@@ -39,9 +39,7 @@ fn has_table(tables: &[Table], function: &Function) -> bool
 fn have_tables(tables: &[Table], chain: &[Block]) -> bool
     ensures { result ≡ list_all (λ block. has_table tables.now block.function) chain.now }
 {
-    chain
-        .iter()
-        .all(|block| has_table(tables, &block.function))
+    chain.iter().all(|block| has_table(tables, &block.function))
 }
 
 fn is_shown_byte(byte: u8) -> bool
@@ -138,9 +136,7 @@ fn leads_within(tables: &[Table], nodes: usize, block: &Block) -> bool
 fn lead_within(tables: &[Table], nodes: usize, chain: &[Block]) -> bool
     ensures { result ≡ list_all (leads_within tables.now nodes) chain.now }
 {
-    chain
-        .iter()
-        .all(|block| leads_within(tables, nodes, block))
+    chain.iter().all(|block| leads_within(tables, nodes, block))
 }
 
 fn has_flags(block: &Block) -> bool

@@ -7,16 +7,18 @@ mod field;
 mod function;
 mod grammar;
 mod keyword;
+pub mod laws;
 mod node;
 mod steps;
 
-pub mod laws;
-
 pub use chain::try_chain;
 pub use fault::{BLOCK_LIMIT, NODE_LIMIT, TABLE_LIMIT};
-pub use field::{Chain, Ending, Fault, Field, FIELD_LIMIT, Open};
+pub use field::{Chain, Ending, FIELD_LIMIT, Fault, Field, Open};
 pub use function::{Function, Role};
 pub use grammar::{Grammar, GrammarFault};
 pub use keyword::{key, switch};
 pub use node::{Block, Blocks, Node};
 pub use steps::Steps;
+
+#[cfg(test)]
+mod tests;

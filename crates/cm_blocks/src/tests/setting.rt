@@ -1,0 +1,99 @@
+// What the texts of the tests are parsed under: a catalogue of one file, and one hook.
+ghost use Rattle.std.specs.Prelude.{◌≡◌, ◌==◌, [], IfOk, if◌then◌else◌, length};
+ghost use Rattle.cm_hooks.specs.Ties.{Ties};
+
+use cm_files::{Names, Row};
+use cm_hooks::{Answer, Hook, Hooks, Rules, Tail};
+use cm_text::Name;
+use std::alloc::Global;
+use std::test::Fail;
+
+// The directory OPERATOR, which is connected and has the file A..1.
+pub struct Shelf;
+
+impl Names for Shelf {
+    ghost use Rattle.std.specs.Prelude.{[], ◌∷◌, codes, false};
+
+    ghost catalogue = { λ _. record {
+      directories = codes "OPERATOR" ∷ [];
+      connected = 0;
+      logical = [];
+      rows = record { directory = 0; name = codes "A"; kind = []; generation = 1; deleted = false } ∷ [];
+    } };
+
+    #[tactic(auto, unfolding(cm_text::specs::Bytes::is_name, cm_text::specs::Bytes::is_word))]
+    fn directories(&self) -> u16 {
+        1
+    }
+
+    fn directory(&self, _i: u16) -> &str {
+        "OPERATOR"
+    }
+
+    fn connected(&self) -> u16 {
+        0
+    }
+
+    fn logical(&self, _name: &[u8]) -> Option<u16> {
+        None
+    }
+
+    fn rows(&self, _directory: u16) -> u32 {
+        1
+    }
+
+    fn row(&self, _directory: u16, _i: u32) -> Row<'_> {
+        Row {
+            name: "A",
+            kind: "",
+            generation: 1,
+            deleted: false,
+        }
+    }
+}
+
+// An atom is taken, with its number of bytes, unless it has three.
+pub struct Sizes;
+
+impl Rules for Sizes {
+    ghost use Rattle.std.specs.Prelude.{◌==◌, [], if◌then◌else◌, length};
+    ghost use Rattle.cm_hooks.specs.declared.answer.Answer.TheVariants.{Yes, No};
+    ghost use Rattle.cm_hooks.specs.declared.answer.Tail.TheVariants as tails;
+
+    ghost meanings = { record {
+      verdict = λ id atom. if length atom == 3 then No else Yes (length atom);
+      completion = λ id atom. tails.None;
+      help = λ id. [];
+    } };
+
+    ghost lawful = { record { completes = λ id atom short. tt } };
+}
+
+// The one hook that answers so.
+pub fn hooks(alloc: Global) -> Result<Hooks<Sizes>, Fail>
+    ensures { IfOk result (λ hooks. Ties ⟦<Sizes as Rules>⟧.meanings hooks) }
+{
+    let verdict = |atom: &[u8]| -> Answer
+        ensures { result ≡ (if length atom.now == 3 then Answer.No else Answer.Yes (length atom.now)) }
+    {
+        match atom.len() {
+            3 => Answer::No,
+            size => Answer::Yes(size as u64),
+        }
+    };
+    let completion = |_atom: &[u8]| -> Tail
+        ensures { result ≡ Tail.None }
+    { Tail::None };
+    let help = || -> Name
+        ensures { result ≡ [] }
+    { Name::new("") };
+    let hook = Hook::new(
+        0,
+        Box::new(alloc, verdict)?,
+        Box::new(alloc, completion)?,
+        Box::new(alloc, help)?,
+    );
+    let mut hooks = Hooks::new();
+    hooks.push(hook).ok().ok_or("the first hook")?;
+    Ok(hooks)
+}
