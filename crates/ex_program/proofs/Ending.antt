@@ -1,16 +1,16 @@
 -- What stands at the end of a run, from how it stopped and what its end shows.
-use Rattle.std.proofs.Common.{◌≡◌, ◌⊎◌, ℕ, ◌≤◌, Bool, true, false, List, [], ◌++◌, sym, ap, ◌∙◌, subst, inl, inr, arith, if◌then◌else◌}
+use Rattle.std.proofs.Common.{◌≡◌, ℕ, ◌≤◌, Bool, true, false, List, [], ◌++◌, sym, ap, ◌∙◌, subst, inl, inr, arith, if◌then◌else◌}
 use Rattle.cm_text.specs.Shown.{end_of_line}
 use Rattle.cm_io.specs.Told.{Told, AddsPart}
 use Rattle.cm_io.specs.Fault.{Rose}
 use Rattle.cm_io.proofs.Adding.{rose_early, rose_late}
 use Rattle.ex_program.specs.Cause.{Counts, EndCause, StatusCause, StopCause}
-use Rattle.ex_program.specs.Cut.{PromptCut, RunCut, ScreenCut}
-use Rattle.ex_program.specs.End.{Ended, Ends, Ran}
+use Rattle.ex_program.specs.Cut.{ScreenCut}
+use Rattle.ex_program.specs.End.{Ended, Ran}
 use Rattle.ex_program.specs.Messages.{message}
 use Rattle.ex_program.specs.Run.{World, run_keys, run_shown, starting, world_after}
-use Rattle.ex_program.specs.Scene.{AtKey, Scene, Tried, counts_of, has_ended}
-use Rattle.ex_program.specs.Stop.{Closes, IsEnd, IsOr, IsRun, Reached, Stops}
+use Rattle.ex_program.specs.Scene.{Scene, Tried, counts_of}
+use Rattle.ex_program.specs.Stop.{Closes, IsOr, IsRun, Stops}
 use Rattle.ex_program.specs.declared.status.Status.{Status}
 use Rattle.ex_program.specs.declared.status.Status.TheVariants as status
 use Rattle.ex_program.specs.declared.stop.Stop.{Stop}

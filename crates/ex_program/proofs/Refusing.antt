@@ -1,5 +1,5 @@
 -- What no end of a run can be, from what stands alone.
-use Rattle.std.proofs.Common.{◌≡◌, ◌⊎◌, ℕ, ◌+◌, ◌<◌, ◌≤◌, Bool, true, false, List, [], ◌∷◌, ◌++◌, length, refl, sym, ap, ◌∙◌, subst, inl, inr, append_assoc, arith, length-append}
+use Rattle.std.proofs.Common.{◌≡◌, ◌⊎◌, ℕ, ◌<◌, ◌≤◌, Bool, false, List, [], ◌∷◌, ◌++◌, length, refl, sym, ap, ◌∙◌, subst, inl, inr, append_assoc, arith, length-append}
 use Rattle.std.proofs.lemmas.List.{append-nil}
 use Rattle.std.proofs.lemmas.Bool.{cases_lt}
 use Rattle.cm_text.specs.Shown.{end_of_line}
@@ -11,12 +11,11 @@ use Rattle.cm_state.specs.declared.turn.Turn.{Turn}
 use Rattle.cm_state.specs.declared.turn.Turn.TheVariants as turns
 use Rattle.cm_state.specs.Echo.{echo, prompt_text}
 use Rattle.cm_state.specs.Verbs.{exec_verbs}
-use Rattle.ex_program.specs.Cause.{IsQuiet}
-use Rattle.ex_program.specs.Cut.{ClosingCut, RunCut, ScreenCut, Unlogged, run_echo}
+use Rattle.ex_program.specs.Cause.{Counts, IsQuiet, StatusCause}
+use Rattle.ex_program.specs.Cut.{RunCut, ScreenCut, Unlogged, run_echo}
 use Rattle.ex_program.specs.End.{Ended, Ends, Ran}
 use Rattle.ex_program.specs.Run.{World, bytes_logged, bytes_shown, closing, key_bytes, key_turn, logs, run_keys, run_shown, shows, starting, step, turn_prompt, turn_reply, with_key, world_after, world_after_turn}
-use Rattle.ex_program.specs.Scene.{AtKey, LoggedOut, ReadOut, Scene, Tried, has_ended, outputs_at, world_at}
-use Rattle.ex_program.specs.Step.{EchoCut, ReplyCut}
+use Rattle.ex_program.specs.Scene.{AtKey, LoggedOut, ReadOut, Scene, outputs_at, world_at}
 use Rattle.ex_program.specs.declared.run.TheConstants.{KEY_LIMIT}
 use Rattle.ex_program.specs.declared.status.Status.{Status}
 use Rattle.ex_program.specs.declared.status.Status.TheVariants as status
@@ -105,6 +104,11 @@ module _ (writes : Bool) (a b : Scene) (at : AtKey a b) where
   })
   cut_log (inr cut) = logged_part (adds_whole _ b.log (logs writes world at.key) cut.log)
 
+-- WriteFault leaves the keys' count
+pub keys_stay : (a b : Counts) → StatusCause a b status.WriteFault → b.keys ≡ a.keys
+keys_stay a b (inl cut) = ap (λ (counts : Counts). counts.keys) cut.1
+keys_stay a b (inr cut) = ap (λ (counts : Counts). counts.keys) cut.1
+
 -- what a run shows and logs that was cut short
 abbrev IsCut : Bool → Scene → Scene → Type 0
 IsCut writes a b = (taken : List ℕ) × (taken ++ b.keys ≡ a.keys)
@@ -122,27 +126,31 @@ module _ (writes : Bool) (a b : Scene) where
       shown_part writes a b at (adds_early _ b.screen (echo exec_verbs world.session unlogged.at.key) (key_bytes world unlogged.at.key)
       (adds_whole _ b.screen (echo exec_verbs world.session unlogged.at.key) (unlogged_screen unlogged ∙ add_append a.screen (run_keys (starting a.moments) unlogged.at.before) (echo exec_verbs world.session unlogged.at.key))))
 
-  cut_ends : Ends writes a b [] status.WriteFault → IsCut writes a b
-  cut_ends (inl (rose, inl prompt)) = (
+  -- so it is where the screen failed, whatever the message is
+  pub screen_is_prefix : ScreenCut writes a b → IsCut writes a b
+  screen_is_prefix (inl prompt) = (
     [],
     prompt.keys,
     adds_early a.screen b.screen (run_keys (starting a.moments) []) (closing (starting a.moments) [])
         (adds_early a.screen b.screen (prompt_text Main) [] prompt.screen),
     adds_whole a.log b.log [] (prompt.log ∙ sym (add_none a.log)),
   )
-  cut_ends (inl (rose, inr (inl cut))) = (
+  screen_is_prefix (inr (inl cut)) = (
     taken writes a b cut.0,
     taken_keys writes a b cut.0,
     adds_early a.screen b.screen (run_keys (starting a.moments) (taken writes a b cut.0)) (closing (starting a.moments) (taken writes a b cut.0)) (cut_screen writes a b cut.0 cut.1),
     cut_log writes a b cut.0 cut.1,
   )
-  cut_ends (inl (rose, inr (inr cut))) = (
+  screen_is_prefix (inr (inr cut)) = (
     cut.taken,
     cut.as_taken.keys,
     subst (λ bytes. AddsPart a.screen b.screen bytes) (shown_going (starting a.moments) cut.taken cut.read.0)
         (adds_late a.screen b.screen (run_keys (starting a.moments) cut.taken) end_of_line cut.screen),
     adds_whole a.log b.log (bytes_logged writes (starting a.moments) cut.taken) cut.as_taken.log,
   )
+
+  cut_ends : Ends writes a b [] status.WriteFault → IsCut writes a b
+  cut_ends (inl (rose, cut)) = screen_is_prefix cut
   cut_ends (inr (rose, unlogged)) = (
     taken writes a b unlogged.at,
     taken_keys writes a b unlogged.at,

@@ -10,9 +10,8 @@ use Rattle.cm_state.specs.Verbs.{exec_verbs}
 use Rattle.cm_state.specs.declared.node.TheConstants.{COMMANDS}
 use Rattle.ex_program.specs.declared.run.TheConstants.{KEY_LIMIT}
 use Rattle.ex_program.specs.declared.stop.Stop.TheVariants as stop
-use Rattle.ex_program.specs.Cut.{run_echo}
 use Rattle.ex_program.specs.Run.{World, bytes_logged, bytes_shown, logs, run_keys, shows, starting, step, world_after}
-use Rattle.ex_program.specs.Scene.{AtKey, LoggedOut, Scene, Taken, has_ended, outputs_at, outputs_of, world_at}
+use Rattle.ex_program.specs.Scene.{AtKey, Scene, has_ended, outputs_at, outputs_of, world_at}
 use Rattle.ex_program.specs.Step.{KeyCut, LogCut, Outputs, Stepped, going}
 use Rattle.ex_program.specs.Stop.{Reached, Stops}
 use Rattle.ex_program.proofs.Folds.{bytes_logged-push, bytes_shown-push, world_after-append}

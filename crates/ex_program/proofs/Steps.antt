@@ -15,7 +15,7 @@ use Rattle.cm_state.specs.declared.turn.Turn.{Turn}
 use Rattle.cm_state.specs.declared.turn.Turn.TheVariants as turns
 use Rattle.cm_state.specs.declared.verbs.Verbs.{Verbs}
 use Rattle.ex_program.specs.Run.{World, key_turn, logs, shows, step, turn_bytes, with_key, world_after_turn}
-use Rattle.ex_program.specs.Step.{EchoCut, KeyCut, LogCut, Outputs, ReplyCut, Stepped, going}
+use Rattle.ex_program.specs.Step.{KeyCut, LogCut, Outputs, Stepped, going}
 
 -- a turn that is no failure is told
 not_failed : (turn : Turn) → (turn ≡ turns.Failed → ⊥) → put_of turn ≡ Done

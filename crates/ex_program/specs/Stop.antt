@@ -3,8 +3,6 @@ use Rattle.std.specs.Prelude.{◌≡◌, ◌⊎◌, ◌<◌, ◌≤◌, ℕ, Boo
 use Rattle.cm_text.specs.Shown.{end_of_line}
 use Rattle.cm_io.specs.Told.{Told, add, AddsPart}
 use Rattle.cm_io.specs.Fault.{Rose}
-use Rattle.cm_state.specs.Echo.{echo}
-use Rattle.cm_state.specs.Verbs.{exec_verbs}
 use Rattle.ex_program.specs.Cut.{PromptCut, RunCut, run_echo}
 use Rattle.ex_program.specs.Messages.{message}
 use Rattle.ex_program.specs.Scene.{AtKey, LoggedOut, ReadOut, Scene, Taken, Tried, has_ended, outputs_at, world_at}

@@ -2,8 +2,8 @@
 ghost use Rattle.std.specs.Prelude.{◌≡◌, ◌≢◌, ◌<◌, ℕ, Bool, false, List, [], ◌∷◌, ◌++◌, length};
 ghost use Rattle.cm_io.specs.Told.{AddsPart, Bytes, add};
 ghost use Rattle.cm_state.specs.declared.turn.Turn.{Turn};
-ghost use Rattle.ex_program.specs.Cause.{IsQuiet};
-ghost use Rattle.ex_program.specs.Cut.{run_echo};
+ghost use Rattle.ex_program.specs.Cause.{Counts, IsQuiet, StatusCause};
+ghost use Rattle.ex_program.specs.Cut.{ScreenCut, run_echo};
 ghost use Rattle.ex_program.specs.End.{Ran};
 ghost use Rattle.ex_program.specs.Run.{World, bytes_logged, bytes_shown, key_turn, run_keys, run_shown, starting, turn_reply, with_key, world_after, world_after_turn};
 ghost use Rattle.ex_program.specs.Scene.{AtKey, Scene, world_at};
@@ -36,6 +36,20 @@ pub fn a_cut_run_is_a_prefix()
         → (taken : List ℕ) × (taken ++ b.keys ≡ a.keys)
         × AddsPart a.screen b.screen (run_shown (starting a.moments) taken)
         × AddsPart a.log b.log (bytes_logged writes (starting a.moments) taken) }
+{}
+
+/// A failed screen is given no more, no message either: it holds a prefix of what the keys taken show,
+/// whatever the status is.
+pub fn a_failed_screen_is_given_no_more()
+    ensures { (writes : Bool) → (a b : Scene) → ScreenCut writes a b
+        → (taken : List ℕ) × (taken ++ b.keys ≡ a.keys)
+        × AddsPart a.screen b.screen (run_shown (starting a.moments) taken)
+        × AddsPart a.log b.log (bytes_logged writes (starting a.moments) taken) }
+{}
+
+/// A read fault stays a read fault: with WriteFault the count of the keys' faults is as it was.
+pub fn a_write_fault_leaves_the_keys()
+    ensures { (a b : Counts) → StatusCause a b Status.WriteFault → b.keys ≡ a.keys }
 {}
 
 /// A key is logged before its line acts: where the log failed, and not the screen, the screen ends with the
