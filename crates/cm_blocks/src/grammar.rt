@@ -77,6 +77,13 @@ impl Grammar {
         }
     }
 
+    /// Hands what `new` saw to on to a proof: the grammar has no fault. It does nothing.
+    pub fn has_no_fault(&self)
+        ensures { grammar_fault self.now ≡ None }
+    {
+        let _ = &self.nodes;
+    }
+
     /// How many hooks the grammar wants: one past the greatest id, 0 with none.
     pub fn hooks(&self) -> u16
         ensures { result ≡ hook_count self.now }

@@ -3,25 +3,28 @@ ghost use Rattle.std.specs.Prelude.{◌≡◌, ◌+◌, ◌-◌, ◌<◌, ◌≤
 ghost use Rattle.std.specs.Bool.{OnTrue, OnFalse};
 ghost use Rattle.std.specs.List.{AllByRecursion, suffix_len};
 ghost use Rattle.cm_text.specs.Bytes.{is_blank, is_text, is_word};
-ghost use Rattle.cm_text.specs.Text.{IsLine};
+ghost use Rattle.cm_text.specs.Text.{IsLine, finished};
+ghost use Rattle.cm_line.specs.Finished.{line_of};
 ghost use Rattle.cm_line.specs.Word.{unblanked, without_word, word_start};
 
 use arrayvec::ArrayVec;
-use cm_text::LINE_LIMIT;
+use cm_text::{LINE_LIMIT, TEXT_LIMIT};
 use std::marker::Model;
 
-/// A line under edit: at most 255 text bytes. Contracts see its bytes.
+/// A line under edit: at most 255 text bytes. Contracts see these bytes. Behind them it holds the carriage return
+/// that would finish it, so that the finished text is there without a copy.
 #[derive(Debug, Drop)]
 pub struct Line {
-    bytes: ArrayVec<u8, LINE_LIMIT>,
+    text: ArrayVec<u8, TEXT_LIMIT>,
 }
 
 impl Model for Line {
     ghost Value = { List ℕ };
 
-    ghost view = { λ line. line.bytes.items };
+    ghost view = { λ line. line_of line.text.items };
 
-    ghost invariant = { λ line. IsLine line.bytes.items };
+    ghost invariant = { λ line. (line.text.items ≡ finished (line_of line.text.items))
+        × IsLine (line_of line.text.items) };
 }
 
 impl Line {
@@ -29,9 +32,9 @@ impl Line {
     pub fn new() -> Line
         ensures { result ≡ [] }
     {
-        Line {
-            bytes: ArrayVec::new(),
-        }
+        let mut text = ArrayVec::new();
+        text.push(b'\r');
+        Line { text }
     }
 
     /// The bytes of the line.
@@ -39,7 +42,15 @@ impl Line {
         ensures value { result.now ≡ self.now }
         ensures line { IsLine result.now }
     {
-        &self.bytes
+        &self.text[..self.text.len() - 1]
+    }
+
+    /// The finished text: the bytes of the line, and a carriage return.
+    pub fn finished(&self) -> &[u8]
+        ensures value { result.now ≡ finished self.now }
+        ensures short { length result.now ≤ TEXT_LIMIT }
+    {
+        &self.text
     }
 
     /// Appends a text byte. False where the line has 255 bytes, which then stays as it was.
@@ -49,7 +60,13 @@ impl Line {
         ensures pushed { OnTrue result (self.new ≡ self.old ++ byte ∷ []) }
         ensures full { OnFalse result (self.new ≡ self.old) }
     {
-        self.bytes.try_push(byte).is_ok()
+        if self.text.is_full() {
+            return false;
+        }
+        self.text.pop();
+        self.text.push(byte);
+        self.text.push(b'\r');
+        true
     }
 
     /// Removes the last byte. None where the line is empty.
@@ -58,7 +75,9 @@ impl Line {
         ensures empty { IfNone result (self.old ≡ []) }
         ensures rest { self.new ≡ take (length self.old - 1) self.old }
     {
-        self.bytes.pop()
+        let last = self.bytes().last().copied();
+        self.cut(self.bytes().len().saturating_sub(1));
+        last
     }
 
     /// Keeps the first `len` bytes.
@@ -66,7 +85,8 @@ impl Line {
         requires { len ≤ length self.old }
         ensures { self.new ≡ take len self.old }
     {
-        self.bytes.truncate(len);
+        self.text.truncate(len);
+        self.text.push(b'\r');
     }
 
     /// The length that one control-W leaves: without the blanks at the end, and then without the run of
@@ -76,7 +96,7 @@ impl Line {
         ensures value { result ≡ word_start self.now }
         ensures within { result ≤ length self.now }
     {
-        without_word(without_blanks(&self.bytes))
+        without_word(without_blanks(self.bytes()))
     }
 
     /// Appends text bytes. False where they do not fit into 255 bytes; the line then stays as it was.
@@ -86,7 +106,13 @@ impl Line {
         ensures appended { OnTrue result (self.new ≡ self.old ++ bytes.now) }
         ensures full { OnFalse result (self.new ≡ self.old) }
     {
-        self.bytes.try_extend_from_slice(bytes).is_ok()
+        if bytes.len() > self.text.remaining_capacity() {
+            return false;
+        }
+        self.text.pop();
+        let _ = self.text.try_extend_from_slice(bytes);
+        self.text.push(b'\r');
+        true
     }
 }
 

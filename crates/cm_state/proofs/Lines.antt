@@ -10,8 +10,8 @@ use Rattle.cm_line.specs.declared.key.KeyClass.{KeyClass}
 use Rattle.cm_line.specs.declared.key.KeyClass.TheVariants.{Text, End, Rub, Word, Erase, Show, Back, Stop, Escape, Part, Help, Other}
 use Rattle.cm_line.specs.Keys.{class_of}
 use Rattle.cm_line.specs.Word.{word_start}
-use Rattle.cm_state.specs.Edit.{edit, met_line}
-use Rattle.cm_state.specs.Held.{Held}
+use Rattle.cm_state.specs.Edit.{edit}
+use Rattle.cm_state.specs.Held.{Held, met_line}
 
 -- text bytes alone
 abbrev ArePlain : List ℕ → Type 0

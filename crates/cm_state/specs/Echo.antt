@@ -6,15 +6,15 @@ use Rattle.cm_io.specs.Pieces.{times}
 use Rattle.cm_line.specs.declared.key.KeyClass.{KeyClass}
 use Rattle.cm_line.specs.declared.key.KeyClass.TheVariants.{Text, End, Rub, Word, Erase, Show, Back, Stop}
 use Rattle.cm_line.specs.Keys.{class_of}
-use Rattle.cm_state.specs.declared.verbs.Verbs.{Verbs}
-use Rattle.cm_state.specs.declared.field.Ending.{Ending}
-use Rattle.cm_state.specs.declared.field.Ending.TheVariants as ending
+use Rattle.cm_fields.specs.declared.code.Code.{Code}
+use Rattle.cm_fields.specs.Code.{code_text}
+use Rattle.cm_blocks.specs.declared.field.Ending.{Ending}
+use Rattle.cm_blocks.specs.declared.field.Ending.TheVariants as ending
+use Rattle.cm_blocks.specs.Setting.{Setting}
 use Rattle.cm_state.specs.declared.prompt.Prompt.{Prompt}
 use Rattle.cm_state.specs.declared.prompt.Prompt.TheVariants.{Main, Sub}
-use Rattle.cm_state.specs.declared.code.Code.{Code}
-use Rattle.cm_state.specs.Code.{code_text}
-use Rattle.cm_state.specs.Held.{Held}
-use Rattle.cm_state.specs.Edit.{edited, met_line}
+use Rattle.cm_state.specs.Held.{Held, met_line}
+use Rattle.cm_state.specs.Edit.{edited}
 
 -- a TAB is shown as one space
 abbrev pub screen_byte : ℕ → ℕ
@@ -54,6 +54,6 @@ echo_of End key size kept now = end_of_line ++ complaint now.ending
 echo_of class key size kept now = bell
 
 -- the bytes that a key shows
-unfoldable pub echo : Verbs → Held → ℕ → List ℕ
-echo verbs held key =
-    echo_of (class_of key) key (length (met_line held)) (is_some held.kept) (edited verbs held key)
+unfoldable pub echo : Setting → Held → ℕ → List ℕ
+echo s held key =
+    echo_of (class_of key) key (length (met_line held)) (is_some held.kept) (edited s held key)

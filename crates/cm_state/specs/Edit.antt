@@ -6,15 +6,11 @@ use Rattle.cm_line.specs.declared.key.KeyClass.{KeyClass}
 use Rattle.cm_line.specs.declared.key.KeyClass.TheVariants.{Text, End, Rub, Word, Erase, Show, Back, Stop, Escape, Part, Help, Other}
 use Rattle.cm_line.specs.Keys.{class_of}
 use Rattle.cm_line.specs.Word.{word_start}
-use Rattle.cm_state.specs.declared.verbs.Verbs.{Verbs}
-use Rattle.cm_state.specs.declared.field.Ending.{Ending}
-use Rattle.cm_state.specs.declared.field.Ending.TheVariants as ending
-use Rattle.cm_state.specs.Held.{Held}
-use Rattle.cm_state.specs.Parse.{parse_of}
-
--- the line that a key meets: none behind a finished text
-abbrev pub met_line : Held → List ℕ
-met_line held = if held.is_finished then [] else held.line
+use Rattle.cm_blocks.specs.declared.field.Ending.{Ending}
+use Rattle.cm_blocks.specs.declared.field.Ending.TheVariants as ending
+use Rattle.cm_blocks.specs.Parse.{parse_of}
+use Rattle.cm_blocks.specs.Setting.{Setting}
+use Rattle.cm_state.specs.Held.{Held, met_line}
 
 -- the line after a key, CR left out
 abbrev pub edit : KeyClass → ℕ → List ℕ → Option (List ℕ) → List ℕ
@@ -43,11 +39,11 @@ before_fault line ending.Done = None
 before_fault line (ending.Fault fault) = Some (take fault.at line)
 
 -- the session after a key: the line, finished where the key is an end, and the parse of that text
-unfoldable pub edited : Verbs → Held → ℕ → Held
-edited verbs held key =
+unfoldable pub edited : Setting → Held → ℕ → Held
+edited s held key =
     let class = class_of key in
     let line = edit class key (met_line held) held.kept in
-    let parse = parse_of verbs held.node (if is_end class then finished line else line) in
+    let parse = parse_of s held.node (if is_end class then finished line else line) in
     record held {
       line = line;
       is_finished = is_end class;

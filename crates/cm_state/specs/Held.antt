@@ -1,10 +1,11 @@
 -- What a session holds, as callers see it.
-use Rattle.std.specs.Prelude.{ℕ, Bool, false, List, [], Option, if◌then◌else◌}
+use Rattle.std.specs.Prelude.{◌≡◌, ℕ, ◌<◌, Bool, false, List, [], length, Option, if◌then◌else◌}
 use Rattle.cm_text.specs.Text.{finished}
-use Rattle.cm_state.specs.declared.field.Field.{Field}
-use Rattle.cm_state.specs.declared.field.Ending.{Ending}
+use Rattle.cm_blocks.specs.declared.field.Ending.{Ending}
+use Rattle.cm_blocks.specs.Parse.{Parse, open_at, parse_of}
+use Rattle.cm_blocks.specs.Setting.{Setting}
+use Rattle.cm_blocks.specs.Taken.{Taken}
 use Rattle.cm_state.specs.declared.prompt.Prompt.{Prompt}
-use Rattle.cm_state.specs.Parse.{open_at}
 
 -- the line, whether it is finished, its parse from a node on, and the bytes kept for control-H
 pub record Held : Type 0 where
@@ -12,13 +13,21 @@ pub record Held : Type 0 where
   pub prompt : Prompt
   pub line : List ℕ
   pub is_finished : Bool
-  pub fields : List Field
+  pub fields : List Taken
   pub ending : Ending
   pub kept : Option (List ℕ)
 
 -- the whole text: the line, or the line and the CR that finished it
 abbrev pub text_of : Held → List ℕ
 text_of held = if held.is_finished then finished held.line else held.line
+
+-- the line that a key meets: none behind a finished text
+abbrev pub met_line : Held → List ℕ
+met_line held = if held.is_finished then [] else held.line
+
+-- the parse that is held
+abbrev pub parse_held : Held → Parse
+parse_held held = record { fields = held.fields; ending = held.ending }
 
 -- an empty line that nothing is known of yet
 abbrev pub at_start : ℕ → Prompt → Option (List ℕ) → Held
@@ -31,3 +40,9 @@ at_start node prompt kept = record {
   ending = open_at node 0;
   kept = kept;
 }
+
+-- ready for a key under a grammar, a catalogue and the meanings of hooks: the start node is one of the grammar,
+-- and unless the line is finished, its parse is held
+pub record IsReady (s : Setting) (held : Held) : Type 0 where
+  pub node : held.node < length s.graph.nodes
+  pub parse : held.is_finished ≡ false → parse_held held ≡ parse_of s held.node held.line

@@ -1,13 +1,15 @@
 -- The line of the log that tells of one key and of the parse held after it.
-use Rattle.std.specs.Prelude.{ℕ, List, [], ◌∷◌, ◌++◌, length, codes}
+use Rattle.std.specs.Prelude.{ℕ, ℤ, pos, int_lt, unsigned_abs, Bool, true, false, if◌then◌else◌, List, [], ◌∷◌, ◌++◌, length, codes}
 use Rattle.std.specs.List.{flat_map}
 use Rattle.std.specs.Fmt.{decimal}
 use Rattle.cm_io.specs.Pieces.{hex}
-use Rattle.cm_state.specs.declared.field.Field.{Field}
-use Rattle.cm_state.specs.declared.field.Fault.{Fault}
-use Rattle.cm_state.specs.declared.field.Ending.{Ending}
-use Rattle.cm_state.specs.declared.field.Ending.TheVariants as ending
-use Rattle.cm_state.specs.Code.{code_number}
+use Rattle.cm_fields.specs.declared.value.Value.{Value}
+use Rattle.cm_fields.specs.declared.value.Value.TheVariants as values
+use Rattle.cm_fields.specs.Code.{code_number}
+use Rattle.cm_blocks.specs.declared.field.Fault.{Fault}
+use Rattle.cm_blocks.specs.declared.field.Ending.{Ending}
+use Rattle.cm_blocks.specs.declared.field.Ending.TheVariants as ending
+use Rattle.cm_blocks.specs.Taken.{Taken}
 use Rattle.cm_state.specs.Held.{Held}
 
 -- a number behind a text
@@ -31,18 +33,52 @@ unfoldable pub head_log : ℕ → ℕ → Ending → List ℕ
 head_log key size ending = hex key ++ marked (codes " ") size ++ ending_log ending
 
 -- ` NODE.BLOCK`
-unfoldable pub block_log : Field → List ℕ
+unfoldable pub block_log : Taken → List ℕ
 block_log field = marked (codes " ") field.node ++ marked (codes ".") field.block
 
--- `@START-END`
-unfoldable pub place_log : Field → List ℕ
-place_log field = marked (codes "@") field.start ++ marked (codes "-") field.end
+-- a day, with `-` before the number of one before 1-JAN-1970
+unfoldable pub day_log : ℤ → List ℕ
+day_log day =
+    if int_lt day (pos 0) then marked (codes "d-") (unsigned_abs day) else marked (codes "d") (unsigned_abs day)
 
--- ` NODE.BLOCKkCODE@START-END`
-unfoldable pub field_log : Field → List ℕ
-field_log field = block_log field ++ marked (codes "k") field.code ++ place_log field
+-- the id of a hook, and what it made of the field
+unfoldable pub hook_log : ℕ → ℕ → List ℕ
+hook_log id value = marked (codes "h") id ++ marked (codes ":") value
 
-unfoldable pub fields_log : List Field → List ℕ
+-- what a field stands for: a letter or a sign for the function that took it, and where there is one a number
+unfoldable pub value_log : Value → List ℕ
+value_log (values.Key entry code) = marked (codes "k") code
+value_log (values.Switch entry code) = marked (codes "s") code
+value_log (values.Noise true) = codes "n1"
+value_log (values.Noise false) = codes "n0"
+value_log (values.Number number) = marked (codes "#") number
+value_log (values.Word span) = codes "w"
+value_log (values.Quoted span) = codes "q"
+value_log values.Token = codes "t"
+value_log (values.Date day) = day_log day
+value_log (values.User directory) = codes "u"
+value_log (values.Directory directory) = codes "D"
+value_log (values.NewDirectory span) = codes "D"
+value_log (values.File spec directory) = codes "f"
+value_log (values.Text span) = codes "x"
+value_log values.Comma = codes ","
+value_log values.Confirm = codes "c"
+value_log (values.Hook id value) = hook_log id value
+
+-- `=` where the field was taken from the default of its node
+unfoldable pub default_log : Bool → List ℕ
+default_log true = codes "="
+default_log false = []
+
+-- `@START-END`, and `=` where it was taken from the default
+unfoldable pub place_log : Taken → List ℕ
+place_log field = marked (codes "@") field.start ++ marked (codes "-") field.end ++ default_log field.defaulted
+
+-- ` NODE.BLOCKVALUE@START-END`
+unfoldable pub field_log : Taken → List ℕ
+field_log field = block_log field ++ value_log field.value ++ place_log field
+
+unfoldable pub fields_log : List Taken → List ℕ
 fields_log fields = flat_map field_log fields
 
 unfoldable pub line_feed : List ℕ

@@ -3,8 +3,8 @@ use Rattle.cm_io.specs.declared.sink.Put.{Put}
 use Rattle.cm_io.specs.declared.sink.Put.TheVariants.{Done, Failed}
 use Rattle.cm_line.specs.declared.key.KeyClass.{KeyClass}
 use Rattle.cm_line.specs.declared.key.KeyClass.TheVariants.{End, Stop}
-use Rattle.cm_state.specs.declared.field.Ending.{Ending}
-use Rattle.cm_state.specs.declared.field.Ending.TheVariants as ending
+use Rattle.cm_blocks.specs.declared.field.Ending.{Ending}
+use Rattle.cm_blocks.specs.declared.field.Ending.TheVariants as ending
 use Rattle.cm_state.specs.declared.turn.Turn.{Turn}
 use Rattle.cm_state.specs.declared.turn.Turn.TheVariants as turn
 

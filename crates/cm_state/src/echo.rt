@@ -7,8 +7,10 @@ ghost use Rattle.cm_io.specs.Fault.{PutCause};
 ghost use Rattle.cm_text.specs.Shown.{end_of_line};
 ghost use Rattle.cm_state.specs.Echo.{complaint, refusal, prompt_text, screen_byte, screen_line, taken_away};
 
-use crate::{Code, Ending, Prompt};
+use crate::Prompt;
 use arrayvec::ArrayVec;
+use cm_blocks::Ending;
+use cm_fields::Code;
 use cm_io::{Put, Sink, put_line, put_times};
 use cm_text::{LINE_LIMIT, bell, end_of_line, question, rubout};
 

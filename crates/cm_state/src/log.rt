@@ -4,9 +4,11 @@
 ghost use Rattle.std.specs.Prelude.{◌≡◌, ◌≤◌, ◌++◌, length};
 ghost use Rattle.cm_io.specs.Told.{Adds};
 ghost use Rattle.cm_io.specs.Fault.{PutCause};
-ghost use Rattle.cm_state.specs.Log.{block_log, ending_log, fault_log, field_log, fields_log, head_log, line_feed, marked, place_log};
+ghost use Rattle.cm_state.specs.Log.{block_log, day_log, default_log, ending_log, fault_log, field_log, fields_log, head_log, hook_log, line_feed, marked, place_log, value_log};
 
-use crate::{Ending, Fault, Field};
+use crate::stack::Stack;
+use cm_blocks::{Ending, Fault, Field};
+use cm_fields::Value;
 use cm_io::{Put, Sink, put_decimal, put_hex};
 
 // A number behind a text.
@@ -76,6 +78,20 @@ pub(crate) fn line_feed() -> &'static [u8]
     b"\n"
 }
 
+// Whether a field was taken from the default of its node.
+#[tactic(auto, using(cm_io::proofs::Adding::add_none), unfolding(crate::specs::Log::default_log))]
+fn put_default<S: Sink>(defaulted: bool, sink: &mut S) -> Put
+    ensures bytes { Adds (S.told sink.old) (S.told sink.new) (default_log defaulted) result }
+    ensures later { S.faults sink.old ≤ S.faults sink.new }
+    ensures cause { PutCause (S.faults sink.old) (S.faults sink.new) result }
+{
+    if defaulted {
+        sink.put(b"=")
+    } else {
+        Put::Done
+    }
+}
+
 // Where a field stands.
 #[tactic(auto, using(crate::proofs::Putting::pieces), unfolding(crate::specs::Log::place_log))]
 fn put_place<S: Sink>(field: &Field, sink: &mut S) -> Put
@@ -83,10 +99,69 @@ fn put_place<S: Sink>(field: &Field, sink: &mut S) -> Put
     ensures later { S.faults sink.old ≤ S.faults sink.new }
     ensures cause { PutCause (S.faults sink.old) (S.faults sink.new) result }
 {
-    if let Put::Failed = put_marked(b"@", u64::from(field.start), sink) {
+    if let Put::Failed = put_marked(b"@", u64::from(field.start()), sink) {
         return Put::Failed;
     }
-    put_marked(b"-", u64::from(field.end), sink)
+    if let Put::Failed = put_marked(b"-", u64::from(field.end()), sink) {
+        return Put::Failed;
+    }
+    put_default(field.defaulted(), sink)
+}
+
+// A day, before or after 1-JAN-1970.
+#[tactic(auto, unfolding(crate::specs::Log::day_log))]
+fn put_day<S: Sink>(day: i32, sink: &mut S) -> Put
+    ensures bytes { Adds (S.told sink.old) (S.told sink.new) (day_log day) result }
+    ensures later { S.faults sink.old ≤ S.faults sink.new }
+    ensures cause { PutCause (S.faults sink.old) (S.faults sink.new) result }
+{
+    let number = u64::from(day.unsigned_abs());
+    if day < 0 {
+        put_marked(b"d-", number, sink)
+    } else {
+        put_marked(b"d", number, sink)
+    }
+}
+
+// What a hook made of a field.
+#[tactic(auto, using(crate::proofs::Putting::pieces), unfolding(crate::specs::Log::hook_log))]
+fn put_hook<S: Sink>(id: u8, value: u64, sink: &mut S) -> Put
+    ensures bytes { Adds (S.told sink.old) (S.told sink.new) (hook_log id value) result }
+    ensures later { S.faults sink.old ≤ S.faults sink.new }
+    ensures cause { PutCause (S.faults sink.old) (S.faults sink.new) result }
+{
+    if let Put::Failed = put_marked(b"h", u64::from(id), sink) {
+        return Put::Failed;
+    }
+    put_marked(b":", value, sink)
+}
+
+// What a field stands for.
+#[tactic(auto, unfolding(crate::specs::Log::value_log))]
+fn put_value<S: Sink>(value: Value, sink: &mut S) -> Put
+    ensures bytes { Adds (S.told sink.old) (S.told sink.new) (value_log value) result }
+    ensures later { S.faults sink.old ≤ S.faults sink.new }
+    ensures cause { PutCause (S.faults sink.old) (S.faults sink.new) result }
+{
+    match value {
+        Value::Key { code, .. } => put_marked(b"k", u64::from(code), sink),
+        Value::Switch { code, .. } => put_marked(b"s", u64::from(code), sink),
+        Value::Noise(true) => sink.put(b"n1"),
+        Value::Noise(false) => sink.put(b"n0"),
+        Value::Number(number) => put_marked(b"#", number, sink),
+        Value::Word(_) => sink.put(b"w"),
+        Value::Quoted(_) => sink.put(b"q"),
+        Value::Token => sink.put(b"t"),
+        Value::Date(day) => put_day(day, sink),
+        Value::User(_) => sink.put(b"u"),
+        Value::Directory(_) => sink.put(b"D"),
+        Value::NewDirectory(_) => sink.put(b"D"),
+        Value::File { .. } => sink.put(b"f"),
+        Value::Text(_) => sink.put(b"x"),
+        Value::Comma => sink.put(b","),
+        Value::Confirm => sink.put(b"c"),
+        Value::Hook { id, value } => put_hook(id, value, sink),
+    }
 }
 
 // Which block took a field.
@@ -96,10 +171,10 @@ fn put_block<S: Sink>(field: &Field, sink: &mut S) -> Put
     ensures later { S.faults sink.old ≤ S.faults sink.new }
     ensures cause { PutCause (S.faults sink.old) (S.faults sink.new) result }
 {
-    if let Put::Failed = put_marked(b" ", u64::from(field.node), sink) {
+    if let Put::Failed = put_marked(b" ", u64::from(field.node()), sink) {
         return Put::Failed;
     }
-    put_marked(b".", u64::from(field.block), sink)
+    put_marked(b".", u64::from(field.block()), sink)
 }
 
 #[tactic(auto, using(crate::proofs::Putting::pieces), unfolding(crate::specs::Log::field_log))]
@@ -111,20 +186,20 @@ fn put_field<S: Sink>(field: &Field, sink: &mut S) -> Put
     if let Put::Failed = put_block(field, sink) {
         return Put::Failed;
     }
-    if let Put::Failed = put_marked(b"k", u64::from(field.code), sink) {
+    if let Put::Failed = put_value(*field.value(), sink) {
         return Put::Failed;
     }
     put_place(field, sink)
 }
 
 #[tactic(auto, using(crate::proofs::Logging::add_no_fields, crate::proofs::Logging::add_fields_more, crate::proofs::Logging::fields_late,))]
-pub(crate) fn put_fields<S: Sink>(fields: &[Field], sink: &mut S) -> Put
+pub(crate) fn put_fields<S: Sink>(fields: &Stack, sink: &mut S) -> Put
     ensures bytes { Adds (S.told sink.old) (S.told sink.new) (fields_log fields.now) result }
     ensures later { S.faults sink.old ≤ S.faults sink.new }
     ensures cause { PutCause (S.faults sink.old) (S.faults sink.new) result }
 {
-    for field in fields {
-        if let Put::Failed = put_field(field, sink) {
+    for number in 0..fields.len() {
+        if let Put::Failed = put_field(fields.get(number), sink) {
             return Put::Failed;
         }
     }

@@ -1,33 +1,67 @@
-// The parse of a whole text.
-ghost use Rattle.std.specs.Prelude.{◌≤◌, length};
-ghost use Rattle.cm_state.specs.Parse.{IsParse};
+// The parse of a text, behind the fields that are known already.
+ghost use Rattle.std.specs.Prelude.{◌≡◌, ◌+◌, ◌-◌, ◌<◌, ◌≤◌, length};
+ghost use Rattle.cm_text.specs.declared.text.TheConstants.{TEXT_LIMIT};
+ghost use Rattle.cm_hooks.specs.Ties.{Ties, count};
+ghost use Rattle.cm_blocks.specs.Grammar.{hook_count};
+ghost use Rattle.cm_blocks.specs.Kept.{cost_behind};
+ghost use Rattle.cm_blocks.specs.declared.field.Chain.TheVariants as chain;
+ghost use Rattle.cm_blocks.specs.Parse.{ending_of, parse_of};
+ghost use Rattle.cm_blocks.specs.Setting.{setting};
+ghost use Rattle.cm_state.specs.Stack.{Starts};
 
-use crate::chain::{Chain, try_chain};
-use crate::{Ending, Field, Verbs};
-use arrayvec::ArrayVec;
-use cm_text::{LINE_LIMIT, TEXT_LIMIT};
+use crate::stack::Stack;
+use cm_blocks::{Chain, Ending, FIELD_LIMIT, Fault, Field, Grammar, Steps, try_chain};
+use cm_fields::Code;
+use cm_files::Names;
+use cm_hooks::{Hooks, Rules};
+use std::sync::ledger::Ledger;
 
-// The fields of a text, each of which takes one byte or more of the line.
-pub(crate) type Fields = ArrayVec<Field, LINE_LIMIT>;
-
-// The parse of a text from a node on: puts its fields in place of those that were held, and answers its
-// ending.
-#[tactic(auto, unfolding(crate::specs::Parse::IsParse))]
-pub(crate) fn parse(verbs: &Verbs, start: u16, text: &[u8], fields: &mut Fields) -> Ending
-    requires { length text.now ≤ TEXT_LIMIT }
-    ensures { IsParse verbs.now start text.now fields.new.items result }
+// How a parse ends that has one field too many.
+fn too_many(field: &Field) -> Ending
+    ensures { result ≡ ending_of (chain.Field field.now) }
 {
-    fields.clear();
-    let mut node = start;
-    let mut at = 0;
+    Ending::Fault(Fault {
+        code: Code::TooMany,
+        node: field.node(),
+        at: field.start(),
+    })
+}
+
+// Goes on with the parse of a text behind the fields that it begins with: puts the others behind them, and answers
+// how it ends.
+pub(crate) fn go_on<N: Names, R: Rules, L: Ledger>(
+    grammar: &Grammar,
+    start: u16,
+    text: &[u8],
+    names: &N,
+    hooks: &Hooks<R>,
+    fields: &mut Stack,
+    steps: &mut Steps<L>,
+) -> Ending
+    requires starts { Starts (setting grammar.now (N.catalogue names.now) R.meanings) start text.now fields.old }
+    requires short { length text.now ≤ TEXT_LIMIT }
+    requires ties { Ties R.meanings hooks.now }
+    requires hooks { hook_count grammar.now ≤ count hooks.now }
+    ensures parse { record { fields = fields.new; ending = result }
+        ≡ parse_of (setting grammar.now (N.catalogue names.now) R.meanings) start text.now }
+    ensures steps { steps.new ≡ steps.old
+        + cost_behind (setting grammar.now (N.catalogue names.now) R.meanings) start text.now fields.old }
+{
+    let mut node = fields.node_behind(start);
+    let mut at = fields.place_behind();
     loop {
-        match try_chain(verbs, node, text, at) {
-            Chain::Takes(field) => {
+        match try_chain(grammar, node, text, usize::from(at), names, hooks, steps) {
+            Chain::Field(field) => {
+                if usize::from(fields.len()) == FIELD_LIMIT {
+                    return too_many(&field);
+                }
+                node = field.next();
+                at = field.end();
                 fields.push(field);
-                node = field.next;
-                at = field.end;
             }
-            Chain::Ends(ending) => return ending,
+            Chain::Done(_) => return Ending::Done,
+            Chain::Fault(fault) => return Ending::Fault(fault),
+            Chain::Open(open) => return Ending::Open(open),
         }
     }
 }

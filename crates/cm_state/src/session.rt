@@ -1,42 +1,52 @@
 // A session: the line under edit, and the parse of it that is held.
-ghost use Rattle.std.specs.Prelude.{◌≡◌, ◌≤◌, ◌<◌, ℕ, Bool, true, false, List, [], ◌++◌, length, take, Option, None, slice_get, Some, if◌then◌else◌};
+ghost use Rattle.std.specs.Prelude.{◌≡◌, ◌+◌, ◌≤◌, ◌<◌, ℕ, true, false, [], ◌++◌, length, take, unwrap_or, None, slice_get, Some, if◌then◌else◌};
 ghost use Rattle.cm_text.specs.Bytes.{is_text};
-ghost use Rattle.cm_text.specs.Text.{finished};
-ghost use Rattle.cm_line.specs.declared.key.KeyClass.TheVariants as class;
+ghost use Rattle.cm_text.specs.Text.{IsLine, finished};
 ghost use Rattle.cm_line.specs.Keys.{class_of};
 ghost use Rattle.cm_io.specs.Told.{Adds};
 ghost use Rattle.cm_io.specs.Fault.{PutCause};
-ghost use Rattle.cm_state.specs.Edit.{edit, edited, met_line, before_fault, is_end};
+ghost use Rattle.cm_hooks.specs.Ties.{Ties, count};
+ghost use Rattle.cm_blocks.specs.Fault.{grammar_fault};
+ghost use Rattle.cm_blocks.specs.Grammar.{hook_count};
+ghost use Rattle.cm_blocks.specs.Kept.{BeginsWith, common, cost, cost_behind, kept, needing};
+ghost use Rattle.cm_blocks.specs.Parse.{IsClosed, IsParse, open_at, parse_of};
+ghost use Rattle.cm_blocks.specs.Setting.{Setting, setting};
+ghost use Rattle.cm_state.specs.Edit.{before_fault, edit, edited, is_end};
 ghost use Rattle.cm_state.specs.Echo.{echo, echo_of, prompt_text};
+ghost use Rattle.cm_state.specs.Held.{Held, IsReady, at_start, met_line, parse_held, text_of};
 ghost use Rattle.cm_state.specs.Log.{log_line};
+ghost use Rattle.cm_state.specs.Stack.{Starts};
 ghost use Rattle.cm_state.specs.Turn.{put_of, turn_of};
-ghost use Rattle.cm_state.specs.Held.{Held, at_start, text_of};
-ghost use Rattle.cm_state.specs.Parse.{IsParse, open_at, parse_of};
 
 use crate::echo::{put_again, put_end, put_screen_line, put_taken, screen_byte};
 use crate::log::{line_feed, put_fields, put_head};
-use crate::node::COMMANDS;
-use crate::parse::{Fields, parse};
-use crate::{Ending, Field, Open, Prompt, Turn, Verbs};
-use arrayvec::ArrayVec;
+use crate::parse::go_on;
+use crate::stack::Stack;
+use crate::{Prompt, Turn};
+use cm_blocks::{Ending, Field, Grammar, Open, Steps};
+use cm_files::Names;
+use cm_hooks::{Hooks, Rules};
 use cm_io::{Put, Sink, put_line};
 use cm_line::{KeyClass, Line};
 use cm_text::{LINE_LIMIT, TEXT_LIMIT, bell, control_c};
-use std::marker::Model;
+use std::marker::{Model, PhantomData};
+use std::sync::ledger::Ledger;
 
-/// A command line: the line under edit, its parse as it then stands, and what control-H may bring back.
-#[derive(Debug, Drop)]
-pub struct Session {
+/// A command line: the line under edit, its parse as it then stands, and what control-H may bring back. `R` is what
+/// the hooks mean that its grammar asks.
+#[derive(Drop)]
+pub struct Session<R: Rules> {
     node: u16,
     prompt: Prompt,
     line: Line,
     is_finished: bool,
-    fields: Fields,
+    fields: Stack,
     ending: Ending,
     kept: Option<Line>,
+    rules: PhantomData<R>,
 }
 
-impl Model for Session {
+impl<R: Rules> Model for Session<R> {
     ghost use Rattle.cm_state.specs.Held.{Held};
 
     ghost Value = { Held };
@@ -46,72 +56,205 @@ impl Model for Session {
       prompt = s.prompt;
       line = s.line;
       is_finished = s.is_finished;
-      fields = s.fields.items;
+      fields = s.fields;
       ending = s.ending;
       kept = s.kept;
     } };
 }
 
-impl Session {
-    /// A session at its start: an empty line for a command, and nothing kept.
-    pub fn new() -> Session
-        ensures { result ≡ at_start COMMANDS Prompt.Main None }
+impl<R: Rules> Session<R> {
+    /// A session at its start: an empty line from node 0 on, and nothing kept.
+    pub fn new() -> Session<R>
+        ensures session { result ≡ at_start 0 Prompt.Main None }
+        // It is ready for a key under every grammar.
+        ensures ready { (s : Setting) → grammar_fault s.graph ≡ None → IsReady s result }
     {
-        Session {
-            node: COMMANDS,
-            prompt: Prompt::Main,
-            line: Line::new(),
-            is_finished: false,
-            fields: Fields::new(),
-            ending: open_at(COMMANDS),
-            kept: None,
-        }
+        Session::started()
     }
 
     /// Begins a line: shows the prompt, and puts the session at the start of the node, also where the sink
     /// fails. What is kept for control-H stays.
     pub fn begin<S: Sink>(&mut self, node: u16, prompt: Prompt, sink: &mut S) -> Put
         ensures session { self.new ≡ at_start node prompt self.old.kept }
+        // It is ready for a key under every grammar that has the node.
+        ensures ready { (s : Setting) → grammar_fault s.graph ≡ None → node < length s.graph.nodes
+            → IsReady s self.new }
         ensures bytes { Adds (S.told sink.old) (S.told sink.new) (prompt_text prompt) result }
         ensures later { S.faults sink.old ≤ S.faults sink.new }
         ensures cause { PutCause (S.faults sink.old) (S.faults sink.new) result }
     {
-        self.node = node;
-        self.prompt = prompt;
-        self.renew();
-        self.line.cut(0);
-        self.fields.clear();
-        self.ending = open_at(node);
+        self.start(node, prompt);
         sink.put(prompt.text().as_bytes())
     }
 
-    /// Takes one key: edits the line, holds the parse of the text as it then stands, and shows the echo.
+    /// Takes one key: edits the line, holds the parse of the text as it then stands, and shows the echo. The fields
+    /// that the unchanged front of the text decides are kept, and only what follows is tried.
     ///
     /// The answer is Confirmed exactly where the key finishes a line whose parse is done, Refused exactly
     /// where it finishes one whose parse ends in that fault, Abandoned exactly at control-C. It is Failed
-    /// only where the sink failed; the session is then where the key left it.
+    /// only where the sink failed; the session is then where the key left it, and the counter has risen as ever.
     #[tactic(auto, unfolding(crate::specs::Echo::echo))]
-    pub fn key<S: Sink>(&mut self, key: u8, verbs: &Verbs, sink: &mut S) -> Turn
+    pub fn key<N: Names, S: Sink, L: Ledger>(
+        &mut self,
+        key: u8,
+        grammar: &Grammar,
+        names: &N,
+        hooks: &Hooks<R>,
+        sink: &mut S,
+        steps: &mut Steps<L>,
+    ) -> Turn
+        requires ready { IsReady (setting grammar.now (N.catalogue names.now) R.meanings) self.old }
+        requires ties { Ties R.meanings hooks.now }
+        requires hooks { hook_count grammar.now ≤ count hooks.now }
         // The line, what is kept, and the parse after the key.
-        ensures edited { self.new ≡ edited verbs.now self.old key }
+        ensures edited { self.new ≡ edited (setting grammar.now (N.catalogue names.now) R.meanings) self.old key }
         // What is held is the parse of the whole text.
-        ensures parse { IsParse verbs.now self.new.node (text_of self.new) self.new.fields self.new.ending }
+        ensures parse { IsParse (setting grammar.now (N.catalogue names.now) R.meanings)
+            self.new.node (text_of self.new) self.new.fields self.new.ending }
+        ensures ready { IsReady (setting grammar.now (N.catalogue names.now) R.meanings) self.new }
+        // It begins with the fields that the unchanged front decides.
+        ensures keeps { BeginsWith (kept (setting grammar.now (N.catalogue names.now) R.meanings)
+            self.old.node (met_line self.old) (text_of self.new)) self.new.fields }
         ensures turn { put_of result ≡ Put.Done → result ≡ turn_of (class_of key) self.new.ending }
 
         // What the key shows.
         ensures bytes { Adds (S.told sink.old) (S.told sink.new)
-            (echo verbs.now self.old key) (put_of result) }
+            (echo (setting grammar.now (N.catalogue names.now) R.meanings) self.old key) (put_of result) }
         ensures later { S.faults sink.old ≤ S.faults sink.new }
         ensures cause { PutCause (S.faults sink.old) (S.faults sink.new) (put_of result) }
+
+        // What the trials cost behind the fields that are kept: that of the ending alone where the line stays.
+        ensures steps { steps.new ≡ steps.old + cost (setting grammar.now (N.catalogue names.now) R.meanings)
+            self.old.node (met_line self.old) (text_of self.new) }
     {
         let class = KeyClass::of(key);
         let size = self.met_size();
         let kept = self.kept.is_some();
-        self.take(class, key, verbs);
+        self.take(class, key, grammar, names, hooks, steps);
         match self.echo(class, key, size, kept, sink) {
             Put::Done => self.turn(class),
             Put::Failed => Turn::Failed,
         }
+    }
+
+    /// Takes a whole line and finishes it, as `begin` at the node and then its keys and CR would: holds its parse,
+    /// and shows nothing. The prompt stays.
+    ///
+    /// The answer is Confirmed exactly where the parse is done, and else Refused with its fault.
+    pub fn whole<N: Names, L: Ledger>(
+        &mut self,
+        node: u16,
+        line: &[u8],
+        grammar: &Grammar,
+        names: &N,
+        hooks: &Hooks<R>,
+        steps: &mut Steps<L>,
+    ) -> Turn
+        requires line { IsLine line.now }
+        requires node { node < length grammar.now.nodes }
+        requires ties { Ties R.meanings hooks.now }
+        requires hooks { hook_count grammar.now ≤ count hooks.now }
+        // It is as behind CR on that line.
+        ensures edited { self.new ≡ edited (setting grammar.now (N.catalogue names.now) R.meanings)
+            (record (at_start node self.old.prompt self.old.kept) { line = line.now }) 13 }
+        ensures parse { IsParse (setting grammar.now (N.catalogue names.now) R.meanings)
+            node (finished line.now) self.new.fields self.new.ending }
+        ensures ready { IsReady (setting grammar.now (N.catalogue names.now) R.meanings) self.new }
+        ensures decided { IsClosed self.new.ending }
+        ensures turn { result ≡ turn_of KeyClass.End self.new.ending }
+        ensures steps { steps.new ≡ steps.old
+            + cost (setting grammar.now (N.catalogue names.now) R.meanings) node [] (finished line.now) }
+    {
+        grammar.has_no_fault();
+        self.start(node, self.prompt);
+        self.finish(line);
+        self.hold(grammar, names, hooks, steps);
+        self.turn(KeyClass::End)
+    }
+
+    /// Puts the line of the log that tells of a key and of the parse held after it: the key, the length of
+    /// the line, the ending and each field.
+    #[tactic(auto, using(crate::proofs::Putting::pieces), unfolding(crate::specs::Log::log_line))]
+    pub fn log_line<S: Sink>(&self, key: u8, sink: &mut S) -> Put
+        ensures bytes { Adds (S.told sink.old) (S.told sink.new) (log_line key self.now) result }
+        ensures later { S.faults sink.old ≤ S.faults sink.new }
+        ensures cause { PutCause (S.faults sink.old) (S.faults sink.new) result }
+    {
+        if let Put::Failed = put_head(key, self.line.bytes().len(), self.ending, sink) {
+            return Put::Failed;
+        }
+        if let Put::Failed = put_fields(&self.fields, sink) {
+            return Put::Failed;
+        }
+        sink.put(line_feed())
+    }
+
+    /// The whole text: the line, or the line and the CR that finished it.
+    pub fn text(&self) -> &[u8]
+        ensures { result.now ≡ text_of self.now }
+    {
+        text_of(&self.line, self.is_finished)
+    }
+
+    /// How many fields are held.
+    pub fn held(&self) -> u8
+        ensures { result ≡ length self.now.fields }
+    {
+        self.fields.len()
+    }
+
+    /// A field that is held, by its number from 0.
+    pub fn field(&self, number: u8) -> &Field
+        requires { number < length self.now.fields }
+        ensures { slice_get self.now.fields number ≡ Some result.now }
+    {
+        self.fields.get(number)
+    }
+
+    /// What stands behind the last field.
+    pub fn ending(&self) -> &Ending
+        ensures { result.now ≡ self.now.ending }
+    {
+        &self.ending
+    }
+
+    // A session at its start.
+    fn started() -> Session<R>
+        ensures { result ≡ at_start 0 Prompt.Main None }
+    {
+        Session {
+            node: 0,
+            prompt: Prompt::Main,
+            line: Line::new(),
+            is_finished: false,
+            fields: Stack::new(),
+            ending: open_at(0),
+            kept: None,
+            rules: PhantomData,
+        }
+    }
+
+    // Puts the session at the start of a node.
+    fn start(&mut self, node: u16, prompt: Prompt)
+        ensures { self.new ≡ at_start node prompt self.old.kept }
+    {
+        self.node = node;
+        self.prompt = prompt;
+        self.line.cut(0);
+        self.is_finished = false;
+        self.fields.clear();
+        self.ending = open_at(node);
+    }
+
+    // Finishes this line in place of an empty one.
+    fn finish(&mut self, line: &[u8])
+        requires line { IsLine line.now }
+        requires empty { self.old.line ≡ [] }
+        ensures { self.new ≡ record self.old { line = line.now; is_finished = true; kept = None } }
+    {
+        self.line.append(line);
+        self.is_finished = true;
+        self.kept = None;
     }
 
     // The size of the line that a key meets.
@@ -127,15 +270,121 @@ impl Session {
     }
 
     // Edits the line by a key, and holds the parse of the text as it then stands.
-    fn take(&mut self, class: KeyClass, key: u8, verbs: &Verbs)
+    fn take<N: Names, L: Ledger>(
+        &mut self,
+        class: KeyClass,
+        key: u8,
+        grammar: &Grammar,
+        names: &N,
+        hooks: &Hooks<R>,
+        steps: &mut Steps<L>,
+    )
         requires class { class ≡ class_of key }
         requires text { class ≡ KeyClass.Text → is_text key ≡ true }
-        ensures edited { self.new ≡ edited verbs.now self.old key }
-        ensures parse { IsParse verbs.now self.new.node (text_of self.new) self.new.fields self.new.ending }
+        requires ready { IsReady (setting grammar.now (N.catalogue names.now) R.meanings) self.old }
+        requires ties { Ties R.meanings hooks.now }
+        requires hooks { hook_count grammar.now ≤ count hooks.now }
+        ensures edited { self.new ≡ edited (setting grammar.now (N.catalogue names.now) R.meanings) self.old key }
+        ensures parse { parse_held self.new
+            ≡ parse_of (setting grammar.now (N.catalogue names.now) R.meanings) self.new.node (text_of self.new) }
+        ensures keeps { BeginsWith (kept (setting grammar.now (N.catalogue names.now) R.meanings)
+            self.old.node (met_line self.old) (text_of self.new)) self.new.fields }
+        ensures steps { steps.new ≡ steps.old + cost (setting grammar.now (N.catalogue names.now) R.meanings)
+            self.old.node (met_line self.old) (text_of self.new) }
     {
+        grammar.has_no_fault();
         self.renew();
-        self.edit(class, key);
-        self.hold(verbs);
+        let size = self.edit(class, key);
+        self.keep(size);
+        self.hold(grammar, names, hooks, steps);
+    }
+
+    // A key behind a finished text meets an empty line, of which nothing is known.
+    fn renew(&mut self)
+        ensures { self.new ≡ record self.old {
+          line = met_line self.old;
+          is_finished = false;
+          fields = if self.old.is_finished then [] else self.old.fields;
+        } }
+    {
+        if self.is_finished {
+            self.is_finished = false;
+            self.line.cut(0);
+            self.fields.clear();
+        }
+    }
+
+    // The line after a key, finished where the key is an end. The answer is how many bytes the line before it and the
+    // text behind it begin with alike.
+    fn edit(&mut self, class: KeyClass, key: u8) -> usize
+        requires open { self.old.is_finished ≡ false }
+        requires text { class ≡ KeyClass.Text → is_text key ≡ true }
+        ensures edited { self.new ≡ record self.old {
+          line = edit class key self.old.line self.old.kept;
+          is_finished = is_end class;
+          kept = None;
+        } }
+        ensures common { result ≡ common self.old.line (text_of self.new) }
+    {
+        let before = self.line.bytes().len();
+        match class {
+            KeyClass::Text => {
+                self.line.push(key);
+            }
+            KeyClass::Rub => {
+                self.line.pop();
+            }
+            KeyClass::Word => self.line.cut(self.line.word_start()),
+            KeyClass::Erase | KeyClass::Stop => self.line.cut(0),
+            KeyClass::Back => return self.bring_back(),
+            KeyClass::End => self.is_finished = true,
+            _ => {}
+        }
+        self.kept = None;
+        before.min(self.line.bytes().len())
+    }
+
+    // Brings the kept bytes back in place of the line, which stays where there are none.
+    fn bring_back(&mut self) -> usize
+        ensures line { self.new ≡ record self.old { line = unwrap_or self.old.kept self.old.line; kept = None } }
+        ensures common { result ≡ common self.old.line self.new.line }
+    {
+        match self.kept.take() {
+            Some(kept) => {
+                let size = common(self.line.bytes(), kept.bytes());
+                self.line = kept;
+                size
+            }
+            None => self.line.bytes().len(),
+        }
+    }
+
+    // Keeps the fields before the first that needs more than so many bytes.
+    fn keep(&mut self, size: usize)
+        ensures { self.new ≡ record self.old { fields = needing size self.old.fields } }
+    {
+        self.fields.keep(size);
+    }
+
+    // Holds the parse of the text, which begins with the fields that are held. A refused line keeps the bytes before
+    // its faulty field.
+    fn hold<N: Names, L: Ledger>(&mut self, grammar: &Grammar, names: &N, hooks: &Hooks<R>, steps: &mut Steps<L>)
+        requires starts { Starts (setting grammar.now (N.catalogue names.now) R.meanings)
+            self.old.node (text_of self.old) self.old.fields }
+        requires ties { Ties R.meanings hooks.now }
+        requires hooks { hook_count grammar.now ≤ count hooks.now }
+        ensures parse { parse_held self.new
+            ≡ parse_of (setting grammar.now (N.catalogue names.now) R.meanings) self.old.node (text_of self.old) }
+        ensures kept { self.new.kept
+            ≡ (if self.old.is_finished then before_fault self.old.line self.new.ending else None) }
+        ensures same { self.new
+            ≡ record self.old { fields = self.new.fields; ending = self.new.ending; kept = self.new.kept } }
+        ensures steps { steps.new ≡ steps.old + cost_behind (setting grammar.now (N.catalogue names.now) R.meanings)
+            self.old.node (text_of self.old) self.old.fields }
+    {
+        let text = text_of(&self.line, self.is_finished);
+        self.ending = go_on(grammar, self.node, text, names, hooks, &mut self.fields, steps);
+        self.kept = before_fault(self.is_finished, &self.line, self.ending);
     }
 
     // Shows the echo of a key on a line of this size, with or without kept bytes.
@@ -158,76 +407,6 @@ impl Session {
         }
     }
 
-    /// Puts the line of the log that tells of a key and of the parse held after it: the key, the length of
-    /// the line, the ending and each field.
-    #[tactic(auto, using(crate::proofs::Putting::pieces), unfolding(crate::specs::Log::log_line))]
-    pub fn log_line<S: Sink>(&self, key: u8, sink: &mut S) -> Put
-        ensures bytes { Adds (S.told sink.old) (S.told sink.new) (log_line key self.now) result }
-        ensures later { S.faults sink.old ≤ S.faults sink.new }
-        ensures cause { PutCause (S.faults sink.old) (S.faults sink.new) result }
-    {
-        if let Put::Failed = put_head(key, self.line.bytes().len(), self.ending, sink) {
-            return Put::Failed;
-        }
-        if let Put::Failed = put_fields(self.fields.as_slice(), sink) {
-            return Put::Failed;
-        }
-        sink.put(line_feed())
-    }
-
-    // A key behind a finished text meets an empty line.
-    fn renew(&mut self)
-        ensures { self.new ≡ record self.old { line = met_line self.old; is_finished = false } }
-    {
-        if self.is_finished {
-            self.is_finished = false;
-            self.line.cut(0);
-        }
-    }
-
-    // The line after a key, finished where the key is an end.
-    fn edit(&mut self, class: KeyClass, key: u8)
-        requires open { self.old.is_finished ≡ false }
-        requires text { class ≡ KeyClass.Text → is_text key ≡ true }
-        ensures { self.new ≡ record self.old {
-          line = edit class key self.old.line self.old.kept;
-          is_finished = is_end class;
-          kept = None;
-        } }
-    {
-        match class {
-            KeyClass::Text => {
-                self.line.push(key);
-            }
-            KeyClass::Rub => {
-                self.line.pop();
-            }
-            KeyClass::Word => self.line.cut(self.line.word_start()),
-            KeyClass::Erase | KeyClass::Stop => self.line.cut(0),
-            KeyClass::Back => {
-                if let Some(kept) = self.kept.take() {
-                    self.line = kept;
-                }
-            }
-            KeyClass::End => self.is_finished = true,
-            _ => {}
-        }
-        self.kept = None;
-    }
-
-    // Holds the parse of the text. A refused line keeps the bytes before its faulty field.
-    fn hold(&mut self, verbs: &Verbs)
-        ensures parse { IsParse verbs.now self.new.node (text_of self.new) self.new.fields self.new.ending }
-        ensures kept { self.new.kept
-            ≡ (if self.old.is_finished then before_fault self.old.line self.new.ending else None) }
-        ensures same { self.new
-            ≡ record self.old { fields = self.new.fields; ending = self.new.ending; kept = self.new.kept } }
-    {
-        let text = self.text();
-        self.ending = parse(verbs, self.node, text.as_slice(), &mut self.fields);
-        self.kept = before_fault(self.is_finished, &self.line, self.ending);
-    }
-
     // What a key of this class has come to.
     fn turn(&self, class: KeyClass) -> Turn
         ensures value { result ≡ turn_of class self.now.ending }
@@ -240,48 +419,28 @@ impl Session {
             _ => Turn::Edited,
         }
     }
+}
 
-    /// The whole text: the line, or the line and the CR that finished it.
-    pub fn text(&self) -> ArrayVec<u8, TEXT_LIMIT>
-        ensures { result.items ≡ text_of self.now }
-    {
-        text_of(self.line.bytes(), self.is_finished)
-    }
-
-    /// How many fields are held.
-    pub fn held(&self) -> u8
-        ensures { result ≡ length self.now.fields }
-    {
-        self.fields.len() as u8
-    }
-
-    /// A field that is held, by its number from 0.
-    pub fn field(&self, number: u8) -> &Field
-        requires { number < length self.now.fields }
-        ensures { slice_get self.now.fields number ≡ Some result.now }
-    {
-        &self.fields[usize::from(number)]
-    }
-
-    /// What stands behind the last field.
-    pub fn ending(&self) -> &Ending
-        ensures { result.now ≡ self.now.ending }
-    {
-        &self.ending
+// The text of a line: with the CR that finished it, where one did.
+fn text_of(line: &Line, is_finished: bool) -> &[u8]
+    ensures text { result.now ≡ (if is_finished then finished line.now else line.now) }
+    ensures short { length result.now ≤ TEXT_LIMIT }
+{
+    if is_finished {
+        line.finished()
+    } else {
+        line.bytes()
     }
 }
 
-// A line, and behind it the CR that finished it, if one did.
-fn text_of(line: &[u8], is_finished: bool) -> ArrayVec<u8, TEXT_LIMIT>
-    requires { length line.now ≤ LINE_LIMIT }
-    ensures { result.items ≡ (if is_finished then finished line.now else line.now) }
+// How many bytes two lines begin with alike.
+fn common(line: &[u8], other: &[u8]) -> usize
+    ensures { result ≡ common line.now other.now }
 {
-    let mut text = ArrayVec::new();
-    let _ = text.try_extend_from_slice(line);
-    if is_finished {
-        text.push(b'\r');
-    }
-    text
+    line.iter()
+        .zip(other)
+        .take_while(|pair| pair.0 == pair.1)
+        .count()
 }
 
 // Of a refused line, the bytes before its faulty field.

@@ -1,5 +1,5 @@
 // What a key came to.
-use crate::Fault;
+use cm_blocks::Fault;
 
 /// What a key came to.
 #[derive(Clone, Copy, Debug, PartialEq, Eq)]
