@@ -1,3 +1,8 @@
+mod Editing
+mod Fronts
+mod Going
 mod Lines
 mod Logging
 pub mod Putting
+mod Stacking
+mod Starting

@@ -1,7 +1,7 @@
 -- The fields that are held, and where the parse of a text goes on behind them.
 use Rattle.std.specs.Prelude.{◌≡◌, ℕ, ◌+◌, ◌-◌, ◌<◌, ◌≤◌, nat_le, if◌then◌else◌, List, [], ◌∷◌, length, Option, Some, None}
 use Rattle.cm_blocks.specs.declared.field.TheConstants.{FIELD_LIMIT}
-use Rattle.cm_blocks.specs.Parse.{Parse, node_behind, parse_from, parse_of, place_behind, with_fields}
+use Rattle.cm_blocks.specs.Parse.{node_behind, parse_from, parse_of, place_behind, with_fields}
 use Rattle.cm_blocks.specs.Setting.{Setting}
 use Rattle.cm_blocks.specs.Taken.{Taken}
 

@@ -50,13 +50,13 @@ pub(crate) fn go_on<N: Names, R: Rules, L: Ledger>(
     let mut node = fields.node_behind(start);
     let mut at = fields.place_behind();
     loop {
-        match try_chain(grammar, node, text, usize::from(at), names, hooks, steps) {
+        match try_chain(grammar, node, text, at, names, hooks, steps) {
             Chain::Field(field) => {
                 if usize::from(fields.len()) == FIELD_LIMIT {
                     return too_many(&field);
                 }
                 node = field.next();
-                at = field.end();
+                at = usize::from(field.end());
                 fields.push(field);
             }
             Chain::Done(_) => return Ending::Done,

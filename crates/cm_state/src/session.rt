@@ -1,5 +1,5 @@
 // A session: the line under edit, and the parse of it that is held.
-ghost use Rattle.std.specs.Prelude.{◌≡◌, ◌+◌, ◌≤◌, ◌<◌, ℕ, true, false, [], ◌++◌, length, take, unwrap_or, None, slice_get, Some, if◌then◌else◌};
+ghost use Rattle.std.specs.Prelude.{◌≡◌, ◌+◌, ◌≤◌, ◌<◌, ℕ, true, false, [], ◌++◌, length, take, None, slice_get, Some, if◌then◌else◌};
 ghost use Rattle.cm_text.specs.Bytes.{is_text};
 ghost use Rattle.cm_text.specs.Text.{IsLine, finished};
 ghost use Rattle.cm_line.specs.Keys.{class_of};
@@ -13,6 +13,7 @@ ghost use Rattle.cm_blocks.specs.Parse.{IsClosed, IsParse, open_at, parse_of};
 ghost use Rattle.cm_blocks.specs.Setting.{Setting, setting};
 ghost use Rattle.cm_state.specs.Edit.{before_fault, edit, edited, is_end};
 ghost use Rattle.cm_state.specs.Echo.{echo, echo_of, prompt_text};
+ghost use Rattle.cm_state.specs.Front.{front};
 ghost use Rattle.cm_state.specs.Held.{Held, IsReady, at_start, met_line, parse_held, text_of};
 ghost use Rattle.cm_state.specs.Log.{log_line};
 ghost use Rattle.cm_state.specs.Stack.{Starts};
@@ -47,7 +48,8 @@ pub struct Session<R: Rules> {
 }
 
 impl<R: Rules> Model for Session<R> {
-    ghost use Rattle.cm_state.specs.Held.{Held};
+    ghost use Rattle.cm_state.specs.Front.{front};
+ghost use Rattle.cm_state.specs.Held.{Held};
 
     ghost Value = { Held };
 
@@ -285,8 +287,9 @@ impl<R: Rules> Session<R> {
         requires ties { Ties R.meanings hooks.now }
         requires hooks { hook_count grammar.now ≤ count hooks.now }
         ensures edited { self.new ≡ edited (setting grammar.now (N.catalogue names.now) R.meanings) self.old key }
-        ensures parse { parse_held self.new
-            ≡ parse_of (setting grammar.now (N.catalogue names.now) R.meanings) self.new.node (text_of self.new) }
+        ensures parse { IsParse (setting grammar.now (N.catalogue names.now) R.meanings)
+            self.new.node (text_of self.new) self.new.fields self.new.ending }
+        ensures ready { IsReady (setting grammar.now (N.catalogue names.now) R.meanings) self.new }
         ensures keeps { BeginsWith (kept (setting grammar.now (N.catalogue names.now) R.meanings)
             self.old.node (met_line self.old) (text_of self.new)) self.new.fields }
         ensures steps { steps.new ≡ steps.old + cost (setting grammar.now (N.catalogue names.now) R.meanings)
@@ -294,7 +297,7 @@ impl<R: Rules> Session<R> {
     {
         grammar.has_no_fault();
         self.renew();
-        let size = self.edit(class, key);
+        let size = self.change(class, key);
         self.keep(size);
         self.hold(grammar, names, hooks, steps);
     }
@@ -314,9 +317,9 @@ impl<R: Rules> Session<R> {
         }
     }
 
-    // The line after a key, finished where the key is an end. The answer is how many bytes the line before it and the
-    // text behind it begin with alike.
-    fn edit(&mut self, class: KeyClass, key: u8) -> usize
+    // Edits the line by a key. The answer is how many bytes the line before it and the text behind it begin with alike.
+    #[tactic(auto, using(crate::proofs::Fronts::front_stays))]
+    fn change(&mut self, class: KeyClass, key: u8) -> usize
         requires open { self.old.is_finished ≡ false }
         requires text { class ≡ KeyClass.Text → is_text key ≡ true }
         ensures edited { self.new ≡ record self.old {
@@ -326,7 +329,31 @@ impl<R: Rules> Session<R> {
         } }
         ensures common { result ≡ common self.old.line (text_of self.new) }
     {
-        let before = self.line.bytes().len();
+        let front = self.front(class);
+        self.edit(class, key);
+        front.min(self.line.bytes().len())
+    }
+
+    // The most bytes at the front of the line that a key of this class leaves.
+    fn front(&self, class: KeyClass) -> usize
+        ensures { result ≡ front class self.now.line self.now.kept }
+    {
+        match (class, &self.kept) {
+            (KeyClass::Back, Some(kept)) => common(self.line.bytes(), kept.bytes()),
+            _ => self.line.bytes().len(),
+        }
+    }
+
+    // The line after a key, finished where the key is an end.
+    fn edit(&mut self, class: KeyClass, key: u8)
+        requires open { self.old.is_finished ≡ false }
+        requires text { class ≡ KeyClass.Text → is_text key ≡ true }
+        ensures { self.new ≡ record self.old {
+          line = edit class key self.old.line self.old.kept;
+          is_finished = is_end class;
+          kept = None;
+        } }
+    {
         match class {
             KeyClass::Text => {
                 self.line.push(key);
@@ -336,27 +363,15 @@ impl<R: Rules> Session<R> {
             }
             KeyClass::Word => self.line.cut(self.line.word_start()),
             KeyClass::Erase | KeyClass::Stop => self.line.cut(0),
-            KeyClass::Back => return self.bring_back(),
+            KeyClass::Back => {
+                if let Some(kept) = self.kept.take() {
+                    self.line = kept;
+                }
+            }
             KeyClass::End => self.is_finished = true,
             _ => {}
         }
         self.kept = None;
-        before.min(self.line.bytes().len())
-    }
-
-    // Brings the kept bytes back in place of the line, which stays where there are none.
-    fn bring_back(&mut self) -> usize
-        ensures line { self.new ≡ record self.old { line = unwrap_or self.old.kept self.old.line; kept = None } }
-        ensures common { result ≡ common self.old.line self.new.line }
-    {
-        match self.kept.take() {
-            Some(kept) => {
-                let size = common(self.line.bytes(), kept.bytes());
-                self.line = kept;
-                size
-            }
-            None => self.line.bytes().len(),
-        }
     }
 
     // Keeps the fields before the first that needs more than so many bytes.

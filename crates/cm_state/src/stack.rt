@@ -1,5 +1,5 @@
 // The fields that a session holds.
-ghost use Rattle.std.specs.Prelude.{◌≡◌, ◌≤◌, ◌<◌, ◌++◌, ◌∷◌, [], Some, length, slice_get};
+ghost use Rattle.std.specs.Prelude.{◌≡◌, ◌-◌, ◌≤◌, ◌<◌, ◌++◌, ◌∷◌, [], IfNone, IfSome, Some, length, slice_get};
 ghost use Rattle.cm_blocks.specs.Kept.{needing};
 ghost use Rattle.cm_blocks.specs.Parse.{node_behind, place_behind};
 ghost use Rattle.cm_state.specs.Stack.{first_needing};
@@ -80,23 +80,36 @@ impl Stack {
         self.fields.clear();
     }
 
+    // The last one.
+    fn last(&self) -> Option<&Field>
+        ensures some { IfSome result (λ field. slice_get self.now (length self.now - 1) ≡ Some field.now) }
+        ensures none { IfNone result (self.now ≡ []) }
+    {
+        match self.len() {
+            0 => None,
+            count => Some(self.get(count - 1)),
+        }
+    }
+
     // The node that follows the last, or the one from which the first is sought.
+    #[tactic(auto, using(crate::proofs::Stacking::node_of_last))]
     pub(crate) fn node_behind(&self, start: u16) -> u16
         ensures { result ≡ node_behind start self.now }
     {
-        match self.fields.last() {
-            Some(Some(field)) => field.next(),
-            _ => start,
+        match self.last() {
+            Some(field) => field.next(),
+            None => start,
         }
     }
 
     // The place behind the last.
-    pub(crate) fn place_behind(&self) -> u16
+    #[tactic(auto, using(crate::proofs::Stacking::place_of_last))]
+    pub(crate) fn place_behind(&self) -> usize
         ensures { result ≡ place_behind 0 self.now }
     {
-        match self.fields.last() {
-            Some(Some(field)) => field.end(),
-            _ => 0,
+        match self.last() {
+            Some(field) => usize::from(field.end()),
+            None => 0,
         }
     }
 }

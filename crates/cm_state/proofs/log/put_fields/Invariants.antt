@@ -4,8 +4,8 @@ use Rattle.cm_state.specs.Log.{fields_log}
 use Rattle.cm_state.proofs.log.put_fields.Given as goal
 
 -- the fields so far are put, and no fault was counted
-abbrev pub invariant-loop-field : goal.invariant-loop-field
-invariant-loop-field g l = record {
-  told : g.S.Sink.told l.sink ≡ add (g.S.Sink.told l.fn.sink) (fields_log (take l.field-index l.fields));
+abbrev pub invariant-loop-number : goal.invariant-loop-number
+invariant-loop-number g l = record {
+  told : g.S.Sink.told l.sink ≡ add (g.S.Sink.told l.fn.sink) (fields_log (take l.number l.fields));
   faults : g.S.Sink.faults l.sink ≡ g.S.Sink.faults l.fn.sink;
 }

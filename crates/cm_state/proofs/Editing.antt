@@ -1,0 +1,189 @@
+-- What a key makes of a session, over the steps of the code.
+use Rattle.std.proofs.Common.{◌≡◌, ℕ, ◌<◌, Bool, true, false, List, [], length, None, Option, refl, ap, sym, subst, ◌∙◌, if◌then◌else◌}
+use Rattle.cm_text.specs.Bytes.{is_text}
+use Rattle.cm_text.specs.Text.{finished}
+use Rattle.cm_line.specs.declared.key.KeyClass.{KeyClass}
+use Rattle.cm_line.specs.declared.key.KeyClass.TheVariants.{End}
+use Rattle.cm_line.specs.Keys.{class_of}
+use Rattle.cm_blocks.specs.Fault.{grammar_fault}
+use Rattle.cm_blocks.specs.Kept.{BeginsWith, common, cost, cost_behind, kept, needing}
+use Rattle.cm_blocks.specs.Parse.{IsClosed, IsParse, Parse, parse_of}
+use Rattle.cm_blocks.specs.Setting.{Setting}
+use Rattle.cm_blocks.proofs.Closing.{finished_closes}
+use Rattle.cm_blocks.proofs.Parsing.{parse_of_parses}
+use Rattle.cm_blocks.proofs.Standing.{kept_begins}
+use Rattle.cm_state.specs.Edit.{before_fault, edit, edited, is_end}
+use Rattle.cm_state.specs.Held.{Held, IsReady, at_start, met_line, parse_held, text_of}
+use Rattle.cm_state.specs.Stack.{Starts}
+use Rattle.cm_state.specs.declared.prompt.Prompt.{Prompt}
+use Rattle.cm_state.proofs.Starting.{kept_starts, met_fields, none_costs, none_starts}
+
+-- the edited line with its parse is what the key leaves
+edited_with_parse : (s : Setting) (old now : Held) (key : ℕ)
+    → now ≡ record old {
+      line = edit (class_of key) key (met_line old) old.kept;
+      is_finished = is_end (class_of key);
+      fields = now.fields;
+      ending = now.ending;
+      kept = if is_end (class_of key) then before_fault (edit (class_of key) key (met_line old) old.kept) now.ending else None;
+    }
+    → parse_held now ≡ parse_of s now.node (text_of now) → now ≡ edited s old key
+unfolding edited
+edited_with_parse s old now key same parse =
+    let line = edit (class_of key) key (met_line old) old.kept in
+    let node : now.node ≡ old.node = ap (λ (h : Held). h.node) same in
+    let text : text_of now ≡ (if is_end (class_of key) then finished line else line) = ap text_of same in
+    let whole : parse_held now ≡ parse_of s old.node (if is_end (class_of key) then finished line else line) = cc in
+    let fields : now.fields ≡ (parse_of s old.node (if is_end (class_of key) then finished line else line)).fields =
+    ap (λ (parse : Parse). parse.fields) whole in
+    let ending : now.ending ≡ (parse_of s old.node (if is_end (class_of key) then finished line else line)).ending =
+    ap (λ (parse : Parse). parse.ending) whole in
+    cc
+
+-- what is held is the parse of the text, and so ready for a key
+pub record Stands (s : Setting) (now : Held) : Type 0 where
+  pub parse : IsParse s now.node (text_of now) now.fields now.ending
+  pub ready : IsReady s now
+
+stands : (s : Setting) (now : Held) → now.node < length s.graph.nodes → parse_held now ≡ parse_of s now.node (text_of now)
+    → Stands s now
+stands s now below parse = record {
+  parse =
+      subst (λ (parse : Parse). IsParse s now.node (text_of now) parse.fields parse.ending) (sym parse)
+      (parse_of_parses s now.node (text_of now));
+  ready = record {
+    node = below;
+    parse = λ unfinished.
+        parse ∙ ap (λ (test : Bool). parse_of s now.node (if test then finished now.line else now.line)) unfinished;
+  };
+}
+
+-- the fields that are left before the parse goes on are those that are kept
+pub record Trims (s : Setting) (old trimmed : Held) : Type 0 where
+  pub node : trimmed.node ≡ old.node
+  pub fields : trimmed.fields ≡ kept s old.node (met_line old) (text_of trimmed)
+
+pub trims : (s : Setting) (old renewed typed trimmed : Held) (class : KeyClass) (key size : ℕ) → grammar_fault s.graph ≡ None
+    → IsReady s old
+    → renewed ≡ record old { line = met_line old; is_finished = false; fields = if old.is_finished then [] else old.fields }
+    → typed ≡ record renewed { line = edit class key renewed.line renewed.kept; is_finished = is_end class; kept = None }
+    → size ≡ common renewed.line (text_of typed)
+    → trimmed ≡ record typed { fields = needing size typed.fields } → Trims s old trimmed
+unfolding kept
+trims s old renewed typed trimmed class key size none ready renew type front keep =
+    let text : text_of trimmed ≡ text_of typed = ap text_of keep in
+    let line : renewed.line ≡ met_line old = ap (λ (h : Held). h.line) renew in
+    let same : size ≡ common (met_line old) (text_of trimmed) = cc in
+    let node : trimmed.node ≡ old.node = cc in
+    let met : typed.fields ≡ (parse_of s old.node (met_line old)).fields =
+    ap (λ (h : Held). h.fields) type ∙ ap (λ (h : Held). h.fields) renew ∙ met_fields s old none ready in
+    let fields : trimmed.fields ≡ needing size typed.fields = ap (λ (h : Held). h.fields) keep in
+    record { node = node; fields = cc }
+
+-- behind them the parse goes on
+pub trimmed_starts : (s : Setting) (old trimmed : Held) → grammar_fault s.graph ≡ None → IsReady s old → Trims s old trimmed
+    → Starts s trimmed.node (text_of trimmed) trimmed.fields
+trimmed_starts s old trimmed none ready trim =
+    rw (trim.fields, trim.node) (kept_starts s none old.node ready.node (met_line old) (text_of trimmed))
+
+-- the line with its parse, over the steps: the line is renewed, edited, and its parse held
+edited_is : (s : Setting) (old renewed typed trimmed now : Held) (class : KeyClass) (key size : ℕ) → class ≡ class_of key
+    → renewed ≡ record old { line = met_line old; is_finished = false; fields = if old.is_finished then [] else old.fields }
+    → typed ≡ record renewed { line = edit class key renewed.line renewed.kept; is_finished = is_end class; kept = None }
+    → trimmed ≡ record typed { fields = needing size typed.fields }
+    → now.kept ≡ (if trimmed.is_finished then before_fault trimmed.line now.ending else None)
+    → now ≡ record trimmed { fields = now.fields; ending = now.ending; kept = now.kept }
+    → parse_held now ≡ parse_of s now.node (text_of now) → now ≡ edited s old key
+edited_is s old renewed typed trimmed now class key size is renew type keep kept hold parse =
+    edited_with_parse s old now key (cc) parse
+
+-- what the key leaves, and what it costs
+pub record Takes (s : Setting) (old now : Held) (key spent : ℕ) : Type 0 where
+  pub edited : now ≡ edited s old key
+  pub stands : Stands s now
+  pub keeps : BeginsWith (kept s old.node (met_line old) (text_of now)) now.fields
+  pub cost : spent ≡ cost s old.node (met_line old) (text_of now)
+
+pub takes : (s : Setting) (old renewed typed trimmed now : Held) (class : KeyClass) (key size spent : ℕ)
+    → grammar_fault s.graph ≡ None → IsReady s old → class ≡ class_of key
+    → renewed ≡ record old { line = met_line old; is_finished = false; fields = if old.is_finished then [] else old.fields }
+    → typed ≡ record renewed { line = edit class key renewed.line renewed.kept; is_finished = is_end class; kept = None }
+    → trimmed ≡ record typed { fields = needing size typed.fields }
+    → Trims s old trimmed
+    → now.kept ≡ (if trimmed.is_finished then before_fault trimmed.line now.ending else None)
+    → now ≡ record trimmed { fields = now.fields; ending = now.ending; kept = now.kept }
+    → parse_held now ≡ parse_of s trimmed.node (text_of trimmed)
+    → spent ≡ cost_behind s trimmed.node (text_of trimmed) trimmed.fields
+    → Takes s old now key spent
+unfolding cost
+takes s old renewed typed trimmed now class key size spent none ready is renew type keep trim rest hold held costs =
+    let node : now.node ≡ trimmed.node = ap (λ (h : Held). h.node) hold in
+    let text : text_of now ≡ text_of trimmed = ap text_of hold in
+    let parse : parse_held now ≡ parse_of s now.node (text_of now) = rw (node, text) held in
+    let start : now.node ≡ old.node = node ∙ trim.node in
+    let fields : now.fields ≡ (parse_of s old.node (text_of now)).fields =
+    ap (λ (parse : Parse). parse.fields) (parse ∙ ap (λ (node : ℕ). parse_of s node (text_of now)) start) in
+    record {
+      edited = edited_is s old renewed typed trimmed now class key size is renew type keep rest hold parse;
+      stands = stands s now (rw start ready.node) parse;
+      keeps =
+          subst (BeginsWith (kept s old.node (met_line old) (text_of now))) (sym fields)
+          (kept_begins s none old.node (met_line old) (text_of now));
+      cost = rw text (costs ∙ rw (trim.fields, trim.node) refl);
+    }
+
+-- a whole line behind a start
+pub record Finishes (s : Setting) (start now : Held) (line : List ℕ) (spent : ℕ) : Type 0 where
+  pub edited : now ≡ edited s start 13
+  pub parse : IsParse s start.node (finished line) now.fields now.ending
+  pub ready : IsReady s now
+  pub decided : IsClosed now.ending
+  pub cost : spent ≡ cost s start.node [] (finished line)
+
+end_key : End ≡ class_of 13
+unfolding class_of is_text
+end_key = refl
+
+-- the line in place of the empty one of a start
+abbrev Fills : Held → Held → ℕ → Prompt → Option (List ℕ) → List ℕ → Type 0
+Fills started typed node prompt bytes line =
+    (started ≡ at_start node prompt bytes) × (typed ≡ record started { line = line; is_finished = true; kept = None })
+
+filled : (started typed : Held) (node : ℕ) (prompt : Prompt) (bytes : Option (List ℕ)) (line : List ℕ)
+    → Fills started typed node prompt bytes line
+    → typed ≡ record (at_start node prompt None) { line = line; is_finished = true }
+filled started typed node prompt bytes line fills =
+    fills.1 ∙ ap (λ (h : Held). let filled : Held = record h { line = line; is_finished = true; kept = None } in filled) fills.0
+
+pub whole_starts : (s : Setting) (started typed : Held) (node : ℕ) (prompt : Prompt) (bytes : Option (List ℕ)) (line : List ℕ)
+    → grammar_fault s.graph ≡ None → node < length s.graph.nodes → Fills started typed node prompt bytes line
+    → Starts s typed.node (text_of typed) typed.fields
+whole_starts s started typed node prompt bytes line none below fills =
+    let is = filled started typed node prompt bytes line fills in
+    subst (λ (h : Held). Starts s h.node (text_of h) h.fields) (sym is) (none_starts s none node below (finished line))
+
+pub finishes : (s : Setting) (started typed now : Held) (node : ℕ) (prompt : Prompt) (bytes : Option (List ℕ)) (line : List ℕ) (spent : ℕ)
+    → grammar_fault s.graph ≡ None → node < length s.graph.nodes → Fills started typed node prompt bytes line
+    → now.kept ≡ (if typed.is_finished then before_fault typed.line now.ending else None)
+    → now ≡ record typed { fields = now.fields; ending = now.ending; kept = now.kept }
+    → parse_held now ≡ parse_of s typed.node (text_of typed)
+    → spent ≡ cost_behind s typed.node (text_of typed) typed.fields
+    → Finishes s (record (at_start node prompt bytes) { line = line }) now line spent
+finishes s started typed now node prompt bytes line spent none below fills rest hold held costs =
+    let is = filled started typed node prompt bytes line fills in
+    let start : Held = record (at_start node prompt bytes) { line = line } in
+    let at : now.node ≡ node = cc in
+    let text : text_of now ≡ finished line = cc in
+    let whole : parse_held now ≡ parse_of s node (finished line) = cc in
+    let parse : parse_held now ≡ parse_of s now.node (text_of now) = rw (at, text) whole in
+    let held = stands s now (rw at below) parse in
+    record {
+      edited = edited_with_parse s start now 13 (rw (← end_key) cc) parse;
+      parse = rw (at, text) at held.parse;
+      ready = held.ready;
+      decided =
+          subst IsClosed (ap (λ (parse : Parse). parse.ending) (sym whole)) (finished_closes s none node line);
+      cost =
+          costs ∙ ap (λ (h : Held). cost_behind s h.node (text_of h) h.fields) is
+          ∙ sym (none_costs s none node below (finished line));
+    }

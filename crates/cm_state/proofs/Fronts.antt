@@ -1,0 +1,72 @@
+-- How much of a line a key leaves as it was.
+use Rattle.std.proofs.Common.{◌≡◌, ℕ, zero, suc, ◌-◌, ◌≤◌, min, ◌==◌, Bool, true, false, if◌then◌else◌, nat_lt, List, [], ◌∷◌, ◌++◌, length, take, Option, Some, None, refl, arith, length-append}
+use Rattle.std.proofs.lemmas.Bool.Decides.{nat_tests}
+use Rattle.std.proofs.lemmas.List.{length-take}
+use Rattle.std.proofs.lemmas.List.Sums.{common_prefix_len-le}
+use Rattle.cm_text.specs.Text.{finished}
+use Rattle.cm_text.specs.declared.text.TheConstants.{LINE_LIMIT}
+use Rattle.cm_line.specs.declared.key.KeyClass.{KeyClass}
+use Rattle.cm_line.specs.declared.key.KeyClass.TheVariants.{Text, End, Rub, Word, Erase, Show, Back, Stop, Escape, Part, Help, Other}
+use Rattle.cm_line.specs.Word.{word_start}
+use Rattle.cm_blocks.specs.Kept.{common}
+use Rattle.cm_state.specs.Edit.{edit, is_end}
+use Rattle.cm_state.specs.Front.{front}
+
+-- a byte is itself
+same_byte : (byte : ℕ) → (byte == byte) ≡ true
+same_byte byte = grind (arith, nat_tests)
+
+-- a line and what is longer than it begin alike with the whole line
+common_longer : (line more : List ℕ) → common line (line ++ more) ≡ length line
+common_longer [] more = refl
+common_longer (byte ∷ line) more = rw (same_byte byte) (let later = common_longer line more in omega (arith, later))
+
+common_same : (line : List ℕ) → common line line ≡ length line
+common_same [] = refl
+common_same (byte ∷ line) = rw (same_byte byte) (let later = common_same line in omega (arith, later))
+
+-- a line and a prefix of it begin alike with the prefix
+common_prefix : (size : ℕ) (line : List ℕ) → common line (take size line) ≡ length (take size line)
+common_prefix zero [] = refl
+common_prefix zero (byte ∷ line) = refl
+common_prefix (suc size) [] = refl
+common_prefix (suc size) (byte ∷ line) = rw (same_byte byte) (let later = common_prefix size line in omega (arith, later))
+
+-- the front that stays: what a key leaves of the line
+abbrev Stays : KeyClass → ℕ → List ℕ → Option (List ℕ) → Type 0
+Stays class key line kept =
+    let now : List ℕ = edit class key line kept in
+    min (front class line kept) (length now) ≡ common line (if is_end class then finished now else now)
+
+prefix_stays : (size : ℕ) (line : List ℕ) → min (length line) (length (take size line)) ≡ common line (take size line)
+prefix_stays size line =
+    let most : length (take size line) ≤ length line = omega (arith, length-take size line) in
+    omega (arith, common_prefix size line)
+
+line_stays : (line : List ℕ) → min (length line) (length line) ≡ common line line
+line_stays line = omega (arith, common_same line)
+
+text_stays : (fits : Bool) (key : ℕ) (line : List ℕ)
+    → let now : List ℕ = if fits then line ++ key ∷ [] else line in min (length line) (length now) ≡ common line now
+text_stays true key line = omega (arith, common_longer line (key ∷ []), length-append line (key ∷ []))
+text_stays false key line = line_stays line
+
+none_stays : (line : List ℕ) → min (length line) 0 ≡ common line []
+none_stays [] = refl
+none_stays (byte ∷ line) = omega arith
+
+pub front_stays : (class : KeyClass) (key : ℕ) (line : List ℕ) (kept : Option (List ℕ)) → Stays class key line kept
+front_stays Text key line kept = text_stays (nat_lt (length line) LINE_LIMIT) key line
+front_stays End key line kept = omega (arith, common_longer line (13 ∷ []))
+front_stays Rub key line kept = prefix_stays (length line - 1) line
+front_stays Word key line kept = prefix_stays (word_start line) line
+front_stays Erase key line kept = none_stays line
+front_stays Stop key line kept = none_stays line
+front_stays Back key line None = line_stays line
+front_stays Back key line (Some bytes) =
+    let most = common_prefix_len-le (λ byte other. byte == other) line bytes in omega (arith, most.1)
+front_stays Show key line kept = line_stays line
+front_stays Escape key line kept = line_stays line
+front_stays Part key line kept = line_stays line
+front_stays Help key line kept = line_stays line
+front_stays Other key line kept = line_stays line

@@ -1,0 +1,5 @@
+use Rattle.cm_state.proofs.Starting.{started_is_ready}
+use Rattle.cm_state.proofs.session.Session.begin.Goals as goal
+
+pub returns-clause-ready : goal.returns-clause-ready
+returns-clause-ready g c = λ s none below. started_is_ready s none c.args.node below _ _ _ c.start.ensures

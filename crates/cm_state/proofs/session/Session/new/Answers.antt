@@ -1,0 +1,5 @@
+use Rattle.cm_state.proofs.Starting.{new_is_ready}
+use Rattle.cm_state.proofs.session.Session.new.Goals as goal
+
+pub returns-clause-ready : goal.returns-clause-ready
+returns-clause-ready g c = λ s none. new_is_ready s none _ _ _ c.started.ensures
