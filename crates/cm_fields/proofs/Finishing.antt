@@ -4,6 +4,7 @@ use Rattle.std.specs.List.{common_prefix_len, prefix_len}
 use Rattle.std.specs.Option.{option_map_or}
 use Rattle.std.proofs.lemmas.Bool.Decides.{nat_tests}
 use Rattle.cm_text.specs.Case.{begins_with}
+use Rattle.cm_text.specs.declared.name.TheConstants.{NAME_LIMIT}
 use Rattle.cm_fields.specs.declared.code.Code.{Code}
 use Rattle.cm_fields.specs.declared.quotes.Closing.{Closing}
 use Rattle.cm_fields.specs.declared.quotes.Closing.TheVariants.{Closed, Cut, Unknown}
@@ -129,7 +130,7 @@ closing_decides size written (byte ∷ next ∷ line) =
 
 by_closing_decides : (at most : ℕ) (found : Closing) → ClosingDecides most found → Decides at (1 + most) (by_closing at found)
 by_closing_decides at most (Closed size written) decided =
-    holds_of_choice (Decides at (1 + most)) (nat_le written 39) _ _ (λ _. omega arith) (λ _. tt)
+    holds_of_choice (Decides at (1 + most)) (nat_le written NAME_LIMIT) _ _ (λ _. omega arith) (λ _. tt)
 by_closing_decides at most (Cut size) decided = tt
 by_closing_decides at most Unknown decided = absurd decided
 

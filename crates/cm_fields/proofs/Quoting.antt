@@ -2,7 +2,7 @@
 use Rattle.std.proofs.Common.{◌≡◌, ◌≢◌, ℕ, ◌+◌, ◌-◌, ◌≤◌, Bool, true, false, ◌==◌, nat_le, if◌then◌else◌, List, [], ◌∷◌, ◌++◌, length, take, drop, get_or, refl, arith}
 use Rattle.std.proofs.lemmas.Bool.Decides.{nat_tests}
 use Rattle.std.proofs.lemmas.List.{take_all}
-use Rattle.cm_fields.specs.declared.run.TheConstants.{MOST_BYTES}
+use Rattle.cm_text.specs.declared.name.TheConstants.{NAME_LIMIT}
 use Rattle.cm_fields.specs.declared.code.Code.TheVariants.{NotQuoted}
 use Rattle.cm_fields.specs.declared.quotes.Closing.{Closing}
 use Rattle.cm_fields.specs.declared.quotes.Closing.TheVariants.{Closed, Cut, Unknown}
@@ -128,7 +128,7 @@ closing_holds end size written (byte ∷ next ∷ front) more other room =
 -- from how the text goes on to the trial
 by_closing_beyond : (size at : ℕ) (found : Closing) → size ≤ 1 → LooksBeyond size (by_closing at found)
 by_closing_beyond size at (Closed length written) room =
-    holds_of_choice (LooksBeyond size) (nat_le written MOST_BYTES) _ _ (λ _. omega arith) (λ _. omega arith)
+    holds_of_choice (LooksBeyond size) (nat_le written NAME_LIMIT) _ _ (λ _. omega arith) (λ _. omega arith)
 by_closing_beyond size at (Cut length) room = omega arith
 by_closing_beyond size at Unknown room = tt
 
@@ -137,20 +137,20 @@ by_closing_holds : (end at : ℕ) (found other : Closing) → ClosingHolds end f
 by_closing_holds end at (Closed size written) other holds =
     by_test _ (nat_le (size + 2) end)
     (λ seen. holds_same _ _ _ (let same = holds (grind (arith, nat_tests)) in rw same))
-    (λ unseen. holds_beyond _ _ _ (holds_of_choice (LooksBeyond (1 + end)) (nat_le written MOST_BYTES) _ _
+    (λ unseen. holds_beyond _ _ _ (holds_of_choice (LooksBeyond (1 + end)) (nat_le written NAME_LIMIT) _ _
     (λ _. grind (arith, nat_tests)) (λ _. grind (arith, nat_tests))))
 by_closing_holds end at (Cut size) other holds = λ seen. let same = holds (omega arith) in rw same
 by_closing_holds end at Unknown other holds = tt
 
 by_closing_seen : (most at : ℕ) (found : Closing) → IsWithin most found → IsSeen (1 + most) (by_closing at found)
 by_closing_seen most at (Closed size written) within =
-    holds_of_choice (IsSeen (1 + most)) (nat_le written MOST_BYTES) _ _ (λ _. omega arith) (λ _. omega arith)
+    holds_of_choice (IsSeen (1 + most)) (nat_le written NAME_LIMIT) _ _ (λ _. omega arith) (λ _. omega arith)
 by_closing_seen most at (Cut size) within = omega arith
 by_closing_seen most at Unknown within = tt
 
 by_closing_reaches : (most at : ℕ) (found : Closing) → IsWithin most found → ReachesIfAccept at (1 + most) (by_closing at found)
 by_closing_reaches most at (Closed size written) within =
-    holds_of_choice (ReachesIfAccept at (1 + most)) (nat_le written MOST_BYTES) _ _
+    holds_of_choice (ReachesIfAccept at (1 + most)) (nat_le written NAME_LIMIT) _ _
     (λ _. record { some = omega arith; begins = omega arith; seen = omega arith; within = omega arith }) (λ _. tt)
 by_closing_reaches most at (Cut size) within = tt
 by_closing_reaches most at Unknown within = tt

@@ -1,6 +1,6 @@
 -- A quoted text (.CMQST): from a quote to a quote that no quote follows; a quote inside stands twice.
 use Rattle.std.specs.Prelude.{ℕ, ◌+◌, ◌==◌, ◌≤◌, nat_le, if◌then◌else◌, List, [], ◌∷◌}
-use Rattle.cm_fields.specs.declared.run.TheConstants.{MOST_BYTES}
+use Rattle.cm_text.specs.declared.name.TheConstants.{NAME_LIMIT}
 use Rattle.cm_fields.specs.declared.code.Code.TheVariants.{NotQuoted, NoQuote, FieldLong}
 use Rattle.cm_fields.specs.declared.quotes.Closing.{Closing}
 use Rattle.cm_fields.specs.declared.quotes.Closing.TheVariants.{Closed, Cut, Unknown}
@@ -29,7 +29,7 @@ IsWithin most Unknown = Unit {0}
 -- the byte behind the closing quote decides
 abbrev pub by_closing : ℕ → Closing → Try
 by_closing at (Closed size written) =
-    if nat_le written MOST_BYTES
+    if nat_le written NAME_LIMIT
     then Accept (Quoted (span (at + 1) size)) (size + 3) (at + (size + 2))
     else Refuse FieldLong (size + 3)
 by_closing at (Cut size) = Refuse NoQuote (size + 2)

@@ -4,7 +4,8 @@ use Rattle.std.specs.Char.{is_ascii_digit}
 use Rattle.std.specs.List.{list_all}
 use Rattle.std.specs.Str.Parse.{digits_value}
 use Rattle.cm_text.specs.Bytes.{is_word}
-use Rattle.cm_fields.specs.declared.run.TheConstants.{MOST_NUMBER, MOST_BYTES}
+use Rattle.cm_text.specs.declared.name.TheConstants.{NAME_LIMIT}
+use Rattle.cm_fields.specs.declared.run.TheConstants.{NUMBER_LIMIT}
 use Rattle.cm_fields.specs.declared.code.Code.{Code}
 use Rattle.cm_fields.specs.declared.code.Code.TheVariants.{BadNumber, NumberRange, NoField, FieldLong}
 use Rattle.cm_fields.specs.declared.trial.Try.{Try}
@@ -16,7 +17,7 @@ use Rattle.cm_fields.specs.Try.{by_run, span}
 unfoldable pub number_of : List ℕ → Result Value Code
 number_of run =
     if nat_lt 0 (length run) && list_all is_ascii_digit run
-    then (if nat_le (digits_value 10 run) MOST_NUMBER then Ok (Number (digits_value 10 run)) else Err NumberRange)
+    then (if nat_le (digits_value 10 run) NUMBER_LIMIT then Ok (Number (digits_value 10 run)) else Err NumberRange)
     else Err BadNumber
 
 abbrev pub number : List ℕ → ℕ → Try
@@ -26,7 +27,7 @@ number rest at = by_run is_word number_of rest at
 unfoldable pub word_of : ℕ → List ℕ → Result Value Code
 word_of at run =
     if length run == 0 then Err NoField
-    else (if nat_le (length run) MOST_BYTES then Ok (Word (span at (length run))) else Err FieldLong)
+    else (if nat_le (length run) NAME_LIMIT then Ok (Word (span at (length run))) else Err FieldLong)
 
 abbrev pub word : List ℕ → ℕ → Try
 word rest at = by_run is_word (word_of at) rest at

@@ -19,7 +19,7 @@ pub use code::Code;
 pub use mark::{comma, confirm};
 pub use phrase::{noise, token};
 pub use quotes::quoted;
-pub use run::{MOST_BYTES, MOST_NUMBER, number, word, word_run};
+pub use run::{NUMBER_LIMIT, number, word, word_run};
 pub use skipped::skip;
 pub use text::text_field;
 pub use trial::{Try, said, span_of};

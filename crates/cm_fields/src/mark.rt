@@ -4,10 +4,11 @@ ghost use Rattle.cm_fields.specs.Mark.{comma, confirm};
 
 use crate::trial::said;
 use crate::{Code, Try, Value};
+use cm_text::TEXT_LIMIT;
 
 /// A comma (.CMCMA). Any other byte is refused with NotComma.
 pub fn comma(text: &[u8], at: usize) -> Try
-    requires short { length text.now ≤ 256 }
+    requires short { length text.now ≤ TEXT_LIMIT }
     requires place { at ≤ length text.now }
     ensures { result ≡ comma (drop at text.now) at }
 {
@@ -21,7 +22,7 @@ pub fn comma(text: &[u8], at: usize) -> Try
 /// The end of the line (.CMCFM): a carriage return, which itself is left. Any other byte is refused with
 /// NotConfirmed.
 pub fn confirm(text: &[u8], at: usize) -> Try
-    requires short { length text.now ≤ 256 }
+    requires short { length text.now ≤ TEXT_LIMIT }
     requires place { at ≤ length text.now }
     ensures { result ≡ confirm (drop at text.now) at }
 {

@@ -5,7 +5,7 @@ ghost use Rattle.cm_fields.specs.Phrase.{is_inside, noise, same_letter, token, t
 
 use crate::trial::said;
 use crate::{Code, Try, Value};
-use cm_text::begins_with;
+use cm_text::{TEXT_LIMIT, begins_with};
 
 // How many bytes stand before a closing parenthesis or the end of the line.
 fn inside_run(inside: &[u8]) -> usize
@@ -34,7 +34,7 @@ fn same_letters(phrase: &[u8], rest: &[u8]) -> usize
 // What stands behind an opening parenthesis.
 #[tactic(auto, unfolding(crate::specs::Phrase::typed_noise))]
 fn typed_noise(phrase: &str, inside: &[u8], at: usize) -> Try
-    requires { at + length inside.now ≤ 256 }
+    requires { at + length inside.now ≤ TEXT_LIMIT }
     ensures { result ≡ typed_noise phrase.now inside.now at }
 {
     let size = inside_run(inside);
@@ -54,7 +54,7 @@ fn typed_noise(phrase: &str, inside: &[u8], at: usize) -> Try
 /// and the field has no bytes. Refused with BadNoise where something else stands in the parentheses, or the
 /// line ends in them.
 pub fn noise(phrase: &str, text: &[u8], at: usize) -> Try
-    requires short { length text.now ≤ 256 }
+    requires short { length text.now ≤ TEXT_LIMIT }
     requires place { at ≤ length text.now }
     ensures { result ≡ noise phrase.now (drop at text.now) at }
 {
@@ -69,7 +69,7 @@ pub fn noise(phrase: &str, text: &[u8], at: usize) -> Try
 /// differs.
 #[tactic(auto, unfolding(crate::specs::Phrase::token))]
 pub fn token(phrase: &str, text: &[u8], at: usize) -> Try
-    requires short { length text.now ≤ 256 }
+    requires short { length text.now ≤ TEXT_LIMIT }
     requires place { at ≤ length text.now }
     ensures { result ≡ token phrase.now (drop at text.now) at }
 {

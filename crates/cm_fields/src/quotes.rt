@@ -2,9 +2,9 @@
 ghost use Rattle.std.specs.Prelude.{◌≡◌, ◌+◌, ◌≤◌, drop, length};
 ghost use Rattle.cm_fields.specs.Quoted.{IsWithin, by_closing, closing, quoted};
 
-use crate::run::MOST_BYTES;
 use crate::trial::{said, span_of};
 use crate::{Code, Try, Value};
+use cm_text::{NAME_LIMIT, TEXT_LIMIT};
 
 // How the text behind an opening quote goes on.
 enum Closing {
@@ -19,7 +19,7 @@ enum Closing {
 // How the text behind an opening quote goes on, behind so many bytes of it, which write so many.
 #[tactic(auto, using(crate::proofs::Quoting::plain_passed, crate::proofs::Quoting::quote_passed))]
 fn closing_from(size: usize, written: usize, inside: &[u8]) -> Closing
-    requires size { size + length inside.now ≤ 256 }
+    requires size { size + length inside.now ≤ TEXT_LIMIT }
     requires written { written ≤ size }
     ensures value { result ≡ closing size written inside.now }
     ensures within { IsWithin (size + length inside.now) result }
@@ -36,13 +36,13 @@ fn closing_from(size: usize, written: usize, inside: &[u8]) -> Closing
 
 // What a text says that begins with a quote, by how it goes on.
 fn by_closing(at: usize, found: Closing) -> Try
-    requires within { IsWithin 256 found }
-    requires place { at ≤ 256 }
+    requires within { IsWithin TEXT_LIMIT found }
+    requires place { at ≤ TEXT_LIMIT }
     ensures { result ≡ by_closing at found }
 {
     match found {
         Closing::Closed { size, written } => {
-            let decision = if written <= MOST_BYTES {
+            let decision = if written <= NAME_LIMIT {
                 Ok(Value::Quoted(span_of(at + 1, size)))
             } else {
                 Err(Code::FieldLong)
@@ -58,7 +58,7 @@ fn by_closing(at: usize, found: Closing) -> Try
 /// with NotQuoted where no quote stands, with NoQuote where the line ends first, with FieldLong where it
 /// writes more than 39 bytes.
 pub fn quoted(text: &[u8], at: usize) -> Try
-    requires short { length text.now ≤ 256 }
+    requires short { length text.now ≤ TEXT_LIMIT }
     requires place { at ≤ length text.now }
     ensures { result ≡ quoted (drop at text.now) at }
 {

@@ -8,13 +8,10 @@ ghost use Rattle.cm_fields.specs.Run.{number, number_of, word, word_of};
 
 use crate::trial::{said, span_of};
 use crate::{Code, Try, Value};
-use cm_text::is_word;
+use cm_text::{NAME_LIMIT, TEXT_LIMIT, is_word};
 
 /// The last number (35 bits, the half of a word's range).
-pub const MOST_NUMBER: u64 = 34_359_738_367;
-
-/// The most bytes of a word, and of what a quoted text writes.
-pub const MOST_BYTES: usize = 39;
+pub const NUMBER_LIMIT: u64 = 34_359_738_367;
 
 /// How many word bytes the text begins with.
 pub fn word_run(rest: &[u8]) -> usize
@@ -35,12 +32,12 @@ fn are_digits(run: &[u8]) -> bool
 fn value_of(digits: &[u8]) -> Option<u64>
     requires { list_all is_ascii_digit digits.now ≡ true }
     ensures { let value = digits_value 10 digits.now in
-        result ≡ (if nat_le value MOST_NUMBER then Some value else None) }
+        result ≡ (if nat_le value NUMBER_LIMIT then Some value else None) }
 {
     let mut value = 0;
     for digit in digits {
         value = 10 * value + u64::from(digit - b'0');
-        if value > MOST_NUMBER {
+        if value > NUMBER_LIMIT {
             return None;
         }
     }
@@ -69,7 +66,7 @@ fn word_of(at: usize, run: &[u8]) -> Result<Value, Code>
 {
     match run.len() {
         0 => Err(Code::NoField),
-        size @ 1..=MOST_BYTES => Ok(Value::Word(span_of(at, size))),
+        size @ 1..=NAME_LIMIT => Ok(Value::Word(span_of(at, size))),
         _ => Err(Code::FieldLong),
     }
 }
@@ -77,7 +74,7 @@ fn word_of(at: usize, run: &[u8]) -> Result<Value, Code>
 /// A decimal number (.CMNUM): a run of word bytes that are digits alone. Refused with BadNumber where the
 /// run is empty or has another byte, with NumberRange where the number is above 34,359,738,367.
 pub fn number(text: &[u8], at: usize) -> Try
-    requires short { length text.now ≤ 256 }
+    requires short { length text.now ≤ TEXT_LIMIT }
     requires place { at ≤ length text.now }
     ensures { result ≡ number (drop at text.now) at }
 {
@@ -92,7 +89,7 @@ pub fn number(text: &[u8], at: usize) -> Try
 /// A word (.CMFLD): a run of 1 to 39 word bytes. Refused with NoField where the run is empty, with
 /// FieldLong where it is longer.
 pub fn word(text: &[u8], at: usize) -> Try
-    requires short { length text.now ≤ 256 }
+    requires short { length text.now ≤ TEXT_LIMIT }
     requires place { at ≤ length text.now }
     ensures { result ≡ word (drop at text.now) at }
 {

@@ -5,6 +5,7 @@ ghost use Rattle.cm_fields.specs.Text.{is_inside, text_field, text_of};
 
 use crate::trial::{said, span_of};
 use crate::{Code, Try, Value};
+use cm_text::TEXT_LIMIT;
 
 // How many bytes stand before the end of the line.
 fn inside_run(rest: &[u8]) -> usize
@@ -24,7 +25,7 @@ fn text_of(at: usize, run: &[u8]) -> Result<Value, Code>
 
 /// The rest of the line (.CMTXT), up to the carriage return; never refused.
 pub fn text_field(text: &[u8], at: usize) -> Try
-    requires short { length text.now ≤ 256 }
+    requires short { length text.now ≤ TEXT_LIMIT }
     requires place { at ≤ length text.now }
     ensures { result ≡ text_field (drop at text.now) at }
 {

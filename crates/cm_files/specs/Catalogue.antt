@@ -6,6 +6,7 @@ use Rattle.std.specs.List.{list_all, slice_split}
 use Rattle.std.specs.Option.{option_map}
 use Rattle.std.specs.Ordering.{is_lt, nat_cmp, on, then_cmp}
 use Rattle.std.specs.declared.cmp.Ordering.{Ordering}
+use Rattle.cm_text.specs.declared.name.TheConstants.{NAME_LIMIT}
 use Rattle.cm_text.specs.Bytes.{is_name}
 use Rattle.cm_text.specs.Case.{equals}
 use Rattle.cm_files.specs.declared.row.FileRow.{FileRow}
@@ -63,14 +64,14 @@ is_upper_name = list_all (λ byte. is_name byte && not (is_ascii_lowercase byte)
 -- at most 39 bytes: parts that are not empty, with single points between
 abbrev pub is_directory_name : List ℕ → Bool
 is_directory_name name =
-    nat_le (length name) 39
+    nat_le (length name) NAME_LIMIT
     && list_all (λ part. nat_lt 0 (length part) && is_upper_name part) (slice_split (λ byte. byte == 46) name)
 
 -- a file of one of so many directories: a name of 1 to 39 bytes, a type of at most 39, a generation from 1 to 131071
 abbrev pub is_row : ℕ → FileRow → Bool
 is_row directories row =
-    nat_lt row.directory directories && nat_lt 0 (length row.name) && nat_le (length row.name) 39
-    && is_upper_name row.name && nat_le (length row.kind) 39 && is_upper_name row.kind
+    nat_lt row.directory directories && nat_lt 0 (length row.name) && nat_le (length row.name) NAME_LIMIT
+    && is_upper_name row.name && nat_le (length row.kind) NAME_LIMIT && is_upper_name row.kind
     && nat_lt 0 row.generation && nat_le row.generation 131071
 
 -- a logical name that stands for one of so many directories

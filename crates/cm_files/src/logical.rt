@@ -4,10 +4,7 @@ ghost use Rattle.std.specs.List.{list_all};
 ghost use Rattle.cm_text.specs.Bytes.{is_name};
 ghost use Rattle.cm_files.specs.LogicalName.{begins_with_letter, is_logical_name};
 
-use cm_text::{equals, is_name};
-
-// The most bytes of a name.
-const MOST_BYTES: usize = 39;
+use cm_text::{NAME_LIMIT, equals, is_name};
 
 fn begins_with_letter(name: &[u8]) -> bool
     ensures { result ≡ begins_with_letter name.now }
@@ -30,7 +27,7 @@ fn are_name_bytes(name: &[u8]) -> bool
 pub fn is_logical_name(name: &[u8]) -> bool
     ensures { result ≡ is_logical_name name.now }
 {
-    name.len() <= MOST_BYTES
+    name.len() <= NAME_LIMIT
         && begins_with_letter(name)
         && are_name_bytes(name)
         && !equals(name, b"PS")

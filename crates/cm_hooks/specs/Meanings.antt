@@ -1,6 +1,7 @@
 -- What hooks mean: for each id and atom a verdict and a completion, for each id a help text.
 use Rattle.std.specs.Prelude.{ℕ, ◌≡◌, ◌≤◌, ◌++◌, true, List, length}
 use Rattle.std.specs.List.{list_all}
+use Rattle.cm_text.specs.declared.text.TheConstants.{LINE_LIMIT}
 use Rattle.cm_text.specs.Bytes.{is_name}
 use Rattle.cm_hooks.specs.declared.answer.Answer.{Answer}
 use Rattle.cm_hooks.specs.declared.answer.Answer.TheVariants.{Yes, No}
@@ -20,7 +21,7 @@ IsYes No = ⊥
 
 -- an atom with its whole completion has at most 255 bytes, and the verdict takes it
 pub record IsTaken (verdict : List ℕ → Answer) (whole : List ℕ) : Type 0 where
-  pub short : length whole ≤ 255
+  pub short : length whole ≤ LINE_LIMIT
   pub taken : IsYes (verdict whole)
 
 -- what completes an atom is name bytes, and where it completes it whole, the verdict takes the two together
@@ -31,5 +32,5 @@ Completes verdict atom (tails.Whole text) = (list_all is_name text ≡ true) × 
 
 -- so it is for each id and each atom of at most 255 bytes
 pub record IsLawful (meanings : Meanings) : Type 0 where
-  pub completes : (id : ℕ) (atom : List ℕ) → length atom ≤ 255
+  pub completes : (id : ℕ) (atom : List ℕ) → length atom ≤ LINE_LIMIT
       → Completes (meanings.verdict id) atom (meanings.completion id atom)

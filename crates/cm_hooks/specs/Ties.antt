@@ -3,6 +3,7 @@
 use Rattle.std.specs.Prelude.{ℕ, ◌≡◌, ◌+◌, ◌≤◌, List, [], ◌∷◌, length, Option, Some, None}
 use Rattle.std.specs.Borrow.{Bor}
 use Rattle.std.specs.Fn.{Mut}
+use Rattle.cm_text.specs.declared.text.TheConstants.{LINE_LIMIT}
 use Rattle.cm_hooks.specs.declared.answer.Answer.{Answer}
 use Rattle.cm_hooks.specs.declared.answer.Tail.{Tail}
 use Rattle.cm_hooks.specs.declared.hook.Hook.{Hook}
@@ -11,12 +12,12 @@ use Rattle.cm_hooks.specs.Meanings.{Meanings}
 
 -- it may be called on each atom of at most 255 bytes
 abbrev pub IsCallable : (Bor (List ℕ) → Type 0) → Type 0
-IsCallable pre = (atom : Bor (List ℕ)) → length atom.now ≤ 255 → pre atom
+IsCallable pre = (atom : Bor (List ℕ)) → length atom.now ≤ LINE_LIMIT → pre atom
 
 -- what it answers to each atom of at most 255 bytes is what is meant
 abbrev pub Answers : {A : Type 0} → (Bor (List ℕ) → A → Type 0) → (List ℕ → A) → Type 0
 Answers {A} post meaning =
-    (atom : Bor (List ℕ)) → length atom.now ≤ 255 → (answer : A) → post atom answer
+    (atom : Bor (List ℕ)) → length atom.now ≤ LINE_LIMIT → (answer : A) → post atom answer
     → answer ≡ meaning atom.now
 
 module _ {R I J K : Type 0} {F : I → Type 0} {G : J → Type 0} {H : K → Type 0}

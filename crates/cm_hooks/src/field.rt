@@ -7,7 +7,7 @@ ghost use Rattle.cm_hooks.specs.Ties.{Ties, count};
 
 use crate::{Answer, Hooks, Rules};
 use cm_fields::{Code, Try, Value, said};
-use cm_text::is_name;
+use cm_text::{LINE_LIMIT, TEXT_LIMIT, is_name};
 
 // How many name bytes a text begins with.
 fn run_len(text: &[u8]) -> usize
@@ -22,7 +22,7 @@ fn run_len(text: &[u8]) -> usize
 fn hook_of<R: Rules>(hooks: &Hooks<R>, id: u8, run: &[u8]) -> Result<Value, Code>
     requires hooks { Ties R.meanings hooks.now }
     requires id { id < count hooks.now }
-    requires short { length run.now ≤ 255 }
+    requires short { length run.now ≤ LINE_LIMIT }
     ensures { result ≡ hook_of R.meanings.verdict id run.now }
 {
     if run.is_empty() {
@@ -39,7 +39,7 @@ fn hook_of<R: Rules>(hooks: &Hooks<R>, id: u8, run: &[u8]) -> Result<Value, Code
 pub fn hook_field<R: Rules>(hooks: &Hooks<R>, id: u8, text: &[u8], at: usize) -> Try
     requires hooks { Ties R.meanings hooks.now }
     requires id { id < count hooks.now }
-    requires short { length text.now ≤ 256 }
+    requires short { length text.now ≤ TEXT_LIMIT }
     requires place { at ≤ length text.now }
     ensures { result ≡ hook R.meanings.verdict id (drop at text.now) at }
 {

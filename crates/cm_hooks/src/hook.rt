@@ -1,5 +1,6 @@
 // One hook.
 ghost use Rattle.std.specs.Prelude.{◌≡◌, ◌≤◌, List, ℕ, length};
+ghost use Rattle.cm_text.specs.declared.text.TheConstants.{LINE_LIMIT};
 
 use crate::{Answer, Rules, Tail};
 use cm_text::Name;
@@ -20,8 +21,8 @@ pub struct Hook<R> {
     completion: Completions,
     help: Helps,
     rules: PhantomData<R>,
-    ghost verdict_callable: { (atom : _) → length atom.now ≤ 255 → Verdicts.pre verdict atom },
-    ghost completion_callable: { (atom : _) → length atom.now ≤ 255 → Completions.pre completion atom },
+    ghost verdict_callable: { (atom : _) → length atom.now ≤ LINE_LIMIT → Verdicts.pre verdict atom },
+    ghost completion_callable: { (atom : _) → length atom.now ≤ LINE_LIMIT → Completions.pre completion atom },
     ghost help_callable: { Helps.IsAlwaysCallable help },
 }
 
@@ -59,7 +60,7 @@ impl<R: Rules> Hook<R> {
     // Whether it takes an atom.
     pub(crate) fn judge(&self, atom: &[u8]) -> Answer
         requires ties { IsTied R.meanings self.now }
-        requires short { length atom.now ≤ 255 }
+        requires short { length atom.now ≤ LINE_LIMIT }
         ensures { result ≡ R.meanings.verdict (id_of self.now) atom.now }
     {
         (self.verdict)(atom)
@@ -68,7 +69,7 @@ impl<R: Rules> Hook<R> {
     // How it completes an atom.
     pub(crate) fn complete(&self, atom: &[u8]) -> Tail
         requires ties { IsTied R.meanings self.now }
-        requires short { length atom.now ≤ 255 }
+        requires short { length atom.now ≤ LINE_LIMIT }
         ensures { result ≡ R.meanings.completion (id_of self.now) atom.now }
     {
         (self.completion)(atom)

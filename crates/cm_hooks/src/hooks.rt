@@ -3,7 +3,7 @@ ghost use Rattle.std.specs.Prelude.{◌≡◌, ◌↔◌, ◌<◌, ◌≤◌, �
 
 use crate::{Answer, Hook, Rules, Tail};
 use arrayvec::ArrayVec;
-use cm_text::Name;
+use cm_text::{LINE_LIMIT, Name};
 use std::marker::Model;
 
 /// What a hook has said of an atom. It comes from `Hooks::ask` alone.
@@ -90,7 +90,7 @@ impl<R: Rules> Hooks<R> {
     pub fn ask(&self, id: u8, atom: &[u8]) -> Verdict
         requires hooks { Ties R.meanings self.now }
         requires id { id < count self.now }
-        requires short { length atom.now ≤ 255 }
+        requires short { length atom.now ≤ LINE_LIMIT }
         ensures { result ≡ R.meanings.verdict id atom.now }
     {
         Verdict {
@@ -102,7 +102,7 @@ impl<R: Rules> Hooks<R> {
     pub fn complete(&self, id: u8, atom: &[u8]) -> Tail
         requires hooks { Ties R.meanings self.now }
         requires id { id < count self.now }
-        requires short { length atom.now ≤ 255 }
+        requires short { length atom.now ≤ LINE_LIMIT }
         ensures { result ≡ R.meanings.completion id atom.now }
     {
         self.hook(id).complete(atom)

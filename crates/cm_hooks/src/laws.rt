@@ -1,11 +1,20 @@
-//! Laws of fields that a hook judges.
+//! Laws of hooks.
 ghost use Rattle.std.specs.Prelude.{ℕ, List};
 ghost use Rattle.cm_fields.specs.Local.{IsLocal};
 ghost use Rattle.cm_hooks.specs.Field.{hook};
+ghost use Rattle.cm_hooks.specs.Meanings.{IsLawful};
 ghost use Rattle.cm_hooks.specs.declared.answer.Answer.{Answer};
+
+use crate::Rules;
 
 /// What the trial decides on the first bytes of a text it decides on every text that begins with them, with
 /// the same number of bytes looked at; so a decision on a text is the decision on every longer text.
 pub fn hook_field_is_local()
     ensures { (verdict : ℕ → List ℕ → Answer) (id : ℕ) → IsLocal (hook verdict id) }
+{}
+
+/// Whatever the rules, what completes an atom is name bytes, and an atom with its whole completion has at most 255
+/// bytes and is taken.
+pub fn completions_are_taken<R: Rules>()
+    ensures { IsLawful R.meanings }
 {}

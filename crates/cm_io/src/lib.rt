@@ -16,6 +16,7 @@ mod sink;
 mod source;
 mod std_clock;
 mod std_host;
+mod std_log;
 mod std_sink;
 mod std_source;
 mod std_write;
@@ -33,7 +34,8 @@ pub use sink::{Put, Sink};
 pub use source::{Got, Source};
 pub use std_clock::StdClock;
 pub use std_host::StdHost;
-pub use std_sink::{StdLog, StdSink};
+pub use std_log::StdLog;
+pub use std_sink::StdSink;
 pub use std_source::StdSource;
 
 #[cfg(test)]

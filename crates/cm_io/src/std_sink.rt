@@ -1,11 +1,11 @@
-// Standard output and standard error.
+// Standard output.
 ghost use Rattle.std.specs.Prelude.{◌≡◌};
 ghost use Rattle.cm_io.specs.Told.{Nothing};
 
 use crate::fault::raised;
 use crate::std_write::write_whole;
 use crate::{Put, Sink};
-use std::io::{Stderr, Stdout};
+use std::io::Stdout;
 use std::marker::Model;
 
 /// Standard output. Each put is written at once. Contracts see its faults.
@@ -39,48 +39,6 @@ impl Sink for StdSink {
     ghost told = { λ _. Nothing };
 
     ghost faults = { λ sink. sink };
-
-    #[tactic(auto, using(crate::proofs::Adding::adds_nothing), unfolding(crate::specs::Told::add))]
-    fn put(&mut self, bytes: &[u8]) -> Put {
-        if write_whole(&mut self.output, bytes) {
-            return Put::Done;
-        }
-        self.faults = raised(self.faults);
-        Put::Failed
-    }
-}
-
-/// Standard error, for a log. Each put is written at once. Contracts see its faults.
-#[derive(Drop)]
-pub struct StdLog {
-    output: Stderr,
-    faults: u64,
-}
-
-impl Model for StdLog {
-    ghost use Rattle.std.specs.Prelude.{ℕ};
-
-    ghost Value = { ℕ };
-
-    ghost view = { λ log. log.faults };
-}
-
-impl StdLog {
-    /// The standard error of this process.
-    pub fn new(rt: &HostRuntime) -> StdLog
-        ensures { result ≡ 0 }
-    {
-        StdLog {
-            output: rt.stderr(),
-            faults: 0,
-        }
-    }
-}
-
-impl Sink for StdLog {
-    ghost told = { λ _. Nothing };
-
-    ghost faults = { λ log. log };
 
     #[tactic(auto, using(crate::proofs::Adding::adds_nothing), unfolding(crate::specs::Told::add))]
     fn put(&mut self, bytes: &[u8]) -> Put {

@@ -1,7 +1,7 @@
 // Each object once, through the bounds by which programs use it.
 use crate::{
     Clock, CountSink, Got, Host, MemClock, MemHost, MemSink, MemSource, Put, Sink, Source,
-    StdClock, StdHost, StdLog, StdSink, StdSource, put_decimal, put_hex, put_line, put_times,
+    StdClock, StdHost, StdSink, StdSource, put_decimal, put_hex, put_line, put_times,
 };
 use std::test::Fail;
 use std::{env, fs};
@@ -114,10 +114,6 @@ fn standard_streams(rt: HostRuntime) {
     assert_ne!(rt; StdSource::new(&rt).get(), Got::Failed);
     assert_eq!(rt;
         put_two(&mut StdSink::new(&rt), b"standard ", b"output\n"),
-        [Put::Done; 2]
-    );
-    assert_eq!(rt;
-        put_two(&mut StdLog::new(&rt), b"standard ", b"error\n"),
         [Put::Done; 2]
     );
 }

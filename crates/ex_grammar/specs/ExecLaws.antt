@@ -85,7 +85,8 @@ whole_taken form atom a b c number some short begins is_narrow is_normal is_wide
 
 -- whichever forms begin with an atom
 completes_by : (atom : List ℕ) (a b c : Bool) → 0 < length atom → begins_with narrow atom ≡ a
-    → begins_with normal atom ≡ b → begins_with wide atom ≡ c → Completes form_verdict atom (goes_on (rests (length atom) (passing a b c)))
+    → begins_with normal atom ≡ b → begins_with wide atom ≡ c
+    → Completes form_verdict atom (goes_on (rests (length atom) (passing a b c)))
 completes_by atom false false false some is_narrow is_normal is_wide = tt
 completes_by atom true false false some is_narrow is_normal is_wide = (
   list_all-drop is_name (length atom) narrow narrow_is_name,

@@ -2,4 +2,7 @@ pub mod BeginLaws
 pub mod ExecLaws
 pub mod ExecRules
 pub mod FormName
+pub mod Graph
 pub mod RetentionCount
+pub mod Tables
+pub mod Words

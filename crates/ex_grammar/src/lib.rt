@@ -1,8 +1,19 @@
-//! The EXEC's rules: what its own kinds of field take, how they are completed, and their help texts.
+//! The grammar of the EXEC: its nodes and keyword tables, and the rules of its own kinds of field.
 #![tactic(auto)]
 
+mod code;
 mod form;
+mod graph;
+mod node;
+mod nodes;
 mod retention;
 mod rules;
+mod tables;
 
+pub mod laws;
+
+pub use code::{DEFINE, INFORMATION, LOGOUT, REMARK, VERSION};
+pub use graph::grammar;
+pub use node::COMMANDS;
 pub use rules::{ExecRules, rule_completion, rule_help, rule_verdict};
+

@@ -6,7 +6,7 @@ use crate::form::{form_completion, form_verdict};
 use crate::retention::retention_verdict;
 use cm_files::is_logical_name;
 use cm_hooks::{Answer, Rules, Tail};
-use cm_text::Name;
+use cm_text::{LINE_LIMIT, Name};
 
 /// What the EXEC's hooks mean: 0 is a logical name, 1 the name of a form, 2 a retention count.
 pub struct ExecRules;
@@ -36,7 +36,7 @@ fn logical_verdict(atom: &[u8]) -> Answer
 /// retention count from 0 to 63, with its value. Letters have no case.
 pub fn rule_verdict(id: u8, atom: &[u8]) -> Answer
     requires id { id < 3 }
-    requires short { length atom.now ≤ 255 }
+    requires short { length atom.now ≤ LINE_LIMIT }
     ensures { result ≡ rule_verdict id atom.now }
 {
     match id {
@@ -50,7 +50,7 @@ pub fn rule_verdict(id: u8, atom: &[u8]) -> Answer
 /// empty atom, and one of another rule, is not completed.
 pub fn rule_completion(id: u8, atom: &[u8]) -> Tail
     requires id { id < 3 }
-    requires short { length atom.now ≤ 255 }
+    requires short { length atom.now ≤ LINE_LIMIT }
     ensures { result ≡ rule_completion id atom.now }
 {
     match id {

@@ -6,7 +6,7 @@ use Rattle.std.proofs.lemmas.Bool.Decides.{nat_tests}
 use Rattle.std.proofs.lemmas.Int.Digits.{digits_value_more}
 use Rattle.std.proofs.lemmas.List.Folds.{list_all_at}
 use Rattle.std.proofs.lemmas.Str.Parse.{digits_value-take-le}
-use Rattle.cm_fields.specs.declared.run.TheConstants.{MOST_NUMBER}
+use Rattle.cm_fields.specs.declared.run.TheConstants.{NUMBER_LIMIT}
 use Rattle.cm_fields.proofs.Holding.{by_test}
 use Rattle.cm_fields.proofs.run.value_of.Goals as goal
 
@@ -22,11 +22,11 @@ one_digit_more digits index within are =
     let value = digit_is (get_or digits index 0) digit in
     omega arith
 
-too_large : (value : ℕ) → MOST_NUMBER < value → None ≡ (if nat_le value MOST_NUMBER then Some value else None)
+too_large : (value : ℕ) → NUMBER_LIMIT < value → None ≡ (if nat_le value NUMBER_LIMIT then Some value else None)
 too_large value large = grind (arith, nat_tests)
 
-pub returns-then-value-gt-MOST_NUMBER : goal.returns-then-value-gt-MOST_NUMBER
-returns-then-value-gt-MOST_NUMBER c =
+pub returns-then-value-gt-NUMBER_LIMIT : goal.returns-then-value-gt-NUMBER_LIMIT
+returns-then-value-gt-NUMBER_LIMIT c =
     let more = one_digit_more c.args.digits.now c.loop-digit.digit-index c.loop-digit-test.true c.requires in
     let most = digits_value-take-le 10 c.args.digits.now (c.loop-digit.digit-index + 1) (omega arith) in
     too_large _ (omega arith)

@@ -1,0 +1,105 @@
+// Standard error, a line at a time.
+ghost use Rattle.std.specs.Prelude.{◌≡◌};
+ghost use Rattle.cm_io.specs.Told.{Nothing};
+
+use crate::fault::raised;
+use crate::std_write::write_whole;
+use crate::{Put, Sink};
+use arrayvec::ArrayVec;
+use std::io::Stderr;
+use std::marker::Model;
+
+// The most bytes that are held. So many has the longest line of a log: 20 for the key, the length, the ending and
+// the line feed, and 42 for each of 64 fields.
+const HELD_LIMIT: usize = 64 * 42 + 20;
+
+/// Standard error, for a log. The bytes are held until a line feed is put, and then all leave as one write. So the
+/// put of the line feed is the one that fails where the system does; also after that, nothing is held any more.
+/// What no longer fits, 2,708 bytes, is written before the line feed comes. Where a program stops in the midst of
+/// a line, the bytes since the last line feed are still held, and are never written. Contracts see its faults.
+#[derive(Drop)]
+pub struct StdLog {
+    output: Stderr,
+    held: ArrayVec<u8, HELD_LIMIT>,
+    faults: u64,
+}
+
+impl Model for StdLog {
+    ghost use Rattle.std.specs.Prelude.{ℕ};
+
+    ghost Value = { ℕ };
+
+    ghost view = { λ log. log.faults };
+}
+
+impl StdLog {
+    /// The standard error of this process, nothing held.
+    pub fn new(rt: &HostRuntime) -> StdLog
+        ensures { result ≡ 0 }
+    {
+        StdLog {
+            output: rt.stderr(),
+            held: ArrayVec::new(),
+            faults: 0,
+        }
+    }
+
+    // Writes what is held, and tells whether all was taken. Then nothing is held.
+    fn write_held(&mut self) -> bool
+        ensures { self.new ≡ self.old }
+    {
+        let is_written = write_whole(&mut self.output, self.held.as_slice());
+        self.held.clear();
+        is_written
+    }
+
+    // Makes room for more bytes, where they fit at all, by writing what is held. Tells whether what was written
+    // was taken.
+    fn make_room(&mut self, more: usize) -> bool
+        ensures { self.new ≡ self.old }
+    {
+        self.held.remaining_capacity() >= more || self.write_held()
+    }
+
+    // Holds the bytes, or writes them where they do not fit. Tells whether what was written was taken.
+    fn hold(&mut self, bytes: &[u8]) -> bool
+        ensures { self.new ≡ self.old }
+    {
+        match self.held.try_extend_from_slice(bytes) {
+            Ok(()) => !bytes.contains(&b'\n') || self.write_held(),
+            Err(_) => write_whole(&mut self.output, bytes),
+        }
+    }
+}
+
+impl Sink for StdLog {
+    ghost told = { λ _. Nothing };
+
+    ghost faults = { λ log. log };
+
+    #[tactic(auto, using(crate::proofs::Adding::adds_nothing), unfolding(crate::specs::Told::add))]
+    fn put(&mut self, bytes: &[u8]) -> Put {
+        if self.make_room(bytes.len()) && self.hold(bytes) {
+            return Put::Done;
+        }
+        self.faults = raised(self.faults);
+        Put::Failed
+    }
+}
+
+#[cfg(test)]
+mod tests {
+    use super::*;
+
+    // The pieces of a line leave together: none before the line feed is put, and all at once with it.
+    #[test]
+    fn a_line_is_one_write(rt: HostRuntime) {
+        let mut log = StdLog::new(&rt);
+        assert_eq!(rt; log.put(b"standard "), Put::Done);
+        assert_eq!(rt; log.held.as_slice(), b"standard ".as_slice());
+        assert_eq!(rt; log.put(b"error"), Put::Done);
+        assert_eq!(rt; log.held.as_slice(), b"standard error".as_slice());
+        assert_eq!(rt; log.put(b"\n"), Put::Done);
+        assert_eq!(rt; log.held.as_slice(), b"".as_slice());
+    }
+}

@@ -1,0 +1,19 @@
+// The codes of the EXEC's keywords.
+
+/// The code of DEFINE.
+pub const DEFINE: u16 = 5;
+
+/// The code of INFORMATION.
+pub const INFORMATION: u16 = 9;
+
+/// The code of LOGOUT, and of KJOB.
+pub const LOGOUT: u16 = 10;
+
+/// The code of REMARK.
+pub const REMARK: u16 = 12;
+
+/// The code of VERSION, which INFORMATION tells about.
+pub const VERSION: u16 = 4;
+
+// The code of a text that is no keyword: it makes itself ambiguous.
+pub(crate) const NO_KEYWORD: u16 = 0;

@@ -1,0 +1,29 @@
+// The grammar of the EXEC.
+ghost use Rattle.std.specs.Prelude.{◌≡◌, IfOk, None};
+ghost use Rattle.cm_blocks.specs.Fault.{grammar_fault};
+ghost use Rattle.cm_blocks.specs.Grammar.{Graph};
+ghost use Rattle.ex_grammar.specs.Graph.{exec_graph};
+
+use crate::nodes::nodes;
+use crate::tables::tables;
+use cm_blocks::{Grammar, Node};
+use cm_io::NoMemory;
+use cm_tables::Table;
+use std::alloc::Global;
+
+/// The grammar of the EXEC: 51 nodes, at the numbers that the log gives, and the keyword tables of the commands and
+/// of what INFORMATION tells about. A node whose command is not built takes only the end of the line.
+#[tactic(auto, using(crate::proofs::Faultless::graph_has_no_fault), unfolding(crate::specs::Graph::exec_graph))]
+pub fn grammar(alloc: Global) -> Result<Grammar, NoMemory>
+    ensures { IfOk result (λ grammar. grammar ≡ exec_graph) }
+{
+    Ok(grammar_of(nodes(alloc)?, tables(alloc)?))
+}
+
+// The grammar with nodes and tables that have no fault.
+fn grammar_of(nodes: Vec<Node>, tables: Vec<Table>) -> Grammar
+    requires { grammar_fault (record { nodes = nodes.items; tables = tables.items }) ≡ None }
+    ensures { result ≡ record { nodes = nodes.items; tables = tables.items } }
+{
+    Grammar::new(nodes, tables).unwrap()
+}
