@@ -6,6 +6,7 @@ use Rattle.cm_io.specs.declared.sink.Put.TheVariants.{Done}
 use Rattle.cm_io.proofs.Adding.{add_append}
 use Rattle.cm_line.specs.Keys.{class_of}
 use Rattle.cm_blocks.specs.Kept.{cost}
+use Rattle.cm_blocks.specs.Setting.{Setting}
 use Rattle.cm_state.specs.Echo.{echo}
 use Rattle.cm_state.specs.Edit.{edited}
 use Rattle.cm_state.specs.Held.{Held, met_line, text_of}
@@ -39,12 +40,13 @@ pub cut_echo : (writes : Bool) (old : Held) (key : ℕ) (moments : List ℕ) (to
 cut_echo writes old key moments told now log part = inl (record { screen = part; log = refl; moments = refl })
 
 -- what the counter has risen by is what the key costs
-pub counted : (old typed : Held) (key : ℕ) (moments : List ℕ) (before now : ℕ) → typed ≡ edited exec_setting old key
-    → now ≡ before + cost exec_setting old.node (met_line old) (text_of typed)
+pub counted : (s : Setting) (old typed : Held) (key : ℕ) (moments : List ℕ) (before now : ℕ) → s ≡ exec_setting → typed ≡ edited s old key
+    → now ≡ before + cost s old.node (met_line old) (text_of typed)
     → now ≡ before + key_cost (going old moments) key
 unfolding key_cost
-counted old typed key moments before now is_typed rise =
-    rise ∙ ap (λ (held : Held). before + cost exec_setting old.node (met_line old) (text_of held)) is_typed
+counted s old typed key moments before now exec is_typed rise =
+    rise ∙ ap (λ (held : Held). before + cost s old.node (met_line old) (text_of held)) is_typed
+    ∙ ap (λ (it : Setting). before + cost it old.node (met_line old) (text_of (edited it old key))) exec
 
 -- a world is what its parts are
 parts : (world : World) (next : Held) (later : List ℕ) (ended value : Bool) → ended ≡ value → next ≡ world.session → later ≡ world.moments → ended ≡ world.ended

@@ -21,7 +21,7 @@ use crate::catalogue::Operator;
 use crate::end::{close, show_message};
 use crate::run::run;
 use crate::setting::Setting;
-use crate::words::Form;
+use crate::words;
 use crate::{Status, Words};
 use cm_blocks::Steps;
 use cm_hooks::Hooks;
@@ -32,7 +32,7 @@ use std::sync::ledger::Ledger;
 
 // Runs over the keys to the end, writes the image, and shows the message of the status.
 fn run_all<H: Host, K: Source, S: Sink, W: Sink, C: Clock, L: Ledger>(
-    form: Form<'_>,
+    form: words::Form<'_>,
     under: &Setting<'_>,
     host: &mut H,
     keys: &mut K,

@@ -8,11 +8,10 @@ ghost use Rattle.cm_io.specs.Clock.{later_moments};
 ghost use Rattle.cm_line.specs.Keys.{class_of};
 ghost use Rattle.cm_hooks.specs.Ties.{Ties, count};
 ghost use Rattle.cm_blocks.specs.Grammar.{hook_count};
-ghost use Rattle.cm_blocks.specs.Kept.{cost};
 ghost use Rattle.cm_blocks.specs.Setting.{setting};
 ghost use Rattle.cm_state.specs.Echo.{echo, prompt_text};
 ghost use Rattle.cm_state.specs.Edit.{edited};
-ghost use Rattle.cm_state.specs.Held.{Held, IsReady, at_start, met_line, text_of};
+ghost use Rattle.cm_state.specs.Held.{Held, IsReady, at_start};
 ghost use Rattle.cm_state.specs.Log.{log_line};
 ghost use Rattle.cm_state.specs.Turn.{put_of, turn_of};
 ghost use Rattle.ex_grammar.specs.ExecRules.{exec_meanings};
@@ -104,8 +103,8 @@ fn edit_key<S: Sink, L: Ledger>(
         (echo exec_setting session.old key) (put_of result) }
     ensures later { S.faults screen.old ≤ S.faults screen.new }
     ensures cause { PutCause (S.faults screen.old) (S.faults screen.new) (put_of result) }
-    ensures steps { steps.new ≡ steps.old
-        + cost exec_setting session.old.node (met_line session.old) (text_of session.new) }
+    ensures steps { (moments : List ℕ)
+        → steps.new ≡ steps.old + key_cost (going session.old moments) key }
 {
     session.key(key, &under.grammar, &under.names, under.hooks, screen, steps)
 }
