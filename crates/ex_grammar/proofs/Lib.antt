@@ -1,2 +1,2 @@
 pub mod Joining
-mod Faultless
+pub mod Faultless

@@ -70,7 +70,7 @@ module _ (writes : Bool) (a b : Scene) (now : Told) (faults : ℕ) (result : Sta
     cause = cause_stays (counts_of a) (counts_of b) faults cause;
     ends = record {
       taken = s.0;
-      as_taken = record { keys = s.1.as_taken.keys; log = s.1.as_taken.log; moments = s.1.as_taken.moments };
+      as_taken = record { keys = s.1.as_taken.keys; log = s.1.as_taken.log; moments = s.1.as_taken.moments; steps = s.1.as_taken.steps };
       over = inl s.2;
       within = s.3;
       screen = subst (λ bytes. Tried a.screen now a.screen_faults faults bytes (message result)) (shown_ended w s.0 s.2.ended)
@@ -84,7 +84,7 @@ module _ (writes : Bool) (a b : Scene) (now : Told) (faults : ℕ) (result : Sta
     cause = cause_stays (counts_of a) (counts_of b) faults cause;
     ends = record {
       taken = s.0;
-      as_taken = record { keys = s.1.as_taken.keys; log = s.1.as_taken.log; moments = s.1.as_taken.moments };
+      as_taken = record { keys = s.1.as_taken.keys; log = s.1.as_taken.log; moments = s.1.as_taken.moments; steps = s.1.as_taken.steps };
       over = inr s.2;
       within = omega (arith, s.2.2);
       screen = subst (λ bytes. Tried a.screen now a.screen_faults faults bytes (message result)) (shown_going w s.0 s.2.0)
@@ -97,7 +97,7 @@ module _ (writes : Bool) (a b : Scene) (now : Told) (faults : ℕ) (result : Sta
       rose_late a.screen_faults b.screen_faults faults earlier closes.2,
       inr (inr (record {
         taken = s.0;
-        as_taken = record { keys = s.1.as_taken.keys; log = s.1.as_taken.log; moments = s.1.as_taken.moments };
+        as_taken = record { keys = s.1.as_taken.keys; log = s.1.as_taken.log; moments = s.1.as_taken.moments; steps = s.1.as_taken.steps };
         read = s.2;
         screen = subst (λ told. AddsPart told now end_of_line) s.1.screen closes.1;
       })),
@@ -110,7 +110,7 @@ module _ (writes : Bool) (a b : Scene) (now : Told) (faults : ℕ) (result : Sta
     cause = cause_unread (counts_of a) (counts_of b) faults cause;
     ends = record {
       taken = s.0;
-      as_taken = record { keys = s.1.as_taken.keys; log = s.1.as_taken.log; moments = s.1.as_taken.moments };
+      as_taken = record { keys = s.1.as_taken.keys; log = s.1.as_taken.log; moments = s.1.as_taken.moments; steps = s.1.as_taken.steps };
       going = s.2;
       counted = s.3;
       screen = tried_later a.screen b.screen now a.screen_faults b.screen_faults faults (run_keys (starting a.moments) s.0) (end_of_line ++ message result) s.1.screen earlier closes.1;
@@ -123,7 +123,7 @@ module _ (writes : Bool) (a b : Scene) (now : Told) (faults : ℕ) (result : Sta
     cause = cause_stays (counts_of a) (counts_of b) faults cause;
     ends = record {
       taken = s.0;
-      as_taken = record { keys = s.1.as_taken.keys; log = s.1.as_taken.log; moments = s.1.as_taken.moments };
+      as_taken = record { keys = s.1.as_taken.keys; log = s.1.as_taken.log; moments = s.1.as_taken.moments; steps = s.1.as_taken.steps };
       going = s.2;
       counted = s.3;
       screen = tried_later a.screen b.screen now a.screen_faults b.screen_faults faults (run_keys (starting a.moments) s.0) (end_of_line ++ message result) s.1.screen earlier closes.1;
@@ -132,9 +132,9 @@ module _ (writes : Bool) (a b : Scene) (now : Told) (faults : ℕ) (result : Sta
 
   -- a screen that failed is given no more
   cut_stays : Stops writes a b stop.ScreenFailed → ScreenCut writes a (record b { screen_faults = faults })
-  cut_stays (inl prompt) = inl (record { screen = prompt.screen; log = prompt.log; keys = prompt.keys; moments = prompt.moments })
+  cut_stays (inl prompt) = inl (record { screen = prompt.screen; log = prompt.log; keys = prompt.keys; moments = prompt.moments; steps = prompt.steps })
   cut_stays (inr cut) = inr (inl (
-    record { before = cut.0.before; key = cut.0.key; keys = cut.0.keys; going = cut.0.going; below = cut.0.below },
+    record { before = cut.0.before; key = cut.0.key; keys = cut.0.keys; going = cut.0.going; below = cut.0.below; steps = cut.0.steps },
     cut.1,
   ))
 
@@ -152,7 +152,7 @@ module _ (writes : Bool) (a b : Scene) (now : Told) (faults : ℕ) (result : Sta
     ends = inr (
       cause.0,
       record {
-        at = record { before = s.0.before; key = s.0.key; keys = s.0.keys; going = s.0.going; below = s.0.below };
+        at = record { before = s.0.before; key = s.0.key; keys = s.0.keys; going = s.0.going; below = s.0.below; steps = s.0.steps };
         cut = s.2;
         screen = tried_later a.screen b.screen now a.screen_faults b.screen_faults faults _ (message result) s.1 earlier closes.1;
       },

@@ -1,4 +1,6 @@
 pub mod Parts
+pub mod ExecSetting
+pub mod Commands
 pub mod Steps
 pub mod Folds
 pub mod Running

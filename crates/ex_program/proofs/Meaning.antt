@@ -1,5 +1,5 @@
 -- What stands at the end of a run, as its readers want to know it.
-use Rattle.std.proofs.Common.{◌≡◌, ◌⊎◌, ℕ, ◌<◌, ◌≤◌, Bool, true, false, List, [], ◌∷◌, ◌++◌, length, Option, Some, None, refl, sym, ap, ◌∙◌, subst, inl, inr, arith, length-append, if◌then◌else◌}
+use Rattle.std.proofs.Common.{◌≡◌, ◌⊎◌, ℕ, ◌+◌, ◌<◌, ◌≤◌, Bool, true, false, List, [], ◌∷◌, ◌++◌, length, Option, Some, None, refl, sym, ap, ◌∙◌, subst, inl, inr, arith, add-zero, zero-add, length-append, if◌then◌else◌}
 use Rattle.std.proofs.lemmas.List.{append-nil}
 use Rattle.cm_text.specs.Shown.{end_of_line}
 use Rattle.cm_state.specs.declared.prompt.Prompt.TheVariants.{Main}
@@ -10,13 +10,13 @@ use Rattle.ex_program.specs.Cause.{Counts, HostCause, IsQuiet, StatusCause}
 use Rattle.ex_program.specs.End.{Ended, Finished, Halted, Ran}
 use Rattle.ex_program.specs.Form.{Form}
 use Rattle.ex_program.specs.Messages.{message}
-use Rattle.ex_program.specs.Run.{World, bytes_logged, bytes_shown, closing, logs, run_keys, run_shown, shows, starting, step, world_after}
+use Rattle.ex_program.specs.Run.{World, bytes_logged, bytes_shown, closing, key_cost, logs, run_keys, run_shown, shows, starting, step, total, world_after}
 use Rattle.ex_program.specs.Scene.{LoggedOut, ReadOut, Scene, has_ended}
 use Rattle.ex_program.specs.Stop.{IsRun}
 use Rattle.ex_program.specs.declared.run.TheConstants.{KEY_LIMIT}
 use Rattle.ex_program.specs.declared.status.Status.{Status}
 use Rattle.ex_program.specs.declared.status.Status.TheVariants as status
-use Rattle.ex_program.proofs.Folds.{bytes_logged-append, bytes_shown-append, world_after-append}
+use Rattle.ex_program.proofs.Folds.{bytes_logged-append, bytes_shown-append, total-append, world_after-append}
 
 -- behind LOGOUT nothing more happens
 step-ended : (world : World) (key : ℕ) → world.ended ≡ true → step world key ≡ world
@@ -30,6 +30,10 @@ shows-ended world key ended = rw ended refl
 logs-ended : (writes : Bool) (world : World) (key : ℕ) → world.ended ≡ true → logs writes world key ≡ []
 unfolding logs
 logs-ended writes world key ended = rw ended refl
+
+key_cost-ended : (world : World) (key : ℕ) → world.ended ≡ true → key_cost world key ≡ 0
+unfolding key_cost
+key_cost-ended world key ended = rw ended refl
 
 world_after-ended : (world : World) (keys : List ℕ) → world.ended ≡ true → world_after world keys ≡ world
 world_after-ended world [] ended = refl
@@ -50,6 +54,13 @@ bytes_logged-ended writes world (key ∷ keys) ended =
     ap (λ bytes. bytes ++ bytes_logged writes (step world key) keys) (logs-ended writes world key ended)
     ∙ ap (λ next. bytes_logged writes next keys) next ∙ bytes_logged-ended writes world keys ended
 
+total-ended : (world : World) (keys : List ℕ) → world.ended ≡ true → total world keys ≡ 0
+total-ended world [] ended = refl
+total-ended world (key ∷ keys) ended =
+    let next = step-ended world key ended in
+    ap (λ (cost : ℕ). cost + total (step world key) keys) (key_cost-ended world key ended)
+    ∙ zero-add (total (step world key) keys) ∙ ap (λ (next : World). total next keys) next ∙ total-ended world keys ended
+
 -- so the run over all keys is that over the keys taken
 shown_whole : (world : World) (taken rest : List ℕ) → (world_after world taken).ended ≡ true → run_shown world taken ≡ run_shown world (taken ++ rest)
 shown_whole world taken rest ended =
@@ -62,6 +73,10 @@ shown_whole world taken rest ended =
 logged_whole : (writes : Bool) (world : World) (taken rest : List ℕ) → (world_after world taken).ended ≡ true → bytes_logged writes world taken ≡ bytes_logged writes world (taken ++ rest)
 logged_whole writes world taken rest ended = sym (bytes_logged-append writes world taken rest
     ∙ ap (λ bytes. bytes_logged writes world taken ++ bytes) (bytes_logged-ended writes (world_after world taken) rest ended) ∙ append-nil (bytes_logged writes world taken))
+
+total_whole : (world : World) (taken rest : List ℕ) → (world_after world taken).ended ≡ true → total world taken ≡ total world (taken ++ rest)
+total_whole world taken rest ended = sym (total-append world taken rest
+    ∙ ap (λ (cost : ℕ). total world taken + cost) (total-ended (world_after world taken) rest ended) ∙ add-zero (total world taken))
 
 -- a prefix of nothing is nothing
 pub no_part : (part rest : List ℕ) → part ++ rest ≡ [] → part ≡ []
@@ -96,7 +111,13 @@ finished_logged writes a b finished = finished.as_taken.log ∙ ap (λ bytes. ad
   whole (inl ended) = logged_whole writes (starting a.moments) finished.taken b.keys ended.ended ∙ ap (λ keys. bytes_logged writes (starting a.moments) keys) finished.as_taken.keys
   whole (inr over) = ap (λ keys. bytes_logged writes (starting a.moments) keys) (all_taken finished.taken b.keys a.keys finished.as_taken.keys over.1)
 
--- all of what a run shows and logs that is Done
+finished_counted : (writes : Bool) (a b : Scene) → Finished writes a b [] → b.steps ≡ a.steps + total (starting a.moments) a.keys
+finished_counted writes a b finished = finished.as_taken.steps ∙ ap (λ (cost : ℕ). a.steps + cost) (whole finished.over) where
+  whole : LoggedOut a finished.taken ⊎ ReadOut a b finished.taken → total (starting a.moments) finished.taken ≡ total (starting a.moments) a.keys
+  whole (inl ended) = total_whole (starting a.moments) finished.taken b.keys ended.ended ∙ ap (λ keys. total (starting a.moments) keys) finished.as_taken.keys
+  whole (inr over) = ap (λ keys. total (starting a.moments) keys) (all_taken finished.taken b.keys a.keys finished.as_taken.keys over.1)
+
+-- all of what a run shows, logs and counts that is Done
 pub done_shown : (writes : Bool) (a b : Scene) (result : Status) → Ran writes a b result → result ≡ status.Done
     → b.screen ≡ add a.screen (run_shown (starting a.moments) a.keys)
 done_shown writes a b result ran done = finished_shown writes a b (done_finished writes a b result ran done)
@@ -104,6 +125,10 @@ done_shown writes a b result ran done = finished_shown writes a b (done_finished
 pub done_logged : (writes : Bool) (a b : Scene) (result : Status) → Ran writes a b result → result ≡ status.Done
     → b.log ≡ add a.log (bytes_logged writes (starting a.moments) a.keys)
 done_logged writes a b result ran done = finished_logged writes a b (done_finished writes a b result ran done)
+
+pub done_counted : (writes : Bool) (a b : Scene) (result : Status) → Ran writes a b result → result ≡ status.Done
+    → b.steps ≡ a.steps + total (starting a.moments) a.keys
+done_counted writes a b result ran done = finished_counted writes a b (done_finished writes a b result ran done)
 
 -- a count that is quiet did not rise
 pub not_quiet : (before now : ℕ) → Rose before now → IsQuiet before now → ⊥

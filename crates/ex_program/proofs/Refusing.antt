@@ -10,11 +10,11 @@ use Rattle.cm_state.specs.declared.prompt.Prompt.TheVariants.{Main}
 use Rattle.cm_state.specs.declared.turn.Turn.{Turn}
 use Rattle.cm_state.specs.declared.turn.Turn.TheVariants as turns
 use Rattle.cm_state.specs.Echo.{echo, prompt_text}
-use Rattle.cm_state.specs.Verbs.{exec_verbs}
 use Rattle.ex_program.specs.Cause.{Counts, IsQuiet, StatusCause}
 use Rattle.ex_program.specs.Cut.{RunCut, ScreenCut, Unlogged, run_echo}
 use Rattle.ex_program.specs.End.{Ended, Ends, Ran}
 use Rattle.ex_program.specs.Run.{World, bytes_logged, bytes_shown, closing, key_bytes, key_turn, logs, run_keys, run_shown, shows, starting, step, turn_prompt, turn_reply, with_key, world_after, world_after_turn}
+use Rattle.ex_program.specs.Setting.{exec_setting}
 use Rattle.ex_program.specs.Scene.{AtKey, LoggedOut, ReadOut, Scene, outputs_at, world_at}
 use Rattle.ex_program.specs.declared.run.TheConstants.{KEY_LIMIT}
 use Rattle.ex_program.specs.declared.status.Status.{Status}
@@ -34,7 +34,7 @@ others_rest world turns.Abandoned other = (refl, refl, refl)
 others_rest world turns.Failed other = (refl, refl, refl)
 
 -- what a key shows in a run that goes on
-shows_going : (world : World) (key : ℕ) → world.ended ≡ false → shows world key ≡ echo exec_verbs world.session key ++ key_bytes world key
+shows_going : (world : World) (key : ℕ) → world.ended ≡ false → shows world key ≡ echo exec_setting world.session key ++ key_bytes world key
 unfolding shows
 shows_going world key going = rw going refl
 
@@ -46,7 +46,7 @@ pub reply_shown : (world : World) (before : List ℕ) (key : ℕ) (rest : List �
     → (first last : List ℕ) × (first ++ turn_reply (with_key (world_after world before) key) (key_turn (world_after world before) key) ++ last
     ≡ bytes_shown world (before ++ key ∷ rest))
 reply_shown world before key rest going = let last = world_after world before in
-    let sent : List ℕ = echo exec_verbs last.session key in
+    let sent : List ℕ = echo exec_setting last.session key in
     let replied : List ℕ = turn_reply (with_key last key) (key_turn last key) in
     let prompt : List ℕ = turn_prompt (with_key last key) (key_turn last key) in (
       bytes_shown world before ++ sent,
@@ -79,15 +79,15 @@ module _ (writes : Bool) (a b : Scene) (at : AtKey a b) where
       ∙ ap (λ bytes. prompt_text Main ++ bytes) (sym (bytes_shown-push w at.before at.key))
 
   -- a part of what the key shows is a part of what the keys show
-  shown_part : AddsPart (outputs_at writes a at.before).screen b.screen (echo exec_verbs world.session at.key ++ key_bytes world at.key)
+  shown_part : AddsPart (outputs_at writes a at.before).screen b.screen (echo exec_setting world.session at.key ++ key_bytes world at.key)
       → AddsPart a.screen b.screen (run_keys w taken)
   shown_part part = subst (λ bytes. AddsPart a.screen b.screen bytes) keys_push
       (adds_late a.screen b.screen (run_keys w at.before) (shows world at.key)
       (subst (λ bytes. AddsPart (outputs_at writes a at.before).screen b.screen bytes) (sym (shows_going world at.key at.going)) part))
 
-  key_part : RunCut writes a b at → AddsPart (outputs_at writes a at.before).screen b.screen (echo exec_verbs world.session at.key ++ key_bytes world at.key)
-  key_part (inl cut) = adds_early _ b.screen (echo exec_verbs world.session at.key) (key_bytes world at.key) cut.screen
-  key_part (inr cut) = adds_late _ b.screen (echo exec_verbs world.session at.key) (key_bytes world at.key) cut.screen
+  key_part : RunCut writes a b at → AddsPart (outputs_at writes a at.before).screen b.screen (echo exec_setting world.session at.key ++ key_bytes world at.key)
+  key_part (inl cut) = adds_early _ b.screen (echo exec_setting world.session at.key) (key_bytes world at.key) cut.screen
+  key_part (inr cut) = adds_late _ b.screen (echo exec_setting world.session at.key) (key_bytes world at.key) cut.screen
 
   cut_screen : RunCut writes a b at → AddsPart a.screen b.screen (run_keys w taken)
   cut_screen cut = shown_part (key_part cut)
@@ -123,8 +123,8 @@ module _ (writes : Bool) (a b : Scene) where
 
   unlogged_part : (unlogged : Unlogged writes a b []) → AddsPart a.screen b.screen (run_keys (starting a.moments) (unlogged.at.before ++ unlogged.at.key ∷ []))
   unlogged_part unlogged = let at = unlogged.at in let world = world_at a unlogged.at.before in
-      shown_part writes a b at (adds_early _ b.screen (echo exec_verbs world.session unlogged.at.key) (key_bytes world unlogged.at.key)
-      (adds_whole _ b.screen (echo exec_verbs world.session unlogged.at.key) (unlogged_screen unlogged ∙ add_append a.screen (run_keys (starting a.moments) unlogged.at.before) (echo exec_verbs world.session unlogged.at.key))))
+      shown_part writes a b at (adds_early _ b.screen (echo exec_setting world.session unlogged.at.key) (key_bytes world unlogged.at.key)
+      (adds_whole _ b.screen (echo exec_setting world.session unlogged.at.key) (unlogged_screen unlogged ∙ add_append a.screen (run_keys (starting a.moments) unlogged.at.before) (echo exec_setting world.session unlogged.at.key))))
 
   -- so it is where the screen failed, whatever the message is
   pub screen_is_prefix : ScreenCut writes a b → IsCut writes a b

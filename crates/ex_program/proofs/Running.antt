@@ -1,20 +1,20 @@
 -- A run in its course, and how it stops.
-use Rattle.std.proofs.Common.{◌≡◌, ℕ, ◌+◌, ◌<◌, Bool, true, false, List, [], ◌∷◌, ◌++◌, length, None, refl, sym, ap, ◌∙◌, subst, inl, inr, append_assoc, arith, length-append}
+use Rattle.std.proofs.Common.{◌≡◌, ℕ, ◌+◌, ◌<◌, Bool, true, false, List, [], ◌∷◌, ◌++◌, length, None, refl, sym, ap, ◌∙◌, subst, inl, inr, add-zero, add_assoc, append_assoc, arith, length-append}
 use Rattle.std.proofs.lemmas.List.{append-nil}
 use Rattle.cm_io.specs.Told.{Told, add, AddsPart}
 use Rattle.cm_io.proofs.Adding.{add_none, add_append}
 use Rattle.cm_state.specs.declared.prompt.Prompt.TheVariants.{Main}
 use Rattle.cm_state.specs.Echo.{echo, prompt_text}
 use Rattle.cm_state.specs.Held.{Held, at_start}
-use Rattle.cm_state.specs.Verbs.{exec_verbs}
-use Rattle.cm_state.specs.declared.node.TheConstants.{COMMANDS}
+use Rattle.ex_grammar.specs.declared.node.TheConstants.{COMMANDS}
 use Rattle.ex_program.specs.declared.run.TheConstants.{KEY_LIMIT}
 use Rattle.ex_program.specs.declared.stop.Stop.TheVariants as stop
-use Rattle.ex_program.specs.Run.{World, bytes_logged, bytes_shown, logs, run_keys, shows, starting, step, world_after}
-use Rattle.ex_program.specs.Scene.{AtKey, Scene, has_ended, outputs_at, outputs_of, world_at}
+use Rattle.ex_program.specs.Run.{World, bytes_logged, bytes_shown, key_cost, logs, run_keys, shows, starting, step, total, world_after}
+use Rattle.ex_program.specs.Setting.{exec_setting}
+use Rattle.ex_program.specs.Scene.{AtKey, Counted, Scene, has_ended, outputs_at, outputs_of, world_at}
 use Rattle.ex_program.specs.Step.{KeyCut, LogCut, Outputs, Stepped, going}
 use Rattle.ex_program.specs.Stop.{Reached, Stops}
-use Rattle.ex_program.proofs.Folds.{bytes_logged-push, bytes_shown-push, world_after-append}
+use Rattle.ex_program.proofs.Folds.{bytes_logged-push, bytes_shown-push, total-push, world_after-append}
 
 -- the run of the keys taken so far stands, and goes on from this session
 pub record Runs (writes : Bool) (a b : Scene) (session : Held) (count : ℕ) : Type 0 where
@@ -23,18 +23,20 @@ pub record Runs (writes : Bool) (a b : Scene) (session : Held) (count : ℕ) : T
   pub screen : b.screen ≡ (outputs_at writes a taken).screen
   pub log : b.log ≡ (outputs_at writes a taken).log
   pub world : world_at a taken ≡ going session b.moments
+  pub steps : Counted a b taken
   pub counted : length taken ≡ count
 
 -- it begins at the first prompt
 pub runs_first : (writes : Bool) (a b : Scene) (session : Held) → session ≡ at_start COMMANDS Main None
     → b.keys ≡ a.keys → b.screen ≡ add a.screen (prompt_text Main) → b.log ≡ a.log → b.moments ≡ a.moments
-    → Runs writes a b session 0
-runs_first writes a b session started keys screen log moments = record {
+    → b.steps ≡ a.steps → Runs writes a b session 0
+runs_first writes a b session started keys screen log moments steps = record {
   taken = [];
   keys = keys;
   screen = screen ∙ ap (λ bytes. add a.screen bytes) (sym (append-nil (prompt_text Main)));
   log = log ∙ sym (add_none a.log);
   world = ap (λ left. going (at_start COMMANDS Main None) left) (sym moments) ∙ ap (λ (held : Held). going held b.moments) (sym started);
+  steps = steps ∙ sym (add-zero a.steps);
   counted = refl;
 }
 
@@ -68,39 +70,53 @@ world_more : (a : Scene) (taken : List ℕ) (key : ℕ) (next last : World) → 
 world_more a taken key next last world leads =
     world_after-append (starting a.moments) taken (key ∷ []) ∙ ap (λ (middle : World). step middle key) world ∙ leads
 
+-- and what the counter has risen by
+counted_more : (a : Scene) (taken : List ℕ) (key : ℕ) (before now : ℕ) (next : World) → before ≡ a.steps + total (starting a.moments) taken
+    → world_at a taken ≡ next → now ≡ before + key_cost next key → now ≡ a.steps + total (starting a.moments) (taken ++ key ∷ [])
+counted_more a taken key before now next steps world rise =
+    rise ∙ ap (λ (count : ℕ). count + key_cost next key) steps
+    ∙ ap (λ (middle : World). a.steps + total (starting a.moments) taken + key_cost middle key) (sym world)
+    ∙ add_assoc a.steps (total (starting a.moments) taken) (key_cost (world_at a taken) key)
+    ∙ ap (λ (sum : ℕ). a.steps + sum) (sym (total-push (starting a.moments) taken key))
+
 module _ (writes : Bool) (a b : Scene) (session : Held) (count : ℕ) (runs : Runs writes a b session count) where
   -- it has not ended
   not_ended : has_ended a runs.taken ≡ false
   not_ended = ap (λ (world : World). world.ended) runs.world
 
   -- nothing more is taken from the keys
-  reached : (c : Scene) → c.keys ≡ b.keys → outputs_of c ≡ outputs_of b → c.moments ≡ b.moments → Reached writes a c runs.taken
-  reached c keys outputs moments = record {
+  reached : (c : Scene) → c.keys ≡ b.keys → outputs_of c ≡ outputs_of b → c.moments ≡ b.moments → c.steps ≡ b.steps → Reached writes a c runs.taken
+  reached c keys outputs moments steps = record {
     as_taken = record {
       keys = ap (λ left. runs.taken ++ left) keys ∙ runs.keys;
       log = ap (λ (told : Outputs). told.log) outputs ∙ runs.log;
       moments = moments ∙ sym (ap (λ (world : World). world.moments) runs.world);
+      steps = steps ∙ runs.steps;
     };
     screen = ap (λ (told : Outputs). told.screen) outputs ∙ runs.screen;
   }
 
-  pub runs_ended : (c : Scene) → count < KEY_LIMIT → c.keys ≡ b.keys → c.keys ≡ [] → outputs_of c ≡ outputs_of b → c.moments ≡ b.moments
+  pub runs_ended : (c : Scene) → count < KEY_LIMIT → c.keys ≡ b.keys → c.keys ≡ [] → outputs_of c ≡ outputs_of b → c.moments ≡ b.moments → c.steps ≡ b.steps
       → Stops writes a c stop.KeysEnded
-  runs_ended c below keys none outputs moments =
-      (runs.taken, reached c keys outputs moments, (not_ended, none, omega (arith, runs.counted)))
+  runs_ended c below keys none outputs moments steps =
+      (runs.taken, reached c keys outputs moments steps, (not_ended, none, omega (arith, runs.counted)))
 
-  pub runs_unread : (c : Scene) → count < KEY_LIMIT → c.keys ≡ b.keys → outputs_of c ≡ outputs_of b → c.moments ≡ b.moments
+  pub runs_unread : (c : Scene) → count < KEY_LIMIT → c.keys ≡ b.keys → outputs_of c ≡ outputs_of b → c.moments ≡ b.moments → c.steps ≡ b.steps
       → Stops writes a c stop.ReadFailed
-  runs_unread c below keys outputs moments =
-      (runs.taken, reached c keys outputs moments, not_ended, omega (arith, runs.counted))
+  runs_unread c below keys outputs moments steps =
+      (runs.taken, reached c keys outputs moments steps, not_ended, omega (arith, runs.counted))
 
-  pub runs_out : (c : Scene) → count ≡ KEY_LIMIT → c.keys ≡ b.keys → outputs_of c ≡ outputs_of b → c.moments ≡ b.moments
+  pub runs_out : (c : Scene) → count ≡ KEY_LIMIT → c.keys ≡ b.keys → outputs_of c ≡ outputs_of b → c.moments ≡ b.moments → c.steps ≡ b.steps
       → Stops writes a c stop.KeyLimit
-  runs_out c all keys outputs moments =
-      (runs.taken, reached c keys outputs moments, not_ended, runs.counted ∙ all)
+  runs_out c all keys outputs moments steps =
+      (runs.taken, reached c keys outputs moments steps, not_ended, runs.counted ∙ all)
 
   -- a key more is got
-  module _ (c : Scene) (key : ℕ) (below : count < KEY_LIMIT) (got : b.keys ≡ key ∷ c.keys) where
+  module _ (c : Scene) (key : ℕ) (below : count < KEY_LIMIT) (got : b.keys ≡ key ∷ c.keys)
+      (rise : c.steps ≡ b.steps + key_cost (going session b.moments) key) where
+    steps : Counted a c (runs.taken ++ key ∷ [])
+    steps = counted_more a runs.taken key b.steps c.steps (going session b.moments) runs.steps runs.world rise
+
     abbrev at : AtKey a c
     at = record {
       before = runs.taken;
@@ -108,6 +124,7 @@ module _ (writes : Bool) (a b : Scene) (session : Held) (count : ℕ) (runs : Ru
       keys = ap (λ left. runs.taken ++ left) (sym got) ∙ runs.keys;
       going = not_ended;
       below = omega (arith, runs.counted);
+      steps = steps;
     }
 
     same_outputs : outputs_of b ≡ outputs_at writes a runs.taken
@@ -122,13 +139,13 @@ module _ (writes : Bool) (a b : Scene) (session : Held) (count : ℕ) (runs : Ru
           (subst (λ (world : World). KeyCut writes world key (outputs_of b) (outputs_of c) c.moments) (sym runs.world) cut),
     )
 
-    pub runs_unlogged : c.screen ≡ add b.screen (echo exec_verbs session key) → LogCut writes (going session b.moments) key b.log c.log c.moments
+    pub runs_unlogged : c.screen ≡ add b.screen (echo exec_setting session key) → LogCut writes (going session b.moments) key b.log c.log c.moments
         → Stops writes a c stop.LogFailed
     runs_unlogged screen cut = (
       at,
-      screen ∙ ap (λ told. add told (echo exec_verbs session key)) runs.screen
-          ∙ sym (add_append a.screen (run_keys (starting a.moments) runs.taken) (echo exec_verbs session key))
-          ∙ ap (λ (world : World). add a.screen (run_keys (starting a.moments) runs.taken ++ echo exec_verbs world.session key)) (sym runs.world),
+      screen ∙ ap (λ told. add told (echo exec_setting session key)) runs.screen
+          ∙ sym (add_append a.screen (run_keys (starting a.moments) runs.taken) (echo exec_setting session key))
+          ∙ ap (λ (world : World). add a.screen (run_keys (starting a.moments) runs.taken ++ echo exec_setting world.session key)) (sym runs.world),
       subst (λ before. LogCut writes (world_at a runs.taken) key before c.log c.moments) runs.log
           (subst (λ (world : World). LogCut writes world key b.log c.log c.moments) (sym runs.world) cut),
     )
@@ -155,6 +172,7 @@ module _ (writes : Bool) (a b : Scene) (session : Held) (count : ℕ) (runs : Ru
       screen = screen (going next c.moments) stepped;
       log = log (going next c.moments) stepped;
       world = world (going next c.moments) stepped;
+      steps = steps;
       counted = omega (arith, length-append runs.taken (key ∷ []), runs.counted);
     }
 
@@ -167,6 +185,7 @@ module _ (writes : Bool) (a b : Scene) (session : Held) (count : ℕ) (runs : Ru
           keys = keys last stepped;
           log = log last stepped;
           moments = sym (ap (λ (world : World). world.moments) (world last stepped));
+          steps = steps;
         };
         screen = screen last stepped;
       },
@@ -182,5 +201,5 @@ module _ (writes : Bool) (a b : Scene) (session : Held) (count : ℕ) (runs : Ru
 
 -- the first prompt may be cut
 pub cut_first : (writes : Bool) (a c : Scene) → c.keys ≡ a.keys → AddsPart a.screen c.screen (prompt_text Main) → c.log ≡ a.log → c.moments ≡ a.moments
-    → Stops writes a c stop.ScreenFailed
-cut_first writes a c keys screen log moments = inl (record { screen = screen; log = log; keys = keys; moments = moments })
+    → c.steps ≡ a.steps → Stops writes a c stop.ScreenFailed
+cut_first writes a c keys screen log moments steps = inl (record { screen = screen; log = log; keys = keys; moments = moments; steps = steps })

@@ -1,20 +1,21 @@
 -- What the parts of a step come to.
-use Rattle.std.proofs.Common.{◌≡◌, ℕ, Bool, List, [], ◌++◌, if◌then◌else◌, refl, sym, ap, ◌∙◌, subst, inl, inr}
+use Rattle.std.proofs.Common.{◌≡◌, ℕ, ◌+◌, Bool, List, [], ◌++◌, if◌then◌else◌, refl, sym, ap, ◌∙◌, subst, inl, inr}
 use Rattle.cm_io.specs.Told.{Told, add, Adds, AddsPart}
 use Rattle.cm_io.specs.declared.sink.Put.{Put}
 use Rattle.cm_io.specs.declared.sink.Put.TheVariants.{Done}
 use Rattle.cm_io.proofs.Adding.{add_append}
 use Rattle.cm_line.specs.Keys.{class_of}
+use Rattle.cm_blocks.specs.Kept.{cost}
+use Rattle.cm_blocks.specs.Setting.{Setting}
 use Rattle.cm_state.specs.Echo.{echo}
 use Rattle.cm_state.specs.Edit.{edited}
-use Rattle.cm_state.specs.Held.{Held}
+use Rattle.cm_state.specs.Held.{Held, met_line, text_of}
 use Rattle.cm_state.specs.Log.{log_line}
 use Rattle.cm_state.specs.Turn.{put_of, turn_of}
-use Rattle.cm_state.specs.Verbs.{exec_verbs}
 use Rattle.cm_state.specs.declared.turn.Turn.{Turn}
 use Rattle.cm_state.specs.declared.turn.Turn.TheVariants as turns
-use Rattle.cm_state.specs.declared.verbs.Verbs.{Verbs}
-use Rattle.ex_program.specs.Run.{World, key_turn, logs, shows, step, turn_bytes, with_key, world_after_turn}
+use Rattle.ex_program.specs.Run.{World, key_cost, key_turn, logs, shows, step, turn_bytes, with_key, world_after_turn}
+use Rattle.ex_program.specs.Setting.{exec_setting}
 use Rattle.ex_program.specs.Step.{KeyCut, LogCut, Outputs, Stepped, going}
 
 -- a turn that is no failure is told
@@ -33,14 +34,19 @@ abbrev outputs : Told → Told → Outputs
 outputs screen log = record { screen = screen; log = log }
 
 -- where the echo is cut
-pub cut_echo : (writes : Bool) (verbs : Verbs) (old : Held) (key : ℕ) (moments : List ℕ) (told now log : Told) → verbs ≡ exec_verbs
-    → AddsPart told now (echo verbs old key)
+pub cut_echo : (writes : Bool) (old : Held) (key : ℕ) (moments : List ℕ) (told now log : Told)
+    → AddsPart told now (echo exec_setting old key)
     → KeyCut writes (going old moments) key (outputs told log) (outputs now log) moments
-cut_echo writes verbs old key moments told now log exec part = inl (record {
-  screen = subst (λ (tables : Verbs). AddsPart told now (echo tables old key)) exec part;
-  log = refl;
-  moments = refl;
-})
+cut_echo writes old key moments told now log part = inl (record { screen = part; log = refl; moments = refl })
+
+-- what the counter has risen by is what the key costs
+pub counted : (s : Setting) (old typed : Held) (key : ℕ) (moments : List ℕ) (before now : ℕ) → s ≡ exec_setting → typed ≡ edited s old key
+    → now ≡ before + cost s old.node (met_line old) (text_of typed)
+    → now ≡ before + key_cost (going old moments) key
+unfolding key_cost
+counted s old typed key moments before now exec is_typed rise =
+    rise ∙ ap (λ (held : Held). before + cost s old.node (met_line old) (text_of held)) is_typed
+    ∙ ap (λ (it : Setting). before + cost it old.node (met_line old) (text_of (edited it old key))) exec
 
 -- a world is what its parts are
 parts : (world : World) (next : Held) (later : List ℕ) (ended value : Bool) → ended ≡ value → next ≡ world.session → later ≡ world.moments → ended ≡ world.ended
@@ -51,19 +57,16 @@ parts world next later ended value is_value held moved ends =
     ∙ ap (λ (over : Bool). record { session = next; moments = later; ended = over }) (sym ends ∙ is_value)
 
 -- behind an echo that is whole
-module _ (writes : Bool) (verbs : Verbs) (old typed : Held) (key : ℕ) (moments : List ℕ) (turn : Turn) (told echoed : Told)
-    (exec : verbs ≡ exec_verbs) (other : turn ≡ turns.Failed → ⊥)
-    (is_typed : typed ≡ edited verbs old key) (is_put : Adds told echoed (echo verbs old key) (put_of turn)) where
-  with_exec : typed ≡ edited exec_verbs old key
-  with_exec = is_typed ∙ ap (λ (tables : Verbs). edited tables old key) exec
-
-  pub echo_whole : echoed ≡ add told (echo exec_verbs old key)
-  echo_whole = all_put told echoed (echo verbs old key) (put_of turn) (not_failed turn other) is_put ∙ ap (λ (tables : Verbs). add told (echo tables old key)) exec
+module _ (writes : Bool) (old typed : Held) (key : ℕ) (moments : List ℕ) (turn : Turn) (told echoed : Told)
+    (other : turn ≡ turns.Failed → ⊥)
+    (is_typed : typed ≡ edited exec_setting old key) (is_put : Adds told echoed (echo exec_setting old key) (put_of turn)) where
+  pub echo_whole : echoed ≡ add told (echo exec_setting old key)
+  echo_whole = all_put told echoed (echo exec_setting old key) (put_of turn) (not_failed turn other) is_put
 
   -- what is logged of a key is what the step logs
   as_logged : (if writes then log_line key typed else []) ≡ logs writes (going old moments) key
   unfolding logs
-  as_logged = ap (λ (held : Held). if writes then log_line key held else []) with_exec
+  as_logged = ap (λ (held : Held). if writes then log_line key held else []) is_typed
 
   -- where the log is cut
   pub cut_log : (log now : Told) → AddsPart log now (if writes then log_line key typed else [])
@@ -80,17 +83,17 @@ module _ (writes : Bool) (verbs : Verbs) (old typed : Held) (key : ℕ) (moments
     log_whole = is_logged ∙ ap (λ bytes. add log bytes) as_logged
 
     same_turn : turn ≡ key_turn (going old moments) key
-    same_turn = is_turn (not_failed turn other) ∙ ap (λ (held : Held). turn_of (class_of key) held.ending) with_exec
+    same_turn = is_turn (not_failed turn other) ∙ ap (λ (held : Held). turn_of (class_of key) held.ending) is_typed
 
     as_replied : turn_bytes (going typed moments) turn ≡ turn_bytes (with_key (going old moments) key) (key_turn (going old moments) key)
     as_replied =
-        ap (λ (held : Held). turn_bytes (going held moments) turn) with_exec
+        ap (λ (held : Held). turn_bytes (going held moments) turn) is_typed
         ∙ ap (λ (to : Turn). turn_bytes (with_key (going old moments) key) to) same_turn
 
     as_step : world_after_turn (going typed moments) turn ≡ step (going old moments) key
     unfolding step
     as_step =
-        ap (λ (held : Held). world_after_turn (going held moments) turn) with_exec
+        ap (λ (held : Held). world_after_turn (going held moments) turn) is_typed
         ∙ ap (λ (to : Turn). world_after_turn (with_key (going old moments) key) to) same_turn
 
     -- where the reply is cut
@@ -98,16 +101,16 @@ module _ (writes : Bool) (verbs : Verbs) (old typed : Held) (key : ℕ) (moments
         → later ≡ (world_after_turn (going typed moments) turn).moments
         → KeyCut writes (going old moments) key (outputs told log) (outputs screen logged) later
     cut_reply later part moved = inr (record {
-      screen = subst (λ bytes. AddsPart (add told (echo exec_verbs old key)) screen bytes) as_replied
+      screen = subst (λ bytes. AddsPart (add told (echo exec_setting old key)) screen bytes) as_replied
           (subst (λ before. AddsPart before screen (turn_bytes (going typed moments) turn)) echo_whole part);
       log = log_whole;
       moments = moved ∙ ap (λ (next : World). next.moments) as_step;
     })
 
     -- the echo and the reply are what the step shows
-    as_shown : echo exec_verbs old key ++ turn_bytes (going typed moments) turn ≡ shows (going old moments) key
+    as_shown : echo exec_setting old key ++ turn_bytes (going typed moments) turn ≡ shows (going old moments) key
     unfolding shows
-    as_shown = ap (λ bytes. echo exec_verbs old key ++ bytes) as_replied
+    as_shown = ap (λ bytes. echo exec_setting old key ++ bytes) as_replied
 
     -- where all is put
     pub stepped : (next : Held) (later : List ℕ) (ended value : Bool) → ended ≡ value
@@ -118,7 +121,7 @@ module _ (writes : Bool) (verbs : Verbs) (old typed : Held) (key : ℕ) (moments
         → Stepped writes (going old moments) key (outputs told log) (outputs screen logged) (record { session = next; moments = later; ended = value })
     stepped next later ended value is_value put held moved ends = record {
       screen = put ∙ ap (λ before. add before (turn_bytes (going typed moments) turn)) echo_whole
-          ∙ sym (add_append told (echo exec_verbs old key) (turn_bytes (going typed moments) turn))
+          ∙ sym (add_append told (echo exec_setting old key) (turn_bytes (going typed moments) turn))
           ∙ ap (λ bytes. add told bytes) as_shown;
       log = log_whole;
       leads = sym as_step ∙ parts (world_after_turn (going typed moments) turn) next later ended value is_value held moved ends;

@@ -1,16 +1,58 @@
 -- What a confirmed line commands, and the reply to it.
-use Rattle.std.specs.Prelude.{ℕ, ◌==◌, List, [], ◌∷◌, ◌++◌, codes, if◌then◌else◌}
+use Rattle.std.specs.Prelude.{ℕ, ◌==◌, List, [], ◌++◌, find, codes, Bool, if◌then◌else◌, Option, Some, None}
+use Rattle.std.specs.Option.{option_map, option_map_or}
 use Rattle.cm_text.specs.Shown.{end_of_line}
-use Rattle.cm_state.specs.declared.field.Field.{Field}
+use Rattle.cm_fields.specs.declared.code.Code.TheVariants.{NoDefinition}
+use Rattle.cm_fields.specs.declared.value.Value.{Value}
+use Rattle.cm_fields.specs.declared.value.Value.TheVariants.{Key}
+use Rattle.cm_blocks.specs.declared.function.Role.{Role}
+use Rattle.cm_blocks.specs.declared.function.Role.TheVariants as roles
+use Rattle.cm_blocks.specs.Taken.{Taken}
+use Rattle.cm_state.specs.Echo.{refusal}
+use Rattle.ex_grammar.specs.declared.code.TheConstants.{INFORMATION, LOGOUT, REMARK, VERSION}
 use Rattle.ex_program.specs.declared.command.Command.{Command}
-use Rattle.ex_program.specs.declared.command.Command.TheVariants.{Empty, Version, Logout}
-use Rattle.cm_state.specs.declared.verbs.TheConstants.{LOGOUT}
+use Rattle.ex_program.specs.declared.command.Command.TheVariants.{Empty, Define, Information, Logout, Remark}
 
--- the code of the first keyword names the command: it is LOGOUT, or else INFORMATION, which tells of VERSION
--- alone
-abbrev pub command_of : List Field → Command
-command_of [] = Empty
-command_of (verb ∷ fields) = if verb.code == LOGOUT then Logout else Version
+-- the number of a role, by which two are compared
+abbrev pub role_number : Role → ℕ
+role_number roles.None = 0
+role_number roles.Verb = 1
+role_number roles.What = 2
+role_number roles.Source = 3
+role_number roles.Target = 4
+role_number roles.Files = 5
+role_number roles.Sub = 6
+role_number roles.Value = 7
+
+abbrev pub is_role : Role → Role → Bool
+is_role wanted role = role_number role == role_number wanted
+
+-- the first field of a role
+abbrev pub field_of : Role → List Taken → Option Taken
+field_of wanted fields = find (λ field. is_role wanted field.role) fields
+
+-- the code of a keyword
+abbrev pub keyword_code : Value → ℕ
+keyword_code (Key entry code) = code
+keyword_code value = 0
+
+abbrev pub code_of : Option Taken → ℕ
+code_of field = option_map_or (λ (it : Taken). keyword_code it.value) field 0
+
+-- the command that this keyword names, with what INFORMATION is to tell about
+abbrev pub named : ℕ → ℕ → Command
+named verb what =
+    if verb == LOGOUT then Logout
+    else (if verb == INFORMATION then Information what else (if verb == REMARK then Remark else Define))
+
+abbrev pub by_verb : Option Taken → ℕ → Command
+by_verb None what = Empty
+by_verb (Some verb) what = named (keyword_code verb.value) what
+
+-- the field of role Verb names the command, that of role What tells what INFORMATION is asked about; a line
+-- without fields is empty
+abbrev pub command_of : List Taken → Command
+command_of fields = by_verb (field_of roles.Verb fields) (code_of (field_of roles.What fields))
 
 unfoldable pub version : List ℕ
 version = codes " EXEC20 1"
@@ -18,7 +60,14 @@ version = codes " EXEC20 1"
 unfoldable pub farewell : List ℕ
 farewell = codes "Logged out"
 
+-- VERSION is all that INFORMATION tells about
+abbrev pub told : ℕ → List ℕ
+told what = if what == VERSION then version ++ end_of_line else []
+
+-- no logical name is defined that DEFINE could take away
 abbrev pub reply : Command → List ℕ
 reply Empty = []
-reply Version = version ++ end_of_line
+reply Define = refusal NoDefinition
+reply (Information what) = told what
 reply Logout = farewell ++ end_of_line
+reply Remark = []

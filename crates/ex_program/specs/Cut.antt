@@ -4,9 +4,9 @@ use Rattle.cm_text.specs.Shown.{end_of_line}
 use Rattle.cm_io.specs.Told.{AddsPart}
 use Rattle.cm_state.specs.declared.prompt.Prompt.TheVariants.{Main}
 use Rattle.cm_state.specs.Echo.{echo, prompt_text}
-use Rattle.cm_state.specs.Verbs.{exec_verbs}
 use Rattle.ex_program.specs.Run.{run_keys, starting}
 use Rattle.ex_program.specs.Scene.{AtKey, ReadOut, Scene, Taken, Tried, outputs_at, outputs_of, world_at}
+use Rattle.ex_program.specs.Setting.{exec_setting}
 use Rattle.ex_program.specs.Step.{KeyCut, LogCut}
 
 -- the first prompt was cut
@@ -15,6 +15,7 @@ pub record PromptCut (a b : Scene) : Type 0 where
   pub log : b.log ≡ a.log
   pub keys : b.keys ≡ a.keys
   pub moments : b.moments ≡ a.moments
+  pub steps : b.steps ≡ a.steps
 
 -- the screen failed at this key, from what stood behind those before it
 abbrev pub RunCut : Bool → (a b : Scene) → AtKey a b → Type 0
@@ -35,7 +36,7 @@ ScreenCut writes a b = PromptCut a b ⊎ ((at : AtKey a b) × RunCut writes a b 
 -- what is shown up to the echo of this key
 abbrev pub run_echo : (a b : Scene) → AtKey a b → List ℕ
 run_echo a b at =
-    run_keys (starting a.moments) at.before ++ echo exec_verbs (world_at a at.before).session at.key
+    run_keys (starting a.moments) at.before ++ echo exec_setting (world_at a at.before).session at.key
 
 -- the log failed at a key, behind its echo; the message is tried
 pub record Unlogged (writes : Bool) (a b : Scene) (message : List ℕ) : Type 0 where

@@ -65,6 +65,7 @@ pub record Refused (a b : Scene) (result : Status) : Type 0 where
   pub log : b.log ≡ a.log
   pub keys : b.keys ≡ a.keys
   pub moments : b.moments ≡ a.moments
+  pub steps : b.steps ≡ a.steps
 
 -- what stands at the end
 abbrev pub Stands : Option Form → Scene → Scene → Status → Type 0

@@ -1,3 +1,4 @@
+pub mod Catalogue
 pub mod Cause
 pub mod Command
 pub mod Cut
@@ -7,5 +8,6 @@ pub mod Image
 pub mod Messages
 pub mod Run
 pub mod Scene
+pub mod Setting
 pub mod Step
 pub mod Stop

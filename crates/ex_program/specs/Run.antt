@@ -1,21 +1,22 @@
 -- The run of the program: a fold over the keys, each of which meets the whole line as it then stands.
-use Rattle.std.specs.Prelude.{ℕ, Bool, true, false, List, [], ◌∷◌, ◌++◌, None, if◌then◌else◌}
+use Rattle.std.specs.Prelude.{ℕ, ◌+◌, Bool, true, false, List, [], ◌∷◌, ◌++◌, None, if◌then◌else◌}
 use Rattle.cm_text.specs.Shown.{end_of_line}
 use Rattle.cm_io.specs.Clock.{later_moments}
 use Rattle.cm_line.specs.Keys.{class_of}
+use Rattle.cm_blocks.specs.Kept.{cost}
 use Rattle.cm_state.specs.declared.prompt.Prompt.TheVariants.{Main}
 use Rattle.cm_state.specs.declared.turn.Turn.{Turn}
 use Rattle.cm_state.specs.declared.turn.Turn.TheVariants as turn
 use Rattle.cm_state.specs.Echo.{echo, prompt_text}
 use Rattle.cm_state.specs.Edit.{edited}
-use Rattle.cm_state.specs.Held.{Held, at_start}
+use Rattle.cm_state.specs.Held.{Held, at_start, met_line, text_of}
 use Rattle.cm_state.specs.Log.{log_line}
 use Rattle.cm_state.specs.Turn.{turn_of}
-use Rattle.cm_state.specs.Verbs.{exec_verbs}
+use Rattle.ex_grammar.specs.declared.node.TheConstants.{COMMANDS}
 use Rattle.ex_program.specs.Command.{command_of, reply}
+use Rattle.ex_program.specs.Setting.{exec_setting}
 use Rattle.ex_program.specs.declared.command.Command.{Command}
-use Rattle.ex_program.specs.declared.command.Command.TheVariants.{Empty, Version, Logout}
-use Rattle.cm_state.specs.declared.node.TheConstants.{COMMANDS}
+use Rattle.ex_program.specs.declared.command.Command.TheVariants.{Empty, Define, Information, Logout, Remark}
 
 -- what a run goes on from: the session, the moments to come, and whether LOGOUT has acted
 pub record World : Type 0 where
@@ -38,14 +39,18 @@ next_time world = record world { moments = later_moments world.moments }
 -- a command takes a moment; LOGOUT ends the run, and behind any other the next line begins
 abbrev pub world_after_command : World → Command → World
 world_after_command world Empty = next_line (next_time world)
-world_after_command world Version = next_line (next_time world)
+world_after_command world Define = next_line (next_time world)
+world_after_command world (Information what) = next_line (next_time world)
 world_after_command world Logout = record (next_time world) { ended = true }
+world_after_command world Remark = next_line (next_time world)
 
 -- the prompt of the next line, of which there is none after LOGOUT
 abbrev pub command_prompt : Command → List ℕ
 command_prompt Empty = prompt_text Main
-command_prompt Version = prompt_text Main
+command_prompt Define = prompt_text Main
+command_prompt (Information what) = prompt_text Main
 command_prompt Logout = []
+command_prompt Remark = prompt_text Main
 
 -- what a key that came to this leads to; only a confirmed line acts
 unfoldable pub world_after_turn : World → Turn → World
@@ -77,7 +82,7 @@ turn_bytes world turn = turn_reply world turn ++ turn_prompt world turn
 
 -- the session has taken a key
 abbrev pub with_key : World → ℕ → World
-with_key world key = record world { session = edited exec_verbs world.session key }
+with_key world key = record world { session = edited exec_setting world.session key }
 
 -- what the key comes to
 abbrev pub key_turn : World → ℕ → Turn
@@ -92,11 +97,17 @@ unfoldable pub step : World → ℕ → World
 step world key = if world.ended then world else world_after_turn (with_key world key) (key_turn world key)
 
 unfoldable pub shows : World → ℕ → List ℕ
-shows world key = if world.ended then [] else echo exec_verbs world.session key ++ key_bytes world key
+shows world key = if world.ended then [] else echo exec_setting world.session key ++ key_bytes world key
 
 unfoldable pub logs : Bool → World → ℕ → List ℕ
 logs writes world key =
     if world.ended then [] else (if writes then log_line key (with_key world key).session else [])
+
+-- what the trials of the line cost that a key leaves, given those of the line that it met
+unfoldable pub key_cost : World → ℕ → ℕ
+key_cost world key =
+    if world.ended then 0
+    else cost exec_setting world.session.node (met_line world.session) (text_of (with_key world key).session)
 
 -- the same over keys in order
 abbrev pub world_after : World → List ℕ → World
@@ -110,6 +121,10 @@ bytes_shown world (key ∷ keys) = shows world key ++ bytes_shown (step world ke
 abbrev pub bytes_logged : Bool → World → List ℕ → List ℕ
 bytes_logged writes world [] = []
 bytes_logged writes world (key ∷ keys) = logs writes world key ++ bytes_logged writes (step world key) keys
+
+abbrev pub total : World → List ℕ → ℕ
+total world [] = 0
+total world (key ∷ keys) = key_cost world key + total (step world key) keys
 
 -- the first prompt, and what the keys show
 abbrev pub run_keys : World → List ℕ → List ℕ

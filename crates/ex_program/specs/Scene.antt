@@ -1,9 +1,9 @@
 -- What the objects outside tell at one moment, and where the keys taken lead.
-use Rattle.std.specs.Prelude.{◌≡◌, ◌⊎◌, ℕ, ◌<◌, Bool, true, false, List, [], ◌∷◌, ◌++◌, length}
+use Rattle.std.specs.Prelude.{◌≡◌, ◌⊎◌, ℕ, ◌+◌, ◌<◌, Bool, true, false, List, [], ◌∷◌, ◌++◌, length}
 use Rattle.cm_io.specs.Told.{Told, add, IsPart}
 use Rattle.cm_io.specs.Fault.{Rose}
 use Rattle.ex_program.specs.Cause.{Counts}
-use Rattle.ex_program.specs.Run.{World, bytes_logged, run_keys, starting, world_after}
+use Rattle.ex_program.specs.Run.{World, bytes_logged, run_keys, starting, total, world_after}
 use Rattle.ex_program.specs.Step.{Outputs}
 use Rattle.ex_program.specs.declared.run.TheConstants.{KEY_LIMIT}
 
@@ -15,6 +15,7 @@ pub record Scene : Type 0 where
   pub keys : List ℕ
   pub keys_faults : ℕ
   pub moments : List ℕ
+  pub steps : ℕ
 
 abbrev pub outputs_of : Scene → Outputs
 outputs_of scene = record { screen = scene.screen; log = scene.log }
@@ -37,11 +38,16 @@ outputs_at writes scene taken = record {
   log = add scene.log (bytes_logged writes (starting scene.moments) taken);
 }
 
--- the keys taken are the first of those that there were; log and moments are as they leave them
+-- the counter of trials has risen by what these keys cost
+abbrev pub Counted : (a b : Scene) → List ℕ → Type 0
+Counted a b taken = b.steps ≡ a.steps + total (starting a.moments) taken
+
+-- the keys taken are the first of those that there were; log, moments and the counter are as they leave them
 pub record Taken (writes : Bool) (a b : Scene) (taken : List ℕ) : Type 0 where
   pub keys : taken ++ b.keys ≡ a.keys
   pub log : b.log ≡ (outputs_at writes a taken).log
   pub moments : b.moments ≡ (world_at a taken).moments
+  pub steps : Counted a b taken
 
 -- LOGOUT acted at the last of these keys
 pub record LoggedOut (scene : Scene) (taken : List ℕ) : Type 0 where
@@ -55,13 +61,14 @@ pub record LoggedOut (scene : Scene) (taken : List ℕ) : Type 0 where
 abbrev pub ReadOut : Scene → Scene → List ℕ → Type 0
 ReadOut a b taken = (has_ended a taken ≡ false) × (b.keys ≡ []) × (length taken < KEY_LIMIT)
 
--- a run that goes on took this key, behind those
+-- a run that goes on took this key, behind those, and its trials are counted
 pub record AtKey (a b : Scene) : Type 0 where
   pub before : List ℕ
   pub key : ℕ
   pub keys : before ++ key ∷ b.keys ≡ a.keys
   pub going : has_ended a before ≡ false
   pub below : length before < KEY_LIMIT
+  pub steps : Counted a b (before ++ key ∷ [])
 
 -- behind these bytes stands the message, or a prefix of it where the screen failed there
 pub record Tried (before now : Told) (before_faults now_faults : ℕ) (bytes message : List ℕ) : Type 0 where

@@ -4,8 +4,8 @@ use Rattle.cm_io.specs.Told.{Told, add, AddsPart}
 use Rattle.cm_io.specs.Fault.{Rose}
 use Rattle.cm_state.specs.Echo.{echo}
 use Rattle.cm_state.specs.Held.{Held}
-use Rattle.cm_state.specs.Verbs.{exec_verbs}
 use Rattle.ex_program.specs.Run.{World, key_bytes, logs, shows, step}
+use Rattle.ex_program.specs.Setting.{exec_setting}
 use Rattle.ex_program.specs.declared.step.Step.{Step}
 use Rattle.ex_program.specs.declared.step.Step.TheVariants as steps
 
@@ -27,14 +27,14 @@ pub record Stepped (writes : Bool) (world : World) (key : ℕ) (before now : Out
 
 -- the echo of a key was cut: the key is not logged, and takes no moment
 pub record EchoCut (world : World) (key : ℕ) (before now : Outputs) (later : List ℕ) : Type 0 where
-  pub screen : AddsPart before.screen now.screen (echo exec_verbs world.session key)
+  pub screen : AddsPart before.screen now.screen (echo exec_setting world.session key)
   pub log : now.log ≡ before.log
   pub moments : later ≡ world.moments
 
 -- what a key shows behind its echo was cut: the key is logged, and its line has acted
 pub record ReplyCut (writes : Bool) (world : World) (key : ℕ) (before now : Outputs) (later : List ℕ)
     : Type 0 where
-  pub screen : AddsPart (add before.screen (echo exec_verbs world.session key)) now.screen
+  pub screen : AddsPart (add before.screen (echo exec_setting world.session key)) now.screen
       (key_bytes world key)
   pub log : now.log ≡ add before.log (logs writes world key)
   pub moments : later ≡ (step world key).moments
@@ -59,7 +59,7 @@ Took writes world key before now session moments steps.Over =
 Took writes world key before now session moments steps.ScreenFailed =
     KeyCut writes world key before now moments
 Took writes world key before now session moments steps.LogFailed =
-    (now.screen ≡ add before.screen (echo exec_verbs world.session key))
+    (now.screen ≡ add before.screen (echo exec_setting world.session key))
     × LogCut writes world key before.log now.log moments
 
 -- the screen's count rose where the screen failed, and else stayed

@@ -1,38 +1,50 @@
 // The program over what is outside of it.
-ghost use Rattle.std.specs.Prelude.{◌≡◌, ◌⊎◌, ◌≤◌, ◌<◌, ◌↔◌, ℕ, false, List, [], ◌++◌, length, None, Some, IsTrue};
+ghost use Rattle.std.specs.Prelude.{◌≡◌, ◌⊎◌, ◌≤◌, ◌<◌, ◌↔◌, ◌+◌, ℕ, false, List, [], ◌++◌, length, None, Some, IsTrue};
 ghost use Rattle.cm_io.specs.Host.{KeepsOthers};
 ghost use Rattle.cm_io.specs.Told.{add};
-ghost use Rattle.cm_state.specs.Verbs.{exec_verbs};
+ghost use Rattle.cm_hooks.specs.Ties.{Ties, count};
+ghost use Rattle.cm_blocks.specs.Grammar.{hook_count};
+ghost use Rattle.cm_blocks.specs.Setting.{setting};
+ghost use Rattle.ex_grammar.specs.ExecRules.{exec_meanings};
 ghost use Rattle.ex_program.specs.Cause.{HostCause, IsQuiet, StatusCause};
 ghost use Rattle.ex_program.specs.End.{Leaves, Ran, Stands};
 ghost use Rattle.ex_program.specs.Form.{Form, form_of};
 ghost use Rattle.ex_program.specs.Image.{Keeps, image};
 ghost use Rattle.ex_program.specs.Messages.{message};
-ghost use Rattle.ex_program.specs.Run.{bytes_logged, run_shown, starting, world_after};
+ghost use Rattle.ex_program.specs.Run.{bytes_logged, run_shown, starting, total, world_after};
 ghost use Rattle.ex_program.specs.Scene.{Tried};
+ghost use Rattle.ex_program.specs.Setting.{exec_setting};
 ghost use Rattle.ex_program.specs.Stop.{IsRun};
 ghost use Rattle.ex_program.specs.declared.run.TheConstants.{KEY_LIMIT};
 
+use crate::catalogue::Operator;
 use crate::end::{close, show_message};
 use crate::run::run;
+use crate::setting::Setting;
+use crate::words;
 use crate::{Status, Words};
+use cm_blocks::Steps;
+use cm_hooks::Hooks;
 use cm_io::{Clock, Host, Sink, Source};
-use cm_state::Verbs;
+use ex_grammar::{ExecRules, grammar};
 use std::alloc::Global;
+use std::sync::ledger::Ledger;
 
 // Runs over the keys to the end, writes the image, and shows the message of the status.
-fn run_all<H: Host, K: Source, S: Sink, W: Sink, C: Clock>(
-    writes: bool,
-    out: &str,
-    verbs: &Verbs,
+fn run_all<H: Host, K: Source, S: Sink, W: Sink, C: Clock, L: Ledger>(
+    form: words::Form<'_>,
+    under: &Setting<'_>,
     host: &mut H,
     keys: &mut K,
     screen: &mut S,
     log: &mut W,
     clock: &mut C,
+    steps: &mut Steps<L>,
 ) -> Status
-    requires { verbs.now ≡ exec_verbs }
-    ensures ran { IsTrue K.tells → IsTrue C.tells → Ran writes
+    requires exec { setting under.now.grammar under.now.names exec_meanings ≡ exec_setting }
+    requires ties { Ties exec_meanings under.now.hooks.now }
+    requires hooks { hook_count under.now.grammar ≤ count under.now.hooks.now }
+    ensures ran { IsTrue K.tells → IsTrue C.tells → Ran form.entry.logs
         (record {
           screen = S.told screen.old;
           screen_faults = S.faults screen.old;
@@ -41,6 +53,7 @@ fn run_all<H: Host, K: Source, S: Sink, W: Sink, C: Clock>(
           keys = K.left keys.old;
           keys_faults = K.faults keys.old;
           moments = C.left clock.old;
+          steps = steps.old;
         })
         (record {
           screen = S.told screen.new;
@@ -50,19 +63,20 @@ fn run_all<H: Host, K: Source, S: Sink, W: Sink, C: Clock>(
           keys = K.left keys.new;
           keys_faults = K.faults keys.new;
           moments = C.left clock.new;
+          steps = steps.new;
         })
         result }
     ensures counts { StatusCause
         (record { screen = S.faults screen.old; log = W.faults log.old; keys = K.faults keys.old })
         (record { screen = S.faults screen.new; log = W.faults log.new; keys = K.faults keys.new })
         result }
-    ensures kept { IsTrue H.tells → Keeps (H.files host.old out.now) (H.files host.new out.now) result }
-    ensures others { IsTrue H.tells → KeepsOthers out.now (H.files host.old) (H.files host.new) }
+    ensures kept { IsTrue H.tells → Keeps (H.files host.old form.entry.out.now) (H.files host.new form.entry.out.now) result }
+    ensures others { IsTrue H.tells → KeepsOthers form.entry.out.now (H.files host.old) (H.files host.new) }
     ensures host_cause { HostCause (H.faults host.old) (H.faults host.new) result }
     ensures past_the_prompt { IsRun result }
 {
-    let stop = run(writes, verbs, keys, screen, log, clock);
-    close(stop, out, host, screen)
+    let stop = run(form.logs, under, keys, screen, log, clock, steps);
+    close(stop, form.out, host, screen)
 }
 
 // Shows the message of a status that comes before the first prompt.
@@ -83,7 +97,10 @@ fn refuse<S: Sink>(status: Status, screen: &mut S) -> Status
 /// `host`. A key edits the line on `screen`; a line that is confirmed acts, at a moment of `clock`. The
 /// status is Usage exactly where the words are neither, and NoMemory where memory is wanting; both come
 /// before anything else is touched. The others are said of below, clause by clause.
-pub fn exec20<H: Host, K: Source, S: Sink, W: Sink, C: Clock>(
+///
+/// `hooks` answer the EXEC's rules. `steps` counts the trials: a key costs those of its line behind the fields
+/// that the unchanged front of the line decides.
+pub fn exec20<H: Host, K: Source, S: Sink, W: Sink, C: Clock, L: Ledger>(
     alloc: Global,
     words: &Words,
     host: &mut H,
@@ -91,7 +108,12 @@ pub fn exec20<H: Host, K: Source, S: Sink, W: Sink, C: Clock>(
     screen: &mut S,
     log: &mut W,
     clock: &mut C,
+    hooks: &Hooks<ExecRules>,
+    steps: &mut Steps<L>,
 ) -> Status
+    requires hooks { Ties exec_meanings hooks.now }
+    requires three { 3 ≤ count hooks.now }
+
     // Where the run is Done, the screen was given what the run over all keys shows ..
     ensures done_shown { IsTrue K.tells → IsTrue C.tells → result ≡ Status.Done
         → S.told screen.new ≡ add (S.told screen.old)
@@ -101,11 +123,14 @@ pub fn exec20<H: Host, K: Source, S: Sink, W: Sink, C: Clock>(
         → (form : Form) → form_of words.now ≡ Some form
         → W.told log.new ≡ add (W.told log.old)
         (bytes_logged form.logs (starting (C.left clock.old)) (K.left keys.old)) }
+    // .. the counter has risen by what the trials of all keys cost, with a log or without ..
+    ensures done_counted { IsTrue K.tells → IsTrue C.tells → result ≡ Status.Done
+        → steps.new ≡ steps.old + total (starting (C.left clock.old)) (K.left keys.old) }
     // .. and OUT holds the image.
     ensures done_saved { IsTrue H.tells → result ≡ Status.Done
         → (form : Form) → form_of words.now ≡ Some form → H.files host.new form.out ≡ Some image }
 
-    // What stands, whatever the status: on the screen and in the log ..
+    // What stands, whatever the status: on the screen, in the log and in the counter ..
     ensures stands { IsTrue K.tells → IsTrue C.tells → Stands (form_of words.now)
         (record {
           screen = S.told screen.old;
@@ -115,6 +140,7 @@ pub fn exec20<H: Host, K: Source, S: Sink, W: Sink, C: Clock>(
           keys = K.left keys.old;
           keys_faults = K.faults keys.old;
           moments = C.left clock.old;
+          steps = steps.old;
         })
         (record {
           screen = S.told screen.new;
@@ -124,6 +150,7 @@ pub fn exec20<H: Host, K: Source, S: Sink, W: Sink, C: Clock>(
           keys = K.left keys.new;
           keys_faults = K.faults keys.new;
           moments = C.left clock.new;
+          steps = steps.new;
         })
         result }
     // .. and in the files.
@@ -155,8 +182,13 @@ pub fn exec20<H: Host, K: Source, S: Sink, W: Sink, C: Clock>(
     let Some(form) = words.form() else {
         return refuse(Status::Usage, screen);
     };
-    let Ok(verbs) = Verbs::new(alloc) else {
+    let Ok(grammar) = grammar(alloc) else {
         return refuse(Status::NoMemory, screen);
     };
-    run_all(form.logs, form.out, &verbs, host, keys, screen, log, clock)
+    let under = Setting {
+        grammar,
+        names: Operator::new(),
+        hooks,
+    };
+    run_all(form, &under, host, keys, screen, log, clock, steps)
 }

@@ -1,28 +1,38 @@
 // The run over the keys.
 ghost use Rattle.std.specs.Prelude.{◌≡◌, ◌≤◌, IsTrue};
-ghost use Rattle.cm_state.specs.Verbs.{exec_verbs};
+ghost use Rattle.cm_hooks.specs.Ties.{Ties, count};
+ghost use Rattle.cm_blocks.specs.Grammar.{hook_count};
+ghost use Rattle.cm_blocks.specs.Setting.{setting};
+ghost use Rattle.ex_grammar.specs.ExecRules.{exec_meanings};
 ghost use Rattle.ex_program.specs.Cause.{StopCause};
+ghost use Rattle.ex_program.specs.Setting.{exec_setting};
 ghost use Rattle.ex_program.specs.Stop.{Stops};
 
-use crate::step::{Step, take_key};
+use crate::setting::Setting;
+use crate::step::{Step, next_line, take_key};
 use crate::stop::Stop;
+use cm_blocks::Steps;
 use cm_io::{Clock, Got, Put, Sink, Source};
-use cm_state::{COMMANDS, Prompt, Session, Verbs};
+use cm_state::Session;
+use std::sync::ledger::Ledger;
 
 /// The most keys that a run takes.
 pub const KEY_LIMIT: u32 = 16_777_216;
 
 /// Shows the first prompt and takes the keys in turn, until LOGOUT has acted, no key is left, as many are
 /// taken as a run takes, or the outside fails. Nothing is asked of the outside behind a call that failed.
-pub fn run<K: Source, S: Sink, W: Sink, C: Clock>(
+pub fn run<K: Source, S: Sink, W: Sink, C: Clock, L: Ledger>(
     writes: bool,
-    verbs: &Verbs,
+    under: &Setting<'_>,
     keys: &mut K,
     screen: &mut S,
     log: &mut W,
     clock: &mut C,
+    steps: &mut Steps<L>,
 ) -> Stop
-    requires { verbs.now ≡ exec_verbs }
+    requires exec { setting under.now.grammar under.now.names exec_meanings ≡ exec_setting }
+    requires ties { Ties exec_meanings under.now.hooks.now }
+    requires hooks { hook_count under.now.grammar ≤ count under.now.hooks.now }
     ensures stops { IsTrue K.tells → IsTrue C.tells → Stops writes
         (record {
           screen = S.told screen.old;
@@ -32,6 +42,7 @@ pub fn run<K: Source, S: Sink, W: Sink, C: Clock>(
           keys = K.left keys.old;
           keys_faults = K.faults keys.old;
           moments = C.left clock.old;
+          steps = steps.old;
         })
         (record {
           screen = S.told screen.new;
@@ -41,6 +52,7 @@ pub fn run<K: Source, S: Sink, W: Sink, C: Clock>(
           keys = K.left keys.new;
           keys_faults = K.faults keys.new;
           moments = C.left clock.new;
+          steps = steps.new;
         })
         result }
     ensures cause { StopCause
@@ -52,7 +64,7 @@ pub fn run<K: Source, S: Sink, W: Sink, C: Clock>(
     ensures keys_later { K.faults keys.old ≤ K.faults keys.new }
 {
     let mut session = Session::new();
-    if let Put::Failed = session.begin(COMMANDS, Prompt::Main, screen) {
+    if let Put::Failed = next_line(&mut session, screen) {
         return Stop::ScreenFailed;
     }
     for _turn in 0..KEY_LIMIT {
@@ -61,7 +73,7 @@ pub fn run<K: Source, S: Sink, W: Sink, C: Clock>(
             Got::End => return Stop::KeysEnded,
             Got::Failed => return Stop::ReadFailed,
         };
-        match take_key(writes, key, verbs, &mut session, screen, log, clock) {
+        match take_key(writes, key, under, &mut session, screen, log, clock, steps) {
             Step::More => {}
             Step::Over => return Stop::LoggedOut,
             Step::ScreenFailed => return Stop::ScreenFailed,

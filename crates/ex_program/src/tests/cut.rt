@@ -1,7 +1,6 @@
 // Runs that a fault of the outside cuts short.
 use super::given::{BEFORE, Case, Given, IMAGE, Log, Outcome, outcome_of, over, try_cases};
 use crate::Status;
-use std::alloc::Global;
 use std::process::Abort;
 use std::test::Fail;
 
@@ -45,7 +44,7 @@ fn ends_the_line_where_the_keys_fail(rt: HostRuntime) -> Result<(), Fail> {
         cut(with_room(4), Status::ReadFault, b"@LO\r", log, b"G"),
         cut(with_room(7), Status::ReadFault, b"@LO\r\n?R", log, b"G"),
     ];
-    try_cases(&rt, rt.alloc(), &cases)
+    try_cases(&rt, &rt, &cases)
 }
 
 #[test]
@@ -75,7 +74,7 @@ fn takes_no_key_behind_a_failed_screen(rt: HostRuntime) -> Result<(), Fail> {
             with_room(9),
             Status::WriteFault,
             b"@INF VER\r",
-            Log::End(b"\n52 7 O 0.1k9@0-3\n"),
+            Log::End(b"\n52 7 O 0.1k9@0-3 26.0n0@4-4\n"),
             b"LOG\r",
         ),
         // in a reply: the key is logged, and its line has acted
@@ -85,7 +84,7 @@ fn takes_no_key_behind_a_failed_screen(rt: HostRuntime) -> Result<(), Fail> {
                 with_room(14),
                 Status::WriteFault,
                 b"@INF VER\r\n EXE",
-                Log::End(b"\n0d 7 D 0.1k9@0-3 27.0k4@4-7\n"),
+                Log::End(b"\n0d 7 D 0.1k9@0-3 26.0n0@4-4 27.0k4@4-7\n"),
                 b"LOG\r",
             )
         },
@@ -101,7 +100,7 @@ fn takes_no_key_behind_a_failed_screen(rt: HostRuntime) -> Result<(), Fail> {
             b"",
         ),
     ];
-    try_cases(&rt, rt.alloc(), &cases)
+    try_cases(&rt, &rt, &cases)
 }
 
 #[test]
@@ -117,19 +116,19 @@ fn leaves_a_line_undone_whose_log_fails(rt: HostRuntime) -> Result<(), Fail> {
             Log::Whole(b"4c "),
             b"OG",
         ),
-        // seven keys take 89 bytes of the log
+        // seven keys take 122 bytes of the log
         cut(
             Given {
-                log_room: 92,
+                log_room: 125,
                 ..over(b"INF VER\rLOG\r")
             },
             Status::WriteFault,
             b"@INF VER\r\n",
-            Log::End(b"\n52 7 O 0.1k9@0-3\n0d "),
+            Log::End(b"\n52 7 O 0.1k9@0-3 26.0n0@4-4\n0d "),
             b"LOG\r",
         ),
     ];
-    try_cases(&rt, rt.alloc(), &cases)
+    try_cases(&rt, &rt, &cases)
 }
 
 // A run whose host fails, behind which this moment comes next.
@@ -203,7 +202,7 @@ fn tells_that_the_host_failed(rt: HostRuntime) -> Result<(), Fail> {
             1,
         ),
     ];
-    try_cases(&rt, rt.alloc(), &cases)
+    try_cases(&rt, &rt, &cases)
 }
 
 const TWO_LINES: &[u8] = b"INF VER\rLOGOUT\r";
@@ -287,9 +286,14 @@ fn is_whole(outcome: &Outcome, whole: &Outcome) -> bool {
 }
 
 // How many runs the fault cuts short, as its number is counted upwards from 0 until a run is Done.
-fn count_cut(rt: &impl Abort, alloc: Global, fault: Fault, whole: &Outcome) -> Result<usize, Fail> {
+fn count_cut(
+    rt: &impl Abort,
+    runtime: &HostRuntime,
+    fault: Fault,
+    whole: &Outcome,
+) -> Result<usize, Fail> {
     for number in 0..1000u32 {
-        let outcome = outcome_of(alloc, &fault.failing(over(TWO_LINES), &[number]))?;
+        let outcome = outcome_of(runtime, &fault.failing(over(TWO_LINES), &[number]))?;
         if outcome.status == Status::Done {
             assert!(rt; is_whole(&outcome, whole), "{fault:?} {number}");
             return Ok(number as usize);
@@ -301,7 +305,7 @@ fn count_cut(rt: &impl Abort, alloc: Global, fault: Fault, whole: &Outcome) -> R
 
 #[test]
 fn leaves_a_prefix_of_the_run_at_each_fault(rt: HostRuntime) -> Result<(), Fail> {
-    let whole = outcome_of(rt.alloc(), &over(TWO_LINES))?;
+    let whole = outcome_of(&rt, &over(TWO_LINES))?;
     assert_eq!(rt;
         whole.screen.bytes(),
         b"@INF VER\r\n EXEC20 1\r\n@LOGOUT\r\nLogged out\r\n".as_slice()
@@ -312,7 +316,7 @@ fn leaves_a_prefix_of_the_run_at_each_fault(rt: HostRuntime) -> Result<(), Fail>
         (Fault::Log, whole.log.bytes().len()),
         (Fault::Host, 3),
     ] {
-        let cut = count_cut(&rt, rt.alloc(), fault, &whole)?;
+        let cut = count_cut(&rt, &rt, fault, &whole)?;
         assert_eq!(rt; cut, count, "{fault:?}");
     }
     Ok(())

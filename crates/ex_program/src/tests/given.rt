@@ -1,8 +1,9 @@
 // What the runs of the tests are given, and what is to stand at their ends.
-use crate::{Status, Words, exec20};
+use crate::{Status, Words, run_with_rules};
 use cm_io::{Clock, Got, MemClock, MemHost, MemSink, MemSource, NoMemory, Source};
-use std::alloc::Global;
+use std::marker::Brand;
 use std::process::Abort;
+use std::sync::ledger::Blank;
 use std::test::Fail;
 
 pub const IMAGE: &[u8] = b"EXEC20 1\nD OPERATOR 1\nC OPERATOR\nE\n";
@@ -53,11 +54,16 @@ pub fn words_of(texts: &[&str]) -> Words {
 }
 
 // A run with a log.
-pub fn outcome_of(alloc: Global, given: &Given<'_>) -> Result<Outcome, NoMemory> {
-    outcome_by(alloc, &words_of(&["-w", "-n", "OUT"]), given)
+pub fn outcome_of(runtime: &HostRuntime, given: &Given<'_>) -> Result<Outcome, NoMemory> {
+    outcome_by(runtime, &words_of(&["-w", "-n", "OUT"]), given)
 }
 
-pub fn outcome_by(alloc: Global, words: &Words, given: &Given<'_>) -> Result<Outcome, NoMemory> {
+pub fn outcome_by(
+    runtime: &HostRuntime,
+    words: &Words,
+    given: &Given<'_>,
+) -> Result<Outcome, NoMemory> {
+    let alloc = runtime.alloc();
     let mut outcome = Outcome {
         status: Status::NoMemory,
         keys: MemSource::new(alloc, given.keys, given.failing_get)?,
@@ -72,8 +78,9 @@ pub fn outcome_by(alloc: Global, words: &Words, given: &Given<'_>) -> Result<Out
         )?,
         clock: MemClock::new(alloc, &[1, 2, 3, 4, 5, 6])?,
     };
-    outcome.status = exec20(
-        alloc,
+    outcome.status = run_with_rules::<MemHost, MemSource, MemSink, MemSink, MemClock, Brand>(
+        runtime,
+        Blank::new(1),
         words,
         &mut outcome.host,
         &mut outcome.keys,
@@ -123,11 +130,15 @@ fn leaves(keys: &mut MemSource, left: &[u8]) -> bool {
     keys.get() == Got::End
 }
 
-// Runs each case.
-pub fn try_cases(rt: &impl Abort, alloc: Global, cases: &[Case<'_>]) -> Result<(), Fail> {
+// Runs each case. The counter wants the runtime itself.
+pub fn try_cases(
+    rt: &impl Abort,
+    runtime: &HostRuntime,
+    cases: &[Case<'_>],
+) -> Result<(), Fail> {
     for case in cases {
         let keys = case.given.keys;
-        let mut outcome = outcome_of(alloc, &case.given)?;
+        let mut outcome = outcome_of(runtime, &case.given)?;
         assert_eq!(rt; outcome.status, case.status, "after {keys:?}");
         assert_eq!(rt; outcome.screen.bytes(), case.screen, "after {keys:?}");
         assert!(rt; case.log.is_of(outcome.log.bytes()), "log after {keys:?}");

@@ -3,9 +3,10 @@ ghost use Rattle.std.specs.Prelude.{[], false};
 ghost use Rattle.cm_io.specs.Told.{Nothing};
 
 use super::given::{IMAGE, words_of};
-use crate::{Status, exec20};
+use crate::{Status, run_with_rules};
 use cm_io::{Got, MemClock, MemHost, MemSink, NoMemory, Put, Sink, Source};
-use std::alloc::Global;
+use std::marker::Brand;
+use std::sync::ledger::Blank;
 use std::test::Fail;
 
 const LIMIT: u64 = 16_777_216;
@@ -53,7 +54,8 @@ impl Sink for LateScreen {
 
 // Whether a run over endless keys, on a screen with so much room behind the prompt and a BEL for each key,
 // ends with this message.
-fn ends_with(alloc: Global, room: u32, message: &[u8]) -> Result<bool, NoMemory> {
+fn ends_with(runtime: &HostRuntime, room: u32, message: &[u8]) -> Result<bool, NoMemory> {
+    let alloc = runtime.alloc();
     let mut keys = Endless { gets: 0 };
     let mut screen = LateScreen {
         puts: 1 + LIMIT,
@@ -61,8 +63,9 @@ fn ends_with(alloc: Global, room: u32, message: &[u8]) -> Result<bool, NoMemory>
     };
     let mut log = MemSink::new(alloc, 0)?;
     let mut host = MemHost::new(alloc, "IN", None, 64, &[])?;
-    let status = exec20(
-        alloc,
+    let status = run_with_rules::<MemHost, Endless, LateScreen, MemSink, MemClock, Brand>(
+        runtime,
+        Blank::new(1),
         &words_of(&["-n", "OUT"]),
         &mut host,
         &mut keys,
@@ -81,12 +84,12 @@ fn ends_with(alloc: Global, room: u32, message: &[u8]) -> Result<bool, NoMemory>
 
 #[test]
 fn takes_no_more_keys_than_its_limit(rt: HostRuntime) -> Result<(), Fail> {
-    assert!(rt; ends_with(rt.alloc(), 32, b"\r\n?Too many keys\r\n")?);
+    assert!(rt; ends_with(&rt, 32, b"\r\n?Too many keys\r\n")?);
     Ok(())
 }
 
 #[test]
 fn stays_at_its_limit_where_no_message_fits(rt: HostRuntime) -> Result<(), Fail> {
-    assert!(rt; ends_with(rt.alloc(), 0, b"")?);
+    assert!(rt; ends_with(&rt, 0, b"")?);
     Ok(())
 }

@@ -29,7 +29,7 @@ fn shows_the_prompt_and_the_end(rt: HostRuntime) -> Result<(), Fail> {
         done(
             b"INF VER X\r",
             b"@INF VER X\r\n?Not confirmed\r\n@\r\n",
-            Log::End(b"\n0d 9 F25.5@8 0.1k9@0-3 27.0k4@4-7\n"),
+            Log::End(b"\n0d 9 F25.5@8 0.1k9@0-3 26.0n0@4-4 27.0k4@4-7\n"),
             1,
         ),
         done(
@@ -41,7 +41,7 @@ fn shows_the_prompt_and_the_end(rt: HostRuntime) -> Result<(), Fail> {
         done(
             b"INF X\r\x08",
             b"@INF X\r\n?Unrecognized keyword\r\n@INF \r\n",
-            Log::End(b"\n0d 5 F1.27@4 0.1k9@0-3\n08 4 O 0.1k9@0-3\n"),
+            Log::End(b"\n0d 5 F1.27@4 0.1k9@0-3 26.0n0@4-4\n08 4 O 0.1k9@0-3\n"),
             1,
         ),
         done(
@@ -57,20 +57,59 @@ fn shows_the_prompt_and_the_end(rt: HostRuntime) -> Result<(), Fail> {
             1,
         ),
     ];
-    try_cases(&rt, rt.alloc(), &cases)
+    try_cases(&rt, &rt, &cases)
+}
+
+#[test]
+fn runs_over_the_grammar_of_the_exec(rt: HostRuntime) -> Result<(), Fail> {
+    let cases = [
+        done(
+            b"INF (ab) VER ; x\r",
+            b"@INF (ab) VER ; x\r\n EXEC20 1\r\n@\r\n",
+            Log::End(b"\n0d 16 D 0.1k9@0-3 26.0n1@4-8 27.0k4@9-12\n"),
+            2,
+        ),
+        done(
+            b"DEFINE A1: \r",
+            b"@DEFINE A1: \r\n?Logical name is not defined\r\n@\r\n",
+            Log::End(
+                b"\n0d 11 D 0.1k5@0-6 28.0n0@7-7 29.0h0:2@7-9 30.0t@9-10 31.0n0@11-11\n",
+            ),
+            2,
+        ),
+        done(
+            b"DEFINE PS:\r",
+            b"@DEFINE PS:\r\n?Value not accepted\r\n@\r\n",
+            Log::End(b"\n0d 10 F26.29@7 0.1k5@0-6 28.0n0@7-7\n"),
+            1,
+        ),
+        done(
+            b"REMARK ! not a comment\r",
+            b"@REMARK ! not a comment\r\n@\r\n",
+            Log::End(b"\n0d 22 D 0.1k12@0-6 45.0x@7-22\n"),
+            2,
+        ),
+        done(
+            b"LO\rKJOB\r",
+            b"@LO\r\n?Ambiguous keyword\r\n@KJOB\r\nLogged out\r\n",
+            Log::End(b"\n0d 4 D 0.1k10@0-4\n"),
+            2,
+        ),
+    ];
+    try_cases(&rt, &rt, &cases)
 }
 
 #[test]
 fn logs_each_key_where_the_words_ask_for_it(rt: HostRuntime) -> Result<(), Fail> {
     let screen = b"@INF VER\r\n EXEC20 1\r\n@LOG\x08 \x08G\r\nLogged out\r\n".as_slice();
     let log =
-        b"49 1 O\n4e 2 O\n46 3 O\n20 4 O 0.1k9@0-3\n56 5 O 0.1k9@0-3\n45 6 O 0.1k9@0-3\n52 7 O 0.1k9@0-3\n0d 7 D 0.1k9@0-3 27.0k4@4-7\n4c 1 O\n4f 2 O\n47 3 O\n7f 2 O\n47 3 O\n0d 3 D 0.1k10@0-3\n".as_slice();
+        b"49 1 O\n4e 2 O\n46 3 O\n20 4 O 0.1k9@0-3\n56 5 O 0.1k9@0-3 26.0n0@4-4\n45 6 O 0.1k9@0-3 26.0n0@4-4\n52 7 O 0.1k9@0-3 26.0n0@4-4\n0d 7 D 0.1k9@0-3 26.0n0@4-4 27.0k4@4-7\n4c 1 O\n4f 2 O\n47 3 O\n7f 2 O\n47 3 O\n0d 3 D 0.1k10@0-3\n".as_slice();
     let logged = over(b"INF VER\rLOG\x7fG\r");
     for (words, log) in [
         (["-w", "-n", "OUT"].as_slice(), log),
         (["-n", "OUT"].as_slice(), b"".as_slice()),
     ] {
-        let outcome = outcome_by(rt.alloc(), &words_of(words), &logged)?;
+        let outcome = outcome_by(&rt, &words_of(words), &logged)?;
         assert_eq!(rt; outcome.status, Status::Done);
         assert_eq!(rt; outcome.screen.bytes(), screen);
         assert_eq!(rt; outcome.log.bytes(), log);
@@ -81,7 +120,7 @@ fn logs_each_key_where_the_words_ask_for_it(rt: HostRuntime) -> Result<(), Fail>
 
 #[test]
 fn refuses_a_key_past_a_full_line(rt: HostRuntime) -> Result<(), Fail> {
-    let outcome = outcome_of(rt.alloc(), &over(&[b'A'; 256]))?;
+    let outcome = outcome_of(&rt, &over(&[b'A'; 256]))?;
     assert_eq!(rt; outcome.status, Status::Done);
     assert_eq!(rt; outcome.screen.bytes().len(), 1 + 255 + 1 + 2);
     assert!(rt; outcome.screen.bytes().starts_with(b"@AAAA"));
@@ -100,7 +139,7 @@ fn takes_a_moment_for_each_line_that_acts(rt: HostRuntime) -> Result<(), Fail> {
         ),
         5,
     )];
-    try_cases(&rt, rt.alloc(), &cases)
+    try_cases(&rt, &rt, &cases)
 }
 
 #[test]
@@ -114,5 +153,5 @@ fn leaves_the_keys_behind_logout(rt: HostRuntime) -> Result<(), Fail> {
             2,
         )
     }];
-    try_cases(&rt, rt.alloc(), &cases)
+    try_cases(&rt, &rt, &cases)
 }

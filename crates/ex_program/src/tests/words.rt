@@ -37,7 +37,7 @@ fn shows_the_usage_of_other_words(rt: HostRuntime) -> Result<(), Fail> {
         &["-w", "-n", "OUT", "X", "Y"],
     ];
     for words in cases {
-        let mut outcome = outcome_by(rt.alloc(), &words_of(words), &base)?;
+        let mut outcome = outcome_by(&rt, &words_of(words), &base)?;
         assert!(rt; is_refused(&mut outcome), "of {words:?}");
     }
     Ok(())
@@ -48,7 +48,7 @@ fn takes_words_of_at_most_255_bytes(rt: HostRuntime) -> Result<(), Fail> {
     for (length, status) in [(255, Status::Done), (256, Status::Usage)] {
         let name = "A".repeat(rt.alloc(), length)?;
         let words = words_of(&["-n", name.as_str()]);
-        let outcome = outcome_by(rt.alloc(), &words, &over(b""))?;
+        let outcome = outcome_by(&rt, &words, &over(b""))?;
         assert_eq!(rt; outcome.status, status, "of {length} bytes");
     }
     Ok(())

@@ -10,5 +10,5 @@ returns-clause-past_the_prompt g c = closes_run _ _ _ _ c.close.result c.run-sto
 
 pub returns-clause-ran : goal.returns-clause-ran
 returns-clause-ran g c = λ keys clock.
-    closes_ran c.args.writes _ _ _ _ c.close.result c.run-stop.ensures.screen_later c.close.ensures.later c.run-stop.result (c.run-stop.ensures.stops keys clock)
+    closes_ran c.args.form.logs _ _ _ _ c.close.result c.run-stop.ensures.screen_later c.close.ensures.later c.run-stop.result (c.run-stop.ensures.stops keys clock)
     c.run-stop.ensures.cause c.close.ensures.closes

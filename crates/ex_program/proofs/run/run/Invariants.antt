@@ -1,9 +1,11 @@
 use Rattle.std.proofs.Common.{◌≡◌}
 use Rattle.std.specs.Bool.{IsTrue}
+use Rattle.cm_state.specs.Held.{IsReady}
+use Rattle.ex_program.specs.Setting.{exec_setting}
 use Rattle.ex_program.proofs.Running.{Runs}
 use Rattle.ex_program.proofs.run.run.Given as goal
 
--- the run of the keys so far stands, and no fault was counted
+-- the run of the keys so far stands, the session is ready for a key, and no fault was counted
 abbrev pub invariant-loop-turn : goal.invariant-loop-turn
 invariant-loop-turn g l = record {
   runs : IsTrue g.K.Source.tells → IsTrue g.C.Clock.tells → Runs l.writes
@@ -15,6 +17,7 @@ invariant-loop-turn g l = record {
         keys = g.K.Source.left l.fn.keys;
         keys_faults = g.K.Source.faults l.fn.keys;
         moments = g.C.Clock.left l.fn.clock;
+        steps = l.fn.steps;
       })
       (record {
         screen = g.S.Sink.told l.screen;
@@ -24,8 +27,10 @@ invariant-loop-turn g l = record {
         keys = g.K.Source.left l.keys;
         keys_faults = g.K.Source.faults l.keys;
         moments = g.C.Clock.left l.clock;
+        steps = l.steps;
       })
       l.session l._turn;
+  ready : IsReady exec_setting l.session;
   screen : g.S.Sink.faults l.screen ≡ g.S.Sink.faults l.fn.screen;
   log : g.W.Sink.faults l.log ≡ g.W.Sink.faults l.fn.log;
   keys : g.K.Source.faults l.keys ≡ g.K.Source.faults l.fn.keys;

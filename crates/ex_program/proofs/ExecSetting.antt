@@ -1,0 +1,30 @@
+-- What the EXEC's setting is and has.
+use Rattle.std.proofs.Common.{◌≡◌, ℕ, ◌<◌, ◌≤◌, length, None, arith, ap, ◌∙◌}
+use Rattle.cm_blocks.specs.Fault.{grammar_fault}
+use Rattle.cm_blocks.specs.Grammar.{Graph, hook_count}
+use Rattle.cm_blocks.specs.Setting.{setting}
+use Rattle.cm_files.specs.Catalogue.{Catalogue}
+use Rattle.ex_grammar.specs.ExecRules.{exec_meanings}
+use Rattle.ex_grammar.specs.Graph.{exec_graph}
+use Rattle.ex_grammar.specs.declared.node.TheConstants.{COMMANDS}
+use Rattle.ex_grammar.proofs.Faultless.{graph_has_no_fault, graph_hooks, graph_nodes}
+use Rattle.ex_program.specs.Catalogue.{operator_catalogue}
+use Rattle.ex_program.specs.Setting.{exec_setting}
+
+pub exec_has_no_fault : grammar_fault exec_setting.graph ≡ None
+unfolding exec_setting
+exec_has_no_fault = graph_has_no_fault
+
+pub exec_has_commands : COMMANDS < length exec_setting.graph.nodes
+unfolding exec_setting
+exec_has_commands = omega (arith, graph_nodes)
+
+pub is_exec : (graph : Graph) (catalogue : Catalogue) → graph ≡ exec_graph → catalogue ≡ operator_catalogue
+    → setting graph catalogue exec_meanings ≡ exec_setting
+unfolding exec_setting
+is_exec graph catalogue of_exec of_operator =
+    ap (λ (it : Graph). setting it catalogue exec_meanings) of_exec ∙ ap (λ (it : Catalogue). setting exec_graph it exec_meanings) of_operator
+
+-- three hooks are enough
+pub enough_hooks : (graph : Graph) (count : ℕ) → graph ≡ exec_graph → 3 ≤ count → hook_count graph ≤ count
+enough_hooks graph count of_exec three = omega (arith, ap hook_count of_exec, graph_hooks)
