@@ -29,8 +29,8 @@ cost_after behind (chain.Done place) = 0
 cost_after behind (chain.Fault fault) = 0
 cost_after behind (chain.Open place) = 0
 
--- what the trials of a parse cost from a node and a place on, with room for so many fields: that of the ending
--- too, and that of a field that is one too many
+-- what the trials of a parse cost from a node and a place on, with room for so many fields: that of the
+-- ending too, and that of a field that is one too many
 abbrev pub cost_from : Setting → List ℕ → ℕ → ℕ → ℕ → ℕ
 cost_from s text zero node at = (chain_at s node text at).spent
 cost_from s text (suc room) node at =

@@ -65,7 +65,8 @@ IsLast (chain.Fault fault) = Unit {0}
 IsLast (chain.Open place) = Unit {0}
 
 -- from a node and a place on, a text has these fields, of which there is room for so many, and ends so
-pub record Parses (s : Setting) (text : List ℕ) (room node at : ℕ) (fields : List Taken) (ends : Ending) : Type 0 where
+pub record Parses (s : Setting) (text : List ℕ) (room node at : ℕ) (fields : List Taken) (ends : Ending)
+    : Type 0 where
   pub few : length fields ≤ room
   pub follow : Follow s text node at fields
   pub ending : ends ≡ ending_of (chain_at s (node_behind node fields) text (place_behind at fields)).chain

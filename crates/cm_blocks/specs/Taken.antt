@@ -3,8 +3,8 @@ use Rattle.std.specs.Prelude.{ℕ, Bool}
 use Rattle.cm_fields.specs.declared.value.Value.{Value}
 use Rattle.cm_blocks.specs.declared.function.Role.{Role}
 
--- the node and the block that took it, its value and place, how many bytes decide it, whether it was taken from
--- the default, what it is for, and the node that follows
+-- the node and the block that took it, its value and place, how many bytes decide it, whether it was taken
+-- from the default, what it is for, and the node that follows
 pub record Taken : Type 0 where
   pub node : ℕ
   pub block : ℕ

@@ -287,7 +287,8 @@ fn walk_default<N: Names, R: Rules, L: Ledger>(
     requires ties { Ties R.meanings hooks.now }
     requires hooks { hook_count grammar.now ≤ count hooks.now }
     ensures value { result ≡ walk (setting grammar.now (N.catalogue names.now) R.meanings)
-        (default_rest node.now.raw text.now) (default_place node.now.raw text.now) 0 0 NotConfirmed node.now.chain }
+        (default_rest node.now.raw text.now) (default_place node.now.raw text.now) 0 0 NotConfirmed
+        node.now.chain }
     ensures steps { steps.new ≡ steps.old + spent (setting grammar.now (N.catalogue names.now) R.meanings)
         (default_rest node.now.raw text.now) (default_place node.now.raw text.now) node.now.chain }
 {
@@ -307,11 +308,11 @@ fn walk_default<N: Names, R: Rules, L: Ledger>(
 
 /// What the chain of a node makes of a text from a place on (COMND).
 ///
-/// Blanks and comments are skipped; in a comment that is not ended the answer is Open with no block. Where the
-/// line ends there and the node has a default, the blocks are tried on that, and the field stands at the place
-/// with no bytes. The first block that does not refuse decides: its field, Done for the end of the line, Open
-/// where it wants more. Where all refuse the answer is Fault with the code of the last. The counter rises by
-/// the bytes that each block looked at, and one for each.
+/// Blanks and comments are skipped; in a comment that is not ended the answer is Open with no block. Where
+/// the line ends there and the node has a default, the blocks are tried on that, and the field stands at the
+/// place with no bytes. The first block that does not refuse decides: its field, Done for the end of the
+/// line, Open where it wants more. Where all refuse the answer is Fault with the code of the last. The
+/// counter rises by the bytes that each block looked at, and one for each.
 #[tactic(auto, unfolding(crate::specs::Chain::chain_at))]
 pub fn try_chain<N: Names, R: Rules, L: Ledger>(
     grammar: &Grammar,

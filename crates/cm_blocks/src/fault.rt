@@ -3,7 +3,6 @@ ghost use Rattle.std.specs.Prelude.{◌≡◌, ◌≤◌, true, length, nat_lt};
 ghost use Rattle.std.specs.List.{list_all, list_any};
 ghost use Rattle.std.specs.Option.{option_map_or};
 ghost use Rattle.cm_blocks.specs.Fault.{chain_confirms, entries_at, entries_of, grammar_fault, has_flags, has_phrase, has_size, has_table, has_texts, is_confirm, is_parenthesis, is_phrase, is_shown, is_shown_byte, leads_within, node_fault, nodes_fault};
-ghost use Rattle.cm_blocks.specs.Grammar.{Graph};
 
 use crate::{Block, Function, GrammarFault, Node};
 use cm_tables::{Entry, Table};

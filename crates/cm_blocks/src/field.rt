@@ -8,8 +8,8 @@ use std::marker::Model;
 /// The most fields of a line.
 pub const FIELD_LIMIT: usize = 64;
 
-/// A field that a chain took from a text. Only `try_chain` makes one, by a trial that is counted, and it cannot
-/// be cloned; so who holds a field holds what a counted trial answered. Contracts see its parts.
+/// A field that a chain took from a text. Only `try_chain` makes one, by a trial that is counted, and it
+/// cannot be cloned; so who holds a field holds what a counted trial answered. Contracts see its parts.
 #[derive(Debug, Drop)]
 pub struct Field {
     pub(crate) node: u16,
@@ -56,8 +56,8 @@ impl Field {
         self.block
     }
 
-    /// What it stands for. The spans of a defaulted field are places in the node's default, those of any other
-    /// places in the text.
+    /// What it stands for. The spans of a defaulted field are places in the node's default, those of any
+    /// other places in the text.
     pub fn value(&self) -> &Value
         ensures { result.now ≡ self.now.value }
     {

@@ -28,8 +28,8 @@ pub enum GrammarFault {
     /// A block, or an entry of its table, leads to a node that is not there.
     #[error("NextRange")]
     NextRange(u16),
-    /// A default, a help text, a guide word or a token has a byte that is no printing one or is `?`; or a guide
-    /// word or a token is empty; or a guide word has a parenthesis.
+    /// A default, a help text, a guide word or a token has a byte that is no printing one or is `?`; or a
+    /// guide word or a token is empty; or a guide word has a parenthesis.
     #[error("BadText")]
     BadText(u16),
     /// A block takes all generations and no wildcards.
@@ -40,8 +40,8 @@ pub enum GrammarFault {
     NoConfirm,
 }
 
-/// A grammar: nodes, each a chain of function blocks, and the keyword tables that they name. Contracts see the
-/// lists of both.
+/// A grammar: nodes, each a chain of function blocks, and the keyword tables that they name. Contracts see
+/// the lists of both.
 #[derive(Debug, Drop)]
 pub struct Grammar {
     nodes: Vec<Node>,

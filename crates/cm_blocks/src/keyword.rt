@@ -1,8 +1,5 @@
 // Keywords and switches.
-ghost use Rattle.std.specs.Prelude.{◌≡◌, ◌≤◌, ◌<◌, ◌+◌, ◌^◌, ◌==◌, IfOk, drop, false, length, slice_get};
-ghost use Rattle.std.specs.List.{prefix_len};
-ghost use Rattle.std.specs.Option.{option_map_or};
-ghost use Rattle.cm_text.specs.Bytes.{is_word};
+ghost use Rattle.std.specs.Prelude.{◌≡◌, ◌≤◌, ◌<◌, ◌+◌, ◌^◌, IfOk, drop, length};
 ghost use Rattle.cm_blocks.specs.Keyword.{behind_slash, entry_position, key, key_value, named_switch, switch};
 
 use cm_fields::{Code, Try, Value, said, word_run};
@@ -95,8 +92,8 @@ fn behind_slash(table: &Table, rest: &[u8], at: usize) -> Try
 }
 
 /// A switch of the table (.CMSWI): `/` and a run of word bytes, as a keyword, and the colon of an entry that
-/// takes a value. Refused with NotSwitch where no `/` stands, with NotKeyword and Ambiguous as a keyword, with
-/// NeedColon where the colon is wanting.
+/// takes a value. Refused with NotSwitch where no `/` stands, with NotKeyword and Ambiguous as a keyword,
+/// with NeedColon where the colon is wanting.
 pub fn switch(table: &Table, text: &[u8], at: usize) -> Try
     requires short { length text.now ≤ TEXT_LIMIT }
     requires place { at ≤ length text.now }

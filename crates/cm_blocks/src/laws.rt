@@ -20,8 +20,8 @@ pub fn trials_are_local()
 
 /// A field is the same on every text that begins with as many bytes as the field needs.
 pub fn a_field_needs_no_more()
-    ensures { (s : Setting) → grammar_fault s.graph ≡ None → (node : ℕ) → (front more other : List ℕ) → (at : ℕ)
-        → (field : Taken) → at ≤ length front
+    ensures { (s : Setting) → grammar_fault s.graph ≡ None → (node : ℕ) → (front more other : List ℕ)
+        → (at : ℕ) → (field : Taken) → at ≤ length front
         → (chain_at s node (front ++ more) at).chain ≡ chain.Field field → field.need ≤ length front
         → (chain_at s node (front ++ other) at).chain ≡ chain.Field field }
 {}
@@ -30,8 +30,8 @@ pub fn a_field_needs_no_more()
 pub fn one_parse()
     ensures is_one { (s : Setting) → (node : ℕ) → (text : List ℕ)
         → IsParse s node text (parse_of s node text).fields (parse_of s node text).ending }
-    ensures no_other { (s : Setting) → (node : ℕ) → (text : List ℕ) → (fields : List Taken) → (ending : Ending)
-        → IsParse s node text fields ending
+    ensures no_other { (s : Setting) → (node : ℕ) → (text : List ℕ) → (fields : List Taken)
+        → (ending : Ending) → IsParse s node text fields ending
         → (fields ≡ (parse_of s node text).fields) × (ending ≡ (parse_of s node text).ending) }
 {}
 

@@ -1,4 +1,5 @@
-//! Grammars as data: nodes, each a chain of function blocks, tried on a text with every trial counted (COMND).
+//! Grammars as data: nodes, each a chain of function blocks, tried on a text with every trial counted
+//! (COMND).
 #![tactic(auto)]
 
 mod chain;

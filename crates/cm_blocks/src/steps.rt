@@ -4,9 +4,9 @@ ghost use Rattle.std.specs.Prelude.{◌≡◌, ℕ, ◌+◌, ◌<◌};
 use std::marker::Model;
 use std::sync::ledger::{Blank, Book, Ledger, Share};
 
-/// How much the trials of `try_chain` have looked at: for each block that was tried the bytes it looked at, and
-/// one. Only `try_chain` raises it. It cannot be cloned, and `new` wants the runtime, so that no call without
-/// the runtime can make another. It takes no bytes.
+/// How much the trials of `try_chain` have looked at: for each block that was tried the bytes it looked at,
+/// and one. Only `try_chain` raises it. It cannot be cloned, and `new` wants the runtime, so that no call
+/// without the runtime can make another. It takes no bytes.
 #[derive(Drop)]
 pub struct Steps<L: Ledger> {
     book: Book<L>,

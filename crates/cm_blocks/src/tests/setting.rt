@@ -9,7 +9,7 @@ use std::alloc::Global;
 use std::test::Fail;
 
 // The directory OPERATOR, which is connected and has the file A..1.
-pub struct Shelf;
+pub(crate) struct Shelf;
 
 impl Names for Shelf {
     ghost use Rattle.std.specs.Prelude.{[], ◌∷◌, codes, false};
@@ -53,7 +53,7 @@ impl Names for Shelf {
 }
 
 // An atom is taken, with its number of bytes, unless it has three.
-pub struct Sizes;
+pub(crate) struct Sizes;
 
 impl Rules for Sizes {
     ghost use Rattle.std.specs.Prelude.{◌==◌, [], if◌then◌else◌, length};
@@ -70,7 +70,7 @@ impl Rules for Sizes {
 }
 
 // The one hook that answers so.
-pub fn hooks(alloc: Global) -> Result<Hooks<Sizes>, Fail>
+pub(crate) fn hooks(alloc: Global) -> Result<Hooks<Sizes>, Fail>
     ensures { IfOk result (λ hooks. Ties ⟦<Sizes as Rules>⟧.meanings hooks) }
 {
     let verdict = |atom: &[u8]| -> Answer
