@@ -27,3 +27,6 @@ fn grammar_of(nodes: Vec<Node>, tables: Vec<Table>) -> Grammar
 {
     Grammar::new(nodes, tables).unwrap()
 }
+
+#[cfg(test)]
+mod tests;

@@ -4,16 +4,14 @@
 mod code;
 mod form;
 mod graph;
+pub mod laws;
 mod node;
 mod nodes;
 mod retention;
 mod rules;
 mod tables;
 
-pub mod laws;
-
 pub use code::{DEFINE, INFORMATION, LOGOUT, REMARK, VERSION};
 pub use graph::grammar;
 pub use node::COMMANDS;
 pub use rules::{ExecRules, rule_completion, rule_help, rule_verdict};
-

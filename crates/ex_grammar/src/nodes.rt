@@ -43,13 +43,7 @@ fn push_each(nodes: &mut Vec<Node>, alloc: Global, blocks: Vec<Block>) -> Result
 fn copy_blocks(alloc: Global) -> Result<Vec<Block>, NoMemory>
     ensures { IfOk result (λ blocks. blocks.items ≡ copy_blocks) }
 {
-    Ok(vec![in alloc;
-        later(),
-        later(),
-        later(),
-        later(),
-        confirm(),
-    ]?)
+    Ok(vec![in alloc; later(), later(), later(), later(), confirm()]?)
 }
 
 // 6 to 12: APPEND and RENAME.
@@ -73,14 +67,7 @@ fn append_blocks(alloc: Global) -> Result<Vec<Block>, NoMemory>
 fn delete_blocks(alloc: Global) -> Result<Vec<Block>, NoMemory>
     ensures { IfOk result (λ blocks. blocks.items ≡ delete_blocks) }
 {
-    Ok(vec![in alloc;
-        later(),
-        later(),
-        later(),
-        later(),
-        later(),
-        later(),
-    ]?)
+    Ok(vec![in alloc; later(), later(), later(), later(), later(), later()]?)
 }
 
 // 19 to 25: TYPE, TAKE and DIRECTORY.
@@ -104,10 +91,7 @@ fn type_blocks(alloc: Global) -> Result<Vec<Block>, NoMemory>
 fn information_blocks(alloc: Global) -> Result<Vec<Block>, NoMemory>
     ensures { IfOk result (λ blocks. blocks.items ≡ information_blocks) }
 {
-    Ok(vec![in alloc;
-        guide("ABOUT", 27),
-        keyword(TOPIC_TABLE, Role::What),
-    ]?)
+    Ok(vec![in alloc; guide("ABOUT", 27), keyword(TOPIC_TABLE, Role::What)]?)
 }
 
 // 28 to 32: DEFINE.
@@ -129,14 +113,7 @@ fn define_blocks(alloc: Global) -> Result<Vec<Block>, NoMemory>
 fn build_blocks(alloc: Global) -> Result<Vec<Block>, NoMemory>
     ensures { IfOk result (λ blocks. blocks.items ≡ build_blocks) }
 {
-    Ok(vec![in alloc;
-        later(),
-        later(),
-        later(),
-        later(),
-        later(),
-        later(),
-    ]?)
+    Ok(vec![in alloc; later(), later(), later(), later(), later(), later()]?)
 }
 
 // 39 to 44: the switches of PRINT.
@@ -144,14 +121,7 @@ fn build_blocks(alloc: Global) -> Result<Vec<Block>, NoMemory>
 fn switch_blocks(alloc: Global) -> Result<Vec<Block>, NoMemory>
     ensures { IfOk result (λ blocks. blocks.items ≡ switch_blocks) }
 {
-    Ok(vec![in alloc;
-        later(),
-        later(),
-        later(),
-        later(),
-        later(),
-        later(),
-    ]?)
+    Ok(vec![in alloc; later(), later(), later(), later(), later(), later()]?)
 }
 
 // 46 to 50: the subcommands of DIRECTORY and BUILD.
@@ -159,11 +129,5 @@ fn switch_blocks(alloc: Global) -> Result<Vec<Block>, NoMemory>
 fn subcommand_blocks(alloc: Global) -> Result<Vec<Block>, NoMemory>
     ensures { IfOk result (λ blocks. blocks.items ≡ subcommand_blocks) }
 {
-    Ok(vec![in alloc;
-        later(),
-        later(),
-        later(),
-        later(),
-        later(),
-    ]?)
+    Ok(vec![in alloc; later(), later(), later(), later(), later()]?)
 }

@@ -3,7 +3,6 @@ ghost use Rattle.std.specs.Prelude.{◌≡◌, ◌≤◌, None, IfOk, length};
 ghost use Rattle.cm_tables.specs.Order.{table_fault};
 ghost use Rattle.ex_grammar.specs.Tables.{command_entries, entry, exec_tables, topic_entries};
 
-
 use crate::code::{DEFINE, INFORMATION, LOGOUT, NO_KEYWORD, REMARK, VERSION};
 use crate::node::LINE_END;
 use cm_io::NoMemory;
