@@ -1,5 +1,5 @@
 -- The tables and the grammar of the EXEC have no fault.
-use Rattle.std.proofs.Common.{◌≡◌, ℕ, length, None, refl}
+use Rattle.std.proofs.Common.{◌≡◌, length, None, refl}
 use Rattle.cm_tables.specs.Order.{table_fault}
 use Rattle.cm_blocks.specs.Fault.{grammar_fault}
 use Rattle.cm_blocks.specs.Grammar.{hook_count}
