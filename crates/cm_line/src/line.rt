@@ -50,7 +50,7 @@ impl Line {
         ensures value { result.now ≡ finished self.now }
         ensures short { length result.now ≤ TEXT_LIMIT }
     {
-        &self.text
+        self.text.as_slice()
     }
 
     /// Appends a text byte. False where the line has 255 bytes, which then stays as it was.

@@ -14,3 +14,8 @@ pub mod laws;
 pub use prompt::Prompt;
 pub use session::Session;
 pub use turn::Turn;
+
+#[cfg(test)]
+mod embedding;
+#[cfg(test)]
+mod tests;

@@ -138,7 +138,7 @@ fn put_hook<S: Sink>(id: u8, value: u64, sink: &mut S) -> Put
 
 // What a field stands for.
 #[tactic(auto, unfolding(crate::specs::Log::value_log))]
-fn put_value<S: Sink>(value: Value, sink: &mut S) -> Put
+pub(crate) fn put_value<S: Sink>(value: Value, sink: &mut S) -> Put
     ensures bytes { Adds (S.told sink.old) (S.told sink.new) (value_log value) result }
     ensures later { S.faults sink.old ≤ S.faults sink.new }
     ensures cause { PutCause (S.faults sink.old) (S.faults sink.new) result }

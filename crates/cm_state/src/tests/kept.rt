@@ -1,0 +1,283 @@
+// Fields that are kept over a key, whole lines, and what the trials cost.
+ghost use Rattle.std.specs.Prelude.{◌≡◌, ◌<◌, ◌∷◌, ℕ, List, [], None, codes, false};
+ghost use Rattle.cm_files.specs.declared.flags.Flags.{Flags};
+ghost use Rattle.cm_files.specs.Catalogue.{Catalogue};
+ghost use Rattle.cm_hooks.specs.Meanings.{Meanings};
+ghost use Rattle.cm_tables.specs.declared.entry.Entry.{Entry};
+ghost use Rattle.cm_tables.specs.declared.entry.Flag.TheVariants as Flag;
+ghost use Rattle.cm_blocks.specs.declared.function.Function.{Function};
+ghost use Rattle.cm_blocks.specs.declared.node.Block.{Block};
+ghost use Rattle.cm_blocks.specs.declared.node.Node.{Node};
+ghost use Rattle.cm_blocks.specs.Kept.{cost};
+ghost use Rattle.cm_blocks.specs.Setting.{setting};
+
+use super::run::{Case, Run, run_of, tries};
+use super::setting::{Logical, Shelf, grammar, hooks};
+use crate::{Prompt, Session, Turn};
+use cm_blocks::{Ending, Fault, Open, Steps};
+use cm_fields::{Code, Value};
+use cm_io::{MemSink, Put};
+use cm_line::Line;
+use cm_text::is_text;
+use std::alloc::Global;
+use std::marker::Brand;
+use std::process::Abort;
+use std::sync::ledger::{Blank, Ledger};
+use std::test::Fail;
+
+// An edit may reach back into fields that were decided, and what follows is read anew.
+#[test]
+fn keeps_what_the_unchanged_front_decides(rt: HostRuntime) -> Result<(), Fail> {
+    let cases: [Case<'_>; 8] = [
+        (
+            b"DIR \x7f",
+            Turn::Edited,
+            b"@DIR \x08 \x08",
+            b"\n20 4 O 0.1k7@0-3\n7f 3 O\n",
+        ),
+        (
+            b"copy (fr) TTYX",
+            Turn::Edited,
+            b"@copy (fr) TTYX",
+            b"\n59 13 O 0.1k4@0-4 1.0n1@5-9\n58 14 F12.2@10 0.1k4@0-4 1.0n1@5-9\n",
+        ),
+        (
+            b"copy (fr) TTYX\x7f:",
+            Turn::Edited,
+            b"@copy (fr) TTYX\x08 \x08:",
+            b"\n7f 13 O 0.1k4@0-4 1.0n1@5-9\n3a 14 O 0.1k4@0-4 1.0n1@5-9 2.0t@10-14\n",
+        ),
+        (
+            b"DEFINE A1:\x7f\x7f2:",
+            Turn::Edited,
+            b"@DEFINE A1:\x08 \x08\x08 \x082:",
+            b"\n7f 9 O 0.1k5@0-6 28.0n0@7-7\n7f 8 O 0.1k5@0-6 28.0n0@7-7\n32 9 O 0.1k5@0-6 28.0n0@7-7\n3a 10 O 0.1k5@0-6 28.0n0@7-7 29.0h0:2@7-9 30.0t@9-10\n",
+        ),
+        (
+            b"P A/C:12/C:7 \x17\x17\x17",
+            Turn::Edited,
+            b"@P A/C:12/C:7 \x08 \x08\x08 \x08\x08 \x08\x08 \x08",
+            b" 37.0n0@2-2 38.0w@2-3 39.0s2@3-6 41.0#12@6-8 39.0s2@8-11\n17 10 O 0.1k11@0-1 37.0n0@2-2 38.0w@2-3 39.0s2@3-6 41.0#12@6-8\n17 9 O 0.1k11@0-1 37.0n0@2-2 38.0w@2-3 39.0s2@3-6 41.0#12@6-8\n",
+        ),
+        (
+            b"DEFINE PS:\r\x08A1:\r",
+            Turn::Confirmed,
+            b"@DEFINE PS:\r\n?Value not accepted\r\n@DEFINE A1:\r\n@",
+            b"\n08 7 O 0.1k5@0-6\n41 8 O 0.1k5@0-6 28.0n0@7-7\n31 9 O 0.1k5@0-6 28.0n0@7-7\n3a 10 O 0.1k5@0-6 28.0n0@7-7 29.0h0:2@7-9 30.0t@9-10\n0d 10 D 0.1k5@0-6 28.0n0@7-7 29.0h0:2@7-9 30.0t@9-10 31.0n0@10-10\n",
+        ),
+        (
+            b"INF (AB\x7f\x7f\x7f!",
+            Turn::Edited,
+            b"@INF (AB\x08 \x08\x08 \x08\x08 \x08!",
+            b"\n42 7 O 0.1k9@0-3\n7f 6 O 0.1k9@0-3\n7f 5 O 0.1k9@0-3\n7f 4 O 0.1k9@0-3\n21 5 O 0.1k9@0-3\n",
+        ),
+        (
+            b"LOGOUT\r \r",
+            Turn::Confirmed,
+            b"@LOGOUT\r\n@ \r\n@",
+            b"\n0d 6 D 0.1k10@0-6\n20 1 O\n0d 1 D\n",
+        ),
+    ];
+    tries::<Brand, _>(&rt, &rt, Blank::new(1), &cases)
+}
+
+// PRINT of A with as many times a number of copies, and some keys behind.
+fn copies(alloc: Global, count: usize, keys: &[u8]) -> Result<Vec<u8>, Fail> {
+    let mut line = Vec::from_array(alloc, *b"P A")?;
+    for _ in 0..count {
+        line.extend_from_slice(b"/C:1")?;
+    }
+    line.extend_from_slice(keys)?;
+    Ok(line)
+}
+
+// A line has 64 fields; one more that would be taken is a fault at its place.
+fn many_fields<L: Ledger, A: Abort>(rt: &A, runtime: &HostRuntime, blank: Blank) -> Result<(), Fail>
+    requires name { blank.name ≡ L.name }
+    requires parts { blank.parts ≡ L.parts }
+    requires some { 0 < L.parts }
+{
+    let alloc = runtime.alloc();
+    let grammar = grammar(alloc)?;
+    let hooks = hooks(alloc)?;
+    let mut steps: Steps<L> = Steps::new(runtime, blank);
+    assert!(rt; grammar.nodes() > 0 && grammar.hooks() <= u16::from(hooks.len()));
+    let open = |node: u16, at: u16| Ending::Open(Open { node, block: Some(0), at });
+    let too_many = |at: u16| {
+        Ending::Fault(Fault {
+            code: Code::TooMany,
+            node: 41,
+            at,
+        })
+    };
+    let cases: [(usize, &[u8], u8, Ending); 6] = [
+        (30, b" ", 63, open(39, 124)),
+        (30, b" /C:", 64, open(41, 127)),
+        (30, b" /C:1", 64, open(41, 127)),
+        (30, b" /C:1,", 64, too_many(127)),
+        (31, b"/", 64, too_many(126)),
+        (31, b"/\x7f", 64, open(41, 126)),
+    ];
+    for (count, more, held, ending) in cases {
+        let keys = copies(alloc, count, more)?;
+        let run = run_of(rt, alloc, &keys, &grammar, &Shelf, &hooks, &mut steps)?;
+        assert_eq!(rt; run.session.held(), held, "after {keys:?}");
+        assert_eq!(rt; *run.session.ending(), ending, "after {keys:?}");
+    }
+    Ok(())
+}
+
+#[test]
+fn holds_64_fields(rt: HostRuntime) -> Result<(), Fail> {
+    many_fields::<Brand, _>(&rt, &rt, Blank::new(1))
+}
+
+fn line_of(rt: &impl Abort, text: &[u8]) -> Line {
+    let mut line = Line::new();
+    for byte in text {
+        assert!(rt; is_text(*byte), "{byte} is no text byte");
+        assert!(rt; line.push(*byte), "the line is full");
+    }
+    line
+}
+
+// A line that is taken whole: what it comes to, its text, and what its log line is.
+fn whole_lines<L: Ledger, A: Abort>(rt: &A, runtime: &HostRuntime, blank: Blank) -> Result<(), Fail>
+    requires name { blank.name ≡ L.name }
+    requires parts { blank.parts ≡ L.parts }
+    requires some { 0 < L.parts }
+{
+    let alloc = runtime.alloc();
+    let grammar = grammar(alloc)?;
+    let hooks = hooks(alloc)?;
+    let mut steps: Steps<L> = Steps::new(runtime, blank);
+    assert!(rt; grammar.nodes() > 27 && grammar.hooks() <= u16::from(hooks.len()));
+    let refused = |code: Code, node: u16, at: u16| Turn::Refused(Fault { code, node, at });
+    let cases: [(u16, &[u8], Turn, &[u8], &[u8]); 5] = [
+        (
+            0,
+            b"INF VER",
+            Turn::Confirmed,
+            b"INF VER\r",
+            b"0d 7 D 0.1k9@0-3 26.0n0@4-4 27.0k4@4-7\n",
+        ),
+        (27, b"VER", Turn::Confirmed, b"VER\r", b"0d 3 D 27.0k4@0-3\n"),
+        (0, b"", Turn::Confirmed, b"\r", b"0d 0 D\n"),
+        (0, b"LO", refused(Code::Ambiguous, 0, 0), b"LO\r", b"0d 2 F2.0@0\n"),
+        (
+            0,
+            b"INF X",
+            refused(Code::NotKeyword, 27, 4),
+            b"INF X\r",
+            b"0d 5 F1.27@4 0.1k9@0-3 26.0n0@4-4\n",
+        ),
+    ];
+    let mut run: Run<Logical> = Run::new(alloc)?;
+    for (node, line, turn, text, logged) in cases {
+        assert!(rt; node < grammar.nodes());
+        let line = line_of(rt, line);
+        let taken = run
+            .session
+            .whole(node, line.bytes(), &grammar, &Shelf, &hooks, &mut steps);
+        assert_eq!(rt; taken, turn, "of {text:?}");
+        assert_eq!(rt; run.session.text(), text);
+        assert_eq!(rt; run.session.log_line(b'\r', &mut run.logged), Put::Done);
+        assert!(rt; run.logged.bytes().ends_with(logged), "of {text:?}");
+    }
+    // The bytes before the fault are kept, and nothing was shown.
+    run.key(rt, 8, &grammar, &Shelf, &hooks, &mut steps);
+    assert_eq!(rt; run.session.text(), b"INF ".as_slice());
+    assert_eq!(rt; run.shown.bytes(), b"INF ".as_slice());
+    Ok(())
+}
+
+#[test]
+fn takes_whole_lines(rt: HostRuntime) -> Result<(), Fail> {
+    whole_lines::<Brand, _>(&rt, &rt, Blank::new(1))
+}
+
+// What a session tells of itself, and where a sink that fails leaves it.
+fn parts_held<L: Ledger, A: Abort>(rt: &A, runtime: &HostRuntime, blank: Blank) -> Result<(), Fail>
+    requires name { blank.name ≡ L.name }
+    requires parts { blank.parts ≡ L.parts }
+    requires some { 0 < L.parts }
+{
+    let alloc = runtime.alloc();
+    let grammar = grammar(alloc)?;
+    let hooks = hooks(alloc)?;
+    let mut steps: Steps<L> = Steps::new(runtime, blank);
+    assert!(rt; grammar.nodes() > 0 && grammar.hooks() <= u16::from(hooks.len()));
+    let start = Open {
+        node: 0,
+        block: Some(0),
+        at: 0,
+    };
+    let fresh: Session<Logical> = Session::new();
+    assert_eq!(rt; *fresh.ending(), Ending::Open(start));
+    assert_eq!(rt; (fresh.held(), fresh.text()), (0, b"".as_slice()));
+
+    let mut run = run_of(rt, alloc, b"INF VER", &grammar, &Shelf, &hooks, &mut steps)?;
+    assert_eq!(rt; run.session.text(), b"INF VER".as_slice());
+    assert_eq!(rt; run.session.held(), 2);
+    let verb = run.session.field(0);
+    assert_eq!(rt; *verb.value(), Value::Key { entry: 8, code: 9 });
+    assert_eq!(rt; (verb.node(), verb.block(), verb.start(), verb.end(), verb.need(), verb.next()), (0, 1, 0, 3, 4, 26));
+    assert_eq!(rt; *run.session.field(1).value(), Value::Noise(false));
+
+    let mut full = MemSink::new(alloc, 1)?;
+    let failed = run
+        .session
+        .key(b'\r', &grammar, &Shelf, &hooks, &mut full, &mut steps);
+    assert_eq!(rt; failed, Turn::Failed);
+    assert_eq!(rt; full.bytes(), b"\r".as_slice());
+    assert_eq!(rt; run.session.text(), b"INF VER\r".as_slice());
+    assert_eq!(rt; *run.session.ending(), Ending::Done);
+    let mut logged = MemSink::new(alloc, 8)?;
+    assert_eq!(rt; run.session.log_line(b'\r', &mut logged), Put::Failed);
+    assert_eq!(rt; logged.bytes(), b"0d 7 D 0".as_slice());
+
+    assert_eq!(rt; run.session.begin(27, Prompt::Sub, &mut run.shown), Put::Done);
+    assert_eq!(rt; run.shown.bytes(), b"@INF VER@@".as_slice());
+    assert_eq!(rt; (run.session.held(), run.session.text()), (0, b"".as_slice()));
+    Ok(())
+}
+
+#[test]
+fn tells_what_it_holds(rt: HostRuntime) -> Result<(), Fail> {
+    parts_held::<Brand, _>(&rt, &rt, Blank::new(1))
+}
+
+// What keys cost over the command DIRECTORY with its guide word: the number of a line's bytes that each block looks at,
+// and one for each. The counter takes no bytes, so that no run can show it.
+#[tactic(auto, unfolding(cm_blocks::specs::Kept::cost, cm_blocks::specs::Kept::kept, cm_blocks::specs::Parse::parse_of, cm_blocks::specs::Chain::chain_at, cm_blocks::specs::Trial::trial, cm_blocks::specs::Keyword::entry_position, cm_tables::specs::Look::look, cm_text::specs::Case::begins_with, cm_text::specs::Case::equals, cm_text::specs::Bytes::is_blank, cm_text::specs::Bytes::is_word,))]
+fn keys_cost_what_follows()
+    ensures { (catalogue : Catalogue) → (meanings : Meanings) → (flags : Flags)
+        → let block : Function → ℕ → Block = λ function next. record {
+          function = function;
+          flags = flags;
+          help = None;
+          role = Role.None;
+          next = next;
+        } in
+        let node : List Block → Node = λ chain. record { chain = chain; default = None; raw = false } in
+        let directory : Entry = record {
+          text = codes "DIRECTORY";
+          flag = Flag.Plain;
+          colon = false;
+          code = 7;
+          next = 1;
+        } in
+        let nodes : List Node =
+            node (block Function.Confirm 0 ∷ block (Function.Key 0) 0 ∷ [])
+            ∷ node (block (Function.Noise (codes "OF FILES")) 0 ∷ []) ∷ [] in
+        let s = setting (record { nodes = nodes; tables = (directory ∷ []) ∷ [] }) catalogue meanings in
+        (cost s 0 (codes "DIR ") (codes "DIR") ≡ 6)
+        × (cost s 0 (codes "DIR") (codes "DIR ") ≡ 8)
+        × (cost s 0 (codes "DIR ") (codes "DIR ") ≡ 1)
+        × (cost s 0 [] (codes "D") ≡ 4) }
+{}
+
+#[test]
+fn counts_what_follows() {
+    keys_cost_what_follows();
+}

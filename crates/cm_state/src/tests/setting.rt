@@ -1,0 +1,222 @@
+// What the lines of the tests are parsed under: a catalogue of one file, one hook, and the EXEC's grammar with a word in
+// the place of a file.
+ghost use Rattle.std.specs.Prelude.{◌≡◌, [], IfOk, length, if◌then◌else◌};
+ghost use Rattle.cm_files.specs.LogicalName.{is_logical_name};
+ghost use Rattle.cm_hooks.specs.Ties.{Ties};
+ghost use Rattle.cm_text.specs.declared.name.TheConstants.{NAME_LIMIT};
+
+use cm_blocks::{Block, Blocks, Function, Grammar, Node, Role};
+use cm_files::{Flags, Names, Row, is_logical_name};
+use cm_hooks::{Answer, Hook, Hooks, Rules, Tail};
+use cm_tables::{Entry, Flag, Table};
+use cm_text::Name;
+use std::alloc::Global;
+use std::test::Fail;
+
+// The directory OPERATOR, which is connected and has the file A..1.
+pub struct Shelf;
+
+impl Names for Shelf {
+    ghost use Rattle.std.specs.Prelude.{[], ◌∷◌, codes, false};
+
+    ghost catalogue = { λ _. record {
+      directories = codes "OPERATOR" ∷ [];
+      connected = 0;
+      logical = [];
+      rows = record { directory = 0; name = codes "A"; kind = []; generation = 1; deleted = false } ∷ [];
+    } };
+
+    #[tactic(auto, unfolding(cm_text::specs::Bytes::is_name, cm_text::specs::Bytes::is_word))]
+    fn directories(&self) -> u16 {
+        1
+    }
+
+    fn directory(&self, _i: u16) -> &str {
+        "OPERATOR"
+    }
+
+    fn connected(&self) -> u16 {
+        0
+    }
+
+    fn logical(&self, _name: &[u8]) -> Option<u16> {
+        None
+    }
+
+    fn rows(&self, _directory: u16) -> u32 {
+        1
+    }
+
+    fn row(&self, _directory: u16, _i: u32) -> Row<'_> {
+        Row {
+            name: "A",
+            kind: "",
+            generation: 1,
+            deleted: false,
+        }
+    }
+}
+
+// A logical name is taken, with its number of bytes.
+pub struct Logical;
+
+impl Rules for Logical {
+    ghost use Rattle.std.specs.Prelude.{[], if◌then◌else◌, length};
+    ghost use Rattle.cm_files.specs.LogicalName.{is_logical_name};
+    ghost use Rattle.cm_hooks.specs.declared.answer.Answer.TheVariants.{Yes, No};
+    ghost use Rattle.cm_hooks.specs.declared.answer.Tail.TheVariants as tails;
+
+    ghost meanings = { record {
+      verdict = λ id atom. if is_logical_name atom then Yes (length atom) else No;
+      completion = λ id atom. tails.None;
+      help = λ id. [];
+    } };
+
+    ghost lawful = { record { completes = λ id atom short. tt } };
+}
+
+// The one hook that answers so.
+pub fn hooks(alloc: Global) -> Result<Hooks<Logical>, Fail>
+    ensures { IfOk result (λ hooks. Ties ⟦<Logical as Rules>⟧.meanings hooks) }
+{
+    let verdict = |atom: &[u8]| -> Answer
+        ensures { result ≡ (if is_logical_name atom.now then Answer.Yes (length atom.now) else Answer.No) }
+    {
+        if is_logical_name(atom) {
+            Answer::Yes(atom.len() as u64)
+        } else {
+            Answer::No
+        }
+    };
+    let completion = |_atom: &[u8]| -> Tail
+        ensures { result ≡ Tail.None }
+    { Tail::None };
+    let help = || -> Name
+        ensures { result ≡ [] }
+    { Name::new("") };
+    let hook = Hook::new(
+        0,
+        Box::new(alloc, verdict)?,
+        Box::new(alloc, completion)?,
+        Box::new(alloc, help)?,
+    );
+    let mut hooks = Hooks::new();
+    hooks.push(hook).ok().ok_or("the first hook")?;
+    Ok(hooks)
+}
+
+fn entry(text: &str, flag: Flag, colon: bool, code: u16, next: u16) -> Entry
+    requires { length text.now ≤ NAME_LIMIT }
+{
+    Entry {
+        text: Name::new(text),
+        flag,
+        colon,
+        code,
+        next,
+    }
+}
+
+fn commands(alloc: Global) -> Result<Table, Fail> {
+    let plain = |text: &str, code: u16, next: u16| -> Entry
+        requires { length text.now ≤ NAME_LIMIT }
+    { entry(text, Flag::Plain, false, code, next) };
+    Ok(Table::new(vec![in alloc;
+        plain("APPEND", 1, 6),
+        plain("BUILD", 2, 33),
+        plain("CONNECT", 3, 17),
+        plain("COPY", 4, 1),
+        plain("DEFINE", 5, 28),
+        plain("DELETE", 6, 13),
+        plain("DIRECTORY", 7, 23),
+        plain("EXPUNGE", 8, 35),
+        plain("INFORMATION", 9, 26),
+        entry("KJOB", Flag::Invisible, false, 10, 5),
+        entry("L", Flag::NoRecognise, false, 0, 5),
+        entry("LO", Flag::NoRecognise, false, 0, 5),
+        plain("LOGOUT", 10, 5),
+        plain("PRINT", 11, 37),
+        plain("REMARK", 12, 45),
+        plain("RENAME", 13, 10),
+        entry("T", Flag::Short(18), false, 0, 5),
+        plain("TAKE", 14, 21),
+        plain("TYPE", 15, 19),
+        plain("UNDELETE", 16, 15),
+    ]?)?)
+}
+
+// The commands, what INFORMATION tells of, and the switches of PRINT.
+fn tables(alloc: Global) -> Result<Vec<Table>, Fail> {
+    let topics = vec![in alloc; entry("VERSION", Flag::Plain, false, 4, 5)]?;
+    let switches = vec![in alloc;
+        entry("COPIES", Flag::Plain, true, 2, 41),
+        entry("JOBNAME", Flag::Plain, true, 4, 43),
+        entry("NOTE", Flag::Plain, true, 5, 44),
+    ]?;
+    Ok(vec![in alloc; commands(alloc)?, Table::new(topics)?, Table::new(switches)?]?)
+}
+
+fn block(function: Function, role: Role, next: u16) -> Block {
+    Block {
+        function,
+        flags: Flags::default(),
+        help: None,
+        role,
+        next,
+    }
+}
+
+fn guide(text: &str, next: u16) -> Block
+    requires { length text.now ≤ NAME_LIMIT }
+{
+    block(Function::Noise(Name::new(text)), Role::None, next)
+}
+
+fn token(text: &str, role: Role, next: u16) -> Block
+    requires { length text.now ≤ NAME_LIMIT }
+{
+    block(Function::Token(Name::new(text)), role, next)
+}
+
+// The chain of a node. One that no test comes to confirms.
+fn chain_of(alloc: Global, node: u16) -> Result<Vec<Block>, Fail> {
+    let confirm = || block(Function::Confirm, Role::None, 5);
+    let word = |role: Role, next: u16| block(Function::Word, role, next);
+    let chain = match node {
+        0 => vec![in alloc; confirm(), block(Function::Key(0), Role::Verb, 5)]?,
+        1 => vec![in alloc; guide("FROM", 2)]?,
+        2 => vec![in alloc; token("TTY:", Role::Source, 3)]?,
+        3 => vec![in alloc; guide("TO", 4)]?,
+        17 => vec![in alloc; guide("TO DIRECTORY", 18)]?,
+        18 => vec![in alloc; block(Function::Number, Role::Files, 5), word(Role::Files, 5)]?,
+        23 => vec![in alloc; guide("OF FILES", 24)]?,
+        24 => vec![in alloc; block(Function::Comma, Role::Sub, 5), confirm()]?,
+        26 => vec![in alloc; guide("ABOUT", 27)]?,
+        27 => vec![in alloc; block(Function::Key(1), Role::What, 5)]?,
+        28 => vec![in alloc; guide("LOGICAL NAME", 29)]?,
+        29 => vec![in alloc; block(Function::Hook(0), Role::Value, 30)]?,
+        30 => vec![in alloc; token(":", Role::None, 31)]?,
+        31 => vec![in alloc; guide("AS", 32)]?,
+        37 => vec![in alloc; guide("FILES", 38)]?,
+        38 => vec![in alloc; word(Role::Files, 39)]?,
+        39 => vec![in alloc; block(Function::Switch(2), Role::Value, 5), confirm()]?,
+        41 => vec![in alloc; block(Function::Number, Role::Value, 39)]?,
+        43 => vec![in alloc; word(Role::Value, 39)]?,
+        44 => vec![in alloc; block(Function::Quoted, Role::Value, 39)]?,
+        45 => vec![in alloc; block(Function::Text, Role::None, 5)]?,
+        _ => vec![in alloc; confirm()]?,
+    };
+    Ok(chain)
+}
+
+pub fn grammar(alloc: Global) -> Result<Grammar, Fail> {
+    let mut nodes = Vec::new(alloc);
+    for number in 0..51 {
+        nodes.push(Node {
+            chain: Blocks::new(chain_of(alloc, number)?),
+            default: (number == 18).then(|| Name::new("OPERATOR")),
+            raw: number == 45,
+        })?;
+    }
+    Ok(Grammar::new(nodes, tables(alloc)?)?)
+}
