@@ -5,7 +5,7 @@ ghost use Rattle.cm_files.specs.Catalogue.{Catalogue};
 ghost use Rattle.cm_hooks.specs.Meanings.{Meanings};
 ghost use Rattle.cm_tables.specs.declared.entry.Entry.{Entry};
 ghost use Rattle.cm_tables.specs.declared.entry.Flag.TheVariants as Flag;
-ghost use Rattle.cm_blocks.specs.declared.function.Function.{Function};
+
 ghost use Rattle.cm_blocks.specs.declared.node.Block.{Block};
 ghost use Rattle.cm_blocks.specs.declared.node.Node.{Node};
 ghost use Rattle.cm_blocks.specs.Kept.{cost};
@@ -14,7 +14,7 @@ ghost use Rattle.cm_blocks.specs.Setting.{setting};
 use super::run::{Case, Run, run_of, tries};
 use super::setting::{Logical, Shelf, grammar, hooks};
 use crate::{Prompt, Session, Turn};
-use cm_blocks::{Ending, Fault, Open, Steps};
+use cm_blocks::{Ending, Fault, Function, Open, Role, Steps};
 use cm_fields::{Code, Value};
 use cm_io::{MemSink, Put};
 use cm_line::Line;

@@ -1,6 +1,6 @@
 // What the lines of the tests are parsed under: a catalogue of one file, one hook, and the EXEC's grammar with a word in
 // the place of a file.
-ghost use Rattle.std.specs.Prelude.{◌≡◌, [], IfOk, length, if◌then◌else◌};
+ghost use Rattle.std.specs.Prelude.{◌≡◌, ◌≤◌, [], IfOk, length, if◌then◌else◌};
 ghost use Rattle.cm_files.specs.LogicalName.{is_logical_name};
 ghost use Rattle.cm_hooks.specs.Ties.{Ties};
 ghost use Rattle.cm_text.specs.declared.name.TheConstants.{NAME_LIMIT};
@@ -117,11 +117,14 @@ fn entry(text: &str, flag: Flag, colon: bool, code: u16, next: u16) -> Entry
     }
 }
 
+fn plain(text: &str, code: u16, next: u16) -> Entry
+    requires { length text.now ≤ NAME_LIMIT }
+{
+    entry(text, Flag::Plain, false, code, next)
+}
+
 fn commands(alloc: Global) -> Result<Table, Fail> {
-    let plain = |text: &str, code: u16, next: u16| -> Entry
-        requires { length text.now ≤ NAME_LIMIT }
-    { entry(text, Flag::Plain, false, code, next) };
-    Ok(Table::new(vec![in alloc;
+    let entries = [
         plain("APPEND", 1, 6),
         plain("BUILD", 2, 33),
         plain("CONNECT", 3, 17),
@@ -142,7 +145,8 @@ fn commands(alloc: Global) -> Result<Table, Fail> {
         plain("TAKE", 14, 21),
         plain("TYPE", 15, 19),
         plain("UNDELETE", 16, 15),
-    ]?)?)
+    ];
+    Ok(Table::new(Vec::from_array(alloc, entries)?)?)
 }
 
 // The commands, what INFORMATION tells of, and the switches of PRINT.
@@ -178,34 +182,53 @@ fn token(text: &str, role: Role, next: u16) -> Block
     block(Function::Token(Name::new(text)), role, next)
 }
 
-// The chain of a node. One that no test comes to confirms.
+fn confirm() -> Block {
+    block(Function::Confirm, Role::None, 5)
+}
+
+// The first block of a node. One that no test comes to confirms.
+fn first_block(node: u16) -> Block {
+    match node {
+        1 => guide("FROM", 2),
+        2 => token("TTY:", Role::Source, 3),
+        3 => guide("TO", 4),
+        17 => guide("TO DIRECTORY", 18),
+        18 => block(Function::Number, Role::Files, 5),
+        23 => guide("OF FILES", 24),
+        24 => block(Function::Comma, Role::Sub, 5),
+        26 => guide("ABOUT", 27),
+        27 => block(Function::Key(1), Role::What, 5),
+        28 => guide("LOGICAL NAME", 29),
+        29 => block(Function::Hook(0), Role::Value, 30),
+        30 => token(":", Role::None, 31),
+        31 => guide("AS", 32),
+        37 => guide("FILES", 38),
+        38 => block(Function::Word, Role::Files, 39),
+        39 => block(Function::Switch(2), Role::Value, 5),
+        41 => block(Function::Number, Role::Value, 39),
+        43 => block(Function::Word, Role::Value, 39),
+        44 => block(Function::Quoted, Role::Value, 39),
+        45 => block(Function::Text, Role::None, 5),
+        _ => confirm(),
+    }
+}
+
+// The second block of a node, where there is one.
+fn second_block(node: u16) -> Option<Block> {
+    match node {
+        0 => Some(block(Function::Key(0), Role::Verb, 5)),
+        18 => Some(block(Function::Word, Role::Files, 5)),
+        24 | 39 => Some(confirm()),
+        _ => None,
+    }
+}
+
 fn chain_of(alloc: Global, node: u16) -> Result<Vec<Block>, Fail> {
-    let confirm = || block(Function::Confirm, Role::None, 5);
-    let word = |role: Role, next: u16| block(Function::Word, role, next);
-    let chain = match node {
-        0 => vec![in alloc; confirm(), block(Function::Key(0), Role::Verb, 5)]?,
-        1 => vec![in alloc; guide("FROM", 2)]?,
-        2 => vec![in alloc; token("TTY:", Role::Source, 3)]?,
-        3 => vec![in alloc; guide("TO", 4)]?,
-        17 => vec![in alloc; guide("TO DIRECTORY", 18)]?,
-        18 => vec![in alloc; block(Function::Number, Role::Files, 5), word(Role::Files, 5)]?,
-        23 => vec![in alloc; guide("OF FILES", 24)]?,
-        24 => vec![in alloc; block(Function::Comma, Role::Sub, 5), confirm()]?,
-        26 => vec![in alloc; guide("ABOUT", 27)]?,
-        27 => vec![in alloc; block(Function::Key(1), Role::What, 5)]?,
-        28 => vec![in alloc; guide("LOGICAL NAME", 29)]?,
-        29 => vec![in alloc; block(Function::Hook(0), Role::Value, 30)]?,
-        30 => vec![in alloc; token(":", Role::None, 31)]?,
-        31 => vec![in alloc; guide("AS", 32)]?,
-        37 => vec![in alloc; guide("FILES", 38)]?,
-        38 => vec![in alloc; word(Role::Files, 39)]?,
-        39 => vec![in alloc; block(Function::Switch(2), Role::Value, 5), confirm()]?,
-        41 => vec![in alloc; block(Function::Number, Role::Value, 39)]?,
-        43 => vec![in alloc; word(Role::Value, 39)]?,
-        44 => vec![in alloc; block(Function::Quoted, Role::Value, 39)]?,
-        45 => vec![in alloc; block(Function::Text, Role::None, 5)]?,
-        _ => vec![in alloc; confirm()]?,
-    };
+    let mut chain = Vec::new(alloc);
+    chain.push(first_block(node))?;
+    if let Some(second) = second_block(node) {
+        chain.push(second)?;
+    }
     Ok(chain)
 }
 
