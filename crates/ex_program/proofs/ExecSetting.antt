@@ -1,5 +1,5 @@
 -- What the EXEC's setting is and has.
-use Rattle.std.proofs.Common.{◌≡◌, ℕ, ◌<◌, ◌≤◌, length, None, arith, ap, ◌∙◌}
+use Rattle.std.proofs.Common.{◌≡◌, ℕ, ◌<◌, ◌≤◌, length, None, arith, refl, ap, ◌∙◌}
 use Rattle.cm_blocks.specs.Fault.{grammar_fault}
 use Rattle.cm_blocks.specs.Grammar.{Graph, hook_count}
 use Rattle.cm_blocks.specs.Setting.{setting}
@@ -15,9 +15,12 @@ pub exec_has_no_fault : grammar_fault exec_setting.graph ≡ None
 unfolding exec_setting
 exec_has_no_fault = graph_has_no_fault
 
+pub has_commands : (graph : Graph) → graph ≡ exec_graph → COMMANDS < length graph.nodes
+has_commands graph of_exec = omega (arith, ap (λ (it : Graph). length it.nodes) of_exec, graph_nodes)
+
 pub exec_has_commands : COMMANDS < length exec_setting.graph.nodes
 unfolding exec_setting
-exec_has_commands = omega (arith, graph_nodes)
+exec_has_commands = has_commands exec_graph refl
 
 pub is_exec : (graph : Graph) (catalogue : Catalogue) → graph ≡ exec_graph → catalogue ≡ operator_catalogue
     → setting graph catalogue exec_meanings ≡ exec_setting

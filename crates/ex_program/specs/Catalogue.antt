@@ -1,5 +1,5 @@
 -- The catalogue of the directory OPERATOR, which is connected.
-use Rattle.std.specs.Prelude.{ℕ, List, [], ◌∷◌, codes, Option, None}
+use Rattle.std.specs.Prelude.{[], ◌∷◌, codes, Option, None}
 use Rattle.std.specs.Option.{option_to_list}
 use Rattle.cm_files.specs.declared.row.FileRow.{FileRow}
 use Rattle.cm_files.specs.Catalogue.{Catalogue}

@@ -1,6 +1,6 @@
 -- What a confirmed line commands, and the reply to it.
 use Rattle.std.specs.Prelude.{ℕ, ◌==◌, List, [], ◌++◌, find, codes, Bool, if◌then◌else◌, Option, Some, None}
-use Rattle.std.specs.Option.{option_map, option_map_or}
+use Rattle.std.specs.Option.{option_map_or}
 use Rattle.cm_text.specs.Shown.{end_of_line}
 use Rattle.cm_fields.specs.declared.code.Code.TheVariants.{NoDefinition}
 use Rattle.cm_fields.specs.declared.value.Value.{Value}

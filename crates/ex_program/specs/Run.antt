@@ -122,6 +122,7 @@ abbrev pub bytes_logged : Bool → World → List ℕ → List ℕ
 bytes_logged writes world [] = []
 bytes_logged writes world (key ∷ keys) = logs writes world key ++ bytes_logged writes (step world key) keys
 
+-- the trials of these keys cost so much in all
 abbrev pub total : World → List ℕ → ℕ
 total world [] = 0
 total world (key ∷ keys) = key_cost world key + total (step world key) keys

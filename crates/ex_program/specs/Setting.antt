@@ -1,8 +1,5 @@
 -- What the lines of a run are parsed under.
-use Rattle.std.specs.Prelude.{◌≡◌}
-use Rattle.cm_blocks.specs.Grammar.{Graph}
 use Rattle.cm_blocks.specs.Setting.{Setting, setting}
-use Rattle.cm_files.specs.Catalogue.{Catalogue}
 use Rattle.ex_grammar.specs.ExecRules.{exec_meanings}
 use Rattle.ex_grammar.specs.Graph.{exec_graph}
 use Rattle.ex_program.specs.Catalogue.{operator_catalogue}

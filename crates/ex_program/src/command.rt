@@ -38,7 +38,10 @@ pub fn command_of(session: &Session<ExecRules>) -> Command
     ensures { result ≡ command_of session.now.fields }
 {
     match field_of(session, Role::Verb) {
-        Some(verb) => named(keyword_code(verb.value()), code_of(field_of(session, Role::What))),
+        Some(verb) => named(
+            keyword_code(verb.value()),
+            code_of(field_of(session, Role::What)),
+        ),
         None => Command::Empty,
     }
 }

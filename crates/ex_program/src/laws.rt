@@ -1,11 +1,11 @@
 // Laws of a run, and of what can't stand at its end.
-ghost use Rattle.std.specs.Prelude.{◌≡◌, ◌≢◌, ◌<◌, ℕ, Bool, false, List, [], ◌∷◌, ◌++◌, length};
+ghost use Rattle.std.specs.Prelude.{◌≡◌, ◌≢◌, ◌+◌, ◌<◌, ℕ, Bool, false, List, [], ◌∷◌, ◌++◌, length};
 ghost use Rattle.cm_io.specs.Told.{AddsPart, Bytes, add};
 ghost use Rattle.cm_state.specs.declared.turn.Turn.{Turn};
 ghost use Rattle.ex_program.specs.Cause.{Counts, IsQuiet, StatusCause};
 ghost use Rattle.ex_program.specs.Cut.{ScreenCut, run_echo};
 ghost use Rattle.ex_program.specs.End.{Ran};
-ghost use Rattle.ex_program.specs.Run.{World, bytes_logged, bytes_shown, key_turn, run_keys, run_shown, starting, turn_reply, with_key, world_after, world_after_turn};
+ghost use Rattle.ex_program.specs.Run.{World, bytes_logged, bytes_shown, key_turn, run_keys, run_shown, starting, total, turn_reply, with_key, world_after, world_after_turn};
 ghost use Rattle.ex_program.specs.Scene.{AtKey, Scene, world_at};
 ghost use Rattle.ex_program.specs.declared.run.TheConstants.{KEY_LIMIT};
 
@@ -36,6 +36,14 @@ pub fn a_cut_run_is_a_prefix()
         → (taken : List ℕ) × (taken ++ b.keys ≡ a.keys)
         × AddsPart a.screen b.screen (run_shown (starting a.moments) taken)
         × AddsPart a.log b.log (bytes_logged writes (starting a.moments) taken) }
+{}
+
+/// The counter rises by exactly what the trials of the keys taken cost, whatever the status is, and with a log
+/// or without: the keys are those that were there and are not left, the one that was cut short too.
+pub fn the_counter_is_exact()
+    ensures { (writes : Bool) → (a b : Scene) → (result : Status) → Ran writes a b result
+        → (taken : List ℕ) × (taken ++ b.keys ≡ a.keys)
+        × (b.steps ≡ a.steps + total (starting a.moments) taken) }
 {}
 
 /// A failed screen is given no more, no message either: it holds a prefix of what the keys taken show,

@@ -21,8 +21,7 @@ use crate::catalogue::Operator;
 use crate::end::{close, show_message};
 use crate::run::run;
 use crate::setting::Setting;
-use crate::words;
-use crate::{Status, Words};
+use crate::{Status, Words, words};
 use cm_blocks::Steps;
 use cm_hooks::Hooks;
 use cm_io::{Clock, Host, Sink, Source};
@@ -70,8 +69,10 @@ fn run_all<H: Host, K: Source, S: Sink, W: Sink, C: Clock, L: Ledger>(
         (record { screen = S.faults screen.old; log = W.faults log.old; keys = K.faults keys.old })
         (record { screen = S.faults screen.new; log = W.faults log.new; keys = K.faults keys.new })
         result }
-    ensures kept { IsTrue H.tells → Keeps (H.files host.old form.entry.out.now) (H.files host.new form.entry.out.now) result }
-    ensures others { IsTrue H.tells → KeepsOthers form.entry.out.now (H.files host.old) (H.files host.new) }
+    ensures kept { IsTrue H.tells → Keeps
+        (H.files host.old form.entry.out.now) (H.files host.new form.entry.out.now) result }
+    ensures others { IsTrue H.tells
+        → KeepsOthers form.entry.out.now (H.files host.old) (H.files host.new) }
     ensures host_cause { HostCause (H.faults host.old) (H.faults host.new) result }
     ensures past_the_prompt { IsRun result }
 {
@@ -98,8 +99,8 @@ fn refuse<S: Sink>(status: Status, screen: &mut S) -> Status
 /// status is Usage exactly where the words are neither, and NoMemory where memory is wanting; both come
 /// before anything else is touched. The others are said of below, clause by clause.
 ///
-/// `hooks` answer the EXEC's rules. `steps` counts the trials: a key costs those of its line behind the fields
-/// that the unchanged front of the line decides.
+/// `hooks` answer the EXEC's rules. `steps` counts the trials: a key costs those of its line behind the
+/// fields that the unchanged front of the line decides.
 pub fn exec20<H: Host, K: Source, S: Sink, W: Sink, C: Clock, L: Ledger>(
     alloc: Global,
     words: &Words,

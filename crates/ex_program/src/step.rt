@@ -106,7 +106,14 @@ fn edit_key<S: Sink, L: Ledger>(
     ensures steps { (moments : List ℕ)
         → steps.new ≡ steps.old + key_cost (going session.old moments) key }
 {
-    session.key(key, &under.grammar, &under.names, under.hooks, screen, steps)
+    session.key(
+        key,
+        &under.grammar,
+        &under.names,
+        under.hooks,
+        screen,
+        steps,
+    )
 }
 
 // Logs a key, where there is a log.

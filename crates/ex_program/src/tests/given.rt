@@ -131,11 +131,7 @@ fn leaves(keys: &mut MemSource, left: &[u8]) -> bool {
 }
 
 // Runs each case. The counter wants the runtime itself.
-pub fn try_cases(
-    rt: &impl Abort,
-    runtime: &HostRuntime,
-    cases: &[Case<'_>],
-) -> Result<(), Fail> {
+pub fn try_cases(rt: &impl Abort, runtime: &HostRuntime, cases: &[Case<'_>]) -> Result<(), Fail> {
     for case in cases {
         let keys = case.given.keys;
         let mut outcome = outcome_of(runtime, &case.given)?;

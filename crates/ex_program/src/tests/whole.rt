@@ -72,9 +72,7 @@ fn runs_over_the_grammar_of_the_exec(rt: HostRuntime) -> Result<(), Fail> {
         done(
             b"DEFINE A1: \r",
             b"@DEFINE A1: \r\n?Logical name is not defined\r\n@\r\n",
-            Log::End(
-                b"\n0d 11 D 0.1k5@0-6 28.0n0@7-7 29.0h0:2@7-9 30.0t@9-10 31.0n0@11-11\n",
-            ),
+            Log::End(b"\n0d 11 D 0.1k5@0-6 28.0n0@7-7 29.0h0:2@7-9 30.0t@9-10 31.0n0@11-11\n"),
             2,
         ),
         done(
