@@ -17,10 +17,10 @@ parsed ends fields = record { fields = fields; ending = ends }
 pub record Turns (s : Setting) (text : List ℕ) (fields : List Taken) (node at : ℕ) (field : Taken) : Type 0 where
   pub parse : with_fields fields (parse_from s text (FIELD_LIMIT - length fields) node at)
       ≡ with_fields (fields ++ field ∷ [])
-          (parse_from s text (FIELD_LIMIT - length (fields ++ field ∷ [])) field.next field.end)
+      (parse_from s text (FIELD_LIMIT - length (fields ++ field ∷ [])) field.next field.end)
   pub cost : cost_from s text (FIELD_LIMIT - length fields) node at
       ≡ (chain_at s node text at).spent
-          + cost_from s text (FIELD_LIMIT - length (fields ++ field ∷ [])) field.next field.end
+      + cost_from s text (FIELD_LIMIT - length (fields ++ field ∷ [])) field.next field.end
 
 pub turns : (s : Setting) (text : List ℕ) (fields : List Taken) (node at : ℕ) (field : Taken)
     → (chain_at s node text at).chain ≡ chain.Field field → length fields < FIELD_LIMIT → Turns s text fields node at field

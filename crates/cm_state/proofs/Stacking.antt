@@ -58,7 +58,7 @@ first_needing_is : (size number : ℕ) (fields : List Taken)
     → first_needing size number (map (λ field. Some field) fields) ≡ number + length (needing size fields)
 first_needing_is size number [] = omega arith
 first_needing_is size number (field ∷ fields) = by (nat_le field.need size) (first_needing_is size (number + 1) fields)
-    where
+  where
     by : (test : Bool) → first_needing size (number + 1) (map (λ field. Some field) fields) ≡ number + 1 + length (needing size fields)
         → (if test then first_needing size (number + 1) (map (λ field. Some field) fields) else number)
         ≡ number + length (if test then field ∷ needing size fields else [])
@@ -69,7 +69,7 @@ take_needing : (size : ℕ) (fields : List Taken)
     → take (length (needing size fields)) (map (λ field. Some field) fields) ≡ map (λ field. Some field) (needing size fields)
 take_needing size [] = refl
 take_needing size (field ∷ fields) = by (nat_le field.need size) (take_needing size fields)
-    where
+  where
     by : (test : Bool)
         → take (length (needing size fields)) (map (λ field. Some field) fields) ≡ map (λ field. Some field) (needing size fields)
         → take (length (if test then field ∷ needing size fields else [])) (map (λ field. Some field) (field ∷ fields))
@@ -80,7 +80,7 @@ take_needing size (field ∷ fields) = by (nat_le field.need size) (take_needing
 needing_few : (size : ℕ) (fields : List Taken) → length (needing size fields) ≤ length fields
 needing_few size [] = omega arith
 needing_few size (field ∷ fields) = by (nat_le field.need size) (needing_few size fields)
-    where
+  where
     by : (test : Bool) → length (needing size fields) ≤ length fields
         → length (if test then field ∷ needing size fields else []) ≤ length (field ∷ fields)
     by true later = omega (arith, later)

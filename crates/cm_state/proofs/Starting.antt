@@ -50,7 +50,7 @@ new_is_ready s none prompt kept held is =
 pub met_fields : (s : Setting) (held : Held) → grammar_fault s.graph ≡ None → IsReady s held
     → (if held.is_finished then [] else held.fields) ≡ (parse_of s held.node (met_line held)).fields
 met_fields s held none ready = by held.is_finished refl
-    where
+  where
     by : (finished : Bool) → held.is_finished ≡ finished
         → (if finished then [] else held.fields) ≡ (parse_of s held.node (if finished then [] else held.line)).fields
     by true is = ap (λ (parse : Parse). parse.fields) (sym (start_is_open s none held.node ready.node))

@@ -25,4 +25,4 @@ pub record Starts (s : Setting) (start : ℕ) (text : List ℕ) (fields : List T
   pub place : place_behind 0 fields ≤ length text
   pub parse : parse_of s start text
       ≡ with_fields fields (parse_from s text (FIELD_LIMIT - length fields)
-          (node_behind start fields) (place_behind 0 fields))
+      (node_behind start fields) (place_behind 0 fields))

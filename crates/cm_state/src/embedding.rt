@@ -50,6 +50,7 @@ fn node(chain: Vec<Block>) -> Node {
 }
 
 const ADD: u16 = 1;
+
 const RESET: u16 = 2;
 
 // ADD and a number, RESET, or an empty line. A line begins at node 0; node 1 is behind ADD, and node 2 ends the line.

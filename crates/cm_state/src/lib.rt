@@ -2,14 +2,13 @@
 #![tactic(auto)]
 
 mod echo;
+pub mod laws;
 mod log;
 mod parse;
 mod prompt;
 mod session;
 mod stack;
 mod turn;
-
-pub mod laws;
 
 pub use prompt::Prompt;
 pub use session::Session;

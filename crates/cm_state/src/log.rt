@@ -85,11 +85,7 @@ fn put_default<S: Sink>(defaulted: bool, sink: &mut S) -> Put
     ensures later { S.faults sink.old ≤ S.faults sink.new }
     ensures cause { PutCause (S.faults sink.old) (S.faults sink.new) result }
 {
-    if defaulted {
-        sink.put(b"=")
-    } else {
-        Put::Done
-    }
+    if defaulted { sink.put(b"=") } else { Put::Done }
 }
 
 // Where a field stands.

@@ -49,7 +49,7 @@ pub struct Session<R: Rules> {
 
 impl<R: Rules> Model for Session<R> {
     ghost use Rattle.cm_state.specs.Front.{front};
-ghost use Rattle.cm_state.specs.Held.{Held};
+    ghost use Rattle.cm_state.specs.Held.{Held};
 
     ghost Value = { Held };
 
@@ -383,7 +383,13 @@ impl<R: Rules> Session<R> {
 
     // Holds the parse of the text, which begins with the fields that are held. A refused line keeps the bytes before
     // its faulty field.
-    fn hold<N: Names, L: Ledger>(&mut self, grammar: &Grammar, names: &N, hooks: &Hooks<R>, steps: &mut Steps<L>)
+    fn hold<N: Names, L: Ledger>(
+        &mut self,
+        grammar: &Grammar,
+        names: &N,
+        hooks: &Hooks<R>,
+        steps: &mut Steps<L>,
+    )
         requires starts { Starts (setting grammar.now (N.catalogue names.now) R.meanings)
             self.old.node (text_of self.old) self.old.fields }
         requires ties { Ties R.meanings hooks.now }
@@ -398,7 +404,15 @@ impl<R: Rules> Session<R> {
             self.old.node (text_of self.old) self.old.fields }
     {
         let text = text_of(&self.line, self.is_finished);
-        self.ending = go_on(grammar, self.node, text, names, hooks, &mut self.fields, steps);
+        self.ending = go_on(
+            grammar,
+            self.node,
+            text,
+            names,
+            hooks,
+            &mut self.fields,
+            steps,
+        );
         self.kept = before_fault(self.is_finished, &self.line, self.ending);
     }
 

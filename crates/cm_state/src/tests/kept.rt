@@ -1,20 +1,10 @@
 // Fields that are kept over a key, whole lines, and what the trials cost.
-ghost use Rattle.std.specs.Prelude.{◌≡◌, ◌<◌, ◌∷◌, ℕ, List, [], None, codes, false};
-ghost use Rattle.cm_files.specs.declared.flags.Flags.{Flags};
-ghost use Rattle.cm_files.specs.Catalogue.{Catalogue};
-ghost use Rattle.cm_hooks.specs.Meanings.{Meanings};
-ghost use Rattle.cm_tables.specs.declared.entry.Entry.{Entry};
-ghost use Rattle.cm_tables.specs.declared.entry.Flag.TheVariants as Flag;
-
-ghost use Rattle.cm_blocks.specs.declared.node.Block.{Block};
-ghost use Rattle.cm_blocks.specs.declared.node.Node.{Node};
-ghost use Rattle.cm_blocks.specs.Kept.{cost};
-ghost use Rattle.cm_blocks.specs.Setting.{setting};
+ghost use Rattle.std.specs.Prelude.{◌≡◌, ◌<◌};
 
 use super::run::{Case, Run, run_of, tries};
 use super::setting::{Logical, Shelf, grammar, hooks};
-use crate::{Prompt, Session, Turn};
-use cm_blocks::{Ending, Fault, Function, Open, Role, Steps};
+use crate::Turn;
+use cm_blocks::{Ending, Fault, Open, Steps};
 use cm_fields::{Code, Value};
 use cm_io::{MemSink, Put};
 use cm_line::Line;
@@ -102,7 +92,11 @@ fn many_fields<L: Ledger, A: Abort>(rt: &A, runtime: &HostRuntime, blank: Blank)
     let hooks = hooks(alloc)?;
     let mut steps: Steps<L> = Steps::new(runtime, blank);
     assert!(rt; grammar.nodes() > 0 && grammar.hooks() <= u16::from(hooks.len()));
-    let open = |node: u16, at: u16| Ending::Open(Open { node, block: Some(0), at });
+    let open = |node: u16, at: u16| Ending::Open(Open {
+        node,
+        block: Some(0),
+        at,
+    });
     let too_many = |at: u16| {
         Ending::Fault(Fault {
             code: Code::TooMany,
@@ -161,9 +155,21 @@ fn whole_lines<L: Ledger, A: Abort>(rt: &A, runtime: &HostRuntime, blank: Blank)
             b"INF VER\r",
             b"0d 7 D 0.1k9@0-3 26.0n0@4-4 27.0k4@4-7\n",
         ),
-        (27, b"VER", Turn::Confirmed, b"VER\r", b"0d 3 D 27.0k4@0-3\n"),
+        (
+            27,
+            b"VER",
+            Turn::Confirmed,
+            b"VER\r",
+            b"0d 3 D 27.0k4@0-3\n",
+        ),
         (0, b"", Turn::Confirmed, b"\r", b"0d 0 D\n"),
-        (0, b"LO", refused(Code::Ambiguous, 0, 0), b"LO\r", b"0d 2 F2.0@0\n"),
+        (
+            0,
+            b"LO",
+            refused(Code::Ambiguous, 0, 0),
+            b"LO\r",
+            b"0d 2 F2.0@0\n",
+        ),
         (
             0,
             b"INF X",
@@ -196,8 +202,8 @@ fn takes_whole_lines(rt: HostRuntime) -> Result<(), Fail> {
     whole_lines::<Brand, _>(&rt, &rt, Blank::new(1))
 }
 
-// What a session tells of itself, and where a sink that fails leaves it.
-fn parts_held<L: Ledger, A: Abort>(rt: &A, runtime: &HostRuntime, blank: Blank) -> Result<(), Fail>
+// A session tells the fields that it holds.
+fn fields_told<L: Ledger, A: Abort>(rt: &A, runtime: &HostRuntime, blank: Blank) -> Result<(), Fail>
     requires name { blank.name ≡ L.name }
     requires parts { blank.parts ≡ L.parts }
     requires some { 0 < L.parts }
@@ -207,77 +213,51 @@ fn parts_held<L: Ledger, A: Abort>(rt: &A, runtime: &HostRuntime, blank: Blank) 
     let hooks = hooks(alloc)?;
     let mut steps: Steps<L> = Steps::new(runtime, blank);
     assert!(rt; grammar.nodes() > 0 && grammar.hooks() <= u16::from(hooks.len()));
-    let start = Open {
-        node: 0,
-        block: Some(0),
-        at: 0,
-    };
-    let fresh: Session<Logical> = Session::new();
-    assert_eq!(rt; *fresh.ending(), Ending::Open(start));
-    assert_eq!(rt; (fresh.held(), fresh.text()), (0, b"".as_slice()));
-
-    let mut run = run_of(rt, alloc, b"INF VER", &grammar, &Shelf, &hooks, &mut steps)?;
-    assert_eq!(rt; run.session.text(), b"INF VER".as_slice());
+    let run = run_of(rt, alloc, b"INF VER", &grammar, &Shelf, &hooks, &mut steps)?;
     assert_eq!(rt; run.session.held(), 2);
     let verb = run.session.field(0);
     assert_eq!(rt; *verb.value(), Value::Key { entry: 8, code: 9 });
-    assert_eq!(rt; (verb.node(), verb.block(), verb.start(), verb.end(), verb.need(), verb.next()), (0, 1, 0, 3, 4, 26));
-    assert_eq!(rt; *run.session.field(1).value(), Value::Noise(false));
+    assert_eq!(rt;
+        [
+            verb.node(),
+            verb.start(),
+            verb.end(),
+            verb.need(),
+            verb.next()
+        ],
+        [0, 0, 3, 4, 26]
+    );
+    Ok(())
+}
 
+// Where a sink fails the session is where the key left it.
+fn key_unshown<L: Ledger, A: Abort>(rt: &A, runtime: &HostRuntime, blank: Blank) -> Result<(), Fail>
+    requires name { blank.name ≡ L.name }
+    requires parts { blank.parts ≡ L.parts }
+    requires some { 0 < L.parts }
+{
+    let alloc = runtime.alloc();
+    let grammar = grammar(alloc)?;
+    let hooks = hooks(alloc)?;
+    let mut steps: Steps<L> = Steps::new(runtime, blank);
+    assert!(rt; grammar.nodes() > 0 && grammar.hooks() <= u16::from(hooks.len()));
+    let mut run = run_of(rt, alloc, b"INF VER", &grammar, &Shelf, &hooks, &mut steps)?;
     let mut full = MemSink::new(alloc, 1)?;
     let failed = run
         .session
         .key(b'\r', &grammar, &Shelf, &hooks, &mut full, &mut steps);
     assert_eq!(rt; failed, Turn::Failed);
-    assert_eq!(rt; full.bytes(), b"\r".as_slice());
     assert_eq!(rt; run.session.text(), b"INF VER\r".as_slice());
     assert_eq!(rt; *run.session.ending(), Ending::Done);
-    let mut logged = MemSink::new(alloc, 8)?;
-    assert_eq!(rt; run.session.log_line(b'\r', &mut logged), Put::Failed);
-    assert_eq!(rt; logged.bytes(), b"0d 7 D 0".as_slice());
-
-    assert_eq!(rt; run.session.begin(27, Prompt::Sub, &mut run.shown), Put::Done);
-    assert_eq!(rt; run.shown.bytes(), b"@INF VER@@".as_slice());
-    assert_eq!(rt; (run.session.held(), run.session.text()), (0, b"".as_slice()));
     Ok(())
 }
 
 #[test]
-fn tells_what_it_holds(rt: HostRuntime) -> Result<(), Fail> {
-    parts_held::<Brand, _>(&rt, &rt, Blank::new(1))
+fn tells_its_fields(rt: HostRuntime) -> Result<(), Fail> {
+    fields_told::<Brand, _>(&rt, &rt, Blank::new(1))
 }
 
-// What keys cost over the command DIRECTORY with its guide word: the number of a line's bytes that each block looks at,
-// and one for each. The counter takes no bytes, so that no run can show it.
-#[tactic(auto, unfolding(cm_blocks::specs::Kept::cost, cm_blocks::specs::Kept::kept, cm_blocks::specs::Parse::parse_of, cm_blocks::specs::Chain::chain_at, cm_blocks::specs::Trial::trial, cm_blocks::specs::Keyword::entry_position, cm_tables::specs::Look::look, cm_text::specs::Case::begins_with, cm_text::specs::Case::equals, cm_text::specs::Bytes::is_blank, cm_text::specs::Bytes::is_word,))]
-fn keys_cost_what_follows()
-    ensures { (catalogue : Catalogue) → (meanings : Meanings) → (flags : Flags)
-        → let block : Function → ℕ → Block = λ function next. record {
-          function = function;
-          flags = flags;
-          help = None;
-          role = Role.None;
-          next = next;
-        } in
-        let node : List Block → Node = λ chain. record { chain = chain; default = None; raw = false } in
-        let directory : Entry = record {
-          text = codes "DIRECTORY";
-          flag = Flag.Plain;
-          colon = false;
-          code = 7;
-          next = 1;
-        } in
-        let nodes : List Node =
-            node (block Function.Confirm 0 ∷ block (Function.Key 0) 0 ∷ [])
-            ∷ node (block (Function.Noise (codes "OF FILES")) 0 ∷ []) ∷ [] in
-        let s = setting (record { nodes = nodes; tables = (directory ∷ []) ∷ [] }) catalogue meanings in
-        (cost s 0 (codes "DIR ") (codes "DIR") ≡ 6)
-        × (cost s 0 (codes "DIR") (codes "DIR ") ≡ 8)
-        × (cost s 0 (codes "DIR ") (codes "DIR ") ≡ 1)
-        × (cost s 0 [] (codes "D") ≡ 4) }
-{}
-
 #[test]
-fn counts_what_follows() {
-    keys_cost_what_follows();
+fn takes_a_key_that_is_not_shown(rt: HostRuntime) -> Result<(), Fail> {
+    key_unshown::<Brand, _>(&rt, &rt, Blank::new(1))
 }

@@ -129,12 +129,7 @@ fn edits_lines(rt: HostRuntime) -> Result<(), Fail> {
             b"@INF^C\r\n@",
             b"46 3 O\n03 0 O\n",
         ),
-        (
-            b"X\tB\x12",
-            Turn::Edited,
-            b"@X B\r\n@X B",
-            b"12 3 F1.0@0\n",
-        ),
+        (b"X\tB\x12", Turn::Edited, b"@X B\r\n@X B", b"12 3 F1.0@0\n"),
         (
             b"AB\x15",
             Turn::Edited,
@@ -169,7 +164,11 @@ fn takes_keys_on_a_full_line(rt: HostRuntime) -> Result<(), Fail> {
     full_line_cases::<Brand, _>(&rt, &rt, Blank::new(1))
 }
 
-fn full_line_cases<L: Ledger, A: Abort>(rt: &A, runtime: &HostRuntime, blank: Blank) -> Result<(), Fail>
+fn full_line_cases<L: Ledger, A: Abort>(
+    rt: &A,
+    runtime: &HostRuntime,
+    blank: Blank,
+) -> Result<(), Fail>
     requires name { blank.name ≡ L.name }
     requires parts { blank.parts ≡ L.parts }
     requires some { 0 < L.parts }

@@ -157,7 +157,11 @@ fn tables(alloc: Global) -> Result<Vec<Table>, Fail> {
         entry("JOBNAME", Flag::Plain, true, 4, 43),
         entry("NOTE", Flag::Plain, true, 5, 44),
     ]?;
-    Ok(vec![in alloc; commands(alloc)?, Table::new(topics)?, Table::new(switches)?]?)
+    Ok(vec![in alloc;
+        commands(alloc)?,
+        Table::new(topics)?,
+        Table::new(switches)?,
+    ]?)
 }
 
 fn block(function: Function, role: Role, next: u16) -> Block {

@@ -15,7 +15,13 @@ fn logs_each_kind_of_value(rt: HostRuntime) -> Result<(), Fail> {
         generation: Gen::Missing,
     };
     let cases: [(Value, &[u8]); 18] = [
-        (Value::Key { entry: 2, code: 65535 }, b"k65535"),
+        (
+            Value::Key {
+                entry: 2,
+                code: 65535,
+            },
+            b"k65535",
+        ),
         (Value::Switch { entry: 2, code: 12 }, b"s12"),
         (Value::Noise(true), b"n1"),
         (Value::Noise(false), b"n0"),
@@ -32,7 +38,13 @@ fn logs_each_kind_of_value(rt: HostRuntime) -> Result<(), Fail> {
         (Value::NewDirectory(span), b"D"),
         (Value::File { spec, directory: 7 }, b"f"),
         (Value::Hook { id: 0, value: 2 }, b"h0:2"),
-        (Value::Hook { id: 255, value: u64::MAX }, b"h255:18446744073709551615"),
+        (
+            Value::Hook {
+                id: 255,
+                value: u64::MAX,
+            },
+            b"h255:18446744073709551615",
+        ),
     ];
     for (value, logged) in cases {
         let mut sink = MemSink::new(rt.alloc(), 40)?;

@@ -23,7 +23,7 @@ pub struct Given<'a> {
 }
 
 // These keys, and nothing that fails.
-pub fn over(keys: &[u8]) -> Given<'_> {
+pub(crate) fn over(keys: &[u8]) -> Given<'_> {
     Given {
         keys,
         failing_get: None,
@@ -45,7 +45,7 @@ pub struct Outcome {
     pub clock: MemClock,
 }
 
-pub fn words_of(texts: &[&str]) -> Words {
+pub(crate) fn words_of(texts: &[&str]) -> Words {
     let mut words = Words::new();
     for text in texts {
         words.push(text);
@@ -54,11 +54,11 @@ pub fn words_of(texts: &[&str]) -> Words {
 }
 
 // A run with a log.
-pub fn outcome_of(runtime: &HostRuntime, given: &Given<'_>) -> Result<Outcome, NoMemory> {
+pub(crate) fn outcome_of(runtime: &HostRuntime, given: &Given<'_>) -> Result<Outcome, NoMemory> {
     outcome_by(runtime, &words_of(&["-w", "-n", "OUT"]), given)
 }
 
-pub fn outcome_by(
+pub(crate) fn outcome_by(
     runtime: &HostRuntime,
     words: &Words,
     given: &Given<'_>,
@@ -131,7 +131,11 @@ fn leaves(keys: &mut MemSource, left: &[u8]) -> bool {
 }
 
 // Runs each case. The counter wants the runtime itself.
-pub fn try_cases(rt: &impl Abort, runtime: &HostRuntime, cases: &[Case<'_>]) -> Result<(), Fail> {
+pub(crate) fn try_cases(
+    rt: &impl Abort,
+    runtime: &HostRuntime,
+    cases: &[Case<'_>],
+) -> Result<(), Fail> {
     for case in cases {
         let keys = case.given.keys;
         let mut outcome = outcome_of(runtime, &case.given)?;

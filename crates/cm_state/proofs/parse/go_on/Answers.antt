@@ -23,19 +23,19 @@ pub returns-in-Done-clause-steps : goal.returns-in-Done-clause-steps
 returns-in-Done-clause-steps g c =
     let s = setting c.args.grammar.now (g.N.Names.catalogue c.args.names.now) g.R.Rules.meanings in
     let last = ends_there s c.args.text.now c.loop-field.fields (FIELD_LIMIT - length c.loop-field.fields) c.loop-field.node c.loop-field.at
-        _ (sym c.in-Done.ensures.value) tt in
+    _ (sym c.in-Done.ensures.value) tt in
     omega (arith, last.cost, c.loop-field.invariant.steps, c.try_chain.ensures.steps)
 
 pub returns-in-Fault-clause-steps : goal.returns-in-Fault-clause-steps
 returns-in-Fault-clause-steps g c =
     let s = setting c.args.grammar.now (g.N.Names.catalogue c.args.names.now) g.R.Rules.meanings in
     let last = ends_there s c.args.text.now c.loop-field.fields (FIELD_LIMIT - length c.loop-field.fields) c.loop-field.node c.loop-field.at
-        _ (sym c.in-Fault.ensures.value) tt in
+    _ (sym c.in-Fault.ensures.value) tt in
     omega (arith, last.cost, c.loop-field.invariant.steps, c.try_chain.ensures.steps)
 
 pub returns-in-Open-clause-steps : goal.returns-in-Open-clause-steps
 returns-in-Open-clause-steps g c =
     let s = setting c.args.grammar.now (g.N.Names.catalogue c.args.names.now) g.R.Rules.meanings in
     let last = ends_there s c.args.text.now c.loop-field.fields (FIELD_LIMIT - length c.loop-field.fields) c.loop-field.node c.loop-field.at
-        _ (sym c.in-Open.ensures.value) tt in
+    _ (sym c.in-Open.ensures.value) tt in
     omega (arith, last.cost, c.loop-field.invariant.steps, c.try_chain.ensures.steps)
