@@ -2,6 +2,7 @@
 #![tactic(auto)]
 
 mod echo;
+mod held;
 pub mod laws;
 mod log;
 mod parse;

@@ -20,16 +20,17 @@ ghost use Rattle.cm_state.specs.Stack.{Starts};
 ghost use Rattle.cm_state.specs.Turn.{put_of, turn_of};
 
 use crate::echo::{put_again, put_end, put_screen_line, put_taken, screen_byte};
+use crate::held::{before_fault, common, open_at, text_of};
 use crate::log::{line_feed, put_fields, put_head};
 use crate::parse::go_on;
 use crate::stack::Stack;
 use crate::{Prompt, Turn};
-use cm_blocks::{Ending, Field, Grammar, Open, Steps};
+use cm_blocks::{Ending, Field, Grammar, Steps};
 use cm_files::Names;
 use cm_hooks::{Hooks, Rules};
 use cm_io::{Put, Sink, put_line};
 use cm_line::{KeyClass, Line};
-use cm_text::{LINE_LIMIT, TEXT_LIMIT, bell, control_c};
+use cm_text::{LINE_LIMIT, bell, control_c};
 use std::marker::{Model, PhantomData};
 use std::sync::ledger::Ledger;
 
@@ -448,57 +449,4 @@ impl<R: Rules> Session<R> {
             _ => Turn::Edited,
         }
     }
-}
-
-// The text of a line: with the CR that finished it, where one did.
-fn text_of(line: &Line, is_finished: bool) -> &[u8]
-    ensures text { result.now ≡ (if is_finished then finished line.now else line.now) }
-    ensures short { length result.now ≤ TEXT_LIMIT }
-{
-    if is_finished {
-        line.finished()
-    } else {
-        line.bytes()
-    }
-}
-
-// How many bytes two lines begin with alike.
-fn common(line: &[u8], other: &[u8]) -> usize
-    ensures { result ≡ common line.now other.now }
-{
-    line.iter()
-        .zip(other)
-        .take_while(|pair| pair.0 == pair.1)
-        .count()
-}
-
-// Of a refused line, the bytes before its faulty field.
-fn before_fault(is_finished: bool, line: &Line, ending: Ending) -> Option<Line>
-    ensures { result ≡ (if is_finished then before_fault line.now ending else None) }
-{
-    match ending {
-        Ending::Fault(fault) if is_finished => Some(prefix(line, usize::from(fault.at))),
-        _ => None,
-    }
-}
-
-// The first bytes of a line.
-fn prefix(line: &Line, size: usize) -> Line
-    ensures { result ≡ take size line.now }
-{
-    let bytes = line.bytes();
-    let mut prefix = Line::new();
-    prefix.append(&bytes[..size.min(bytes.len())]);
-    prefix
-}
-
-// The start of a parse at a node.
-fn open_at(node: u16) -> Ending
-    ensures { result ≡ open_at node 0 }
-{
-    Ending::Open(Open {
-        node,
-        block: Some(0),
-        at: 0,
-    })
 }

@@ -5,7 +5,7 @@ use Rattle.std.proofs.lemmas.Iterator.Consumers.{YieldsList-at, count_from_yield
 use Rattle.std.proofs.lemmas.Iterator.Search.{YieldsList-from_take_while}
 use Rattle.std.proofs.lemmas.List.Folds.{length-prefix_len}
 use Rattle.cm_blocks.specs.Kept.{common}
-use Rattle.cm_state.proofs.session.common.Goals as goal
+use Rattle.cm_state.proofs.held.common.Goals as goal
 
 abbrev is_same : ℕ × ℕ → Bool
 is_same pair = pair.0 == pair.1
