@@ -1,5 +1,4 @@
 // Runs of the program by example, over objects in memory.
-mod count;
 mod cut;
 mod given;
 mod limit;

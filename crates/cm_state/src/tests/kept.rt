@@ -190,10 +190,6 @@ fn whole_lines<L: Ledger, A: Abort>(rt: &A, runtime: &HostRuntime, blank: Blank)
         assert_eq!(rt; run.session.log_line(b'\r', &mut run.logged), Put::Done);
         assert!(rt; run.logged.bytes().ends_with(logged), "of {text:?}");
     }
-    // The bytes before the fault are kept, and nothing was shown.
-    run.key(rt, 8, &grammar, &Shelf, &hooks, &mut steps);
-    assert_eq!(rt; run.session.text(), b"INF ".as_slice());
-    assert_eq!(rt; run.shown.bytes(), b"INF ".as_slice());
     Ok(())
 }
 
