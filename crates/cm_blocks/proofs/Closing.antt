@@ -1,5 +1,6 @@
 -- The parse of a finished text is decided.
 use Rattle.std.proofs.Common.{◌≡◌, ℕ, zero, suc, ◌+◌, ◌<◌, ◌≤◌, Bool, true, not, ◌==◌, ◌&&◌, nat_le, List, [], ◌∷◌, length, drop, take, Option, Some, None, unwrap_or, slice_get, Result, Ok, Err, refl, ap, sym, subst, ◌∙◌, arith, length-drop}
+use Rattle.std.proofs.lemmas.Bool.{and_parts}
 use Rattle.std.specs.List.{All, prefix_len}
 use Rattle.std.proofs.lemmas.Bool.Decides.{nat_tests}
 use Rattle.std.proofs.lemmas.List.{drop-append-le}
@@ -15,7 +16,7 @@ use Rattle.cm_fields.specs.Phrase.{same_letter}
 use Rattle.cm_fields.specs.Run.{number_of, word_of}
 use Rattle.cm_fields.specs.Text.{is_inside, text_of}
 use Rattle.cm_fields.proofs.Finishing.{comma_decides, confirm_decides, mark_inside, noise_decides, not_all, quoted_decides, run_decides, run_finishes, token_decides}
-use Rattle.cm_fields.proofs.Holding.{holds_of_choice}
+use Rattle.cm_fields.proofs.Holding.{holds_of_choice, of_choice}
 use Rattle.cm_fields.proofs.Skipping.{skip_finds}
 use Rattle.cm_hooks.specs.Field.{hook_of}
 use Rattle.cm_blocks.specs.declared.chain.Walk.{Walk}
@@ -35,8 +36,7 @@ use Rattle.cm_blocks.specs.Setting.{Setting}
 use Rattle.cm_blocks.specs.Taken.{Taken}
 use Rattle.cm_blocks.specs.Trial.{table_of, trial}
 use Rattle.cm_blocks.specs.Well.{IsWell, IsWellBlock}
-use Rattle.cm_blocks.proofs.Walks.{of_choice}
-use Rattle.cm_blocks.proofs.Wells.{both_true, well_node}
+use Rattle.cm_blocks.proofs.Wells.{well_node}
 
 -- the name of a switch ends before the end of the line
 named_decides : (table : List Entry) (at size most : ℕ) (colon : Bool) (found : Result ℕ Code) → size ≤ most
@@ -67,15 +67,15 @@ switch_decides table (byte ∷ line) at =
 -- a printing byte is not the end of the line, in either case
 shown_differs : (byte : ℕ) → is_shown_byte byte ≡ true → not (same_letter byte 13) ≡ true
 shown_differs byte shown =
-    let both = both_true (nat_le 32 byte && nat_le byte 126) _ shown in
-    let first = both_true (nat_le 32 byte) _ both.0 in
+    let both = and_parts (nat_le 32 byte && nat_le byte 126) _ shown in
+    let first = and_parts (nat_le 32 byte) _ both.0 in
     let least = first.0 in
     grind (arith, nat_tests)
 
 shown_has_no_end : (phrase : List ℕ) → is_shown phrase ≡ true → has_no_end phrase ≡ true
 shown_has_no_end [] shown = refl
 shown_has_no_end (byte ∷ phrase) shown =
-    let both = both_true (is_shown_byte byte) _ shown in
+    let both = and_parts (is_shown_byte byte) _ shown in
     rw (shown_differs byte both.0) (shown_has_no_end phrase both.1)
 
 trial_decides : (s : Setting) (function : Function) → has_phrase function ≡ true → DecidesFinished (trial s function)
@@ -87,7 +87,7 @@ trial_decides s (Noise text) phrase = noise_decides text
 trial_decides s Number phrase = run_decides is_word (λ at. number_of) refl
 trial_decides s Word phrase = run_decides is_word word_of refl
 trial_decides s Quoted phrase = quoted_decides
-trial_decides s (Token text) phrase = token_decides text (shown_has_no_end text (both_true _ (is_shown text) phrase).1)
+trial_decides s (Token text) phrase = token_decides text (shown_has_no_end text (and_parts _ (is_shown text) phrase).1)
 trial_decides s Text phrase = run_decides is_inside text_of refl
 trial_decides s Comma phrase = comma_decides
 trial_decides s Confirm phrase = confirm_decides

@@ -1,5 +1,6 @@
 -- Where a field that a chain takes ends and leads.
 use Rattle.std.proofs.Common.{◌≡◌, ℕ, zero, suc, ◌+◌, ◌<◌, ◌≤◌, max, Bool, true, false, if◌then◌else◌, nat_lt, List, [], ◌∷◌, length, drop, Option, Some, None, slice_get, refl, arith, length-drop}
+use Rattle.std.proofs.lemmas.Bool.{and_parts}
 use Rattle.std.specs.List.{All, list_all}
 use Rattle.std.proofs.lemmas.Bool.Decides.{nat_tests}
 use Rattle.cm_text.specs.Bytes.{is_name, is_word}
@@ -12,7 +13,7 @@ use Rattle.cm_fields.specs.declared.value.Value.TheVariants as values
 use Rattle.cm_fields.specs.Run.{number_of, word_of}
 use Rattle.cm_fields.specs.Skip.{skip}
 use Rattle.cm_fields.specs.Text.{is_inside, text_of}
-use Rattle.cm_fields.proofs.Holding.{Reaches}
+use Rattle.cm_fields.proofs.Holding.{Reaches, of_choice}
 use Rattle.cm_fields.proofs.Marks.{comma_reaches, confirm_reaches}
 use Rattle.cm_fields.proofs.Phrases.{noise_reaches, token_reaches}
 use Rattle.cm_fields.proofs.Quoting.{quoted_reaches}
@@ -33,13 +34,9 @@ use Rattle.cm_blocks.specs.Setting.{Setting}
 use Rattle.cm_blocks.specs.Trial.{entry_next, keyword_next, looked_of, next_of, table_of, trial}
 use Rattle.cm_blocks.specs.Well.{IsWell, IsWellBlock}
 use Rattle.cm_blocks.proofs.Switches.{switch_reaches}
-use Rattle.cm_blocks.proofs.Wells.{both_true, well_node}
+use Rattle.cm_blocks.proofs.Wells.{well_node}
 
 -- what is true of both ways of a choice is true of it
-pub of_choice : {A : Type 0} (P : A → Type 0) (test : Bool) (t u : A) → P t → P u → P (if test then t else u)
-of_choice P true t u first second = first
-of_choice P false t u first second = second
-
 -- where an accepted field of any function ends
 pub trial_reaches : (s : Setting) (function : Function) (rest : List ℕ) (at : ℕ) (value : Value) (looked end : ℕ)
     → has_phrase function ≡ true → trial s function rest at ≡ Accept value looked end
@@ -53,7 +50,7 @@ trial_reaches s Number rest at value looked end phrase is = run_reaches is_word 
 trial_reaches s Word rest at value looked end phrase is = run_reaches is_word (word_of at) rest at value looked end is
 trial_reaches s Quoted rest at value looked end phrase is = quoted_reaches rest at value looked end is
 trial_reaches s (Token text) rest at value looked end phrase is =
-    let some = both_true (nat_lt 0 (length text)) _ phrase in
+    let some = and_parts (nat_lt 0 (length text)) _ phrase in
     token_reaches text rest at value looked end (let test = some.0 in grind (arith, nat_tests)) is
 trial_reaches s Text rest at value looked end phrase is = run_reaches is_inside (text_of at) rest at value looked end is
 trial_reaches s Comma rest at value looked end phrase is = comma_reaches rest at value looked end is
@@ -66,9 +63,9 @@ entry_next_below : (count : ℕ) (table : List Entry) (position : ℕ) → 0 < c
     → list_all (λ (entry : Entry). nat_lt entry.next count) table ≡ true → entry_next table position < count
 entry_next_below count [] position some all = some
 entry_next_below count (entry ∷ more) zero some all =
-    let here = both_true (nat_lt entry.next count) _ all in let test = here.0 in grind (arith, nat_tests)
+    let here = and_parts (nat_lt entry.next count) _ all in let test = here.0 in grind (arith, nat_tests)
 entry_next_below count (entry ∷ more) (suc position) some all =
-    let here = both_true (nat_lt entry.next count) _ all in entry_next_below count more position some here.1
+    let here = and_parts (nat_lt entry.next count) _ all in entry_next_below count more position some here.1
 
 -- the node that follows a field of a block is there
 keyword_next_below : (graph : Graph) (count : ℕ) (function : Function) (next position : ℕ) → 0 < count → next < count
@@ -83,7 +80,7 @@ next_below : (graph : Graph) (count : ℕ) (block : Block) (value : Value) → 0
 next_below graph count block value some leads = by value
   where
     parts : (block.next < count) × (list_all (λ (entry : Entry). nat_lt entry.next count) (entries_of graph.tables block.function) ≡ true)
-    parts = let both = both_true (nat_lt block.next count) _ leads in let test = both.0 in ((grind (arith, nat_tests)), both.1)
+    parts = let both = and_parts (nat_lt block.next count) _ leads in let test = both.0 in ((grind (arith, nat_tests)), both.1)
 
     by : (value : Value) → next_of graph block value < count
     by (values.Key entry code) = keyword_next_below graph count block.function block.next entry some parts.0 parts.1

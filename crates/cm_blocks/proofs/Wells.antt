@@ -1,5 +1,6 @@
 -- What an accepted grammar is: as many nodes as there may be, each of them well.
 use Rattle.std.proofs.Common.{◌≡◌, ℕ, zero, suc, ◌+◌, ◌≤◌, ◌<◌, Bool, true, false, not, ◌&&◌, ◌==◌, if◌then◌else◌, nat_lt, nat_le, List, [], ◌∷◌, length, get_or, Option, Some, None, slice_get, refl, arith}
+use Rattle.std.proofs.lemmas.Bool.{and_parts}
 use Rattle.std.specs.List.{list_all}
 use Rattle.std.specs.Option.{option_map_or}
 use Rattle.std.proofs.lemmas.Bool.Decides.{nat_tests}
@@ -42,10 +43,6 @@ both None later none = record { first_none = refl; later_none = none }
 both (Some fault) later none = cc
 
 -- both tests of a chain are passed
-pub both_true : (a b : Bool) → (a && b) ≡ true → (a ≡ true) × (b ≡ true)
-both_true true b is = (refl, is)
-both_true false b is = cc
-
 -- there are as many nodes and tables as there may be
 pub sizes : (graph : Graph) → grammar_fault graph ≡ None → has_size graph ≡ true
 unfolding grammar_fault
@@ -53,8 +50,8 @@ sizes graph none = (passes (has_size graph) _ _ none).passed
 
 pub nodes_few : (graph : Graph) → grammar_fault graph ≡ None → length graph.nodes ≤ 1024
 nodes_few graph none =
-    let sized = both_true (nat_lt 0 (length graph.nodes) && nat_le (length graph.nodes) 1024) _ (sizes graph none) in
-    let few = both_true (nat_lt 0 (length graph.nodes)) _ sized.0 in
+    let sized = and_parts (nat_lt 0 (length graph.nodes) && nat_le (length graph.nodes) 1024) _ (sizes graph none) in
+    let few = and_parts (nat_lt 0 (length graph.nodes)) _ sized.0 in
     grind (arith, nat_tests)
 
 -- no node has a fault
@@ -113,7 +110,7 @@ well_node graph place node none found =
     let at = node_none graph.tables (length graph.nodes) 0 graph.nodes place node (all_none graph none) found in
     let passed = tests graph.tables (length graph.nodes) at.0 node at.1 in
     let limit = limit_of graph.nodes place node found in
-    let texts = both_true (option_map_or is_shown node.default true) _ passed.texts in
+    let texts = and_parts (option_map_or is_shown node.default true) _ passed.texts in
     let is_some = passed.some in
     let is_few = passed.few in
     record {
@@ -123,7 +120,7 @@ well_node graph place node none found =
         table = AllPass-from_list_all _ node.chain passed.have_tables k d below;
         leads = AllPass-from_list_all _ node.chain passed.lead k d below;
         hook = (let here = limit_at node.chain k d below in omega arith);
-        phrase = (both_true (has_phrase (get_or node.chain k d).function) _
+        phrase = (and_parts (has_phrase (get_or node.chain k d).function) _
             (AllPass-from_list_all has_texts node.chain texts.1 k d below)).0;
       };
     }

@@ -1,5 +1,6 @@
 -- The end of the line decides every trial.
 use Rattle.std.proofs.Common.{◌≡◌, ℕ, zero, suc, ◌+◌, ◌<◌, ◌≤◌, Bool, true, false, not, ◌==◌, ◌&&◌, nat_le, cond, if◌then◌else◌, List, [], ◌∷◌, ◌++◌, length, take, slice_get, Result, Ok, Err, refl, arith, length-append}
+use Rattle.std.proofs.lemmas.Bool.{and_parts}
 use Rattle.std.specs.List.{common_prefix_len, prefix_len}
 use Rattle.std.specs.Option.{option_map_or}
 use Rattle.std.proofs.lemmas.Bool.Decides.{nat_tests}
@@ -16,7 +17,7 @@ use Rattle.cm_fields.specs.Mark.{comma, confirm}
 use Rattle.cm_fields.specs.Phrase.{is_inside, noise, same_letter, token, typed_noise}
 use Rattle.cm_fields.specs.Quoted.{by_closing, closing, quoted}
 use Rattle.cm_fields.specs.Try.{by_run, said}
-use Rattle.cm_fields.proofs.Holding.{by_test, holds_of_choice}
+use Rattle.cm_fields.proofs.Holding.{by_test, holds_of_choice, of_choice}
 
 -- a run that the end of the line is no part of ends before it
 run_one : (is_here : Bool) (most size : ℕ) → size ≤ most → cond is_here (1 + size) 0 ≤ suc most
@@ -54,10 +55,6 @@ mark_inside mark differs (byte ∷ line) zero within is = omega arith
 mark_inside mark differs (byte ∷ line) (suc size) within is =
     let later = mark_inside mark differs line size (omega arith) is in omega arith
 
-pub first_true : (a b : Bool) → (a && b) ≡ true → a ≡ true
-first_true true b is = refl
-first_true false b is = cc
-
 typed_decides : (phrase line : List ℕ) (at : ℕ) → Decides at (1 + length line) (typed_noise phrase (line ++ 13 ∷ []) at)
 unfolding typed_noise
 typed_decides phrase line at =
@@ -67,7 +64,7 @@ typed_decides phrase line at =
     (λ equal. absurd (not_all size line within equal))
     (λ _. holds_of_choice (Decides at (1 + length line))
     (option_map_or (λ byte. byte == 41) (slice_get (line ++ 13 ∷ []) size) false && begins_with phrase (take size (line ++ 13 ∷ []))) _ _
-    (λ both. let inside = mark_inside 41 refl line size within (first_true _ _ both) in omega arith) (λ _. tt))
+    (λ both. let inside = mark_inside 41 refl line size within ((and_parts _ _ both).0) in omega arith) (λ _. tt))
 
 pub noise_decides : (phrase : List ℕ) → DecidesFinished (noise phrase)
 noise_decides phrase [] at = omega arith
@@ -79,7 +76,7 @@ noise_decides phrase (byte ∷ line) at =
 same_finishes : (phrase line : List ℕ) → has_no_end phrase ≡ true
     → common_prefix_len same_letter phrase (line ++ 13 ∷ []) ≤ length line
 same_finishes [] line plain = omega arith
-same_finishes (letter ∷ phrase) [] plain = by (same_letter letter 13) (first_true _ _ plain)
+same_finishes (letter ∷ phrase) [] plain = by (same_letter letter 13) (and_parts _ _ plain).0
   where
     by : (test : Bool) → not test ≡ true → cond test (1 + common_prefix_len same_letter phrase []) 0 ≤ 0
     by true is = cc
@@ -111,10 +108,6 @@ decides_less : (less most : ℕ) (found : Closing) → less ≤ most → Closing
 decides_less less most (Closed size written) below is = omega arith
 decides_less less most (Cut size) below is = tt
 decides_less less most Unknown below is = is
-
-of_choice : (P : Closing → Type 0) (test : Bool) (t u : Closing) → P t → P u → P (if test then t else u)
-of_choice P true t u first second = first
-of_choice P false t u first second = second
 
 closing_decides : (size written : ℕ) (line : List ℕ) → ClosingDecides (size + length line) (closing size written (line ++ 13 ∷ []))
 closing_decides size written [] = tt

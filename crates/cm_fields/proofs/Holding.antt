@@ -5,11 +5,16 @@ use Rattle.cm_fields.specs.declared.trial.Try.{Try}
 use Rattle.cm_fields.specs.declared.trial.Try.TheVariants.{Accept, Refuse, More}
 use Rattle.cm_fields.specs.Local.{Holds, IsLocal, IsSeen, Stays}
 
--- what holds of both ways of a choice holds of it
-pub holds_of_choice : (P : Try → Type 0) (test : Bool) (t u : Try) → (test ≡ true → P t) → (test ≡ false → P u)
+-- what holds of both ways of a choice holds of it, each way behind what the test then came to
+pub holds_of_choice : {A : Type 0} (P : A → Type 0) (test : Bool) (t u : A) → (test ≡ true → P t) → (test ≡ false → P u)
     → P (if test then t else u)
 holds_of_choice P true t u first second = first refl
 holds_of_choice P false t u first second = second refl
+
+-- the same, where neither way wants the test
+pub of_choice : {A : Type 0} (P : A → Type 0) (test : Bool) (t u : A) → P t → P u → P (if test then t else u)
+of_choice P true t u first second = first
+of_choice P false t u first second = second
 
 -- by the two values of a test
 pub by_test : (P : Type 0) (test : Bool) → (test ≡ true → P) → (test ≡ false → P) → P

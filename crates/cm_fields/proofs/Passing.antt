@@ -2,6 +2,7 @@
 use Rattle.std.proofs.Common.{◌≡◌, ◌≢◌, ℕ, ◌+◌, Bool, true, false, ◌==◌, if◌then◌else◌, inl, inr, List, [], ◌∷◌, ◌++◌, length, drop, Option, Some, None, refl, subst, sym, ap, ◌∙◌, arith, append-nil, append_assoc, length-append}
 use Rattle.std.proofs.lemmas.Bool.Decides.{nat_tests}
 use Rattle.cm_text.specs.Bytes.{is_blank}
+use Rattle.cm_fields.proofs.Holding.{holds_of_choice}
 use Rattle.cm_fields.specs.declared.skipped.Comment.{Comment}
 use Rattle.cm_fields.specs.declared.skipped.Comment.TheVariants.{Outside, ToMark, ToEnd}
 use Rattle.cm_fields.specs.Passed.{ArePassed, BeginsOther, EndsLine, HasNoEnd, HasNoMark, IsOpen, IsPast, IsUnended}
@@ -187,19 +188,14 @@ MayBeIn raw Outside = Unit {0}
 MayBeIn raw ToMark = raw ≡ false
 MayBeIn raw ToEnd = raw ≡ false
 
-of_choice : (P : Option Comment → Type 0) (test : Bool) (t u : Option Comment) → (test ≡ true → P t) → (test ≡ false → P u)
-    → P (if test then t else u)
-of_choice P true t u first second = first refl
-of_choice P false t u first second = second refl
-
 outside_tells : (raw : Bool) (at byte : ℕ) (rest : List ℕ)
     → ((comment : Comment) → MayBeIn raw comment → Tells raw comment (at + 1) rest (skip_from raw comment (at + 1) rest))
     → Told raw (byte ∷ rest) at (or_later at (passed raw Outside byte) (λ next. skip_from raw next (at + 1) rest))
 outside_tells raw at byte rest later =
     let P : Option Comment → Type 0 = λ next. Told raw (byte ∷ rest) at (or_later at next (λ next. skip_from raw next (at + 1) rest)) in
-    of_choice P (is_blank byte) (Some Outside) _
+    holds_of_choice P (is_blank byte) (Some Outside) _
     (λ is. told_behind raw (byte ∷ []) rest at _ (λ behind bytes before. blank byte bytes is before) (later Outside tt))
-    (λ plain. of_choice P raw None _
+    (λ plain. holds_of_choice P raw None _
     (λ is_raw. record {
       bytes = [];
       behind = byte ∷ rest;
@@ -208,9 +204,9 @@ outside_tells raw at byte rest later =
       passed = nothing;
       other = (plain, λ (has : raw ≡ false). absurd (cc));
     })
-    (λ has. of_choice P (byte == 33) (Some ToMark) _
+    (λ has. holds_of_choice P (byte == 33) (Some ToMark) _
     (λ test. let is = equal byte 33 test in rw is (later ToMark has [] at tt (omega arith)))
-    (λ first. of_choice P (byte == 59) (Some ToEnd) None
+    (λ first. holds_of_choice P (byte == 59) (Some ToEnd) None
     (λ test. let is = equal byte 59 test in rw is (later ToEnd has [] at tt (omega arith)))
     (λ second. record {
       bytes = [];
@@ -251,7 +247,7 @@ mark_tells : (raw : Bool) (at byte : ℕ) (rest : List ℕ) → raw ≡ false
     → Told raw (33 ∷ inside ++ byte ∷ rest) begin (or_later at (passed raw ToMark byte) (λ next. skip_from raw next (at + 1) rest))
 mark_tells raw at byte rest has later inside begin inner place =
     let P : Option Comment → Type 0 = λ next. Told raw (33 ∷ inside ++ byte ∷ rest) begin (or_later at next (λ next. skip_from raw next (at + 1) rest)) in
-    of_choice P (byte == 13) None _
+    holds_of_choice P (byte == 13) None _
     (λ test. let is = equal byte 13 test in record {
       bytes = 33 ∷ inside;
       behind = byte ∷ rest;
@@ -260,7 +256,7 @@ mark_tells raw at byte rest has later inside begin inner place =
       passed = unclosed inside has inner is;
       other = other_at_end raw byte rest is;
     })
-    (λ end. of_choice P (byte == 33) (Some Outside) (Some ToMark)
+    (λ end. holds_of_choice P (byte == 33) (Some Outside) (Some ToMark)
     (λ test.
     let is = equal byte 33 test in
     let further : at + 1 ≡ begin + length (33 ∷ inside ++ 33 ∷ []) = omega (arith, length-append (33 ∷ inside) (33 ∷ [])) in
@@ -277,7 +273,7 @@ semicolon_tells : (raw : Bool) (at byte : ℕ) (rest : List ℕ) → raw ≡ fal
     → Told raw (59 ∷ inside ++ byte ∷ rest) begin (or_later at (passed raw ToEnd byte) (λ next. skip_from raw next (at + 1) rest))
 semicolon_tells raw at byte rest has later inside begin inner place =
     let P : Option Comment → Type 0 = λ next. Told raw (59 ∷ inside ++ byte ∷ rest) begin (or_later at next (λ next. skip_from raw next (at + 1) rest)) in
-    of_choice P (byte == 13) None (Some ToEnd)
+    holds_of_choice P (byte == 13) None (Some ToEnd)
     (λ test. let is = equal byte 13 test in record {
       bytes = 59 ∷ inside;
       behind = byte ∷ rest;

@@ -10,7 +10,7 @@ use Rattle.cm_fields.specs.declared.value.Value.{Value}
 use Rattle.cm_fields.specs.declared.trial.Try.TheVariants.{Accept, Refuse}
 use Rattle.cm_fields.specs.Local.{Holds, IsLocal, IsSeen}
 use Rattle.cm_fields.specs.Quoted.{IsWithin, by_closing, closing, quoted}
-use Rattle.cm_fields.proofs.Holding.{LooksBeyond, Reaches, ReachesIfAccept, by_test, holds_beyond, holds_both, holds_of_choice, holds_same, is_local, reaches_accepted}
+use Rattle.cm_fields.proofs.Holding.{LooksBeyond, Reaches, ReachesIfAccept, by_test, holds_beyond, holds_both, holds_of_choice, holds_same, is_local, of_choice, reaches_accepted}
 
 differs : (byte other : ℕ) → byte ≢ other → (byte == other) ≡ false
 differs byte other unequal = grind (arith, nat_tests)
@@ -47,10 +47,6 @@ behind_less less least (Cut size) below is = omega arith
 behind_less less least Unknown below is = tt
 
 -- what holds of both ways of a choice holds of it
-of_choice : (P : Closing → Type 0) (test : Bool) (t u : Closing) → P t → P u → P (if test then t else u)
-of_choice P true t u first second = first
-of_choice P false t u first second = second
-
 closing_behind : (size written : ℕ) (inside : List ℕ) → IsBehind size (closing size written inside)
 closing_behind size written [] = tt
 closing_behind size written (byte ∷ []) = of_choice (IsBehind size) (byte == 13) (Cut size) Unknown (omega arith) tt

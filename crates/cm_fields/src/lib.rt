@@ -3,6 +3,7 @@
 #![tactic(auto)]
 
 mod code;
+mod digits;
 pub mod laws;
 mod mark;
 mod phrase;
@@ -16,10 +17,11 @@ mod trial;
 mod value;
 
 pub use code::Code;
+pub use digits::{NUMBER_LIMIT, are_digits, value_of};
 pub use mark::{comma, confirm};
 pub use phrase::{noise, token};
 pub use quotes::quoted;
-pub use run::{NUMBER_LIMIT, number, word, word_run};
+pub use run::{number, word, word_run};
 pub use skipped::skip;
 pub use text::text_field;
 pub use trial::{Try, said, span_of};

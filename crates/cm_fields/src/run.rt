@@ -1,17 +1,13 @@
 // Numbers and words, each a run of word bytes.
-ghost use Rattle.std.specs.Prelude.{◌≡◌, ◌+◌, ◌<◌, ◌≤◌, ◌^◌, true, drop, length, nat_le, if◌then◌else◌};
-ghost use Rattle.std.specs.Char.{is_ascii_digit};
-ghost use Rattle.std.specs.List.{list_all, prefix_len};
-ghost use Rattle.std.specs.Str.Parse.{digits_value};
+ghost use Rattle.std.specs.Prelude.{◌≡◌, ◌+◌, ◌<◌, ◌≤◌, ◌^◌, drop, length};
+ghost use Rattle.std.specs.List.{prefix_len};
 ghost use Rattle.cm_text.specs.Bytes.{is_word};
 ghost use Rattle.cm_fields.specs.Run.{number, number_of, word, word_of};
 
+use crate::digits::{NUMBER_LIMIT, are_digits, value_of};
 use crate::trial::{said, span_of};
 use crate::{Code, Try, Value};
 use cm_text::{NAME_LIMIT, TEXT_LIMIT, is_word};
-
-/// The last number (35 bits, the half of a word's range).
-pub const NUMBER_LIMIT: u64 = 34_359_738_367;
 
 /// How many word bytes the text begins with.
 pub fn word_run(rest: &[u8]) -> usize
@@ -19,29 +15,6 @@ pub fn word_run(rest: &[u8]) -> usize
     ensures within { result ≤ length rest.now }
 {
     rest.iter().take_while(|byte| is_word(**byte)).count()
-}
-
-// Whether all bytes are digits.
-fn are_digits(run: &[u8]) -> bool
-    ensures { result ≡ list_all is_ascii_digit run.now }
-{
-    run.iter().all(|byte| byte.is_ascii_digit())
-}
-
-// The number that digits write; none where it is too large.
-fn value_of(digits: &[u8]) -> Option<u64>
-    requires { list_all is_ascii_digit digits.now ≡ true }
-    ensures { let value = digits_value 10 digits.now in
-        result ≡ (if nat_le value NUMBER_LIMIT then Some value else None) }
-{
-    let mut value = 0;
-    for digit in digits {
-        value = 10 * value + u64::from(digit - b'0');
-        if value > NUMBER_LIMIT {
-            return None;
-        }
-    }
-    Some(value)
 }
 
 // What a run says as a number.
@@ -52,7 +25,7 @@ fn number_of(run: &[u8]) -> Result<Value, Code>
     if run.is_empty() || !are_digits(run) {
         return Err(Code::BadNumber);
     }
-    match value_of(run) {
+    match value_of(run, NUMBER_LIMIT) {
         Some(value) => Ok(Value::Number(value)),
         None => Err(Code::NumberRange),
     }

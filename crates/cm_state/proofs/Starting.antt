@@ -1,5 +1,6 @@
 -- What a session holds that is ready for a key, and which fields a parse of the new text begins with.
 use Rattle.std.proofs.Common.{◌≡◌, ℕ, ◌<◌, ◌==◌, ◌&&◌, nat_le, nat_lt, Bool, true, false, if◌then◌else◌, List, [], length, Option, None, refl, ap, sym, subst, arith}
+use Rattle.std.proofs.lemmas.Bool.{and_parts}
 use Rattle.std.proofs.lemmas.Bool.Decides.{nat_tests}
 use Rattle.std.proofs.lemmas.List.Sums.{common_prefix_len-le}
 use Rattle.cm_blocks.specs.declared.fault.TheConstants.{NODE_LIMIT, TABLE_LIMIT}
@@ -11,7 +12,7 @@ use Rattle.cm_blocks.specs.Setting.{Setting}
 use Rattle.cm_blocks.specs.Taken.{Taken}
 use Rattle.cm_blocks.proofs.Parsing.{parse_of_parses, start_is_open}
 use Rattle.cm_blocks.proofs.Standing.{kept_goes_on}
-use Rattle.cm_blocks.proofs.Wells.{both_true, sizes}
+use Rattle.cm_blocks.proofs.Wells.{sizes}
 use Rattle.cm_state.specs.Held.{Held, IsReady, at_start, met_line}
 use Rattle.cm_state.specs.Stack.{Starts}
 use Rattle.cm_state.specs.declared.prompt.Prompt.{Prompt}
@@ -30,8 +31,8 @@ start_is_ready s none node below prompt kept =
 -- a grammar has a node
 some_node : (graph : Graph) → grammar_fault graph ≡ None → 0 < length graph.nodes
 some_node graph none =
-    let all = both_true (nat_lt 0 (length graph.nodes) && nat_le (length graph.nodes) NODE_LIMIT) (nat_le (length graph.tables) TABLE_LIMIT) (sizes graph none) in
-    let first = both_true (nat_lt 0 (length graph.nodes)) (nat_le (length graph.nodes) NODE_LIMIT) all.0 in
+    let all = and_parts (nat_lt 0 (length graph.nodes) && nat_le (length graph.nodes) NODE_LIMIT) (nat_le (length graph.tables) TABLE_LIMIT) (sizes graph none) in
+    let first = and_parts (nat_lt 0 (length graph.nodes)) (nat_le (length graph.nodes) NODE_LIMIT) all.0 in
     let test = first.0 in
     grind (arith, nat_tests)
 

@@ -1,3 +1,4 @@
+pub mod BeginLaws
 pub mod Bytes
 pub mod Case
 pub mod Shown

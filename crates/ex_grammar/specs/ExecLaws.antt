@@ -7,7 +7,7 @@ use Rattle.cm_text.specs.Case.{begins_with}
 use Rattle.cm_hooks.specs.declared.answer.Answer.TheVariants.{Yes}
 use Rattle.cm_hooks.specs.declared.answer.Tail.TheVariants as tails
 use Rattle.cm_hooks.specs.Meanings.{Completes, IsLawful, IsTaken, IsYes}
-use Rattle.ex_grammar.specs.BeginLaws.{begins_longer, begins_whole, length-whole}
+use Rattle.cm_text.specs.BeginLaws.{begins_longer, begins_whole, length-whole}
 use Rattle.ex_grammar.specs.ExecRules.{exec_meanings, rule_completion, rule_verdict}
 use Rattle.ex_grammar.specs.FormName.{form_completion, form_verdict, goes_on, only, rests}
 

@@ -1,4 +1,3 @@
-pub mod BeginLaws
 pub mod ExecLaws
 pub mod ExecRules
 pub mod FormName

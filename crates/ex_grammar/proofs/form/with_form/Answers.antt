@@ -1,7 +1,7 @@
 use Rattle.std.proofs.lemmas.Str.{IsCharBoundary-from_ascii}
 use Rattle.std.proofs.Common.{◌≡◌, true, rules}
 use Rattle.cm_text.specs.Case.{begins_with}
-use Rattle.ex_grammar.specs.BeginLaws.{begins-le}
+use Rattle.cm_text.specs.BeginLaws.{begins-le}
 use Rattle.ex_grammar.proofs.form.with_form.Goals as goal
 
 pub range_from-rest-requires : goal.range_from-rest-requires

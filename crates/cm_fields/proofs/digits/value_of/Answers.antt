@@ -6,9 +6,8 @@ use Rattle.std.proofs.lemmas.Bool.Decides.{nat_tests}
 use Rattle.std.proofs.lemmas.Int.Digits.{digits_value_more}
 use Rattle.std.proofs.lemmas.List.Folds.{list_all_at}
 use Rattle.std.proofs.lemmas.Str.Parse.{digits_value-take-le}
-use Rattle.cm_fields.specs.declared.run.TheConstants.{NUMBER_LIMIT}
 use Rattle.cm_fields.proofs.Holding.{by_test}
-use Rattle.cm_fields.proofs.run.value_of.Goals as goal
+use Rattle.cm_fields.proofs.digits.value_of.Goals as goal
 
 digit_is : (byte : ℕ) → is_ascii_digit byte ≡ true → digit_value byte ≡ byte - 48
 digit_is byte is = grind (arith, nat_tests)
@@ -22,16 +21,16 @@ one_digit_more digits index within are =
     let value = digit_is (get_or digits index 0) digit in
     omega arith
 
-too_large : (value : ℕ) → NUMBER_LIMIT < value → None ≡ (if nat_le value NUMBER_LIMIT then Some value else None)
-too_large value large = grind (arith, nat_tests)
+too_large : (value most : ℕ) → most < value → None ≡ (if nat_le value most then Some value else None)
+too_large value most large = grind (arith, nat_tests)
 
-pub returns-then-value-gt-NUMBER_LIMIT : goal.returns-then-value-gt-NUMBER_LIMIT
-returns-then-value-gt-NUMBER_LIMIT c =
-    let more = one_digit_more c.args.digits.now c.loop-digit.digit-index c.loop-digit-test.true c.requires in
+pub returns-then-value-most : goal.returns-then-value-most
+returns-then-value-most c =
+    let more = one_digit_more c.args.digits.now c.loop-digit.digit-index c.loop-digit-test.true c.requires.digits in
     let most = digits_value-take-le 10 c.args.digits.now (c.loop-digit.digit-index + 1) (omega arith) in
-    too_large _ (omega arith)
+    too_large _ _ (omega arith)
 
 pub loop-digit-preserved : goal.loop-digit-preserved
 loop-digit-preserved c =
-    let more = one_digit_more c.args.digits.now c.loop-digit.digit-index c.loop-digit-test.true c.requires in
+    let more = one_digit_more c.args.digits.now c.loop-digit.digit-index c.loop-digit-test.true c.requires.digits in
     record { value = omega arith; small = omega arith }

@@ -1,10 +1,9 @@
 use Rattle.std.proofs.Common.{◌≡◌, ◌≤◌, take}
 use Rattle.std.specs.Str.Parse.{digits_value}
-use Rattle.cm_fields.specs.declared.run.TheConstants.{NUMBER_LIMIT}
-use Rattle.cm_fields.proofs.run.value_of.Given as goal
+use Rattle.cm_fields.proofs.digits.value_of.Given as goal
 
 abbrev pub invariant-loop-digit : goal.invariant-loop-digit
 invariant-loop-digit l = record {
   value : l.value ≡ digits_value 10 (take l.digit-index l.digits);
-  small : l.value ≤ NUMBER_LIMIT;
+  small : l.value ≤ l.most;
 }
