@@ -11,6 +11,7 @@ mod keyword;
 pub mod laws;
 mod node;
 mod steps;
+mod trial;
 
 pub use chain::try_chain;
 pub use fault::{BLOCK_LIMIT, NODE_LIMIT, TABLE_LIMIT};
@@ -20,6 +21,7 @@ pub use grammar::{Grammar, GrammarFault};
 pub use keyword::{key, switch};
 pub use node::{Block, Blocks, Node};
 pub use steps::Steps;
+pub use trial::try_function;
 
 #[cfg(test)]
 mod tests;

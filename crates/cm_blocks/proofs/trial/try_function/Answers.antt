@@ -3,7 +3,7 @@ use Rattle.cm_fields.proofs.Phrases.{noise_is_local, token_is_local}
 use Rattle.cm_fields.proofs.Quoting.{quoted_is_local}
 use Rattle.cm_blocks.proofs.Switches.{switch_is_local}
 use Rattle.cm_blocks.proofs.Trials.{seen_from}
-use Rattle.cm_blocks.proofs.chain.try_function.Goals as goal
+use Rattle.cm_blocks.proofs.trial.try_function.Goals as goal
 
 pub returns-in-Switch-clause-seen : goal.returns-in-Switch-clause-seen
 returns-in-Switch-clause-seen g c =

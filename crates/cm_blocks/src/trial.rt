@@ -1,0 +1,97 @@
+// What the function of one block makes of a text, and which node follows its field.
+ghost use Rattle.std.specs.Prelude.{◌≡◌, ◌-◌, ◌≤◌, ◌<◌, true, drop, length};
+ghost use Rattle.cm_fields.specs.Local.{IsSeen};
+ghost use Rattle.cm_hooks.specs.Ties.{Ties, count};
+ghost use Rattle.cm_blocks.specs.Fault.{has_table};
+ghost use Rattle.cm_blocks.specs.Grammar.{hook_limit};
+ghost use Rattle.cm_blocks.specs.Setting.{setting};
+ghost use Rattle.cm_blocks.specs.Trial.{entry_next, keyword_next, looked_of, next_of, table_of, trial};
+
+use crate::{Block, Function, Grammar, key, switch};
+use cm_fields::{Try, Value, comma, confirm, noise, number, quoted, text_field, token, word};
+use cm_files::Names;
+use cm_hooks::{Hooks, Rules, hook_field};
+use cm_text::TEXT_LIMIT;
+
+/// What the function of a block makes of a text from a place on. No counter rises, and no field comes of it: that is
+/// `try_chain` alone.
+#[tactic(auto, unfolding(crate::specs::Trial::trial))]
+pub fn try_function<N: Names, R: Rules>(
+    grammar: &Grammar,
+    function: &Function,
+    text: &[u8],
+    at: usize,
+    names: &N,
+    hooks: &Hooks<R>,
+) -> Try
+    requires table { has_table grammar.now.tables function.now ≡ true }
+    requires ties { Ties R.meanings hooks.now }
+    requires hook { hook_limit function.now ≤ count hooks.now }
+    requires short { length text.now ≤ TEXT_LIMIT }
+    requires place { at ≤ length text.now }
+    ensures value { result ≡ trial (setting grammar.now (N.catalogue names.now) R.meanings)
+        function.now (drop at text.now) at }
+    ensures seen { IsSeen (length text.now - at) result }
+{
+    match function {
+        Function::Key(table) => key(grammar.table(*table), text, at),
+        Function::Switch(table) => switch(grammar.table(*table), text, at),
+        Function::Noise(phrase) => noise(phrase.as_str(), text, at),
+        Function::Number => number(text, at),
+        Function::Word => word(text, at),
+        Function::Quoted => quoted(text, at),
+        Function::Token(phrase) => token(phrase.as_str(), text, at),
+        Function::Text => text_field(text, at),
+        Function::Comma => comma(text, at),
+        Function::Confirm => confirm(text, at),
+        Function::Hook(id) => hook_field(hooks, *id, text, at),
+    }
+}
+
+// How many bytes an answer looked at, of so many.
+pub(crate) fn looked_of(size: usize, answer: Try) -> usize
+    requires { IsSeen size answer }
+    ensures value { result ≡ looked_of size answer }
+    ensures within { result ≤ size }
+{
+    match answer {
+        Try::Accept { looked, .. } => usize::from(looked),
+        Try::Refuse { looked, .. } => usize::from(looked),
+        Try::More => size,
+    }
+}
+
+// The node that follows the entry of a table.
+fn entry_next(grammar: &Grammar, table: u16, entry: u16) -> u16
+    requires { table < length grammar.now.tables }
+    ensures { result ≡ entry_next (table_of grammar.now table) entry }
+{
+    match grammar.table(table).entries().get(usize::from(entry)) {
+        Some(entry) => entry.next,
+        None => 0,
+    }
+}
+
+// The node that follows a keyword or a switch, by its entry.
+fn keyword_next(grammar: &Grammar, block: &Block, entry: u16) -> u16
+    requires { has_table grammar.now.tables block.now.function ≡ true }
+    ensures { result ≡ keyword_next grammar.now block.now.function block.now.next entry }
+{
+    match block.function {
+        Function::Key(table) => entry_next(grammar, table, entry),
+        Function::Switch(table) => entry_next(grammar, table, entry),
+        _ => block.next,
+    }
+}
+
+// The node that follows a field of a block.
+pub(crate) fn next_of(grammar: &Grammar, block: &Block, value: Value) -> u16
+    requires { has_table grammar.now.tables block.now.function ≡ true }
+    ensures { result ≡ next_of grammar.now block.now value }
+{
+    match value {
+        Value::Key { entry, .. } => keyword_next(grammar, block, entry),
+        Value::Switch { entry, .. } => keyword_next(grammar, block, entry),
+        _ => block.next,
+    }
+}
