@@ -118,12 +118,12 @@ impl Grammar {
 }
 
 // One past the greatest id that a hook may have.
-const HOOK_LIMIT: u16 = 256;
+const ID_LIMIT: u16 = 256;
 
 // One past the id of the hook that a block asks, 0 where it asks none.
 fn hook_limit(block: &Block) -> u16
     ensures value { result ≡ hook_limit block.now.function }
-    ensures most { result ≤ HOOK_LIMIT }
+    ensures most { result ≤ ID_LIMIT }
 {
     match block.function {
         Function::Hook(id) => u16::from(id) + 1,
@@ -133,7 +133,7 @@ fn hook_limit(block: &Block) -> u16
 
 fn blocks_limit(blocks: &[Block]) -> u16
     ensures value { result ≡ blocks_limit blocks.now }
-    ensures most { result ≤ HOOK_LIMIT }
+    ensures most { result ≤ ID_LIMIT }
 {
     let mut limit = 0;
     for block in blocks {

@@ -10,7 +10,7 @@ use cm_fields::{Code, Try, Value, said};
 use cm_text::{LINE_LIMIT, TEXT_LIMIT, is_name};
 
 // How many name bytes a text begins with.
-fn run_len(text: &[u8]) -> usize
+fn name_run(text: &[u8]) -> usize
     ensures value { result ≡ prefix_len is_name text.now }
     ensures within { result ≤ length text.now }
 {
@@ -44,7 +44,7 @@ pub fn hook_field<R: Rules>(hooks: &Hooks<R>, id: u8, text: &[u8], at: usize) ->
     ensures { result ≡ hook R.meanings.verdict id (drop at text.now) at }
 {
     let rest = &text[at..];
-    let size = run_len(rest);
+    let size = name_run(rest);
     if size == rest.len() {
         return Try::More;
     }

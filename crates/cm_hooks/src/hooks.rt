@@ -29,10 +29,13 @@ impl Verdict {
     }
 }
 
+/// The most hooks that a program has.
+pub const HOOKS_LIMIT: usize = 16;
+
 /// The hooks of a program, at most 16, each at the place of its id.
 #[derive(Drop)]
 pub struct Hooks<R> {
-    hooks: ArrayVec<Option<Hook<R>>, 16>,
+    hooks: ArrayVec<Option<Hook<R>>, HOOKS_LIMIT>,
 }
 
 impl<R: Rules> Hooks<R> {
@@ -51,7 +54,7 @@ impl<R: Rules> Hooks<R> {
     /// How many hooks there are.
     pub fn len(&self) -> u8
         ensures value { result ≡ count self.now }
-        ensures most { result ≤ 16 }
+        ensures most { result ≤ HOOKS_LIMIT }
     {
         self.hooks.len() as u8
     }
@@ -61,7 +64,7 @@ impl<R: Rules> Hooks<R> {
     pub fn push(&mut self, hook: Hook<R>) -> Result<(), Hook<R>>
         requires hooks { Ties R.meanings self.old }
         requires hook { IsTied R.meanings hook }
-        ensures fits { IsOk result ↔ ((count self.old < 16) × (id_of hook ≡ count self.old)) }
+        ensures fits { IsOk result ↔ ((count self.old < HOOKS_LIMIT) × (id_of hook ≡ count self.old)) }
         ensures added { OnOk result (held self.new ≡ held self.old ++ Some hook ∷ []) }
         ensures refused { IfErr result (λ back. (back ≡ hook) × (self.new ≡ self.old)) }
         ensures ties { Ties R.meanings self.new }

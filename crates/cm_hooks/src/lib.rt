@@ -12,5 +12,5 @@ mod rules;
 pub use answer::{Answer, Tail};
 pub use field::hook_field;
 pub use hook::Hook;
-pub use hooks::{Hooks, Verdict};
+pub use hooks::{HOOKS_LIMIT, Hooks, Verdict};
 pub use rules::Rules;

@@ -10,11 +10,12 @@ use Rattle.cm_text.specs.Case.{begins_with, equals}
 abbrev pub lower : List ℕ → List ℕ
 lower text = map to_ascii_lowercase text
 
-begins_same : (text other : List ℕ) → begins_with text other ≡ true → lower (take (length other) text) ≡ lower other
+-- a text begins with another exactly where its first bytes are that, without the case of letters
+pub begins_same : (text other : List ℕ) → begins_with text other ≡ true → lower (take (length other) text) ≡ lower other
 unfolding begins_with equals
 begins_same text other begins = (bytes_eq-Decides _ _).0 begins
 
-same_begins : (text other : List ℕ) → lower (take (length other) text) ≡ lower other → begins_with text other ≡ true
+pub same_begins : (text other : List ℕ) → lower (take (length other) text) ≡ lower other → begins_with text other ≡ true
 unfolding begins_with equals
 same_begins text other same = (bytes_eq-Decides _ _).1 same
 
