@@ -1,2 +1,4 @@
+mod CommonLemmas
 mod SearchLemmas
+mod SharingLemmas
 mod WithinLemmas

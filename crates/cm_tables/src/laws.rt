@@ -1,0 +1,18 @@
+//! Laws of recognition.
+ghost use Rattle.std.specs.Prelude.{◌≡◌, ◌≢◌, ℕ, List, [], ◌++◌, None, Some, drop, length, slice_get, true};
+ghost use Rattle.std.specs.Io.{StartsWith};
+ghost use Rattle.cm_text.specs.Case.{begins_with};
+ghost use Rattle.cm_tables.specs.Common.{AllBeginWith, common, rests};
+ghost use Rattle.cm_tables.specs.Look.{candidates, found_at, look};
+ghost use Rattle.cm_tables.specs.Order.{table_fault};
+ghost use Rattle.cm_tables.specs.declared.entry.Entry.{Entry};
+ghost use Rattle.cm_tables.specs.declared.table.Look.TheVariants as looks;
+
+/// Behind an atom all entries that it may abbreviate go on with their common text, and with no longer one. With
+/// no such entry that text is empty.
+pub fn the_common_text_is_the_longest()
+    ensures shared { (table : List Entry) → (atom : List ℕ) → AllBeginWith (rests table atom) (common table atom) }
+    ensures longest { (table : List Entry) → (atom : List ℕ) → (front : List ℕ) → candidates table atom ≢ []
+        → AllBeginWith (rests table atom) front → StartsWith (common table atom) front }
+    ensures none { (table : List Entry) → (atom : List ℕ) → candidates table atom ≡ [] → common table atom ≡ [] }
+{}
