@@ -16,3 +16,14 @@ pub fn the_common_text_is_the_longest()
         → AllBeginWith (rests table atom) front → StartsWith (common table atom) front }
     ensures none { (table : List Entry) → (atom : List ℕ) → candidates table atom ≡ [] → common table atom ≡ [] }
 {}
+
+/// An atom that is found is a beginning of an entry that may be abbreviated, with no regard to the case of letters.
+/// With what is missing of that entry's text it is found as that entry itself, and exactly.
+pub fn a_completed_atom_is_its_entry()
+    ensures begins { (table : List Entry) → (atom : List ℕ) → (place : ℕ) → (entry : Entry) → table_fault table ≡ None
+        → found_at (look table atom) ≡ Some place → slice_get table place ≡ Some entry
+        → begins_with entry.text atom ≡ true }
+    ensures exact { (table : List Entry) → (atom : List ℕ) → (place : ℕ) → (entry : Entry) → table_fault table ≡ None
+        → found_at (look table atom) ≡ Some place → slice_get table place ≡ Some entry
+        → look table (atom ++ drop (length atom) entry.text) ≡ looks.Exact place }
+{}
