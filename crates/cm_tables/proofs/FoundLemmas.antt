@@ -278,7 +278,8 @@ exact_itself place (Short target) recognised = cc
 
 -- the whole text of an entry that may be abbreviated finds it
 whole_finds : (table : List Entry) (whole : List ℕ) (at : ℕ) (entry : Entry) → table_fault table ≡ None
-    → slice_get table at ≡ Some entry → is_recognised entry.flag ≡ true → equals entry.text whole ≡ true → look table whole ≡ looks.Exact at
+    → slice_get table at ≡ Some entry → is_recognised entry.flag ≡ true → equals entry.text whole ≡ true
+    → look table whole ≡ looks.Exact at
 unfolding look
 whole_finds table whole at entry none reads recognised equal =
     let first = first_is whole 0 0 None table at entry (no-texts_fault table none) reads equal in

@@ -27,7 +27,8 @@ take-same : (text other : List ℕ)
     → take (common_prefix_len nat_eq text other) text ≡ take (common_prefix_len nat_eq text other) other
 take-same [] other = refl
 take-same (byte ∷ text) [] = refl
-take-same (byte ∷ text) (next ∷ other) = by (nat_eq byte next) (λ equal. grind (arith, nat_tests)) (take-same text other)
+take-same (byte ∷ text) (next ∷ other) =
+    by (nat_eq byte next) (λ equal. grind (arith, nat_tests)) (take-same text other)
   where
     size : ℕ
     size = common_prefix_len nat_eq text other
