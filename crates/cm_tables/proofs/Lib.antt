@@ -1,5 +1,5 @@
-mod CommonLemmas
-mod FoundLemmas
+pub mod CommonLemmas
+pub mod FoundLemmas
 mod SearchLemmas
-mod SharingLemmas
+pub mod SharingLemmas
 mod WithinLemmas
