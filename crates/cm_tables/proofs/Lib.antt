@@ -1,2 +1,5 @@
+pub mod CommonLemmas
+pub mod FoundLemmas
 mod SearchLemmas
+pub mod SharingLemmas
 mod WithinLemmas
