@@ -42,7 +42,6 @@ both : (first later : Option GrammarFault) → or_fault first later ≡ None →
 both None later none = record { first_none = refl; later_none = none }
 both (Some fault) later none = cc
 
--- both tests of a chain are passed
 -- there are as many nodes and tables as there may be
 pub sizes : (graph : Graph) → grammar_fault graph ≡ None → has_size graph ≡ true
 unfolding grammar_fault
