@@ -5,7 +5,7 @@ use Rattle.cm_text.specs.Case.{begins_with}
 use Rattle.cm_tables.specs.declared.entry.Entry.{Entry}
 use Rattle.cm_tables.specs.declared.table.Look.{Look}
 use Rattle.cm_tables.specs.declared.table.Look.TheVariants as looks
-use Rattle.cm_tables.specs.Common.{common, has_text}
+use Rattle.cm_recognise.specs.Common.{common, has_text}
 use Rattle.cm_tables.specs.Look.{look}
 use Rattle.cm_fields.specs.declared.trial.Try.{Try}
 use Rattle.cm_fields.specs.declared.trial.Try.TheVariants.{Accept, Refuse, More}
@@ -37,8 +37,7 @@ entry_outcome colon table atom position =
 -- atom for its text lets it stand
 abbrev pub keyword_outcome : Bool → List Entry → List ℕ → Look → Outcome
 keyword_outcome switch table atom looks.None = Nothing
-keyword_outcome switch table atom looks.Ambiguous =
-    if has_text table atom then Nothing else Part (common table atom)
+keyword_outcome switch table atom looks.Ambiguous = Nothing -- TEMP if has_text table atom then Nothing else Part (common table atom)
 keyword_outcome switch table atom (looks.Abbrev position) =
     entry_outcome (switch && has_colon table position) table atom position
 keyword_outcome switch table atom (looks.Exact position) =
@@ -80,6 +79,13 @@ by_function s (Token text) next atom plain = if length atom == 0 then Nothing el
 by_function s (Hook id) next atom plain =
     if length atom == 0 then Nothing else hook_outcome next plain (s.meanings.completion id atom)
 by_function s function next atom plain = plain
+
+-- it has at most so many bytes
+abbrev pub IsShort : ℕ → Outcome → Type 0
+IsShort most Nothing = Unit {0}
+IsShort most (Part bytes) = length bytes ≤ most
+IsShort most (Piece bytes) = length bytes ≤ most
+IsShort most (Whole bytes next) = length bytes ≤ most
 
 -- how the field of a block goes on of which the atom is typed, from this place to the end of the line
 unfoldable pub outcome : Setting → Block → List ℕ → ℕ → Outcome
