@@ -1,2 +1,5 @@
+mod CommonLemmas
+mod FoundLemmas
 mod SearchLemmas
+mod SharingLemmas
 mod WithinLemmas
