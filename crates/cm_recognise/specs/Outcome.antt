@@ -5,8 +5,8 @@ use Rattle.cm_text.specs.Case.{begins_with}
 use Rattle.cm_tables.specs.declared.entry.Entry.{Entry}
 use Rattle.cm_tables.specs.declared.table.Look.{Look}
 use Rattle.cm_tables.specs.declared.table.Look.TheVariants as looks
-use Rattle.cm_recognise.specs.Common.{common, has_text}
-use Rattle.cm_tables.specs.Look.{look}
+use Rattle.cm_tables.specs.Common.{common}
+use Rattle.cm_tables.specs.Look.{has_text, look}
 use Rattle.cm_fields.specs.declared.trial.Try.{Try}
 use Rattle.cm_fields.specs.declared.trial.Try.TheVariants.{Accept, Refuse, More}
 use Rattle.cm_hooks.specs.declared.answer.Tail.{Tail}
@@ -37,7 +37,8 @@ entry_outcome colon table atom position =
 -- atom for its text lets it stand
 abbrev pub keyword_outcome : Bool → List Entry → List ℕ → Look → Outcome
 keyword_outcome switch table atom looks.None = Nothing
-keyword_outcome switch table atom looks.Ambiguous = Nothing -- TEMP if has_text table atom then Nothing else Part (common table atom)
+keyword_outcome switch table atom looks.Ambiguous =
+    if has_text table atom then Nothing else Part (common table atom)
 keyword_outcome switch table atom (looks.Abbrev position) =
     entry_outcome (switch && has_colon table position) table atom position
 keyword_outcome switch table atom (looks.Exact position) =

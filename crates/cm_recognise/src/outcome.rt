@@ -1,7 +1,8 @@
 // How a field goes on that a block has begun to read.
-ghost use Rattle.std.specs.Prelude.{◌≡◌, ◌≤◌, ◌<◌, ◌+◌, ◌&&◌, [], ◌∷◌, ◌++◌, drop, length, true};
+ghost use Rattle.std.specs.Prelude.{◌≡◌, ◌≤◌, ◌<◌, ◌+◌, ◌&&◌, [], ◌∷◌, ◌++◌, if◌then◌else◌, drop, length, true};
 ghost use Rattle.cm_hooks.specs.Ties.{Ties, count};
-ghost use Rattle.cm_tables.specs.Look.{look};
+ghost use Rattle.cm_tables.specs.Common.{common};
+ghost use Rattle.cm_tables.specs.Look.{has_text, look};
 ghost use Rattle.cm_blocks.specs.Fault.{has_table};
 ghost use Rattle.cm_blocks.specs.Grammar.{hook_count, hook_limit};
 ghost use Rattle.cm_blocks.specs.Keyword.{has_colon};
@@ -84,11 +85,27 @@ fn entry_outcome(switch: bool, table: &Table, atom: &[u8], position: u16) -> Out
     }
 }
 
-// What several entries share.
-fn shared_outcome(_table: &Table, _atom: &[u8]) -> Outcome
-    ensures { result ≡ Outcome.Nothing }
+// A copy of at most 41 bytes.
+fn copied(text: &[u8]) -> Bytes
+    requires { length text.now ≤ TAIL_LIMIT }
+    ensures value { result ≡ text.now }
+    ensures short { length result ≤ TAIL_LIMIT }
 {
-    Outcome::Nothing
+    let mut bytes = Bytes::new();
+    bytes.append(text);
+    bytes
+}
+
+// What several entries share, unless one of them has the atom for its text.
+fn shared_outcome(table: &Table, atom: &[u8]) -> Outcome
+    ensures value { result ≡ (if has_text table.now atom.now then Outcome.Nothing
+        else Outcome.Part (common table.now atom.now)) }
+    ensures short { IsShort TAIL_LIMIT result }
+{
+    if table.has_text(atom) {
+        return Outcome::Nothing;
+    }
+    Outcome::Part(copied(table.common(atom)))
 }
 
 // How a keyword goes on, or a switch behind its slash.
@@ -162,16 +179,6 @@ fn plain_outcome<N: Names, R: Rules>(
     }
 }
 
-// The bytes of a name.
-fn bytes_of(name: &Name) -> Bytes
-    ensures value { result ≡ name.now }
-    ensures short { length result ≤ TAIL_LIMIT }
-{
-    let mut bytes = Bytes::new();
-    bytes.append(name.as_bytes());
-    bytes
-}
-
 /// How the field of a block goes on of which the rest of the line from a place on is typed.
 #[tactic(auto, unfolding(crate::specs::Outcome::outcome))]
 pub fn outcome_of<N: Names, R: Rules>(
@@ -208,9 +215,9 @@ pub fn outcome_of<N: Names, R: Rules>(
             }
             match hooks.complete(*id, atom) {
                 Tail::None => plain_outcome(grammar, block, line, at, names, hooks),
-                Tail::Part(text) => Outcome::Part(bytes_of(&text)),
+                Tail::Part(text) => Outcome::Part(copied(text.as_bytes())),
                 Tail::Whole(text) => Outcome::Whole {
-                    bytes: bytes_of(&text),
+                    bytes: copied(text.as_bytes()),
                     next: block.next,
                 },
             }

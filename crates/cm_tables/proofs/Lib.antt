@@ -1,5 +1,5 @@
 mod CommonLemmas
-mod FoundLemmas
+pub mod FoundLemmas
 mod SearchLemmas
-mod SharingLemmas
-mod WithinLemmas
+pub mod SharingLemmas
+pub mod WithinLemmas
