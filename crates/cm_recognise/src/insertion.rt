@@ -205,6 +205,29 @@ fn at_block<N: Names, R: Rules>(
     asked(grammar, node, block, line, usize::from(place.at), names, hooks, mode)
 }
 
+// What is put into a line whose parse ends so.
+#[tactic(auto, unfolding(crate::specs::Insertion::insertion))]
+fn inserted<N: Names, R: Rules>(
+    grammar: &Grammar,
+    ending: Ending,
+    line: &[u8],
+    names: &N,
+    hooks: &Hooks<R>,
+    mode: Mode,
+) -> Insertion
+    requires line { length line.now ≤ LINE_LIMIT }
+    requires ties { Ties R.meanings hooks.now }
+    requires hooks { hook_count grammar.now ≤ count hooks.now }
+    ensures { result ≡ insertion (setting grammar.now (N.catalogue names.now) R.meanings) ending line.now mode }
+{
+    match ending {
+        Ending::Open(place) if line.len() < LINE_LIMIT && usize::from(place.at) <= line.len() => {
+            fitted(line.len(), at_block(grammar, place, line, names, hooks, mode))
+        }
+        _ => rung(),
+    }
+}
+
 /// What ESC or control-F puts into a line whose parse ends so (COMND's recognition).
 ///
 /// Where the line is open at a field of which nothing is typed, ESC takes the default of its node. Else the blocks that
@@ -212,7 +235,6 @@ fn at_block<N: Names, R: Rules>(
 /// follows and the guide word of the next node; with the beginning that several ways share, which rings; or with a
 /// piece, as a switch up to its colon. It rings, and nothing goes in, where no block can go on, where the line is not
 /// open at a block, and where the bytes do not fit.
-#[tactic(auto, unfolding(crate::specs::Insertion::insertion))]
 pub fn complete<N: Names, R: Rules>(
     grammar: &Grammar,
     ending: Ending,
@@ -229,10 +251,7 @@ pub fn complete<N: Names, R: Rules>(
     // With them it is a line again.
     ensures line { IsLine (line.now ++ result.bytes) }
 {
-    match ending {
-        Ending::Open(place) if line.len() < LINE_LIMIT && usize::from(place.at) <= line.len() => {
-            fitted(line.len(), at_block(grammar, place, line, names, hooks, mode))
-        }
-        _ => rung(),
-    }
+    grammar.has_no_fault();
+    grammar.has_tables();
+    inserted(grammar, ending, line, names, hooks, mode)
 }
