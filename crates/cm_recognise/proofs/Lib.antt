@@ -1,2 +1,4 @@
+pub mod Going
 pub mod Lines
+pub mod Plains
 pub mod Texts

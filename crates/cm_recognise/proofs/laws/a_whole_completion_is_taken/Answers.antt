@@ -1,0 +1,6 @@
+use Rattle.cm_recognise.proofs.Going.{chain_goes_on}
+use Rattle.cm_recognise.proofs.Plains.{number_ends}
+use Rattle.cm_recognise.proofs.laws.a_whole_completion_is_taken.Goals as goal
+
+pub returns : goal.returns
+returns c = let f = chain_goes_on in let g = number_ends in ?
