@@ -27,7 +27,7 @@ use Rattle.cm_blocks.proofs.Walks.{choice_leads, some_node}
 use Rattle.cm_blocks.proofs.Wells.{well_node}
 
 -- the walk by the answer of its first block
-walk_step : (s : Setting) (rest : List ℕ) (at number looked : ℕ) (code : Code) (block : Block) (blocks : List Block) (answer : Try)
+pub walk_step : (s : Setting) (rest : List ℕ) (at number looked : ℕ) (code : Code) (block : Block) (blocks : List Block) (answer : Try)
     → trial s block.function rest at ≡ answer
     → walk s rest at number looked code (block ∷ blocks)
     ≡ or_later s.graph number (max looked (looked_of (length rest) answer)) block answer

@@ -1,6 +1,7 @@
 -- Where a field begins: the walk over the bytes, and what stands there.
-use Rattle.std.proofs.Common.{◌≡◌, ◌≢◌, ℕ, ◌+◌, Bool, true, false, ◌==◌, if◌then◌else◌, inl, inr, List, [], ◌∷◌, ◌++◌, length, drop, Option, Some, None, refl, subst, sym, ap, ◌∙◌, arith, append-nil, append_assoc, length-append}
+use Rattle.std.proofs.Common.{◌≡◌, ◌≢◌, ℕ, ◌+◌, ◌≤◌, Bool, true, false, ◌==◌, if◌then◌else◌, inl, inr, List, [], ◌∷◌, ◌++◌, length, drop, Option, Some, None, refl, subst, sym, ap, ◌∙◌, arith, append-nil, append_assoc, length-append, length-drop}
 use Rattle.std.proofs.lemmas.Bool.Decides.{nat_tests}
+use Rattle.std.proofs.lemmas.List.{drop-append-le}
 use Rattle.cm_text.specs.Bytes.{is_blank}
 use Rattle.cm_fields.proofs.Holding.{holds_of_choice}
 use Rattle.cm_fields.specs.declared.skipped.Comment.{Comment}
@@ -319,3 +320,30 @@ past_of_skip raw text at place is = subst (Told raw (drop at text) at) is (walk_
 
 pub open_of_skip : (raw : Bool) (text : List ℕ) (at : ℕ) → skip raw text at ≡ None → IsOpen raw (drop at text)
 open_of_skip raw text at is = subst (Told raw (drop at text) at) is (walk_tells raw Outside at (drop at text) tt)
+
+skip_from_goes_on : (raw : Bool) (comment : Comment) (at : ℕ) (rest more : List ℕ) (place : ℕ)
+    → skip_from raw comment at rest ≡ Some place → (place ≡ at + length rest → BeginsOther raw more)
+    → skip_from raw comment at (rest ++ more) ≡ Some place
+skip_from_goes_on raw Outside at [] more place is other =
+    let same : at ≡ place = cc in
+    stops_at_other raw at more (other (omega arith)) ∙ is
+skip_from_goes_on raw ToMark at [] more place is other = cc
+skip_from_goes_on raw ToEnd at [] more place is other = cc
+skip_from_goes_on raw comment at (byte ∷ rest) more place is other =
+    by (passed raw comment byte) (λ next is other. skip_from_goes_on raw next (at + 1) rest more place is other) is
+  where
+    by : (next : Option Comment)
+        → ((next : Comment) → skip_from raw next (at + 1) rest ≡ Some place → (place ≡ at + 1 + length rest → BeginsOther raw more)
+        → skip_from raw next (at + 1) (rest ++ more) ≡ Some place)
+        → or_later at next (λ next. skip_from raw next (at + 1) rest) ≡ Some place
+        → or_later at next (λ next. skip_from raw next (at + 1) (rest ++ more)) ≡ Some place
+    by None later is = is
+    by (Some next) later is = later next is (λ ends. other (omega arith))
+
+-- a place that is found stays however the text goes on, unless it is the end and what follows is passed over
+pub skip_goes_on : (raw : Bool) (text more : List ℕ) (at place : ℕ) → at ≤ length text → skip raw text at ≡ Some place
+    → (place ≡ length text → BeginsOther raw more) → skip raw (text ++ more) at ≡ Some place
+skip_goes_on raw text more at place within is other =
+    let whole = drop-append-le at text more within in
+    let size = length-drop at text in
+    rw whole (skip_from_goes_on raw Outside at (drop at text) more place is (λ ends. other (omega arith)))

@@ -177,7 +177,7 @@ token_inside phrase front more at ends =
     let other : (common_prefix_len same_letter phrase front == length (front ++ more)) ≡ false = grind (arith, nat_tests, length-append front more) in
     rw (same, other)
 
-token_whole : (phrase front more : List ℕ) (at : ℕ) → common_prefix_len same_letter phrase front ≡ length phrase
+pub token_whole : (phrase front more : List ℕ) (at : ℕ) → common_prefix_len same_letter phrase front ≡ length phrase
     → token phrase (front ++ more) at ≡ Accept Token (length phrase) (at + length phrase)
 unfolding token
 token_whole phrase front more at ends =

@@ -86,7 +86,7 @@ keyword_same : (text other : List ℕ) → is_keyword text ≡ true → is_keywo
 keyword_same text other first second same = bytes_same text other (and_parts _ _ first).1 (and_parts _ _ second).1 same
 
 -- a text with no fault is a keyword
-keyword_of : (place : ℕ) (before : Option (List ℕ)) (text : List ℕ) → text_fault place before text ≡ None
+pub keyword_of : (place : ℕ) (before : Option (List ℕ)) (text : List ℕ) → text_fault place before text ≡ None
     → (is_keyword text ≡ true) × (order_fault place before text ≡ None)
 keyword_of place before text none = by (is_keyword text) none
   where
@@ -260,7 +260,7 @@ pub found_begins : (table : List Entry) (atom : List ℕ) (at : ℕ) (entry : En
 found_begins table atom at entry none is reads = (found table atom at entry none is reads).1
 
 -- a list with no fault has none at its texts
-no-texts_fault : (table : List Entry) → table_fault table ≡ None → texts_fault 0 None table ≡ None
+pub no-texts_fault : (table : List Entry) → table_fault table ≡ None → texts_fault 0 None table ≡ None
 unfolding table_fault
 no-texts_fault table none = by (ltb ENTRY_LIMIT (length table)) none
   where

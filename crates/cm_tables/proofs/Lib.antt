@@ -2,4 +2,4 @@ pub mod CommonLemmas
 pub mod FoundLemmas
 mod SearchLemmas
 pub mod SharingLemmas
-mod WithinLemmas
+pub mod WithinLemmas

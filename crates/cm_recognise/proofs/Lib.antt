@@ -1,0 +1,6 @@
+pub mod Going
+pub mod Keywords
+pub mod Lines
+pub mod Plains
+pub mod Spans
+pub mod Texts

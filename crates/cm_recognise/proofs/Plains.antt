@@ -1,0 +1,143 @@
+-- A function that takes what is typed and a space takes it whole, and however the text goes on behind the space.
+use Rattle.std.proofs.Common.{◌≡◌, ℕ, ◌+◌, ◌≤◌, Bool, true, false, ◌==◌, ◌&&◌, nat_lt, nat_le, if◌then◌else◌, List, [], ◌∷◌, ◌++◌, length, take, Result, Ok, Err, refl, ap, sym, subst, ◌∙◌, arith, length-append, append_assoc}
+use Rattle.std.specs.Char.{is_ascii_digit}
+use Rattle.std.specs.List.{list_all, prefix_len}
+use Rattle.std.specs.Str.Parse.{digits_value}
+use Rattle.std.proofs.lemmas.Bool.Decides.{nat_tests}
+use Rattle.std.proofs.lemmas.List.Folds.{prefix_len-append}
+use Rattle.std.proofs.Math.Seq.{take-append_seam}
+use Rattle.cm_text.specs.Bytes.{is_name, is_word}
+use Rattle.cm_text.specs.declared.name.TheConstants.{NAME_LIMIT}
+use Rattle.cm_fields.specs.declared.code.Code.{Code}
+use Rattle.cm_fields.specs.declared.code.Code.TheVariants.{BadNumber, NumberRange, NoField, FieldLong, NotQuoted, Rejected}
+use Rattle.cm_fields.specs.declared.digits.TheConstants.{NUMBER_LIMIT}
+use Rattle.cm_fields.specs.declared.trial.Try.{Try}
+use Rattle.cm_fields.specs.declared.trial.Try.TheVariants.{Accept, Refuse, More}
+use Rattle.cm_fields.specs.declared.value.Value.{Value}
+use Rattle.cm_fields.specs.declared.value.Value.TheVariants as values
+use Rattle.cm_fields.specs.Local.{IsLocal, Stays}
+use Rattle.cm_fields.specs.Mark.{comma, confirm}
+use Rattle.cm_fields.specs.Quoted.{by_closing, closing, quoted}
+use Rattle.cm_fields.specs.Run.{number, number_of, word, word_of}
+use Rattle.cm_fields.specs.Text.{is_inside, text_field, text_of}
+use Rattle.cm_fields.specs.Try.{by_run, said, span}
+use Rattle.cm_fields.proofs.Holding.{by_test, holds_of_choice, of_choice}
+use Rattle.cm_hooks.specs.declared.answer.Answer.{Answer}
+use Rattle.cm_hooks.specs.declared.answer.Answer.TheVariants.{Yes, No}
+use Rattle.cm_hooks.specs.Field.{hook, hook_of, judged}
+
+-- a value that neither an entry of a table nor the end of the line gives
+abbrev pub IsOwn : Value → Type 0
+IsOwn (values.Key entry code) = ⊥
+IsOwn (values.Switch entry code) = ⊥
+IsOwn values.Confirm = ⊥
+IsOwn value = Unit {0}
+
+-- a field, where there is one, is such a value and ends at this place
+abbrev pub EndsAt : ℕ → Try → Type 0
+EndsAt place (Accept value looked end) = (end ≡ place) × IsOwn value
+EndsAt place (Refuse code looked) = Unit {0}
+EndsAt place More = Unit {0}
+
+abbrev pub IsOwnIfOk : Result Value Code → Type 0
+IsOwnIfOk (Ok value) = IsOwn value
+IsOwnIfOk (Err code) = Unit {0}
+
+said_ends : (at size looked : ℕ) (decision : Result Value Code) → IsOwnIfOk decision → EndsAt (at + size) (said at size looked decision)
+said_ends at size looked (Ok value) own = (refl, own)
+said_ends at size looked (Err code) own = tt
+
+said_not_more : (at size looked : ℕ) (decision : Result Value Code) → said at size looked decision ≡ More → ⊥
+said_not_more at size looked (Ok value) is = cc
+said_not_more at size looked (Err code) is = cc
+
+-- a run that wants more is the whole text
+pub run_wants : (is_part : ℕ → Bool) (decide : List ℕ → Result Value Code) (rest : List ℕ) (at : ℕ)
+    → by_run is_part decide rest at ≡ More → prefix_len is_part rest ≡ length rest
+run_wants is_part decide rest at is = by (prefix_len is_part rest == length rest) refl is
+  where
+    size : ℕ
+    size = prefix_len is_part rest
+
+    by : (test : Bool) → (prefix_len is_part rest == length rest) ≡ test
+        → (if test then More else said at (prefix_len is_part rest) (prefix_len is_part rest + 1) (decide (take (prefix_len is_part rest) rest))) ≡ More
+        → prefix_len is_part rest ≡ length rest
+    by true ends is = grind (arith, nat_tests)
+    by false ends is = absurd (said_not_more at _ _ (decide (take (prefix_len is_part rest) rest)) is)
+
+-- a whole run that a byte ends is decided
+pub run_whole : (is_part : ℕ → Bool) (decide : List ℕ → Result Value Code) (whole : List ℕ) (byte : ℕ) (more : List ℕ) (at : ℕ)
+    → prefix_len is_part whole ≡ length whole → is_part byte ≡ false
+    → by_run is_part decide (whole ++ byte ∷ more) at ≡ said at (length whole) (length whole + 1) (decide whole)
+run_whole is_part decide whole byte more at all outside =
+    let behind : prefix_len is_part (byte ∷ more) ≡ 0 = rw outside refl in
+    let run : prefix_len is_part (whole ++ byte ∷ more) ≡ length whole =
+    (let both = prefix_len-append is_part whole (byte ∷ more) in grind (arith, nat_tests)) in
+    let other : (length whole == length (whole ++ byte ∷ more)) ≡ false =
+    (let size = length-append whole (byte ∷ more) in grind (arith, nat_tests)) in
+    let same : take (length whole) (whole ++ byte ∷ more) ≡ whole = take-append_seam whole (byte ∷ more) in
+    rw (run, other, same)
+
+run_ends : (is_part : ℕ → Bool) (decide : List ℕ → Result Value Code) (rest : List ℕ) (at : ℕ) → is_part 32 ≡ false
+    → IsOwnIfOk (decide rest) → by_run is_part decide rest at ≡ More
+    → EndsAt (at + length rest) (by_run is_part decide (rest ++ 32 ∷ []) at)
+run_ends is_part decide rest at outside own is =
+    rw (run_whole is_part decide rest 32 [] at (run_wants is_part decide rest at is) outside)
+    (said_ends at (length rest) (length rest + 1) (decide rest) own)
+
+number_own : (run : List ℕ) → IsOwnIfOk (number_of run)
+unfolding number_of
+number_own run =
+    of_choice IsOwnIfOk (nat_lt 0 (length run) && list_all is_ascii_digit run) _ (Err BadNumber)
+    (of_choice IsOwnIfOk (nat_le (digits_value 10 run) NUMBER_LIMIT) (Ok (values.Number (digits_value 10 run))) (Err NumberRange) tt tt) tt
+
+word_own : (at : ℕ) (run : List ℕ) → IsOwnIfOk (word_of at run)
+unfolding word_of
+word_own at run =
+    of_choice IsOwnIfOk (length run == 0) (Err NoField) _ tt
+    (of_choice IsOwnIfOk (nat_le (length run) NAME_LIMIT) (Ok (values.Word (span at (length run)))) (Err FieldLong) tt tt)
+
+judged_own : (id : ℕ) (answer : Answer) → IsOwnIfOk (judged id answer)
+judged_own id (Yes value) = tt
+judged_own id No = tt
+
+hook_own : (verdict : ℕ → List ℕ → Answer) (id : ℕ) (run : List ℕ) → IsOwnIfOk (hook_of verdict id run)
+unfolding hook_of
+hook_own verdict id run = of_choice IsOwnIfOk (length run == 0) (Err NoField) _ tt (judged_own id (verdict id run))
+
+space_no_word : is_word 32 ≡ false
+unfolding is_word
+space_no_word = refl
+
+space_no_name : is_name 32 ≡ false
+unfolding is_name is_word
+space_no_name = refl
+
+pub number_ends : (rest : List ℕ) (at : ℕ) → number rest at ≡ More → EndsAt (at + length rest) (number (rest ++ 32 ∷ []) at)
+number_ends rest at is = run_ends is_word number_of rest at space_no_word (number_own rest) is
+
+pub word_ends : (rest : List ℕ) (at : ℕ) → word rest at ≡ More → EndsAt (at + length rest) (word (rest ++ 32 ∷ []) at)
+word_ends rest at is = run_ends is_word (word_of at) rest at space_no_word (word_own at rest) is
+
+pub hook_ends : (verdict : ℕ → List ℕ → Answer) (id : ℕ) (rest : List ℕ) (at : ℕ) → hook verdict id rest at ≡ More
+    → EndsAt (at + length rest) (hook verdict id (rest ++ 32 ∷ []) at)
+hook_ends verdict id rest at is = run_ends is_name (hook_of verdict id) rest at space_no_name (hook_own verdict id rest) is
+
+-- a space does not end the rest of the line
+pub text_ends : (rest : List ℕ) (at : ℕ) → text_field rest at ≡ More → EndsAt (at + length rest) (text_field (rest ++ 32 ∷ []) at)
+text_ends rest at is =
+    let run = run_wants is_inside (text_of at) rest at is in
+    let both = prefix_len-append is_inside rest (32 ∷ []) in
+    let size = length-append rest (32 ∷ []) in
+    let all : prefix_len is_inside (rest ++ 32 ∷ []) ≡ length (rest ++ 32 ∷ []) = grind (arith, nat_tests) in
+    let test : (prefix_len is_inside (rest ++ 32 ∷ []) == length (rest ++ 32 ∷ [])) ≡ true = grind (arith, nat_tests) in
+    rw test tt
+
+-- a comma and the end of the line are decided by what is typed
+pub comma_ends : (rest : List ℕ) (at : ℕ) → comma rest at ≡ More → EndsAt (at + length rest) (comma (rest ++ 32 ∷ []) at)
+comma_ends [] at is = tt
+comma_ends (byte ∷ rest) at is = by_test _ (byte == 44) (λ test. let never = rw test at is in cc) (λ test. let never = rw test at is in cc)
+
+pub confirm_ends : (rest : List ℕ) (at : ℕ) → confirm rest at ≡ More → EndsAt (at + length rest) (confirm (rest ++ 32 ∷ []) at)
+confirm_ends [] at is = tt
+confirm_ends (byte ∷ rest) at is = by_test _ (byte == 13) (λ test. let never = rw test at is in cc) (λ test. let never = rw test at is in cc)

@@ -1,0 +1,13 @@
+use Rattle.std.proofs.Common.{subst, sym, ◌++◌}
+use Rattle.cm_text.specs.Text.{IsLine}
+use Rattle.cm_blocks.specs.Setting.{setting}
+use Rattle.cm_recognise.specs.declared.insertion.Insertion.{Insertion}
+use Rattle.cm_recognise.proofs.Lines.{line_goes_on}
+use Rattle.cm_recognise.proofs.insertion.complete.Goals as goal
+
+pub returns-clause-line : goal.returns-clause-line
+returns-clause-line g c =
+    let s = setting c.args.grammar.now (g.N.Names.catalogue c.args.names.now) g.R.Rules.meanings in
+    subst (λ (put : Insertion). IsLine (c.args.line.now ++ put.bytes)) (sym c.inserted.ensures)
+    (line_goes_on s c.args.ending c.args.line.now c.args.mode c.has_no_fault.ensures c.has_tables.ensures
+    g.R.Rules.lawful c.requires.line)

@@ -1,0 +1,85 @@
+-- What recognition puts into a line (COMND's recognition).
+use Rattle.std.specs.Prelude.{ℕ, ◌+◌, ◌==◌, ◌&&◌, true, false, if◌then◌else◌, nat_lt, nat_le, List, [], ◌∷◌, ◌++◌, length, drop, Option, Some, None, slice_get}
+use Rattle.std.specs.Option.{option_map_or}
+use Rattle.cm_text.specs.declared.text.TheConstants.{LINE_LIMIT}
+use Rattle.cm_blocks.specs.declared.field.Ending.{Ending}
+use Rattle.cm_blocks.specs.declared.field.Ending.TheVariants as ending
+use Rattle.cm_blocks.specs.declared.field.Open.{Open}
+use Rattle.cm_blocks.specs.declared.function.Function.{Function}
+use Rattle.cm_blocks.specs.declared.function.Function.TheVariants.{Noise}
+use Rattle.cm_blocks.specs.declared.node.Block.{Block}
+use Rattle.cm_blocks.specs.declared.node.Node.{Node}
+use Rattle.cm_blocks.specs.Grammar.{Graph}
+use Rattle.cm_blocks.specs.Setting.{Setting}
+use Rattle.cm_recognise.specs.declared.insertion.Insertion.{Insertion}
+use Rattle.cm_recognise.specs.declared.insertion.Mode.{Mode}
+use Rattle.cm_recognise.specs.declared.insertion.Mode.TheVariants as modes
+use Rattle.cm_recognise.specs.declared.outcome.Outcome.{Outcome}
+use Rattle.cm_recognise.specs.declared.outcome.Outcome.TheVariants.{Nothing, Part, Piece, Whole}
+use Rattle.cm_recognise.specs.Outcome.{guide, outcome}
+
+-- no bytes, and a bell
+abbrev pub rung : Insertion
+rung = record { bytes = []; bell = true }
+
+-- the guide word that a block reads, as it is typed, and a space
+abbrev pub guide_behind : Function → List ℕ
+guide_behind (Noise text) = guide text ++ 32 ∷ []
+guide_behind function = []
+
+-- the guide word with which a node begins
+abbrev pub guide_of : Option Node → List ℕ
+guide_of None = []
+guide_of (Some node) = option_map_or (λ (block : Block). guide_behind block.function) (slice_get node.chain 0) []
+
+-- what stands behind a field that is whole: a space, and the guide word with which the next node begins
+abbrev pub behind : Graph → ℕ → List ℕ
+behind graph next = 32 ∷ guide_of (slice_get graph.nodes next)
+
+-- what one outcome puts in; what several share rings, and where they share nothing the next block is asked
+abbrev pub put_in : Graph → Outcome → Option Insertion
+put_in graph Nothing = None
+put_in graph (Part bytes) = if length bytes == 0 then None else Some (record { bytes = bytes; bell = true })
+put_in graph (Piece bytes) = Some (record { bytes = bytes; bell = false })
+put_in graph (Whole bytes next) = Some (record { bytes = bytes ++ behind graph next; bell = false })
+
+abbrev pub or_put : Option Insertion → Option Insertion → Option Insertion
+or_put None later = later
+or_put (Some insertion) later = Some insertion
+
+-- the first of these blocks that puts anything in
+abbrev pub first_put : Setting → List ℕ → ℕ → List Block → Option Insertion
+first_put s atom at [] = None
+first_put s atom at (block ∷ more) = or_put (put_in s.graph (outcome s block atom at)) (first_put s atom at more)
+
+-- where nothing is typed the default of the node, and a space
+abbrev pub default_put : List ℕ → Option (List ℕ) → Option Insertion
+default_put atom None = None
+default_put atom (Some text) = if length atom == 0 then Some (record { bytes = text ++ 32 ∷ []; bell = false }) else None
+
+-- ESC takes the default, and else asks the blocks from this one on; control-F asks those that read file names and
+-- directories alone, and there are none yet
+abbrev pub asked : Setting → Mode → Node → ℕ → List ℕ → ℕ → Option Insertion
+asked s modes.Escape node block atom at =
+    or_put (default_put atom node.default) (first_put s atom at (drop block node.chain))
+asked s modes.Part node block atom at = None
+
+-- what does not fit into a line of so many bytes is not put in
+abbrev pub fitted : ℕ → Option Insertion → Insertion
+fitted size None = rung
+fitted size (Some insertion) = if nat_le (size + length insertion.bytes) LINE_LIMIT then insertion else rung
+
+-- at this place of the line the blocks of a node wait from this one on
+abbrev pub at_block : Setting → Mode → List ℕ → ℕ → Option ℕ → Option Node → Option Insertion
+at_block s mode line at None node = None
+at_block s mode line at (Some block) None = None
+at_block s mode line at (Some block) (Some node) = asked s mode node block (drop at line) at
+
+-- what is put into a line with room whose parse ends so; a place that is none of the line gives nothing
+unfoldable pub insertion : Setting → Ending → List ℕ → Mode → Insertion
+insertion s (ending.Open place) line mode =
+    if nat_lt (length line) LINE_LIMIT && nat_le place.at (length line)
+    then fitted (length line) (at_block s mode line place.at place.block (slice_get s.graph.nodes place.node))
+    else rung
+insertion s ending.Done line mode = rung
+insertion s (ending.Fault fault) line mode = rung

@@ -1,0 +1,95 @@
+-- How a field goes on that a block has begun to read (COMND's recognition).
+use Rattle.std.specs.Prelude.{ℕ, ◌+◌, ◌≤◌, ◌==◌, ◌&&◌, Bool, true, false, if◌then◌else◌, List, [], ◌∷◌, ◌++◌, length, drop, slice_get}
+use Rattle.std.specs.Option.{option_map_or}
+use Rattle.cm_text.specs.Case.{begins_with}
+use Rattle.cm_tables.specs.declared.entry.Entry.{Entry}
+use Rattle.cm_tables.specs.declared.table.Look.{Look}
+use Rattle.cm_tables.specs.declared.table.Look.TheVariants as looks
+use Rattle.cm_tables.specs.Common.{common}
+use Rattle.cm_tables.specs.Look.{has_text, look}
+use Rattle.cm_fields.specs.declared.trial.Try.{Try}
+use Rattle.cm_fields.specs.declared.trial.Try.TheVariants.{Accept, Refuse, More}
+use Rattle.cm_hooks.specs.declared.answer.Tail.{Tail}
+use Rattle.cm_hooks.specs.declared.answer.Tail.TheVariants as tails
+use Rattle.cm_blocks.specs.declared.function.Function.{Function}
+use Rattle.cm_blocks.specs.declared.function.Function.TheVariants.{Key, Switch, Noise, Number, Word, Quoted, Token, Text, Comma, Confirm, Hook}
+use Rattle.cm_blocks.specs.declared.node.Block.{Block}
+use Rattle.cm_blocks.specs.Keyword.{has_colon}
+use Rattle.cm_blocks.specs.Setting.{Setting}
+use Rattle.cm_blocks.specs.Trial.{entry_next, table_of, trial}
+use Rattle.cm_recognise.specs.declared.outcome.Outcome.{Outcome}
+use Rattle.cm_recognise.specs.declared.outcome.Outcome.TheVariants.{Nothing, Part, Piece, Whole}
+
+-- what is missing behind an atom of a text that begins with it
+abbrev pub missing : List ℕ → List ℕ → List ℕ
+missing text atom = drop (length atom) text
+
+abbrev pub text_at : List Entry → ℕ → List ℕ
+text_at table position = option_map_or (λ (entry : Entry). entry.text) (slice_get table position) []
+
+-- the rest of the entry's text, and behind a switch that a value follows its colon
+abbrev pub entry_outcome : Bool → List Entry → List ℕ → ℕ → Outcome
+entry_outcome colon table atom position =
+    if colon then Piece (missing (text_at table position) atom ++ 58 ∷ [])
+    else Whole (missing (text_at table position) atom) (entry_next table position)
+
+-- the one entry that the atom may stand for, or what several share; an entry that cannot be recognised and has the
+-- atom for its text lets it stand
+abbrev pub keyword_outcome : Bool → List Entry → List ℕ → Look → Outcome
+keyword_outcome switch table atom looks.None = Nothing
+keyword_outcome switch table atom looks.Ambiguous =
+    if has_text table atom then Nothing else Part (common table atom)
+keyword_outcome switch table atom (looks.Abbrev position) =
+    entry_outcome (switch && has_colon table position) table atom position
+keyword_outcome switch table atom (looks.Exact position) =
+    entry_outcome (switch && has_colon table position) table atom position
+
+-- behind the slash a switch goes on as a keyword does
+abbrev pub switch_outcome : List Entry → List ℕ → Outcome
+switch_outcome table [] = Nothing
+switch_outcome table (byte ∷ atom) =
+    if byte == 47 then keyword_outcome true table atom (look table atom) else Nothing
+
+-- the rest of a fixed text that begins with the atom
+abbrev pub phrase_outcome : List ℕ → ℕ → List ℕ → Outcome
+phrase_outcome text next atom = if begins_with text atom then Whole (missing text atom) next else Nothing
+
+-- a guide word as it is typed
+abbrev pub guide : List ℕ → List ℕ
+guide text = 40 ∷ text ++ 41 ∷ []
+
+-- a trial on the atom and a space takes a field: then nothing is missing
+abbrev pub plain_outcome : ℕ → Try → Outcome
+plain_outcome next (Accept value looked end) = Whole [] next
+plain_outcome next (Refuse code looked) = Nothing
+plain_outcome next More = Nothing
+
+-- what the hook itself says of the atom
+abbrev pub hook_outcome : ℕ → Outcome → Tail → Outcome
+hook_outcome next plain tails.None = plain
+hook_outcome next plain (tails.Part text) = Part text
+hook_outcome next plain (tails.Whole text) = Whole text next
+
+-- by what the block reads; `plain` is the outcome of its own trial
+abbrev pub by_function : Setting → Function → ℕ → List ℕ → Outcome → Outcome
+by_function s (Key table) next atom plain =
+    keyword_outcome false (table_of s.graph table) atom (look (table_of s.graph table) atom)
+by_function s (Switch table) next atom plain = switch_outcome (table_of s.graph table) atom
+by_function s (Noise text) next atom plain = phrase_outcome (guide text) next atom
+by_function s (Token text) next atom plain = if length atom == 0 then Nothing else phrase_outcome text next atom
+by_function s (Hook id) next atom plain =
+    if length atom == 0 then Nothing else hook_outcome next plain (s.meanings.completion id atom)
+by_function s function next atom plain = plain
+
+-- it has at most so many bytes
+abbrev pub IsShort : ℕ → Outcome → Type 0
+IsShort most Nothing = Unit {0}
+IsShort most (Part bytes) = length bytes ≤ most
+IsShort most (Piece bytes) = length bytes ≤ most
+IsShort most (Whole bytes next) = length bytes ≤ most
+
+-- how the field of a block goes on of which the atom is typed, from this place to the end of the line
+unfoldable pub outcome : Setting → Block → List ℕ → ℕ → Outcome
+outcome s block atom at =
+    by_function s block.function block.next atom
+    (plain_outcome block.next (trial s block.function (atom ++ 32 ∷ []) at))

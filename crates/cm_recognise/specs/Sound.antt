@@ -1,0 +1,29 @@
+-- A line that waits at a block, and the field that a completion makes of it.
+use Rattle.std.specs.Prelude.{ℕ, ◌≡◌, ◌≤◌, false, List, length, Some, slice_get}
+use Rattle.cm_blocks.specs.declared.field.Chain.{Chain}
+use Rattle.cm_blocks.specs.declared.field.Chain.TheVariants as chain
+use Rattle.cm_blocks.specs.declared.node.Block.{Block}
+use Rattle.cm_blocks.specs.declared.node.Node.{Node}
+use Rattle.cm_blocks.specs.Chain.{chain_at}
+use Rattle.cm_blocks.specs.Setting.{Setting}
+use Rattle.cm_blocks.specs.Taken.{Taken}
+
+-- from a place of the line on a field of this node begins at `start`, and of its blocks this one is the first that
+-- wants more bytes
+pub record Waits (s : Setting) (number b : ℕ) (block : Block) (line : List ℕ) (at start : ℕ) : Type 0 where
+  pub node : Node
+  pub node_is : slice_get s.graph.nodes number ≡ Some node
+  pub block_is : slice_get node.chain b ≡ Some block
+  pub place : at ≤ length line
+  pub waits : (chain_at s number line at).chain ≡ chain.Open (record { node = number; block = Some b; at = start })
+
+-- the answer is a field that this block of the node takes from the text between two places, and that leads to `next`
+pub record TakesField (number b start end next : ℕ) (answer : Chain) : Type 0 where
+  pub field : Taken
+  pub is : answer ≡ chain.Field field
+  pub node : field.node ≡ number
+  pub block : field.block ≡ b
+  pub begins : field.start ≡ start
+  pub ends : field.end ≡ end
+  pub typed : field.defaulted ≡ false
+  pub leads : field.next ≡ next

@@ -1,0 +1,26 @@
+//! Laws of recognition.
+ghost use Rattle.std.specs.Prelude.{◌≡◌, ◌+◌, ◌≤◌, ◌++◌, ℕ, List, None, Some, drop, length, slice_get};
+ghost use Rattle.cm_text.specs.Text.{IsLine};
+ghost use Rattle.cm_hooks.specs.Meanings.{IsLawful};
+ghost use Rattle.cm_blocks.specs.declared.node.Block.{Block};
+ghost use Rattle.cm_blocks.specs.Chain.{chain_at};
+ghost use Rattle.cm_blocks.specs.Fault.{grammar_fault};
+ghost use Rattle.cm_blocks.specs.Setting.{Setting};
+ghost use Rattle.cm_blocks.specs.Well.{AreTables};
+ghost use Rattle.cm_recognise.specs.declared.outcome.Outcome.TheVariants.{Whole};
+ghost use Rattle.cm_recognise.specs.Insertion.{behind};
+ghost use Rattle.cm_recognise.specs.Outcome.{outcome};
+ghost use Rattle.cm_recognise.specs.Sound.{TakesField, Waits};
+
+/// A completion that is whole is taken. Where a line waits at a block, and the block completes what is typed of its
+/// field as a whole, the line with these bytes, and with what stands behind a whole field, has from the same place on
+/// a field of this node and block. It begins where it began, ends with the completion, and leads to the node that the
+/// completion names.
+pub fn a_whole_completion_is_taken()
+    ensures { (s : Setting) → grammar_fault s.graph ≡ None → AreTables s.graph.tables → IsLawful s.meanings
+        → (line : List ℕ) → IsLine line → (number b at start : ℕ) → (block : Block)
+        → Waits s number b block line at start → (bytes : List ℕ) → (next : ℕ)
+        → outcome s block (drop start line) start ≡ Whole bytes next
+        → TakesField number b start (length line + length bytes) next
+        (chain_at s number (line ++ (bytes ++ behind s.graph next)) at).chain }
+{}

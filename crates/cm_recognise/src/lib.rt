@@ -1,0 +1,14 @@
+//! Recognition: what ESC and control-F put into a line (COMND).
+#![tactic(auto)]
+
+mod bytes;
+mod insertion;
+pub mod laws;
+mod outcome;
+
+pub use bytes::Bytes;
+pub use insertion::{Insertion, Mode, complete};
+pub use outcome::{Outcome, outcome_of};
+
+#[cfg(test)]
+mod tests;
