@@ -1,4 +1,5 @@
 pub mod Going
+pub mod Guides
 pub mod Keywords
 pub mod Lines
 pub mod Plains
