@@ -169,6 +169,26 @@ inside_takes text inside more at plain run begins =
     rw (tail, joined, taken, size)
     (ap (λ n. Accept (Noise true) (length text + 2) (at + n)) (let e = end in omega arith))
 
+typed_wants : (text inside : List ℕ) (at : ℕ) → typed_noise text inside at ≡ More → prefix_len is_inside inside ≡ length inside
+unfolding typed_noise
+typed_wants text inside at is = by (prefix_len is_inside inside == length inside) refl is
+  where
+    size : ℕ
+    size = prefix_len is_inside inside
+
+    said : Bool → Try
+    said test = if test then Accept (Noise true) (size + 2) (at + (size + 2)) else Refuse BadNoise (size + 2)
+
+    decided : (test : Bool) → said test ≡ More → ⊥
+    decided true is = cc
+    decided false is = cc
+
+    by : (test : Bool) → (prefix_len is_inside inside == length inside) ≡ test
+        → (if test then More else said (option_map_or (λ byte. byte == 41) (slice_get inside size) false && begins_with text (take size inside))) ≡ More
+        → prefix_len is_inside inside ≡ length inside
+    by true ends is = grind (arith, nat_tests)
+    by false ends is = absurd (decided _ is)
+
 begins_nothing : (text : List ℕ) → begins_with text [] ≡ true
 unfolding begins_with equals
 begins_nothing text = refl
@@ -181,4 +201,22 @@ noise_takes text [] bytes more at plain wants b =
     let taken = inside_takes text [] (32 ∷ more) at plain refl (begins_nothing (text ++ 41 ∷ [])) in
     subst (λ (bytes : List ℕ). noise text (bytes ++ 32 ∷ more) at ≡ Accept (Noise true) (length text + 2) (at + length bytes)) b.bytes_is
     (taken ∙ ap (λ n. Accept (Noise true) (length text + 2) (at + n)) (omega arith))
-noise_takes text (byte ∷ inside) bytes more at plain wants b = ?
+noise_takes text (byte ∷ inside) bytes more at plain wants b = by (byte == 40) refl wants
+  where
+    begins : begins_with (text ++ 41 ∷ []) inside ≡ true
+    begins =
+        let same = begins_same (guide text) (byte ∷ inside) b.begins in
+        let rest : lower (take (length inside) (text ++ 41 ∷ [])) ≡ lower inside = cc in
+        same_begins (text ++ 41 ∷ []) inside rest
+
+    by : (test : Bool) → (byte == 40) ≡ test → (if test then typed_noise text inside at else Accept (Noise false) 1 at) ≡ More
+        → (if byte == 40 then typed_noise text (inside ++ (bytes ++ 32 ∷ more)) at else Accept (Noise false) 1 at)
+        ≡ Accept (Noise true) (length text + 2) (at + length (byte ∷ inside ++ bytes))
+    by false mark wants = cc
+    by true mark wants =
+        let taken = inside_takes text inside (32 ∷ more) at plain (typed_wants text inside at wants) begins in
+        let completed : typed_noise text (inside ++ (bytes ++ 32 ∷ more)) at
+        ≡ Accept (Noise true) (length text + 2) (at + (1 + length (inside ++ bytes))) =
+        subst (λ (bytes : List ℕ). typed_noise text (inside ++ (bytes ++ 32 ∷ more)) at
+        ≡ Accept (Noise true) (length text + 2) (at + (1 + length (inside ++ bytes)))) b.bytes_is taken in
+        rw mark (completed ∙ ap (λ n. Accept (Noise true) (length text + 2) (at + n)) (omega arith))

@@ -4,4 +4,5 @@ pub mod Keywords
 pub mod Lines
 pub mod Plains
 pub mod Spans
+pub mod Taking
 pub mod Texts
