@@ -1,6 +1,8 @@
 -- The walk of a table that finds how the entries go on alike.
-use Rattle.std.proofs.Common.{◌≡◌, ℕ, List, length, drop, map, Option, Some, None}
+use Rattle.std.proofs.Common.{◌≡◌, ℕ, ◌≤◌, true, List, length, drop, map, Option, Some, None}
 use Rattle.std.specs.List.{fold, reduce}
+use Rattle.cm_text.specs.BeginLaws.{begins-le}
+use Rattle.cm_text.specs.Case.{begins_with}
 use Rattle.cm_tables.specs.Common.{shared}
 use Rattle.cm_tables.specs.declared.entry.Entry.{Entry}
 use Rattle.cm_tables.proofs.SearchLemmas.{candidates_from}
@@ -13,3 +15,7 @@ rests_from position table atom = map (λ (e : ℕ × Entry). drop (length atom) 
 abbrev pub sharing : Option (List ℕ) → List (List ℕ) → Option (List ℕ)
 sharing None texts = reduce shared texts
 sharing (Some text) texts = Some (fold shared text texts)
+
+-- an atom is no longer than what begins with it
+pub atom_fits : (text atom : List ℕ) → begins_with text atom ≡ true → length atom ≤ length text
+atom_fits = begins-le

@@ -1,5 +1,5 @@
 -- An atom that is found is a beginning of an entry, and the whole of its text finds that entry.
-use Rattle.std.proofs.Common.{◌≡◌, ℕ, zero, suc, ◌+◌, Bool, true, false, cond, ltb, ◌&&◌, List, [], ◌∷◌, ◌++◌, length, take, drop, map, Option, Some, None, slice_get, arith, refl, ap, sym, subst, ◌∙◌}
+use Rattle.std.proofs.Common.{◌≡◌, ℕ, zero, suc, ◌+◌, Bool, true, false, cond, ltb, ◌&&◌, List, [], ◌∷◌, ◌++◌, length, take, drop, Option, Some, None, slice_get, arith, refl, ap, sym, subst, ◌∙◌}
 use Rattle.std.specs.Char.{to_ascii_lowercase}
 use Rattle.std.specs.Cmp.Lexicographic.{slice_cmp}
 use Rattle.std.specs.List.{enumerate_from, filter, list_all}
@@ -14,15 +14,13 @@ use Rattle.std.proofs.lemmas.Option.{same_Some}
 use Rattle.std.proofs.lemmas.Slice.Eq.{bytes_eq-Decides}
 use Rattle.cm_text.specs.BeginLaws.{begins_whole, length-whole, lower}
 use Rattle.cm_text.specs.Case.{begins_with, equals}
-use Rattle.cm_tables.specs.Look.{abbreviated, by_equal, candidates, equal_entries, exact, found_at, is_recognised, look}
+use Rattle.cm_tables.specs.Look.{by_equal, candidates, equal_entries, exact, found_at, is_recognised, look}
 use Rattle.cm_tables.specs.Order.{by_order, first_fault, is_keyword, is_keyword_byte, is_target, order_fault, table_fault, target_fault, targets_fault, text_fault, texts_fault}
 use Rattle.cm_tables.specs.declared.entry.Entry.{Entry}
 use Rattle.cm_tables.specs.declared.entry.Flag.{Flag}
 use Rattle.cm_tables.specs.declared.entry.Flag.TheVariants.{Plain, Invisible, NoRecognise, Short}
 use Rattle.cm_tables.specs.declared.fault.TheConstants.{ENTRY_LIMIT}
-use Rattle.cm_tables.specs.declared.table.Look.{Look}
 use Rattle.cm_tables.specs.declared.table.Look.TheVariants as looks
-use Rattle.cm_tables.specs.declared.table.TableFault.{TableFault}
 use Rattle.cm_tables.specs.declared.table.TableFault.TheVariants.{TooMany, BadText, BadTarget}
 use Rattle.cm_tables.proofs.WithinLemmas.{both-none, no-targets_fault}
 
@@ -47,7 +45,8 @@ begins_of_equals text other equal =
     rw (take_all (length other) text (omega (arith, size))) equal
 
 -- what begins with a text begins with one that is the same
-begins_of_same : (whole text other : List ℕ) → begins_with whole text ≡ true → equals text other ≡ true → begins_with whole other ≡ true
+begins_of_same : (whole text other : List ℕ) → begins_with whole text ≡ true → equals text other ≡ true
+    → begins_with whole other ≡ true
 unfolding begins_with
 begins_of_same whole text other begins equal =
     let same = lower_same text other equal in
@@ -55,12 +54,14 @@ begins_of_same whole text other begins equal =
     same_lower _ other (ap (λ n. lower (take n whole)) (sym size) ∙ lower_same _ text begins ∙ same)
 
 -- what begins with a text of its own length is that text
-equals_of_begins : (text other : List ℕ) → length other ≡ length text → begins_with text other ≡ true → equals text other ≡ true
+equals_of_begins : (text other : List ℕ) → length other ≡ length text → begins_with text other ≡ true
+    → equals text other ≡ true
 unfolding begins_with
 equals_of_begins text other size begins = rw (take_all (length other) text (omega (arith, size))) at begins
 
 -- an atom with what is missing of a text that begins with it is that text
-equals_whole : (text atom : List ℕ) → begins_with text atom ≡ true → equals text (atom ++ drop (length atom) text) ≡ true
+equals_whole : (text atom : List ℕ) → begins_with text atom ≡ true
+    → equals text (atom ++ drop (length atom) text) ≡ true
 equals_whole text atom begins = equals_of_begins text _ (length-whole text atom begins) (begins_whole text atom begins)
 
 -- a keyword's bytes differ still without the case of letters
@@ -80,7 +81,8 @@ bytes_same (byte ∷ text) (next ∷ other) first second same =
     let rest : text ≡ other = bytes_same text other one.1 two.1 (cc) in
     cc
 
-keyword_same : (text other : List ℕ) → is_keyword text ≡ true → is_keyword other ≡ true → lower text ≡ lower other → text ≡ other
+keyword_same : (text other : List ℕ) → is_keyword text ≡ true → is_keyword other ≡ true → lower text ≡ lower other
+    → text ≡ other
 keyword_same text other first second same = bytes_same text other (and_parts _ _ first).1 (and_parts _ _ second).1 same
 
 -- a text with no fault is a keyword
@@ -160,7 +162,8 @@ ArePassing test table [] = Unit {0}
 ArePassing test table (e ∷ more) = (slice_get table e.0 ≡ Some e.1) × (test e.1 ≡ true) × ArePassing test table more
 
 are-passing : (test : Entry → Bool) (table : List Entry) (place : ℕ) (entries : List Entry)
-    → ((at : ℕ) → slice_get table (place + at) ≡ slice_get entries at) → ArePassing test table (passing test place entries)
+    → ((at : ℕ) → slice_get table (place + at) ≡ slice_get entries at)
+    → ArePassing test table (passing test place entries)
 are-passing test table place [] reads = tt
 are-passing test table place (first ∷ more) reads =
     let later : (at : ℕ) → slice_get table (place + 1 + at) ≡ slice_get more at =
@@ -170,7 +173,8 @@ are-passing test table place (first ∷ more) reads =
     rest : List (ℕ × Entry)
     rest = passing test (place + 1) more
 
-    by : (passes : Bool) → test first ≡ passes → ArePassing test table rest → ArePassing test table (cond passes ((place, first) ∷ rest) rest)
+    by : (passes : Bool) → test first ≡ passes → ArePassing test table rest
+        → ArePassing test table (cond passes ((place, first) ∷ rest) rest)
     by true passes all = (ap (slice_get table) (omega arith) ∙ reads 0, passes, all)
     by false passes all = all
 
@@ -215,7 +219,8 @@ exact_finds table atom place found at entry here equal based is reads = by found
         subst (IsFound atom) (same_Some found entry (sym here ∙ ap (slice_get table) same ∙ reads))
         (recognised, begins_of_equals found.text atom equal)
 
-    by : (flag : Flag) → found.flag ≡ flag → IsBased table found.text flag → found_at (exact place flag) ≡ Some at → IsFound atom entry
+    by : (flag : Flag) → found.flag ≡ flag → IsBased table found.text flag → found_at (exact place flag) ≡ Some at
+        → IsFound atom entry
     by Plain flag based is = itself (ap is_recognised flag) (same_Some place at is)
     by Invisible flag based is = itself (ap is_recognised flag) (same_Some place at is)
     by NoRecognise flag based is = cc
@@ -246,6 +251,10 @@ found table atom at entry none is reads =
     by_equal-finds table atom (equal_entries table atom) (candidates table atom) at entry (no-targets_fault table none)
     (are-passing _ table 0 table whole) (are-passing _ table 0 table whole) is reads
 
+pub found_is_recognised : (table : List Entry) (atom : List ℕ) (at : ℕ) (entry : Entry) → table_fault table ≡ None
+    → found_at (look table atom) ≡ Some at → slice_get table at ≡ Some entry → is_recognised entry.flag ≡ true
+found_is_recognised table atom at entry none is reads = (found table atom at entry none is reads).0
+
 pub found_begins : (table : List Entry) (atom : List ℕ) (at : ℕ) (entry : Entry) → table_fault table ≡ None
     → found_at (look table atom) ≡ Some at → slice_get table at ≡ Some entry → begins_with entry.text atom ≡ true
 found_begins table atom at entry none is reads = (found table atom at entry none is reads).1
@@ -255,7 +264,8 @@ pub no-texts_fault : (table : List Entry) → table_fault table ≡ None → tex
 unfolding table_fault
 no-texts_fault table none = by (ltb ENTRY_LIMIT (length table)) none
   where
-    by : (test : Bool) → cond test (Some TooMany) (first_fault (texts_fault 0 None table) (targets_fault table 0 table)) ≡ None
+    by : (test : Bool)
+        → cond test (Some TooMany) (first_fault (texts_fault 0 None table) (targets_fault table 0 table)) ≡ None
         → texts_fault 0 None table ≡ None
     by true none = cc
     by false none = (both-none (texts_fault 0 None table) (targets_fault table 0 table) none).0
@@ -268,7 +278,8 @@ exact_itself place (Short target) recognised = cc
 
 -- the whole text of an entry that may be abbreviated finds it
 whole_finds : (table : List Entry) (whole : List ℕ) (at : ℕ) (entry : Entry) → table_fault table ≡ None
-    → slice_get table at ≡ Some entry → is_recognised entry.flag ≡ true → equals entry.text whole ≡ true → look table whole ≡ looks.Exact at
+    → slice_get table at ≡ Some entry → is_recognised entry.flag ≡ true → equals entry.text whole ≡ true
+    → look table whole ≡ looks.Exact at
 unfolding look
 whole_finds table whole at entry none reads recognised equal =
     let first = first_is whole 0 0 None table at entry (no-texts_fault table none) reads equal in

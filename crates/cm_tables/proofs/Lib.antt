@@ -1,4 +1,4 @@
-mod CommonLemmas
+pub mod CommonLemmas
 pub mod FoundLemmas
 mod SearchLemmas
 pub mod SharingLemmas

@@ -1,8 +1,7 @@
 -- What two texts share, and what many do, is the longest text that they begin with.
-use Rattle.std.proofs.Common.{◌≡◌, ◌≢◌, ℕ, zero, suc, ◌+◌, ◌≤◌, Bool, true, false, cond, nat_eq, min, List, [], ◌∷◌, length, take, drop, map, unwrap_or, arith, refl, ap, sym, ◌∙◌}
+use Rattle.std.proofs.Common.{◌≡◌, ◌≢◌, ℕ, suc, ◌+◌, ◌≤◌, Bool, true, false, cond, nat_eq, List, [], ◌∷◌, length, take, drop, map, unwrap_or, arith, refl, ap, sym, ◌∙◌}
 use Rattle.std.specs.Io.{StartsWith}
 use Rattle.std.specs.List.{common_prefix_len, fold, reduce}
-use Rattle.std.proofs.Math.Seq.{take-suc}
 use Rattle.std.proofs.lemmas.Bool.Decides.{nat_tests}
 use Rattle.std.proofs.lemmas.List.{length-take, length-take-le, take_all, take-take}
 use Rattle.std.proofs.lemmas.List.Sums.{common_prefix_len-le}
@@ -28,7 +27,8 @@ take-same : (text other : List ℕ)
     → take (common_prefix_len nat_eq text other) text ≡ take (common_prefix_len nat_eq text other) other
 take-same [] other = refl
 take-same (byte ∷ text) [] = refl
-take-same (byte ∷ text) (next ∷ other) = by (nat_eq byte next) (λ equal. grind (arith, nat_tests)) (take-same text other)
+take-same (byte ∷ text) (next ∷ other) =
+    by (nat_eq byte next) (λ equal. grind (arith, nat_tests)) (take-same text other)
   where
     size : ℕ
     size = common_prefix_len nat_eq text other
@@ -65,7 +65,8 @@ shared-most (a ∷ text) (b ∷ other) (byte ∷ front) first second =
     by true equal more = omega arith
     by false equal more = cc
 
-shared-longest : (text other front : List ℕ) → StartsWith text front → StartsWith other front → StartsWith (shared text other) front
+shared-longest : (text other front : List ℕ) → StartsWith text front → StartsWith other front
+    → StartsWith (shared text other) front
 shared-longest text other front first second =
     take-take (length front) (common_prefix_len nat_eq text other) text (shared-most text other front first second) ∙ first
 
@@ -76,11 +77,13 @@ fold-first text (other ∷ texts) =
 
 fold-all : (text : List ℕ) (texts : List (List ℕ)) → AllBeginWith texts (fold shared text texts)
 fold-all text [] = tt
-fold-all text (other ∷ texts) =
-    (starts-trans other (shared text other) _ (shared-second text other) (fold-first (shared text other) texts),
-    fold-all (shared text other) texts)
+fold-all text (other ∷ texts) = (
+  starts-trans other (shared text other) _ (shared-second text other) (fold-first (shared text other) texts),
+  fold-all (shared text other) texts,
+)
 
-fold-longest : (text : List ℕ) (texts : List (List ℕ)) (front : List ℕ) → StartsWith text front → AllBeginWith texts front
+fold-longest : (text : List ℕ) (texts : List (List ℕ)) (front : List ℕ) → StartsWith text front
+    → AllBeginWith texts front
     → StartsWith (fold shared text texts) front
 fold-longest text [] front first all = first
 fold-longest text (other ∷ texts) front first all =

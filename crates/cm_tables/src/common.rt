@@ -49,7 +49,7 @@ fn shared_with<'a>(found: Option<&'a [u8]>, text: &'a [u8]) -> &'a [u8]
 }
 
 // The longest text with which all entries go on that the atom may abbreviate.
-#[tactic(auto, unfolding(crate::specs::Common::common))]
+#[tactic(auto, unfolding(crate::specs::Common::common), using(crate::proofs::CommonLemmas::atom_fits))]
 pub(crate) fn common<'a>(entries: &'a [Entry], atom: &[u8]) -> &'a [u8]
     ensures value { result.now ≡ common entries.now atom.now }
     ensures within { length result.now ≤ NAME_LIMIT }

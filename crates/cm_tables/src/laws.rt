@@ -3,7 +3,7 @@ ghost use Rattle.std.specs.Prelude.{◌≡◌, ◌≢◌, ℕ, List, [], ◌++�
 ghost use Rattle.std.specs.Io.{StartsWith};
 ghost use Rattle.cm_text.specs.Case.{begins_with};
 ghost use Rattle.cm_tables.specs.Common.{AllBeginWith, common, rests};
-ghost use Rattle.cm_tables.specs.Look.{candidates, found_at, look};
+ghost use Rattle.cm_tables.specs.Look.{candidates, found_at, is_recognised, look};
 ghost use Rattle.cm_tables.specs.Order.{table_fault};
 ghost use Rattle.cm_tables.specs.declared.entry.Entry.{Entry};
 ghost use Rattle.cm_tables.specs.declared.table.Look.TheVariants as looks;
@@ -20,10 +20,13 @@ pub fn the_common_text_is_the_longest()
 /// An atom that is found is a beginning of an entry that may be abbreviated, with no regard to the case of letters.
 /// With what is missing of that entry's text it is found as that entry itself, and exactly.
 pub fn a_completed_atom_is_its_entry()
-    ensures begins { (table : List Entry) → (atom : List ℕ) → (place : ℕ) → (entry : Entry) → table_fault table ≡ None
-        → found_at (look table atom) ≡ Some place → slice_get table place ≡ Some entry
+    ensures recognised { (table : List Entry) → (atom : List ℕ) → (place : ℕ) → (entry : Entry)
+        → table_fault table ≡ None → found_at (look table atom) ≡ Some place → slice_get table place ≡ Some entry
+        → is_recognised entry.flag ≡ true }
+    ensures begins { (table : List Entry) → (atom : List ℕ) → (place : ℕ) → (entry : Entry)
+        → table_fault table ≡ None → found_at (look table atom) ≡ Some place → slice_get table place ≡ Some entry
         → begins_with entry.text atom ≡ true }
-    ensures exact { (table : List Entry) → (atom : List ℕ) → (place : ℕ) → (entry : Entry) → table_fault table ≡ None
-        → found_at (look table atom) ≡ Some place → slice_get table place ≡ Some entry
+    ensures exact { (table : List Entry) → (atom : List ℕ) → (place : ℕ) → (entry : Entry)
+        → table_fault table ≡ None → found_at (look table atom) ≡ Some place → slice_get table place ≡ Some entry
         → look table (atom ++ drop (length atom) entry.text) ≡ looks.Exact place }
 {}

@@ -116,8 +116,8 @@ impl Table {
         search::look(&self.entries, atom)
     }
 
-    /// Whether the text of some entry is the atom, with no regard to the case of letters. It tells an atom that
-    /// is ambiguous since its own entry does not let itself be recognised from one that several entries begin with.
+    /// Whether the text of some entry is the atom, with no regard to the case of letters. Where an atom is ambiguous,
+    /// it tells whether an entry of this text does not let itself be recognised, or several entries begin with it.
     pub fn has_text(&self, atom: &[u8]) -> bool
         ensures { result ≡ has_text self.now atom.now }
     {

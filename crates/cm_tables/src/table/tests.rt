@@ -135,6 +135,89 @@ fn looks_up_short_entries(rt: HostRuntime) -> Result<(), Fail> {
     )
 }
 
+fn goes_on(
+    rt: &impl Abort,
+    alloc: Global,
+    keywords: &[(&str, Flag)],
+    cases: &[(&str, &str)],
+) -> Result<(), Fail> {
+    let table = Table::new(entries(rt, alloc, keywords)?)?;
+    for (atom, common) in cases {
+        assert_eq!(rt;
+            table.common(atom.as_bytes()),
+            common.as_bytes(),
+            "behind {atom}"
+        );
+    }
+    Ok(())
+}
+
+#[test]
+fn goes_on_with_what_plain_and_invisible_entries_share(rt: HostRuntime) -> Result<(), Fail> {
+    let keywords = [
+        plain("INFORMATION"),
+        ("KJOB", Flag::Invisible),
+        plain("LOGIN"),
+        ("LOGOUT", Flag::Invisible),
+    ];
+    let cases = [
+        ("I", "NFORMATION"),
+        ("k", "JOB"),
+        ("L", "OG"),
+        ("lo", "G"),
+        ("LOG", ""),
+        ("LOGO", "UT"),
+        ("LOGOUT", ""),
+        ("LOGOUTS", ""),
+        ("X", ""),
+        ("", ""),
+    ];
+    goes_on(&rt, rt.alloc(), &keywords, &cases)
+}
+
+#[test]
+fn goes_on_past_other_entries(rt: HostRuntime) -> Result<(), Fail> {
+    let keywords = [
+        ("CON", Flag::Short(1)),
+        plain("CONTINUE"),
+        ("L", Flag::NoRecognise),
+        ("LO", Flag::NoRecognise),
+        plain("LOGOUT"),
+        ("NO", Flag::NoRecognise),
+    ];
+    let cases = [
+        ("C", "ONTINUE"),
+        ("con", "TINUE"),
+        ("L", "OGOUT"),
+        ("LO", "GOUT"),
+        ("N", ""),
+    ];
+    goes_on(&rt, rt.alloc(), &keywords, &cases)?;
+    goes_on(&rt, rt.alloc(), &[], &[("", ""), ("A", "")])
+}
+
+#[test]
+fn has_whole_texts_alone(rt: HostRuntime) -> Result<(), Fail> {
+    let keywords = [
+        ("L", Flag::NoRecognise),
+        ("LOGIN", Flag::Invisible),
+        plain("LOGOUT"),
+    ];
+    let table = Table::new(entries(&rt, rt.alloc(), &keywords)?)?;
+    for (atom, is_there) in [
+        ("L", true),
+        ("l", true),
+        ("LO", false),
+        ("login", true),
+        ("LOGOUT", true),
+        ("LOGOUTS", false),
+        ("", false),
+    ] {
+        assert_eq!(rt; table.has_text(atom.as_bytes()), is_there, "at {atom}");
+    }
+    Ok(())
+}
+
 #[test]
 fn gives_its_entries(rt: HostRuntime) -> Result<(), Fail> {
     let keywords = [plain("ABLE"), ("BAKER", Flag::Invisible)];

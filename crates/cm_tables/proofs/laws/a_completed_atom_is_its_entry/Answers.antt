@@ -1,5 +1,8 @@
-use Rattle.cm_tables.proofs.FoundLemmas.{found_begins, completed_is_exact}
+use Rattle.cm_tables.proofs.FoundLemmas.{completed_is_exact, found_begins, found_is_recognised}
 use Rattle.cm_tables.proofs.laws.a_completed_atom_is_its_entry.Goals as goal
+
+pub returns-clause-recognised : goal.returns-clause-recognised
+returns-clause-recognised c = found_is_recognised
 
 pub returns-clause-begins : goal.returns-clause-begins
 returns-clause-begins c = found_begins
