@@ -1,15 +1,18 @@
 -- The text behind an opening quote: one byte of it, and what decides.
-use Rattle.std.proofs.Common.{◌≡◌, ◌≢◌, ℕ, ◌+◌, ◌-◌, ◌≤◌, Bool, true, false, ◌==◌, nat_le, if◌then◌else◌, List, [], ◌∷◌, ◌++◌, length, take, drop, get_or, refl, arith}
+use Rattle.std.proofs.Common.{◌≡◌, ◌≢◌, ℕ, ◌+◌, ◌-◌, ◌≤◌, Bool, true, false, ◌==◌, nat_le, if◌then◌else◌, List, [], ◌∷◌, ◌++◌, length, take, drop, get_or, refl, subst, arith}
 use Rattle.std.proofs.lemmas.Bool.Decides.{nat_tests}
 use Rattle.std.proofs.lemmas.List.{take_all}
 use Rattle.cm_text.specs.declared.name.TheConstants.{NAME_LIMIT}
-use Rattle.cm_fields.specs.declared.code.Code.TheVariants.{NotQuoted}
+use Rattle.cm_fields.specs.declared.code.Code.TheVariants.{FieldLong, NotQuoted}
 use Rattle.cm_fields.specs.declared.quotes.Closing.{Closing}
 use Rattle.cm_fields.specs.declared.quotes.Closing.TheVariants.{Closed, Cut, Unknown}
 use Rattle.cm_fields.specs.declared.value.Value.{Value}
-use Rattle.cm_fields.specs.declared.trial.Try.TheVariants.{Accept, Refuse}
+use Rattle.cm_fields.specs.declared.value.Value.TheVariants.{Quoted}
+use Rattle.cm_fields.specs.declared.trial.Try.{Try}
+use Rattle.cm_fields.specs.declared.trial.Try.TheVariants.{Accept, Refuse, More}
 use Rattle.cm_fields.specs.Local.{Holds, IsLocal, IsSeen}
 use Rattle.cm_fields.specs.Quoted.{IsWithin, by_closing, closing, quoted}
+use Rattle.cm_fields.specs.Try.{span}
 use Rattle.cm_fields.proofs.Holding.{LooksBeyond, Reaches, ReachesIfAccept, by_test, holds_beyond, holds_both, holds_of_choice, holds_same, is_local, of_choice, reaches_accepted}
 
 differs : (byte other : ℕ) → byte ≢ other → (byte == other) ≡ false
@@ -185,3 +188,78 @@ quoted_reaches_if (byte ∷ rest) at =
 pub quoted_reaches : (rest : List ℕ) (at : ℕ) (value : Value) (looked end : ℕ) → quoted rest at ≡ Accept value looked end
     → Reaches at (length rest) looked end
 quoted_reaches rest at value looked end is = reaches_accepted at (length rest) (quoted rest at) value looked end (quoted_reaches_if rest at) is
+
+-- a closing quote, where there is one, is the last byte before this place
+abbrev ClosesAt : ℕ → Closing → Type 0
+ClosesAt place (Closed size written) = size + 1 ≡ place
+ClosesAt place (Cut size) = Unit {0}
+ClosesAt place Unknown = Unit {0}
+
+abbrev pub IsQuoted : Value → Type 0
+IsQuoted (Quoted part) = Unit {0}
+IsQuoted value = ⊥
+
+-- a quoted text, where there is one, ends at this place
+abbrev pub QuotedAt : ℕ → Try → Type 0
+QuotedAt place (Accept value looked end) = (end ≡ place) × IsQuoted value
+QuotedAt place (Refuse code looked) = Unit {0}
+QuotedAt place More = Unit {0}
+
+closing_ends : (size written : ℕ) (inside : List ℕ) → closing size written inside ≡ Unknown
+    → ClosesAt (size + length inside) (closing size written (inside ++ 32 ∷ []))
+closing_ends size written [] is = tt
+closing_ends size written (byte ∷ []) is =
+    of_choice (ClosesAt (size + length (byte ∷ []))) (byte == 13) (Cut size) _ tt
+    (of_choice (ClosesAt (size + length (byte ∷ []))) (byte == 34) (Closed size written) Unknown (omega arith) tt)
+closing_ends size written (byte ∷ next ∷ more) is =
+    by (byte == 13) (byte == 34) (next == 34) (closing_ends (size + 2) (written + 1) more)
+    (closing_ends (size + 1) (written + 1) (next ∷ more)) is
+  where
+    place : ℕ
+    place = size + length (byte ∷ next ∷ more)
+
+    by : (end quote second : Bool)
+        → (closing (size + 2) (written + 1) more ≡ Unknown
+        → ClosesAt (size + 2 + length more) (closing (size + 2) (written + 1) (more ++ 32 ∷ [])))
+        → (closing (size + 1) (written + 1) (next ∷ more) ≡ Unknown
+        → ClosesAt (size + 1 + length (next ∷ more)) (closing (size + 1) (written + 1) ((next ∷ more) ++ 32 ∷ [])))
+        → (if end then Cut size else (if quote then (if second then closing (size + 2) (written + 1) more else Closed size written)
+        else closing (size + 1) (written + 1) (next ∷ more))) ≡ Unknown
+        → ClosesAt (size + length (byte ∷ next ∷ more))
+        (if end then Cut size else (if quote then (if second then closing (size + 2) (written + 1) (more ++ 32 ∷ []) else Closed size written)
+        else closing (size + 1) (written + 1) ((next ∷ more) ++ 32 ∷ [])))
+    by true quote second twice plain is = cc
+    by false true false twice plain is = cc
+    by false true true twice plain is =
+        subst (λ (place : ℕ). ClosesAt place (closing (size + 2) (written + 1) (more ++ 32 ∷ []))) (omega arith) (twice is)
+    by false false second twice plain is =
+        subst (λ (place : ℕ). ClosesAt place (closing (size + 1) (written + 1) ((next ∷ more) ++ 32 ∷ []))) (omega arith) (plain is)
+
+closing_unknown : (at : ℕ) (found : Closing) → by_closing at found ≡ More → found ≡ Unknown
+closing_unknown at Unknown is = refl
+closing_unknown at (Cut size) is = cc
+closing_unknown at (Closed size written) is = by (nat_le written NAME_LIMIT) is
+  where
+    by : (test : Bool) → (if test then Accept (Quoted (span (at + 1) size)) (size + 3) (at + (size + 2)) else Refuse FieldLong (size + 3)) ≡ More
+        → Closed size written ≡ Unknown
+    by true is = cc
+    by false is = cc
+
+by_closing_ends : (at place : ℕ) (found : Closing) → ClosesAt place found → QuotedAt (at + (1 + place)) (by_closing at found)
+by_closing_ends at place (Closed size written) closes =
+    of_choice (QuotedAt (at + (1 + place))) (nat_le written NAME_LIMIT) _ _ (omega arith, tt) tt
+by_closing_ends at place (Cut size) closes = tt
+by_closing_ends at place Unknown closes = tt
+
+-- a text that wants more and that a space closes ends with what stands before the space
+pub quoted_ends : (rest : List ℕ) (at : ℕ) → quoted rest at ≡ More → QuotedAt (at + length rest) (quoted (rest ++ 32 ∷ []) at)
+quoted_ends [] at is = tt
+quoted_ends (byte ∷ inside) at is = by (byte == 34) is
+  where
+    by : (test : Bool) → (if test then by_closing at (closing 0 0 inside) else Refuse NotQuoted 1) ≡ More
+        → QuotedAt (at + length (byte ∷ inside)) (if test then by_closing at (closing 0 0 (inside ++ 32 ∷ [])) else Refuse NotQuoted 1)
+    by false is = tt
+    by true is =
+        let closes = closing_ends 0 0 inside (closing_unknown at (closing 0 0 inside) is) in
+        subst (λ (place : ℕ). QuotedAt place (by_closing at (closing 0 0 (inside ++ 32 ∷ [])))) (omega arith)
+        (by_closing_ends at (0 + length inside) _ closes)

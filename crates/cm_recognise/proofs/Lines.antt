@@ -41,10 +41,10 @@ use Rattle.cm_recognise.specs.declared.outcome.Outcome.{Outcome}
 use Rattle.cm_recognise.specs.declared.outcome.Outcome.TheVariants.{Nothing, Part, Piece, Whole}
 use Rattle.cm_recognise.specs.Insertion.{asked, at_block, behind, default_put, first_put, fitted, guide_behind, guide_of, insertion, or_put, put_in, rung}
 use Rattle.cm_recognise.specs.Outcome.{by_function, entry_outcome, guide, hook_outcome, keyword_outcome, missing, outcome, phrase_outcome, plain_outcome, switch_outcome, text_at}
-use Rattle.cm_recognise.proofs.Texts.{AreKeywords, AreText, common_text, keywords_of, name_text, shown_text, text_append, text_at_text, text_drop}
+use Rattle.cm_recognise.proofs.Texts.{AreKeywords, AreText, common_text, keywords_of, name_text, shown_text, table_none, text_append, text_at_text, text_drop}
 
 -- the bytes of an outcome are
-abbrev IsText : Outcome → Type 0
+abbrev pub IsText : Outcome → Type 0
 IsText Nothing = Unit {0}
 IsText (Part bytes) = AreText bytes
 IsText (Piece bytes) = AreText bytes
@@ -89,16 +89,6 @@ hook_text next plain verdict atom tails.None own completes = own
 hook_text next plain verdict atom (tails.Part text) own completes = name_text text completes
 hook_text next plain verdict atom (tails.Whole text) own completes = name_text text completes.0
 
--- the table that a block names has keywords
-pub table_keywords : (graph : Graph) (number : ℕ) → AreTables graph.tables → AreKeywords (table_of graph number)
-table_keywords graph number tables = by graph.tables number tables
-  where
-    by : (tables : List (List Entry)) (number : ℕ) → AreTables tables
-        → AreKeywords (option_map_or (λ (table : List Entry). table) (slice_get tables number) [])
-    by [] number tables = tt
-    by (table ∷ more) zero tables = keywords_of table (tables 0 table (omega arith))
-    by (table ∷ more) (suc number) tables = by more number (λ k d below. tables (suc k) d (omega arith))
-
 -- the text of a guide word or a token
 noise_text : (text : List ℕ) → has_phrase (Noise text) ≡ true → AreText text
 noise_text text has =
@@ -112,9 +102,9 @@ function_text : (s : Setting) (function : Function) (next : ℕ) (atom : List �
     → IsLawful s.meanings → has_phrase function ≡ true → length atom ≤ LINE_LIMIT → IsText plain
     → IsText (by_function s function next atom plain)
 function_text s (Key table) next atom plain tables lawful has short own =
-    keyword_text false _ atom _ (table_keywords s.graph table tables)
+    keyword_text false _ atom _ (keywords_of _ (table_none s.graph table tables))
 function_text s (Switch table) next atom plain tables lawful has short own =
-    switch_text _ atom (table_keywords s.graph table tables)
+    switch_text _ atom (keywords_of _ (table_none s.graph table tables))
 function_text s (Noise text) next atom plain tables lawful has short own =
     phrase_text (guide text) next atom (guide_text text (noise_text text has))
 function_text s (Token text) next atom plain tables lawful has short own =
@@ -129,7 +119,7 @@ function_text s Text next atom plain tables lawful has short own = own
 function_text s Comma next atom plain tables lawful has short own = own
 function_text s Confirm next atom plain tables lawful has short own = own
 
-outcome_text : (s : Setting) (block : Block) (atom : List ℕ) (at : ℕ) → AreTables s.graph.tables → IsLawful s.meanings
+pub outcome_text : (s : Setting) (block : Block) (atom : List ℕ) (at : ℕ) → AreTables s.graph.tables → IsLawful s.meanings
     → has_phrase block.function ≡ true → length atom ≤ LINE_LIMIT → IsText (outcome s block atom at)
 unfolding outcome
 outcome_text s block atom at tables lawful has short =
@@ -147,7 +137,7 @@ first_guide_text : (graph : Graph) (blocks : List Block) → All (IsWellBlock gr
 first_guide_text graph [] well = tt
 first_guide_text graph (block ∷ more) well = guide_behind_text block.function (well 0 block (omega arith)).phrase
 
-behind_text : (graph : Graph) (next : ℕ) → grammar_fault graph ≡ None → AreText (behind graph next)
+pub behind_text : (graph : Graph) (next : ℕ) → grammar_fault graph ≡ None → AreText (behind graph next)
 unfolding is_text
 behind_text graph next none = (refl, by (slice_get graph.nodes next) refl)
   where

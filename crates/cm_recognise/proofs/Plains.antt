@@ -17,11 +17,12 @@ use Rattle.cm_fields.specs.declared.value.Value.{Value}
 use Rattle.cm_fields.specs.declared.value.Value.TheVariants as values
 use Rattle.cm_fields.specs.Local.{IsLocal, Stays}
 use Rattle.cm_fields.specs.Mark.{comma, confirm}
-use Rattle.cm_fields.specs.Quoted.{by_closing, closing, quoted}
+use Rattle.cm_fields.specs.Quoted.{quoted}
 use Rattle.cm_fields.specs.Run.{number, number_of, word, word_of}
 use Rattle.cm_fields.specs.Text.{is_inside, text_field, text_of}
 use Rattle.cm_fields.specs.Try.{by_run, said, span}
 use Rattle.cm_fields.proofs.Holding.{by_test, holds_of_choice, of_choice}
+use Rattle.cm_fields.proofs.Quoting.{IsQuoted, QuotedAt, quoted_ends}
 use Rattle.cm_hooks.specs.declared.answer.Answer.{Answer}
 use Rattle.cm_hooks.specs.declared.answer.Answer.TheVariants.{Yes, No}
 use Rattle.cm_hooks.specs.Field.{hook, hook_of, judged}
@@ -109,7 +110,7 @@ space_no_word : is_word 32 ≡ false
 unfolding is_word
 space_no_word = refl
 
-space_no_name : is_name 32 ≡ false
+pub space_no_name : is_name 32 ≡ false
 unfolding is_name is_word
 space_no_name = refl
 
@@ -141,3 +142,15 @@ comma_ends (byte ∷ rest) at is = by_test _ (byte == 44) (λ test. let never = 
 pub confirm_ends : (rest : List ℕ) (at : ℕ) → confirm rest at ≡ More → EndsAt (at + length rest) (confirm (rest ++ 32 ∷ []) at)
 confirm_ends [] at is = tt
 confirm_ends (byte ∷ rest) at is = by_test _ (byte == 13) (λ test. let never = rw test at is in cc) (λ test. let never = rw test at is in cc)
+
+quoted_own : (value : Value) → IsQuoted value → IsOwn value
+quoted_own (values.Quoted part) is = tt
+quoted_own value is = absurd is
+
+pub quoted_closes : (rest : List ℕ) (at : ℕ) → quoted rest at ≡ More → EndsAt (at + length rest) (quoted (rest ++ 32 ∷ []) at)
+quoted_closes rest at is = by (quoted (rest ++ 32 ∷ []) at) (quoted_ends rest at is)
+  where
+    by : (answer : Try) → QuotedAt (at + length rest) answer → EndsAt (at + length rest) answer
+    by (Accept value looked end) ends = (ends.0, quoted_own value ends.1)
+    by (Refuse code looked) ends = tt
+    by More ends = tt

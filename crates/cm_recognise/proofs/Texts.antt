@@ -1,6 +1,7 @@
 -- What goes into a line is bytes that a line may have.
-use Rattle.std.proofs.Common.{◌≡◌, ℕ, zero, suc, ◌+◌, ◌≤◌, ◌==◌, ◌&&◌, Bool, true, nat_lt, List, [], ◌∷◌, ◌++◌, length, drop, take, map, filter, Option, Some, None, unwrap_or, refl, ap, subst, arith}
+use Rattle.std.proofs.Common.{◌≡◌, ℕ, zero, suc, ◌+◌, ◌≤◌, ◌==◌, ◌&&◌, Bool, true, nat_lt, List, [], ◌∷◌, ◌++◌, length, drop, take, map, filter, Option, Some, None, slice_get, unwrap_or, refl, ap, subst, arith}
 use Rattle.std.specs.List.{AllByRecursion, enumerate_from, list_all, reduce}
+use Rattle.std.specs.Option.{option_map_or}
 use Rattle.std.proofs.lemmas.Bool.{and_parts}
 use Rattle.std.proofs.lemmas.Bool.Decides.{nat_tests}
 use Rattle.cm_text.specs.Bytes.{is_name, is_text, is_word}
@@ -14,6 +15,9 @@ use Rattle.cm_tables.proofs.SharingLemmas.{common_is_shared}
 use Rattle.cm_tables.proofs.WithinLemmas.{both-none}
 use Rattle.cm_fields.proofs.Holding.{of_choice}
 use Rattle.cm_blocks.specs.Fault.{is_shown_byte}
+use Rattle.cm_blocks.specs.Grammar.{Graph}
+use Rattle.cm_blocks.specs.Trial.{table_of}
+use Rattle.cm_blocks.specs.Well.{AreTables}
 use Rattle.cm_recognise.specs.Outcome.{text_at}
 
 -- bytes of a line
@@ -101,3 +105,14 @@ common_text table atom all = by (rests table atom) refl (rests_text table 0 atom
         let none : common table atom ≡ [] = ap (λ (texts : List (List ℕ)). unwrap_or (reduce shared texts) []) is in
         rw none tt
     by (text ∷ texts) is all begin = subst AreText begin.0 (text_take (length (common table atom)) text all.0)
+
+-- a table that a block names has no fault, nor has one that is not there
+pub table_none : (graph : Graph) (number : ℕ) → AreTables graph.tables → table_fault (table_of graph number) ≡ None
+unfolding table_fault
+table_none graph number tables = by graph.tables number tables
+  where
+    by : (tables : List (List Entry)) (number : ℕ) → AreTables tables
+        → table_fault (option_map_or (λ (table : List Entry). table) (slice_get tables number) []) ≡ None
+    by [] number tables = refl
+    by (table ∷ more) zero tables = tables 0 table (omega arith)
+    by (table ∷ more) (suc number) tables = by more number (λ k d below. tables (suc k) d (omega arith))
