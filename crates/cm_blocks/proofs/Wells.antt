@@ -129,3 +129,11 @@ pub well_read : (graph : Graph) (place : ℕ) (node : Node) → grammar_fault gr
     → node ≡ get_or graph.nodes place node → IsWell graph node
 well_read graph place node none below read =
     well_node graph place node none (slice_get_read graph.nodes (length graph.nodes) place node refl below read)
+
+-- and its default is printed whole
+pub default_shown : (graph : Graph) (place : ℕ) (node : Node) → grammar_fault graph ≡ None
+    → slice_get graph.nodes place ≡ Some node → option_map_or is_shown node.default true ≡ true
+default_shown graph place node none found =
+    let at = node_none graph.tables (length graph.nodes) 0 graph.nodes place node (all_none graph none) found in
+    let passed = tests graph.tables (length graph.nodes) at.0 node at.1 in
+    (and_parts (option_map_or is_shown node.default true) _ passed.texts).0

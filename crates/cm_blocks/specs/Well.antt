@@ -1,5 +1,7 @@
--- What is true of each node of a grammar.
-use Rattle.std.specs.Prelude.{◌≡◌, ◌<◌, ◌≤◌, true, length, All}
+-- What is true of each node and each table of a grammar.
+use Rattle.std.specs.Prelude.{◌≡◌, ◌<◌, ◌≤◌, true, List, length, All, None}
+use Rattle.cm_tables.specs.declared.entry.Entry.{Entry}
+use Rattle.cm_tables.specs.Order.{table_fault}
 use Rattle.cm_blocks.specs.declared.fault.TheConstants.{BLOCK_LIMIT}
 use Rattle.cm_blocks.specs.declared.node.Block.{Block}
 use Rattle.cm_blocks.specs.declared.node.Node.{Node}
@@ -19,3 +21,7 @@ pub record IsWell (graph : Graph) (node : Node) : Type 0 where
   pub some : 0 < length node.chain
   pub few : length node.chain ≤ BLOCK_LIMIT
   pub blocks : All (IsWellBlock graph) node.chain
+
+-- each of these tables is one that the look-up may ask
+abbrev pub AreTables : List (List Entry) → Type 0
+AreTables tables = All (λ (table : List Entry). table_fault table ≡ None) tables

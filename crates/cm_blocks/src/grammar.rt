@@ -2,7 +2,7 @@
 ghost use Rattle.std.specs.Prelude.{◌≡◌, ◌≤◌, ◌<◌, Some, None, MatchResult, length, slice_get};
 ghost use Rattle.cm_blocks.specs.Fault.{grammar_fault};
 ghost use Rattle.cm_blocks.specs.Grammar.{Graph, blocks_limit, hook_count, hook_limit, nodes_limit};
-ghost use Rattle.cm_blocks.specs.Well.{IsWell};
+ghost use Rattle.cm_blocks.specs.Well.{AreTables, IsWell};
 
 use crate::fault::grammar_fault;
 use crate::{Block, Function, Node};
@@ -52,13 +52,15 @@ impl Model for Grammar {
     ghost use Rattle.std.specs.Prelude.{◌≡◌, None};
     ghost use Rattle.cm_blocks.specs.Fault.{grammar_fault};
     ghost use Rattle.cm_blocks.specs.Grammar.{Graph};
+    ghost use Rattle.cm_blocks.specs.Well.{AreTables};
 
     ghost Value = { Graph };
 
     ghost view = { λ grammar. record { nodes = grammar.nodes.items; tables = grammar.tables.items } };
 
-    ghost invariant = { λ grammar. grammar_fault
-        (record { nodes = grammar.nodes.items; tables = grammar.tables.items }) ≡ None };
+    ghost invariant = { λ grammar. (grammar_fault
+        (record { nodes = grammar.nodes.items; tables = grammar.tables.items }) ≡ None)
+        × AreTables grammar.tables.items };
 }
 
 impl Grammar {
@@ -73,7 +75,10 @@ impl Grammar {
     {
         match grammar_fault(&nodes, &tables) {
             Some(fault) => Err(fault),
-            None => Ok(Grammar { nodes, tables }),
+            None => {
+                have_no_fault(&tables);
+                Ok(Grammar { nodes, tables })
+            }
         }
     }
 
@@ -82,6 +87,13 @@ impl Grammar {
         ensures { grammar_fault self.now ≡ None }
     {
         let _ = &self.nodes;
+    }
+
+    /// Hands on to a proof what each table's own `new` saw to: none has a fault. It does nothing.
+    pub fn has_tables(&self)
+        ensures { AreTables self.now.tables }
+    {
+        let _ = &self.tables;
     }
 
     /// How many hooks the grammar wants: one past the greatest id, 0 with none.
@@ -114,6 +126,15 @@ impl Grammar {
         ensures { slice_get self.now.tables number ≡ Some result.now }
     {
         &self.tables[usize::from(number)]
+    }
+}
+
+// Hands on to a proof that none of these tables has a fault.
+fn have_no_fault(tables: &[Table])
+    ensures { AreTables tables.now }
+{
+    for table in tables {
+        table.has_no_fault();
     }
 }
 

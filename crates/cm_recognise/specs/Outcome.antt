@@ -5,8 +5,8 @@ use Rattle.cm_text.specs.Case.{begins_with}
 use Rattle.cm_tables.specs.declared.entry.Entry.{Entry}
 use Rattle.cm_tables.specs.declared.table.Look.{Look}
 use Rattle.cm_tables.specs.declared.table.Look.TheVariants as looks
-use Rattle.cm_tables.specs.Common.{common, has_text}
-use Rattle.cm_tables.specs.Look.{look}
+use Rattle.cm_tables.specs.Common.{common}
+use Rattle.cm_tables.specs.Look.{has_text, look}
 use Rattle.cm_fields.specs.declared.trial.Try.{Try}
 use Rattle.cm_fields.specs.declared.trial.Try.TheVariants.{Accept, Refuse, More}
 use Rattle.cm_hooks.specs.declared.answer.Tail.{Tail}
@@ -80,6 +80,13 @@ by_function s (Token text) next atom plain = if length atom == 0 then Nothing el
 by_function s (Hook id) next atom plain =
     if length atom == 0 then Nothing else hook_outcome next plain (s.meanings.completion id atom)
 by_function s function next atom plain = plain
+
+-- it has at most so many bytes
+abbrev pub IsShort : ℕ → Outcome → Type 0
+IsShort most Nothing = Unit {0}
+IsShort most (Part bytes) = length bytes ≤ most
+IsShort most (Piece bytes) = length bytes ≤ most
+IsShort most (Whole bytes next) = length bytes ≤ most
 
 -- how the field of a block goes on of which the atom is typed, from this place to the end of the line
 unfoldable pub outcome : Setting → Block → List ℕ → ℕ → Outcome

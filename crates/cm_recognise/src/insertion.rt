@@ -1,13 +1,14 @@
 // What goes into a line.
-ghost use Rattle.std.specs.Prelude.{◌≡◌, ◌+◌, ◌≤◌, ◌<◌, ◌++◌, All, drop, length};
+ghost use Rattle.std.specs.Prelude.{◌≡◌, ◌+◌, ◌≤◌, ◌<◌, ◌++◌, All, drop, length, slice_get};
 ghost use Rattle.cm_text.specs.Text.{IsLine};
 ghost use Rattle.cm_hooks.specs.Ties.{Ties, count};
 ghost use Rattle.cm_blocks.specs.Grammar.{hook_count};
 ghost use Rattle.cm_blocks.specs.Setting.{setting};
 ghost use Rattle.cm_blocks.specs.Well.{IsWell, IsWellBlock};
 ghost use Rattle.cm_recognise.specs.Insertion.{asked, at_block, behind, default_put, first_put, fitted, guide_behind, insertion, put_in, rung};
+ghost use Rattle.cm_recognise.specs.Outcome.{IsShort};
 
-use crate::outcome::{Outcome, outcome_of};
+use crate::outcome::{Outcome, guide, outcome_of};
 use crate::Bytes;
 use cm_blocks::{Block, Ending, Function, Grammar, Node, Open};
 use cm_files::Names;
@@ -30,6 +31,178 @@ pub struct Insertion {
     pub bytes: Bytes,
     /// Whether it rings: nothing is certain, or no more than these bytes.
     pub bell: bool,
+}
+
+// No bytes, and a bell.
+fn rung() -> Insertion
+    ensures { result ≡ rung }
+{
+    Insertion {
+        bytes: Bytes::new(),
+        bell: true,
+    }
+}
+
+// What fits into a line of so many bytes.
+fn fitted(size: usize, put: Option<Insertion>) -> Insertion
+    requires { size ≤ LINE_LIMIT }
+    ensures { result ≡ fitted size put }
+{
+    match put {
+        None => rung(),
+        Some(insertion) => {
+            if size + insertion.bytes.as_slice().len() <= LINE_LIMIT {
+                insertion
+            } else {
+                rung()
+            }
+        }
+    }
+}
+
+// Appends the guide word that a block reads, and a space.
+fn append_guide(function: &Function, bytes: &mut Bytes)
+    requires { length bytes.old ≤ 42 }
+    ensures { bytes.new ≡ bytes.old ++ guide_behind function.now }
+{
+    if let Function::Noise(text) = function {
+        bytes.append(guide(text).as_slice());
+        bytes.append(b" ");
+    }
+}
+
+// Appends what stands behind a field that is whole.
+fn append_behind(grammar: &Grammar, next: u16, bytes: &mut Bytes)
+    requires { length bytes.old ≤ 41 }
+    ensures { bytes.new ≡ bytes.old ++ behind grammar.now next }
+{
+    bytes.append(b" ");
+    if next < grammar.nodes() {
+        if let Some(block) = grammar.node(next).chain.as_slice().first() {
+            append_guide(&block.function, bytes);
+        }
+    }
+}
+
+// What one outcome puts in.
+fn put_in(grammar: &Grammar, outcome: Outcome) -> Option<Insertion>
+    requires { IsShort 41 outcome }
+    ensures { result ≡ put_in grammar.now outcome }
+{
+    match outcome {
+        Outcome::Nothing => None,
+        Outcome::Part(bytes) => {
+            if bytes.as_slice().is_empty() {
+                None
+            } else {
+                Some(Insertion { bytes, bell: true })
+            }
+        }
+        Outcome::Piece(bytes) => Some(Insertion { bytes, bell: false }),
+        Outcome::Whole { mut bytes, next } => {
+            append_behind(grammar, next, &mut bytes);
+            Some(Insertion { bytes, bell: false })
+        }
+    }
+}
+
+// The first of these blocks that puts anything in.
+fn first_put<N: Names, R: Rules>(
+    grammar: &Grammar,
+    blocks: &[Block],
+    line: &[u8],
+    at: usize,
+    names: &N,
+    hooks: &Hooks<R>,
+) -> Option<Insertion>
+    requires well { All (IsWellBlock grammar.now) blocks.now }
+    requires ties { Ties R.meanings hooks.now }
+    requires hooks { hook_count grammar.now ≤ count hooks.now }
+    requires short { length line.now < LINE_LIMIT }
+    requires place { at ≤ length line.now }
+    ensures { result ≡ first_put (setting grammar.now (N.catalogue names.now) R.meanings) (drop at line.now) at
+        blocks.now }
+{
+    for block in blocks {
+        let put = put_in(grammar, outcome_of(grammar, block, line, at, names, hooks));
+        if put.is_some() {
+            return put;
+        }
+    }
+    None
+}
+
+// Where nothing is typed, the default of a node and a space.
+fn default_put(atom: &[u8], node: &Node) -> Option<Insertion>
+    ensures { result ≡ default_put atom.now node.now.default }
+{
+    match &node.default {
+        None => None,
+        Some(text) => {
+            if !atom.is_empty() {
+                return None;
+            }
+            let mut bytes = Bytes::new();
+            bytes.append(text.as_bytes());
+            bytes.append(b" ");
+            Some(Insertion { bytes, bell: false })
+        }
+    }
+}
+
+// What is put in where the blocks of a node wait from this one on.
+fn asked<N: Names, R: Rules>(
+    grammar: &Grammar,
+    node: &Node,
+    block: u8,
+    line: &[u8],
+    at: usize,
+    names: &N,
+    hooks: &Hooks<R>,
+    mode: Mode,
+) -> Option<Insertion>
+    requires well { IsWell grammar.now node.now }
+    requires ties { Ties R.meanings hooks.now }
+    requires hooks { hook_count grammar.now ≤ count hooks.now }
+    requires short { length line.now < LINE_LIMIT }
+    requires place { at ≤ length line.now }
+    ensures { result ≡ asked (setting grammar.now (N.catalogue names.now) R.meanings) mode node.now block
+        (drop at line.now) at }
+{
+    if mode == Mode::Part {
+        return None;
+    }
+    let put = default_put(&line[at..], node);
+    if put.is_some() {
+        return put;
+    }
+    let chain = node.chain.as_slice();
+    let first = usize::from(block).min(chain.len());
+    first_put(grammar, &chain[first..], line, at, names, hooks)
+}
+
+// What is put in at a place of the line.
+fn at_block<N: Names, R: Rules>(
+    grammar: &Grammar,
+    place: Open,
+    line: &[u8],
+    names: &N,
+    hooks: &Hooks<R>,
+    mode: Mode,
+) -> Option<Insertion>
+    requires ties { Ties R.meanings hooks.now }
+    requires hooks { hook_count grammar.now ≤ count hooks.now }
+    requires short { length line.now < LINE_LIMIT }
+    requires place { place.at ≤ length line.now }
+    ensures { result ≡ at_block (setting grammar.now (N.catalogue names.now) R.meanings) mode line.now place.at
+        place.block (slice_get grammar.now.nodes place.node) }
+{
+    let block = place.block?;
+    if place.node >= grammar.nodes() {
+        return None;
+    }
+    let node = grammar.node(place.node);
+    asked(grammar, node, block, line, usize::from(place.at), names, hooks, mode)
 }
 
 /// What ESC or control-F puts into a line whose parse ends so (COMND's recognition).
@@ -57,8 +230,8 @@ pub fn complete<N: Names, R: Rules>(
     ensures line { IsLine (line.now ++ result.bytes) }
 {
     match ending {
-        Ending::Open(open) if line.len() < LINE_LIMIT && usize::from(open.at) <= line.len() => {
-            fitted(line.len(), at_block(grammar, open, line, names, hooks, mode))
+        Ending::Open(place) if line.len() < LINE_LIMIT && usize::from(place.at) <= line.len() => {
+            fitted(line.len(), at_block(grammar, place, line, names, hooks, mode))
         }
         _ => rung(),
     }

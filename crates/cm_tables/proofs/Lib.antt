@@ -1,2 +1,5 @@
+mod CommonLemmas
+pub mod FoundLemmas
 mod SearchLemmas
-mod WithinLemmas
+pub mod SharingLemmas
+pub mod WithinLemmas

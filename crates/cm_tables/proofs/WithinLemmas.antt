@@ -46,7 +46,7 @@ stands-within table position text (Short target) e = by (is_target text (slice_g
     by false h e = cc
 
 -- two faults are none only where both are
-both-none : (first later : Option TableFault) → first_fault first later ≡ None → (first ≡ None) × (later ≡ None)
+pub both-none : (first later : Option TableFault) → first_fault first later ≡ None → (first ≡ None) × (later ≡ None)
 both-none None later e = (refl, e)
 both-none (Some fault) later e = cc
 
@@ -89,7 +89,7 @@ by_equal-within [] abbreviations count all others = abbreviated-within abbreviat
 by_equal-within (e ∷ more) abbreviations count all others = exact-within e.0 e.1.flag count all.0 all.1.0
 
 -- a list with no fault has none at its targets
-no-targets_fault : (table : List Entry) → table_fault table ≡ None → targets_fault table 0 table ≡ None
+pub no-targets_fault : (table : List Entry) → table_fault table ≡ None → targets_fault table 0 table ≡ None
 unfolding table_fault
 no-targets_fault table e = by (ltb ENTRY_LIMIT (length table)) e
   where

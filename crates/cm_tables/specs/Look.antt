@@ -1,6 +1,6 @@
 -- The look-up of an atom in a keyword table (TBLUK), as filters of the whole table.
-use Rattle.std.specs.Prelude.{ℕ, ◌<◌, Bool, true, false, ◌&&◌, List, [], ◌∷◌, filter}
-use Rattle.std.specs.List.{enumerate_from}
+use Rattle.std.specs.Prelude.{ℕ, ◌<◌, Bool, true, false, ◌&&◌, List, [], ◌∷◌, filter, Option, Some, None}
+use Rattle.std.specs.List.{enumerate_from, list_any}
 use Rattle.cm_text.specs.Case.{equals, begins_with}
 use Rattle.cm_tables.specs.declared.entry.Entry.{Entry}
 use Rattle.cm_tables.specs.declared.entry.Flag.{Flag}
@@ -52,3 +52,14 @@ IsWithin looks.None count = Unit {0}
 IsWithin looks.Ambiguous count = Unit {0}
 IsWithin (looks.Abbrev position) count = position < count
 IsWithin (looks.Exact position) count = position < count
+
+-- the position that the look-up gives, where it gives one
+abbrev pub found_at : Look → Option ℕ
+found_at looks.None = None
+found_at looks.Ambiguous = None
+found_at (looks.Abbrev position) = Some position
+found_at (looks.Exact position) = Some position
+
+-- the text of some entry is the atom
+abbrev pub has_text : List Entry → List ℕ → Bool
+has_text table atom = list_any (λ (entry : Entry). equals entry.text atom) table

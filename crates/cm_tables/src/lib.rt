@@ -1,8 +1,10 @@
 //! Keyword tables: entries in order, and the look-up of an atom that may be an abbreviation (TBLUK).
 #![tactic(auto)]
 
+mod common;
 mod entry;
 mod fault;
+pub mod laws;
 mod search;
 mod table;
 

@@ -1,7 +1,7 @@
 // The look-up of an atom in the entries of a table.
 ghost use Rattle.std.specs.Prelude.{◌≡◌, ◌≤◌, ◌&&◌, length, position};
 ghost use Rattle.cm_text.specs.Case.{begins_with, equals};
-ghost use Rattle.cm_tables.specs.Look.{abbreviated, exact, is_recognised, look, candidates};
+ghost use Rattle.cm_tables.specs.Look.{abbreviated, exact, has_text, is_recognised, look, candidates};
 
 use crate::fault::ENTRY_LIMIT;
 use crate::{Entry, Flag, Look};
@@ -16,6 +16,15 @@ fn position_of(entries: &[Entry], atom: &[u8]) -> Option<usize>
         .position(|entry| equals(entry.text.as_bytes(), atom))
 }
 
+// Whether the text of some entry is the atom.
+pub(crate) fn has_text(entries: &[Entry], atom: &[u8]) -> bool
+    ensures { result ≡ has_text entries.now atom.now }
+{
+    entries
+        .iter()
+        .any(|entry| equals(entry.text.as_bytes(), atom))
+}
+
 // What an entry at a position gives for its own text.
 fn exact(position: u16, flag: Flag) -> Look
     ensures { result ≡ exact position flag }
@@ -28,7 +37,7 @@ fn exact(position: u16, flag: Flag) -> Look
 }
 
 // Whether the atom may abbreviate an entry.
-fn may_abbreviate(atom: &[u8], entry: &Entry) -> bool
+pub(crate) fn may_abbreviate(atom: &[u8], entry: &Entry) -> bool
     ensures { result ≡ (is_recognised entry.now.flag && begins_with entry.now.text atom.now) }
 {
     entry.flag.is_recognised() && begins_with(entry.text.as_bytes(), atom)

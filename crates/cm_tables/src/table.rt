@@ -1,10 +1,12 @@
 // Keyword tables.
 ghost use Rattle.std.specs.Prelude.{◌≡◌, ◌<◌, ◌≤◌, List, length, Some, None, MatchResult, slice_get, vec_len};
-ghost use Rattle.cm_tables.specs.Look.{IsWithin, look};
+ghost use Rattle.cm_tables.specs.Common.{common};
+ghost use Rattle.cm_tables.specs.Look.{IsWithin, has_text, look};
 ghost use Rattle.cm_tables.specs.Order.{table_fault};
 
 use crate::fault::{ENTRY_LIMIT, table_fault};
-use crate::{Entry, search};
+use crate::{Entry, common, search};
+use cm_text::NAME_LIMIT;
 use std::marker::Model;
 use thiserror::Error;
 
@@ -75,6 +77,13 @@ impl Table {
         }
     }
 
+    /// Hands what `new` saw to on to a proof: the table has no fault. It does nothing.
+    pub fn has_no_fault(&self)
+        ensures { table_fault self.now ≡ None }
+    {
+        let _ = &self.entries;
+    }
+
     /// The entry at a position.
     pub fn entry(&self, position: u16) -> &Entry
         requires { position < length self.now }
@@ -105,6 +114,23 @@ impl Table {
         ensures within { IsWithin result (length self.now) }
     {
         search::look(&self.entries, atom)
+    }
+
+    /// Whether the text of some entry is the atom, with no regard to the case of letters. It tells an atom that
+    /// is ambiguous since its own entry does not let itself be recognised from one that several entries begin with.
+    pub fn has_text(&self, atom: &[u8]) -> bool
+        ensures { result ≡ has_text self.now atom.now }
+    {
+        search::has_text(&self.entries, atom)
+    }
+
+    /// The longest text with which all entries go on behind the atom that it may abbreviate, so that it can be
+    /// completed as far as it is certain (COMND's recognition). It is empty where there is no such entry.
+    pub fn common(&self, atom: &[u8]) -> &[u8]
+        ensures value { result.now ≡ common self.now atom.now }
+        ensures within { length result.now ≤ NAME_LIMIT }
+    {
+        common::common(&self.entries, atom)
     }
 }
 

@@ -8,4 +8,4 @@ pub returns-clause-well : goal.returns-clause-well
 returns-clause-well c =
     let size = ap (λ (graph : Graph). length graph.nodes) c.self.view_is in
     subst (λ (graph : Graph). IsWell graph c.index.result.now) c.self.view_is
-    (well_read _ c.from.result c.index.result.now c.self.invariant (omega arith) c.index.ensures)
+    (well_read _ c.from.result c.index.result.now c.self.invariant.0 (omega arith) c.index.ensures)

@@ -1,0 +1,232 @@
+// How a field goes on that a block has begun to read.
+ghost use Rattle.std.specs.Prelude.{◌≡◌, ◌≤◌, ◌<◌, ◌+◌, ◌&&◌, [], ◌∷◌, ◌++◌, if◌then◌else◌, drop, length, true};
+ghost use Rattle.cm_hooks.specs.Ties.{Ties, count};
+ghost use Rattle.cm_tables.specs.Common.{common};
+ghost use Rattle.cm_tables.specs.Look.{has_text, look};
+ghost use Rattle.cm_blocks.specs.Fault.{has_table};
+ghost use Rattle.cm_blocks.specs.Grammar.{hook_count, hook_limit};
+ghost use Rattle.cm_blocks.specs.Keyword.{has_colon};
+ghost use Rattle.cm_blocks.specs.Setting.{setting};
+ghost use Rattle.cm_blocks.specs.Trial.{trial};
+ghost use Rattle.cm_blocks.specs.Well.{IsWellBlock};
+ghost use Rattle.cm_recognise.specs.Outcome.{IsShort, entry_outcome, guide, hook_outcome, keyword_outcome, missing, outcome, phrase_outcome, plain_outcome, switch_outcome};
+
+use crate::Bytes;
+use arrayvec::ArrayVec;
+use cm_blocks::{Block, Function, Grammar, try_function};
+use cm_fields::Try;
+use cm_files::Names;
+use cm_hooks::{Hooks, Rules, Tail};
+use cm_tables::{Look, Table};
+use cm_text::{LINE_LIMIT, TEXT_LIMIT, Name, begins_with};
+
+// The most bytes with which a field goes on: a guide word of 39 bytes in parentheses.
+const TAIL_LIMIT: usize = 41;
+
+/// How a field goes on of which the beginning is typed (COMND's recognition).
+#[derive(Debug, Drop)]
+pub enum Outcome {
+    /// In no way, or in several that share nothing.
+    Nothing,
+    /// With these bytes, and then in several ways or none.
+    Part(Bytes),
+    /// With these bytes, behind which it goes on by typing, as the value of a switch.
+    Piece(Bytes),
+    /// With these bytes, and then it is whole.
+    Whole {
+        /// What is missing of the field.
+        bytes: Bytes,
+        /// The node that follows it.
+        next: u16,
+    },
+}
+
+// What is missing behind an atom of a text that begins with it.
+fn missing(text: &[u8], atom: &[u8]) -> Bytes
+    requires { length text.now ≤ TAIL_LIMIT }
+    ensures value { result ≡ missing text.now atom.now }
+    ensures short { length result ≤ length text.now }
+{
+    let mut bytes = Bytes::new();
+    if atom.len() < text.len() {
+        bytes.append(&text[atom.len()..]);
+    }
+    bytes
+}
+
+// A guide word as it is typed.
+pub(crate) fn guide(text: &Name) -> Bytes
+    ensures value { result ≡ guide text.now }
+    ensures short { length result ≤ TAIL_LIMIT }
+{
+    let mut bytes = Bytes::new();
+    bytes.append(b"(");
+    bytes.append(text.as_bytes());
+    bytes.append(b")");
+    bytes
+}
+
+// The rest of the entry at a position, and behind a switch that a value follows its colon.
+fn entry_outcome(switch: bool, table: &Table, atom: &[u8], position: u16) -> Outcome
+    requires { position < length table.now }
+    ensures value { result
+        ≡ entry_outcome (switch && has_colon table.now position) table.now atom.now position }
+    ensures short { IsShort TAIL_LIMIT result }
+{
+    let entry = table.entry(position);
+    let mut bytes = missing(entry.text.as_bytes(), atom);
+    if switch && entry.colon {
+        bytes.append(b":");
+        return Outcome::Piece(bytes);
+    }
+    Outcome::Whole {
+        bytes,
+        next: entry.next,
+    }
+}
+
+// A copy of at most 41 bytes.
+fn copied(text: &[u8]) -> Bytes
+    requires { length text.now ≤ TAIL_LIMIT }
+    ensures value { result ≡ text.now }
+    ensures short { length result ≤ TAIL_LIMIT }
+{
+    let mut bytes = Bytes::new();
+    bytes.append(text);
+    bytes
+}
+
+// What several entries share, unless one of them has the atom for its text.
+fn shared_outcome(table: &Table, atom: &[u8]) -> Outcome
+    ensures value { result ≡ (if has_text table.now atom.now then Outcome.Nothing
+        else Outcome.Part (common table.now atom.now)) }
+    ensures short { IsShort TAIL_LIMIT result }
+{
+    if table.has_text(atom) {
+        return Outcome::Nothing;
+    }
+    Outcome::Part(copied(table.common(atom)))
+}
+
+// How a keyword goes on, or a switch behind its slash.
+fn keyword_outcome(switch: bool, table: &Table, atom: &[u8]) -> Outcome
+    ensures value { result ≡ keyword_outcome switch table.now atom.now (look table.now atom.now) }
+    ensures short { IsShort TAIL_LIMIT result }
+{
+    match table.look(atom) {
+        Look::None => Outcome::Nothing,
+        Look::Ambiguous => shared_outcome(table, atom),
+        Look::Abbrev(position) => entry_outcome(switch, table, atom, position),
+        Look::Exact(position) => entry_outcome(switch, table, atom, position),
+    }
+}
+
+// How a switch goes on.
+fn switch_outcome(table: &Table, atom: &[u8]) -> Outcome
+    ensures value { result ≡ switch_outcome table.now atom.now }
+    ensures short { IsShort TAIL_LIMIT result }
+{
+    match atom {
+        [b'/', atom @ ..] => keyword_outcome(true, table, atom),
+        _ => Outcome::Nothing,
+    }
+}
+
+// The rest of a fixed text that begins with the atom.
+fn phrase_outcome(text: &[u8], next: u16, atom: &[u8]) -> Outcome
+    requires { length text.now ≤ TAIL_LIMIT }
+    ensures value { result ≡ phrase_outcome text.now next atom.now }
+    ensures short { IsShort TAIL_LIMIT result }
+{
+    if !begins_with(text, atom) {
+        return Outcome::Nothing;
+    }
+    Outcome::Whole {
+        bytes: missing(text, atom),
+        next,
+    }
+}
+
+// Nothing is missing where the function of the block takes what is typed, once a space follows.
+fn plain_outcome<N: Names, R: Rules>(
+    grammar: &Grammar,
+    block: &Block,
+    line: &[u8],
+    at: usize,
+    names: &N,
+    hooks: &Hooks<R>,
+) -> Outcome
+    requires table { has_table grammar.now.tables block.now.function ≡ true }
+    requires ties { Ties R.meanings hooks.now }
+    requires hook { hook_limit block.now.function ≤ count hooks.now }
+    requires short { length line.now < LINE_LIMIT }
+    requires place { at ≤ length line.now }
+    ensures value { result ≡ plain_outcome block.now.next
+        (trial (setting grammar.now (N.catalogue names.now) R.meanings) block.now.function
+        (drop at line.now ++ 32 ∷ []) at) }
+    ensures short { IsShort TAIL_LIMIT result }
+{
+    let mut text: ArrayVec<u8, TEXT_LIMIT> = ArrayVec::new();
+    let _ = text.try_extend_from_slice(line);
+    text.push(b' ');
+    match try_function(grammar, &block.function, text.as_slice(), at, names, hooks) {
+        Try::Accept { .. } => Outcome::Whole {
+            bytes: Bytes::new(),
+            next: block.next,
+        },
+        Try::Refuse { .. } => Outcome::Nothing,
+        Try::More => Outcome::Nothing,
+    }
+}
+
+/// How the field of a block goes on of which the rest of the line from a place on is typed.
+#[tactic(auto, unfolding(crate::specs::Outcome::outcome))]
+pub fn outcome_of<N: Names, R: Rules>(
+    grammar: &Grammar,
+    block: &Block,
+    line: &[u8],
+    at: usize,
+    names: &N,
+    hooks: &Hooks<R>,
+) -> Outcome
+    requires well { IsWellBlock grammar.now block.now }
+    requires ties { Ties R.meanings hooks.now }
+    requires hooks { hook_count grammar.now ≤ count hooks.now }
+    requires short { length line.now < LINE_LIMIT }
+    requires place { at ≤ length line.now }
+    ensures value { result ≡ outcome (setting grammar.now (N.catalogue names.now) R.meanings) block.now
+        (drop at line.now) at }
+    ensures short { IsShort TAIL_LIMIT result }
+{
+    let atom = &line[at..];
+    match &block.function {
+        Function::Key(table) => keyword_outcome(false, grammar.table(*table), atom),
+        Function::Switch(table) => switch_outcome(grammar.table(*table), atom),
+        Function::Noise(text) => phrase_outcome(guide(text).as_slice(), block.next, atom),
+        Function::Token(text) => {
+            if atom.is_empty() {
+                return Outcome::Nothing;
+            }
+            phrase_outcome(text.as_bytes(), block.next, atom)
+        }
+        Function::Hook(id) => {
+            if atom.is_empty() {
+                return Outcome::Nothing;
+            }
+            match hooks.complete(*id, atom) {
+                Tail::None => plain_outcome(grammar, block, line, at, names, hooks),
+                Tail::Part(text) => Outcome::Part(copied(text.as_bytes())),
+                Tail::Whole(text) => Outcome::Whole {
+                    bytes: copied(text.as_bytes()),
+                    next: block.next,
+                },
+            }
+        }
+        Function::Number => plain_outcome(grammar, block, line, at, names, hooks),
+        Function::Word => plain_outcome(grammar, block, line, at, names, hooks),
+        Function::Quoted => plain_outcome(grammar, block, line, at, names, hooks),
+        Function::Text => plain_outcome(grammar, block, line, at, names, hooks),
+        Function::Comma => plain_outcome(grammar, block, line, at, names, hooks),
+        Function::Confirm => plain_outcome(grammar, block, line, at, names, hooks),
+    }
+}

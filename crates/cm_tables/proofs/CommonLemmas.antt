@@ -1,0 +1,15 @@
+-- The walk of a table that finds how the entries go on alike.
+use Rattle.std.proofs.Common.{◌≡◌, ℕ, List, length, drop, map, Option, Some, None}
+use Rattle.std.specs.List.{fold, reduce}
+use Rattle.cm_tables.specs.Common.{shared}
+use Rattle.cm_tables.specs.declared.entry.Entry.{Entry}
+use Rattle.cm_tables.proofs.SearchLemmas.{candidates_from}
+
+-- what stands behind the atom in each entry from a position on that it may abbreviate
+abbrev pub rests_from : ℕ → List Entry → List ℕ → List (List ℕ)
+rests_from position table atom = map (λ (e : ℕ × Entry). drop (length atom) e.1.text) (candidates_from position table atom)
+
+-- what a walk gives that has found what all so far share, and comes to these
+abbrev pub sharing : Option (List ℕ) → List (List ℕ) → Option (List ℕ)
+sharing None texts = reduce shared texts
+sharing (Some text) texts = Some (fold shared text texts)

@@ -1,0 +1,12 @@
+use Rattle.std.proofs.Common.{◌≡◌, ◌≤◌, drop, length}
+use Rattle.std.specs.List.{reduce}
+use Rattle.std.specs.Option.{IfSome, option_copied}
+use Rattle.cm_text.specs.declared.name.TheConstants.{NAME_LIMIT}
+use Rattle.cm_tables.specs.Common.{rests, shared}
+use Rattle.cm_tables.proofs.CommonLemmas.{rests_from, sharing}
+use Rattle.cm_tables.proofs.common.common.Given as goal
+
+abbrev pub invariant-loop-entry : goal.invariant-loop-entry
+invariant-loop-entry l =
+    (sharing (option_copied l.found) (rests_from l.entry-index (drop l.entry-index l.entries) l.atom) ≡ reduce shared (rests l.entries l.atom))
+    × IfSome (option_copied l.found) (λ text. length text ≤ NAME_LIMIT)

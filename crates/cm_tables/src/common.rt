@@ -1,0 +1,64 @@
+// How the entries go on alike that an atom may abbreviate.
+ghost use Rattle.std.specs.Prelude.{◌≡◌, ◌≤◌, drop, length, nat_eq};
+ghost use Rattle.std.specs.List.{common_prefix_len};
+ghost use Rattle.std.specs.Option.{option_copied, option_map_or};
+ghost use Rattle.cm_tables.specs.Common.{common, shared};
+
+use crate::Entry;
+use crate::search::may_abbreviate;
+use cm_text::NAME_LIMIT;
+
+// How many bytes two texts begin with alike.
+fn same_bytes(text: &[u8], other: &[u8]) -> usize
+    ensures value { result ≡ common_prefix_len nat_eq text.now other.now }
+    ensures within_text { result ≤ length text.now }
+    ensures within_other { result ≤ length other.now }
+{
+    text.iter()
+        .zip(other)
+        .take_while(|(byte, other)| byte == other)
+        .count()
+}
+
+// The longest text that both begin with.
+fn shared<'a>(text: &'a [u8], other: &[u8]) -> &'a [u8]
+    ensures value { result.now ≡ shared text.now other.now }
+    ensures within { length result.now ≤ length other.now }
+{
+    &text[..same_bytes(text, other)]
+}
+
+// What stands behind an atom in an entry that is no shorter.
+fn rest<'a>(entry: &'a Entry, atom: &[u8]) -> &'a [u8]
+    requires { length atom.now ≤ length entry.now.text }
+    ensures value { result.now ≡ drop (length atom.now) entry.now.text }
+    ensures within { length result.now ≤ NAME_LIMIT }
+{
+    &entry.text.as_bytes()[atom.len()..]
+}
+
+// What a text shares with those that were found before it.
+fn shared_with<'a>(found: Option<&'a [u8]>, text: &'a [u8]) -> &'a [u8]
+    ensures value { result.now ≡ option_map_or (λ before. shared before text.now) (option_copied found.entry) text.now }
+    ensures within { length result.now ≤ length text.now }
+{
+    match found {
+        Some(before) => shared(before, text),
+        None => text,
+    }
+}
+
+// The longest text with which all entries go on that the atom may abbreviate.
+#[tactic(auto, unfolding(crate::specs::Common::common))]
+pub(crate) fn common<'a>(entries: &'a [Entry], atom: &[u8]) -> &'a [u8]
+    ensures value { result.now ≡ common entries.now atom.now }
+    ensures within { length result.now ≤ NAME_LIMIT }
+{
+    let mut found = None;
+    for entry in entries {
+        if may_abbreviate(atom, entry) {
+            found = Some(shared_with(found, rest(entry, atom)));
+        }
+    }
+    found.unwrap_or(&[])
+}

@@ -1,0 +1,29 @@
+//! Laws of recognition.
+ghost use Rattle.std.specs.Prelude.{◌≡◌, ◌≢◌, ℕ, List, [], ◌++◌, None, Some, drop, length, slice_get, true};
+ghost use Rattle.std.specs.Io.{StartsWith};
+ghost use Rattle.cm_text.specs.Case.{begins_with};
+ghost use Rattle.cm_tables.specs.Common.{AllBeginWith, common, rests};
+ghost use Rattle.cm_tables.specs.Look.{candidates, found_at, look};
+ghost use Rattle.cm_tables.specs.Order.{table_fault};
+ghost use Rattle.cm_tables.specs.declared.entry.Entry.{Entry};
+ghost use Rattle.cm_tables.specs.declared.table.Look.TheVariants as looks;
+
+/// Behind an atom all entries that it may abbreviate go on with their common text, and with no longer one. With
+/// no such entry that text is empty.
+pub fn the_common_text_is_the_longest()
+    ensures shared { (table : List Entry) → (atom : List ℕ) → AllBeginWith (rests table atom) (common table atom) }
+    ensures longest { (table : List Entry) → (atom : List ℕ) → (front : List ℕ) → candidates table atom ≢ []
+        → AllBeginWith (rests table atom) front → StartsWith (common table atom) front }
+    ensures none { (table : List Entry) → (atom : List ℕ) → candidates table atom ≡ [] → common table atom ≡ [] }
+{}
+
+/// An atom that is found is a beginning of an entry that may be abbreviated, with no regard to the case of letters.
+/// With what is missing of that entry's text it is found as that entry itself, and exactly.
+pub fn a_completed_atom_is_its_entry()
+    ensures begins { (table : List Entry) → (atom : List ℕ) → (place : ℕ) → (entry : Entry) → table_fault table ≡ None
+        → found_at (look table atom) ≡ Some place → slice_get table place ≡ Some entry
+        → begins_with entry.text atom ≡ true }
+    ensures exact { (table : List Entry) → (atom : List ℕ) → (place : ℕ) → (entry : Entry) → table_fault table ≡ None
+        → found_at (look table atom) ≡ Some place → slice_get table place ≡ Some entry
+        → look table (atom ++ drop (length atom) entry.text) ≡ looks.Exact place }
+{}
