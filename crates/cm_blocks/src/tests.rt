@@ -11,6 +11,7 @@ use cm_tables::{Entry, Flag};
 use cm_text::{NAME_LIMIT, Name};
 
 mod chains;
+mod costs;
 mod faults;
 mod keywords;
 mod setting;

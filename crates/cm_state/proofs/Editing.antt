@@ -5,32 +5,52 @@ use Rattle.cm_text.specs.Text.{finished}
 use Rattle.cm_line.specs.declared.key.KeyClass.{KeyClass}
 use Rattle.cm_line.specs.declared.key.KeyClass.TheVariants.{End}
 use Rattle.cm_line.specs.Keys.{class_of}
+use Rattle.cm_blocks.specs.declared.field.Ending.{Ending}
 use Rattle.cm_blocks.specs.Fault.{grammar_fault}
 use Rattle.cm_blocks.specs.Kept.{BeginsWith, common, cost, cost_behind, kept, needing}
-use Rattle.cm_blocks.specs.Parse.{IsClosed, IsParse, Parse, parse_of}
+use Rattle.cm_blocks.specs.Parse.{IsClosed, IsParse, Parse, open_at, parse_of}
 use Rattle.cm_blocks.specs.Setting.{Setting}
 use Rattle.cm_blocks.proofs.Closing.{finished_closes}
 use Rattle.cm_blocks.proofs.Parsing.{parse_of_parses}
 use Rattle.cm_blocks.proofs.Standing.{kept_begins}
-use Rattle.cm_state.specs.Edit.{before_fault, edit, edited, is_end}
+use Rattle.cm_state.specs.Edit.{before_fault, completed, completion, edit, edited, is_end}
 use Rattle.cm_state.specs.Held.{Held, IsReady, at_start, met_line, parse_held, text_of}
 use Rattle.cm_state.specs.Stack.{Starts}
 use Rattle.cm_state.specs.declared.prompt.Prompt.{Prompt}
-use Rattle.cm_state.proofs.Starting.{kept_starts, met_fields, none_costs, none_starts}
+use Rattle.cm_state.proofs.Starting.{kept_starts, met_ending, met_fields, none_costs, none_starts}
+
+-- a key behind a finished text meets an empty line
+abbrev pub Renews : Held → Held → Type 0
+Renews old renewed =
+    renewed ≡ record old {
+      line = met_line old;
+      is_finished = false;
+      fields = if old.is_finished then [] else old.fields;
+      ending = if old.is_finished then open_at old.node 0 else old.ending;
+    }
+
+-- the line is edited, with what a key puts in that completes it
+abbrev pub Types : Setting → Held → Held → KeyClass → ℕ → Type 0
+Types s renewed typed class key =
+    typed ≡ record renewed {
+      line = edit class key renewed.line renewed.kept (completion s class renewed.ending renewed.line).bytes;
+      is_finished = is_end class;
+      kept = None;
+    }
 
 -- the edited line with its parse is what the key leaves
 edited_with_parse : (s : Setting) (old now : Held) (key : ℕ)
     → now ≡ record old {
-      line = edit (class_of key) key (met_line old) old.kept;
+      line = edit (class_of key) key (met_line old) old.kept (completed s old (class_of key)).bytes;
       is_finished = is_end (class_of key);
       fields = now.fields;
       ending = now.ending;
-      kept = if is_end (class_of key) then before_fault (edit (class_of key) key (met_line old) old.kept) now.ending else None;
+      kept = if is_end (class_of key) then before_fault (edit (class_of key) key (met_line old) old.kept (completed s old (class_of key)).bytes) now.ending else None;
     }
     → parse_held now ≡ parse_of s now.node (text_of now) → now ≡ edited s old key
 unfolding edited
 edited_with_parse s old now key same parse =
-    let line = edit (class_of key) key (met_line old) old.kept in
+    let line = edit (class_of key) key (met_line old) old.kept (completed s old (class_of key)).bytes in
     let node : now.node ≡ old.node = ap (λ (h : Held). h.node) same in
     let text : text_of now ≡ (if is_end (class_of key) then finished line else line) = ap text_of same in
     let whole : parse_held now ≡ parse_of s old.node (if is_end (class_of key) then finished line else line) = cc in
@@ -65,8 +85,8 @@ pub record Trims (s : Setting) (old trimmed : Held) : Type 0 where
 
 pub trims : (s : Setting) (old renewed typed trimmed : Held) (class : KeyClass) (key size : ℕ) → grammar_fault s.graph ≡ None
     → IsReady s old
-    → renewed ≡ record old { line = met_line old; is_finished = false; fields = if old.is_finished then [] else old.fields }
-    → typed ≡ record renewed { line = edit class key renewed.line renewed.kept; is_finished = is_end class; kept = None }
+    → Renews old renewed
+    → Types s renewed typed class key
     → size ≡ common renewed.line (text_of typed)
     → trimmed ≡ record typed { fields = needing size typed.fields } → Trims s old trimmed
 unfolding kept
@@ -86,15 +106,26 @@ pub trimmed_starts : (s : Setting) (old trimmed : Held) → grammar_fault s.grap
 trimmed_starts s old trimmed none ready trim =
     rw (trim.fields, trim.node) (kept_starts s none old.node ready.node (met_line old) (text_of trimmed))
 
+-- what a key puts in is what completes the line that it meets
+pub met_completion : (s : Setting) (old renewed : Held) (class : KeyClass) → grammar_fault s.graph ≡ None → IsReady s old
+    → Renews old renewed → completion s class renewed.ending renewed.line ≡ completed s old class
+met_completion s old renewed class none ready renew =
+    let line : renewed.line ≡ met_line old = ap (λ (h : Held). h.line) renew in
+    let ends : renewed.ending ≡ (parse_of s old.node (met_line old)).ending =
+    ap (λ (h : Held). h.ending) renew ∙ met_ending s old none ready in
+    ap (λ (ends : Ending). completion s class ends renewed.line) ends
+    ∙ ap (λ (line : List ℕ). completion s class (parse_of s old.node (met_line old)).ending line) line
+
 -- the line with its parse, over the steps: the line is renewed, edited, and its parse held
 edited_is : (s : Setting) (old renewed typed trimmed now : Held) (class : KeyClass) (key size : ℕ) → class ≡ class_of key
-    → renewed ≡ record old { line = met_line old; is_finished = false; fields = if old.is_finished then [] else old.fields }
-    → typed ≡ record renewed { line = edit class key renewed.line renewed.kept; is_finished = is_end class; kept = None }
+    → completion s class renewed.ending renewed.line ≡ completed s old class
+    → Renews old renewed
+    → Types s renewed typed class key
     → trimmed ≡ record typed { fields = needing size typed.fields }
     → now.kept ≡ (if trimmed.is_finished then before_fault trimmed.line now.ending else None)
     → now ≡ record trimmed { fields = now.fields; ending = now.ending; kept = now.kept }
     → parse_held now ≡ parse_of s now.node (text_of now) → now ≡ edited s old key
-edited_is s old renewed typed trimmed now class key size is renew type keep kept hold parse =
+edited_is s old renewed typed trimmed now class key size is met renew type keep kept hold parse =
     edited_with_parse s old now key (cc) parse
 
 -- what the key leaves, and what it costs
@@ -106,8 +137,8 @@ pub record Takes (s : Setting) (old now : Held) (key spent : ℕ) : Type 0 where
 
 pub takes : (s : Setting) (old renewed typed trimmed now : Held) (class : KeyClass) (key size spent : ℕ)
     → grammar_fault s.graph ≡ None → IsReady s old → class ≡ class_of key
-    → renewed ≡ record old { line = met_line old; is_finished = false; fields = if old.is_finished then [] else old.fields }
-    → typed ≡ record renewed { line = edit class key renewed.line renewed.kept; is_finished = is_end class; kept = None }
+    → Renews old renewed
+    → Types s renewed typed class key
     → trimmed ≡ record typed { fields = needing size typed.fields }
     → Trims s old trimmed
     → now.kept ≡ (if trimmed.is_finished then before_fault trimmed.line now.ending else None)
@@ -124,7 +155,9 @@ takes s old renewed typed trimmed now class key size spent none ready is renew t
     let fields : now.fields ≡ (parse_of s old.node (text_of now)).fields =
     ap (λ (parse : Parse). parse.fields) (parse ∙ ap (λ (node : ℕ). parse_of s node (text_of now)) start) in
     record {
-      edited = edited_is s old renewed typed trimmed now class key size is renew type keep rest hold parse;
+      edited =
+          edited_is s old renewed typed trimmed now class key size is (met_completion s old renewed class none ready renew)
+          renew type keep rest hold parse;
       stands = stands s now (rw start ready.node) parse;
       keeps =
           subst (BeginsWith (kept s old.node (met_line old) (text_of now))) (sym fields)

@@ -17,7 +17,7 @@ same_byte : (byte : ℕ) → (byte == byte) ≡ true
 same_byte byte = grind (arith, nat_tests)
 
 -- a line and what is longer than it begin alike with the whole line
-common_longer : (line more : List ℕ) → common line (line ++ more) ≡ length line
+pub common_longer : (line more : List ℕ) → common line (line ++ more) ≡ length line
 common_longer [] more = refl
 common_longer (byte ∷ line) more = rw (same_byte byte) (let later = common_longer line more in omega (arith, later))
 
@@ -33,9 +33,9 @@ common_prefix (suc size) [] = refl
 common_prefix (suc size) (byte ∷ line) = rw (same_byte byte) (let later = common_prefix size line in omega (arith, later))
 
 -- the front that stays: what a key leaves of the line
-abbrev Stays : KeyClass → ℕ → List ℕ → Option (List ℕ) → Type 0
-Stays class key line kept =
-    let now : List ℕ = edit class key line kept in
+abbrev Stays : KeyClass → ℕ → List ℕ → Option (List ℕ) → List ℕ → Type 0
+Stays class key line kept inserted =
+    let now : List ℕ = edit class key line kept inserted in
     min (front class line kept) (length now) ≡ common line (if is_end class then finished now else now)
 
 prefix_stays : (size : ℕ) (line : List ℕ) → min (length line) (length (take size line)) ≡ common line (take size line)
@@ -55,18 +55,22 @@ none_stays : (line : List ℕ) → min (length line) 0 ≡ common line []
 none_stays [] = refl
 none_stays (byte ∷ line) = omega arith
 
-pub front_stays : (class : KeyClass) (key : ℕ) (line : List ℕ) (kept : Option (List ℕ)) → Stays class key line kept
-front_stays Text key line kept = text_stays (nat_lt (length line) LINE_LIMIT) key line
-front_stays End key line kept = omega (arith, common_longer line (13 ∷ []))
-front_stays Rub key line kept = prefix_stays (length line - 1) line
-front_stays Word key line kept = prefix_stays (word_start line) line
-front_stays Erase key line kept = none_stays line
-front_stays Stop key line kept = none_stays line
-front_stays Back key line None = line_stays line
-front_stays Back key line (Some bytes) =
+pub longer_stays : (line more : List ℕ) → min (length line) (length (line ++ more)) ≡ common line (line ++ more)
+longer_stays line more = omega (arith, common_longer line more, length-append line more)
+
+pub front_stays : (class : KeyClass) (key : ℕ) (line : List ℕ) (kept : Option (List ℕ)) (inserted : List ℕ)
+    → Stays class key line kept inserted
+front_stays Text key line kept inserted = text_stays (nat_lt (length line) LINE_LIMIT) key line
+front_stays End key line kept inserted = omega (arith, common_longer line (13 ∷ []))
+front_stays Rub key line kept inserted = prefix_stays (length line - 1) line
+front_stays Word key line kept inserted = prefix_stays (word_start line) line
+front_stays Erase key line kept inserted = none_stays line
+front_stays Stop key line kept inserted = none_stays line
+front_stays Back key line None inserted = line_stays line
+front_stays Back key line (Some bytes) inserted =
     let most = common_prefix_len-le (λ byte other. byte == other) line bytes in omega (arith, most.1)
-front_stays Show key line kept = line_stays line
-front_stays Escape key line kept = line_stays line
-front_stays Part key line kept = line_stays line
-front_stays Help key line kept = line_stays line
-front_stays Other key line kept = line_stays line
+front_stays Show key line kept inserted = line_stays line
+front_stays Escape key line kept inserted = longer_stays line inserted
+front_stays Part key line kept inserted = longer_stays line inserted
+front_stays Help key line kept inserted = line_stays line
+front_stays Other key line kept inserted = line_stays line

@@ -14,7 +14,7 @@ use Rattle.cm_state.specs.Edit.{edit}
 use Rattle.cm_state.specs.Held.{Held, met_line}
 
 -- text bytes alone
-abbrev ArePlain : List ℕ → Type 0
+abbrev pub ArePlain : List ℕ → Type 0
 ArePlain bytes = AllByRecursion (λ byte. is_text byte ≡ true) bytes
 
 prefix_is_plain : (size : ℕ) (bytes : List ℕ) → ArePlain bytes → ArePlain (take size bytes)
@@ -25,6 +25,11 @@ prefix_is_plain (suc size) (byte ∷ bytes) plain = (plain.0, prefix_is_plain si
 longer_is_plain : (bytes : List ℕ) (byte : ℕ) → ArePlain bytes → is_text byte ≡ true → ArePlain (bytes ++ byte ∷ [])
 longer_is_plain [] byte plain text = (text, tt)
 longer_is_plain (first ∷ bytes) byte plain text = (plain.0, longer_is_plain bytes byte plain.1 text)
+
+-- what stands behind a part of a plain text is plain
+pub rest_is_plain : (bytes more : List ℕ) → ArePlain (bytes ++ more) → ArePlain more
+rest_is_plain [] more plain = plain
+rest_is_plain (byte ∷ bytes) more plain = rest_is_plain bytes more plain.1
 
 prefix_is_line : (size : ℕ) (line : List ℕ) → IsLine line → IsLine (take size line)
 prefix_is_line size line is =
@@ -81,21 +86,23 @@ text_key_is_text key e = by (is_text key) e
     by true e = refl
     by false e = absurd (rest_is_other e)
 
-edit_by_class : (class : KeyClass) (key : ℕ) (line : List ℕ) (kept : Option (List ℕ))
-    → (class ≡ Text → is_text key ≡ true) → IsLine line → IfSome kept IsLine → IsLine (edit class key line kept)
-edit_by_class Text key line kept text is kept_is = pushed_is_line line key (nat_lt (length line) LINE_LIMIT) refl (text refl) is
-edit_by_class Rub key line kept text is kept_is = prefix_is_line (length line - 1) line is
-edit_by_class Word key line kept text is kept_is = prefix_is_line (word_start line) line is
-edit_by_class Erase key line kept text is kept_is = record { short = omega arith; plain = tt }
-edit_by_class Stop key line kept text is kept_is = record { short = omega arith; plain = tt }
-edit_by_class Back key line kept text is kept_is = kept_is_line line kept is kept_is
-edit_by_class End key line kept text is kept_is = is
-edit_by_class Show key line kept text is kept_is = is
-edit_by_class Escape key line kept text is kept_is = is
-edit_by_class Part key line kept text is kept_is = is
-edit_by_class Help key line kept text is kept_is = is
-edit_by_class Other key line kept text is kept_is = is
+edit_by_class : (class : KeyClass) (key : ℕ) (line : List ℕ) (kept : Option (List ℕ)) (inserted : List ℕ)
+    → (class ≡ Text → is_text key ≡ true) → IsLine line → IfSome kept IsLine → IsLine (line ++ inserted)
+    → IsLine (edit class key line kept inserted)
+edit_by_class Text key line kept inserted text is kept_is longer_is = pushed_is_line line key (nat_lt (length line) LINE_LIMIT) refl (text refl) is
+edit_by_class Rub key line kept inserted text is kept_is longer_is = prefix_is_line (length line - 1) line is
+edit_by_class Word key line kept inserted text is kept_is longer_is = prefix_is_line (word_start line) line is
+edit_by_class Erase key line kept inserted text is kept_is longer_is = record { short = omega arith; plain = tt }
+edit_by_class Stop key line kept inserted text is kept_is longer_is = record { short = omega arith; plain = tt }
+edit_by_class Back key line kept inserted text is kept_is longer_is = kept_is_line line kept is kept_is
+edit_by_class End key line kept inserted text is kept_is longer_is = is
+edit_by_class Show key line kept inserted text is kept_is longer_is = is
+edit_by_class Escape key line kept inserted text is kept_is longer_is = longer_is
+edit_by_class Part key line kept inserted text is kept_is longer_is = longer_is
+edit_by_class Help key line kept inserted text is kept_is longer_is = is
+edit_by_class Other key line kept inserted text is kept_is longer_is = is
 
-pub edit_is_line : (held : Held) (key : ℕ) → IsLine (met_line held) → IfSome held.kept IsLine
-    → IsLine (edit (class_of key) key (met_line held) held.kept)
-edit_is_line held key is kept = edit_by_class (class_of key) key (met_line held) held.kept (text_key_is_text key) is kept
+pub edit_is_line : (held : Held) (key : ℕ) (inserted : List ℕ) → IsLine (met_line held) → IfSome held.kept IsLine
+    → IsLine (met_line held ++ inserted) → IsLine (edit (class_of key) key (met_line held) held.kept inserted)
+edit_is_line held key inserted is kept longer =
+    edit_by_class (class_of key) key (met_line held) held.kept inserted (text_key_is_text key) is kept longer

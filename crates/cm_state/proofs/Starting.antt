@@ -57,6 +57,17 @@ met_fields s held none ready = by held.is_finished refl
     by true is = ap (λ (parse : Parse). parse.fields) (sym (start_is_open s none held.node ready.node))
     by false is = ap (λ (parse : Parse). parse.fields) (ready.parse is)
 
+-- and so is the ending
+pub met_ending : (s : Setting) (held : Held) → grammar_fault s.graph ≡ None → IsReady s held
+    → (if held.is_finished then open_at held.node 0 else held.ending) ≡ (parse_of s held.node (met_line held)).ending
+met_ending s held none ready = by held.is_finished refl
+  where
+    by : (finished : Bool) → held.is_finished ≡ finished
+        → (if finished then open_at held.node 0 else held.ending)
+        ≡ (parse_of s held.node (if finished then [] else held.line)).ending
+    by true is = ap (λ (parse : Parse). parse.ending) (sym (start_is_open s none held.node ready.node))
+    by false is = ap (λ (parse : Parse). parse.ending) (ready.parse is)
+
 -- the parse of a text begins with what is kept of another
 pub kept_starts : (s : Setting) → grammar_fault s.graph ≡ None → (node : ℕ) → node < length s.graph.nodes → (old new : List ℕ)
     → Starts s node new (kept s node old new)

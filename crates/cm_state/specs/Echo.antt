@@ -1,10 +1,10 @@
 -- The bytes that one key shows.
-use Rattle.std.specs.Prelude.{ℕ, ◌-◌, ◌==◌, Bool, List, [], ◌∷◌, ◌++◌, length, map, nat_lt, is_some, codes, if◌then◌else◌}
+use Rattle.std.specs.Prelude.{ℕ, ◌-◌, ◌==◌, Bool, true, false, List, [], ◌∷◌, ◌++◌, length, drop, map, nat_lt, is_some, codes, if◌then◌else◌}
 use Rattle.cm_text.specs.declared.text.TheConstants.{LINE_LIMIT}
 use Rattle.cm_text.specs.Shown.{bell, control_c, end_of_line, question, rubout}
 use Rattle.cm_io.specs.Pieces.{times}
 use Rattle.cm_line.specs.declared.key.KeyClass.{KeyClass}
-use Rattle.cm_line.specs.declared.key.KeyClass.TheVariants.{Text, End, Rub, Word, Erase, Show, Back, Stop}
+use Rattle.cm_line.specs.declared.key.KeyClass.TheVariants.{Text, End, Rub, Word, Erase, Show, Back, Stop, Escape, Part}
 use Rattle.cm_line.specs.Keys.{class_of}
 use Rattle.cm_fields.specs.declared.code.Code.{Code}
 use Rattle.cm_fields.specs.Code.{code_text}
@@ -14,7 +14,7 @@ use Rattle.cm_blocks.specs.Setting.{Setting}
 use Rattle.cm_state.specs.declared.prompt.Prompt.{Prompt}
 use Rattle.cm_state.specs.declared.prompt.Prompt.TheVariants.{Main, Sub}
 use Rattle.cm_state.specs.Held.{Held, met_line}
-use Rattle.cm_state.specs.Edit.{edited}
+use Rattle.cm_state.specs.Edit.{completed, edited}
 
 -- a TAB is shown as one space
 abbrev pub screen_byte : ℕ → ℕ
@@ -41,19 +41,28 @@ complaint (ending.Fault fault) = refusal fault.code
 abbrev pub taken_away : ℕ → ℕ → List ℕ
 taken_away before now = if before == 0 then bell else times (before - now) rubout
 
--- the echo of a key on a line of this size, with or without kept bytes, that left the session so
-abbrev pub echo_of : KeyClass → ℕ → ℕ → Bool → Held → List ℕ
-echo_of Text key size kept now = if nat_lt size LINE_LIMIT then screen_byte key ∷ [] else bell
-echo_of Rub key size kept now = taken_away size (length now.line)
-echo_of Word key size kept now = taken_away size (length now.line)
-echo_of Erase key size kept now = taken_away size (length now.line)
-echo_of Show key size kept now = end_of_line ++ prompt_text now.prompt ++ screen_line now.line
-echo_of Back key size kept now = if kept then screen_line now.line else bell
-echo_of Stop key size kept now = control_c ++ end_of_line
-echo_of End key size kept now = end_of_line ++ complaint now.ending
-echo_of class key size kept now = bell
+-- a bell, or nothing
+unfoldable pub ring : Bool → List ℕ
+ring true = bell
+ring false = []
+
+-- the echo of a key on a line of this size, with or without kept bytes, that left the session so; a key that completes
+-- shows the bytes that came to the line, and rings or not
+abbrev pub echo_of : KeyClass → ℕ → ℕ → Bool → Bool → Held → List ℕ
+echo_of Text key size kept rings now = if nat_lt size LINE_LIMIT then screen_byte key ∷ [] else bell
+echo_of Rub key size kept rings now = taken_away size (length now.line)
+echo_of Word key size kept rings now = taken_away size (length now.line)
+echo_of Erase key size kept rings now = taken_away size (length now.line)
+echo_of Show key size kept rings now = end_of_line ++ prompt_text now.prompt ++ screen_line now.line
+echo_of Back key size kept rings now = if kept then screen_line now.line else bell
+echo_of Stop key size kept rings now = control_c ++ end_of_line
+echo_of Escape key size kept rings now = drop size now.line ++ ring rings
+echo_of Part key size kept rings now = drop size now.line ++ ring rings
+echo_of End key size kept rings now = end_of_line ++ complaint now.ending
+echo_of class key size kept rings now = bell
 
 -- the bytes that a key shows
 unfoldable pub echo : Setting → Held → ℕ → List ℕ
 echo s held key =
-    echo_of (class_of key) key (length (met_line held)) (is_some held.kept) (edited s held key)
+    let class = class_of key in
+    echo_of class key (length (met_line held)) (is_some held.kept) (completed s held class).bell (edited s held key)

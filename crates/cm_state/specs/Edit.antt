@@ -10,22 +10,31 @@ use Rattle.cm_blocks.specs.declared.field.Ending.{Ending}
 use Rattle.cm_blocks.specs.declared.field.Ending.TheVariants as ending
 use Rattle.cm_blocks.specs.Parse.{parse_of}
 use Rattle.cm_blocks.specs.Setting.{Setting}
+use Rattle.cm_recognise.specs.declared.insertion.Insertion.{Insertion}
+use Rattle.cm_recognise.specs.declared.insertion.Mode.TheVariants as modes
+use Rattle.cm_recognise.specs.Insertion.{insertion}
 use Rattle.cm_state.specs.Held.{Held, met_line}
 
--- the line after a key, CR left out
-abbrev pub edit : KeyClass → ℕ → List ℕ → Option (List ℕ) → List ℕ
-edit Text key line kept = if nat_lt (length line) LINE_LIMIT then line ++ key ∷ [] else line
-edit Rub key line kept = take (length line - 1) line
-edit Word key line kept = take (word_start line) line
-edit Erase key line kept = []
-edit Stop key line kept = []
-edit Back key line kept = unwrap_or kept line
-edit End key line kept = line
-edit Show key line kept = line
-edit Escape key line kept = line
-edit Part key line kept = line
-edit Help key line kept = line
-edit Other key line kept = line
+-- what a key of this class puts into a line whose parse ends so: ESC and control-F complete it
+abbrev pub completion : Setting → KeyClass → Ending → List ℕ → Insertion
+completion s Escape ends line = insertion s ends line modes.Escape
+completion s Part ends line = insertion s ends line modes.Part
+completion s class ends line = record { bytes = []; bell = false }
+
+-- the line after a key, CR left out, where a key that completes puts these bytes in
+abbrev pub edit : KeyClass → ℕ → List ℕ → Option (List ℕ) → List ℕ → List ℕ
+edit Text key line kept inserted = if nat_lt (length line) LINE_LIMIT then line ++ key ∷ [] else line
+edit Rub key line kept inserted = take (length line - 1) line
+edit Word key line kept inserted = take (word_start line) line
+edit Erase key line kept inserted = []
+edit Stop key line kept inserted = []
+edit Back key line kept inserted = unwrap_or kept line
+edit Escape key line kept inserted = line ++ inserted
+edit Part key line kept inserted = line ++ inserted
+edit End key line kept inserted = line
+edit Show key line kept inserted = line
+edit Help key line kept inserted = line
+edit Other key line kept inserted = line
 
 -- the key finishes the line
 abbrev pub is_end : KeyClass → Bool
@@ -38,11 +47,15 @@ before_fault line (ending.Open place) = None
 before_fault line ending.Done = None
 before_fault line (ending.Fault fault) = Some (take fault.at line)
 
+-- what a key puts into the line that it meets
+abbrev pub completed : Setting → Held → KeyClass → Insertion
+completed s held class = completion s class (parse_of s held.node (met_line held)).ending (met_line held)
+
 -- the session after a key: the line, finished where the key is an end, and the parse of that text
 unfoldable pub edited : Setting → Held → ℕ → Held
 edited s held key =
     let class = class_of key in
-    let line = edit class key (met_line held) held.kept in
+    let line = edit class key (met_line held) held.kept (completed s held class).bytes in
     let parse = parse_of s held.node (if is_end class then finished line else line) in
     record held {
       line = line;

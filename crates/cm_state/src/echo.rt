@@ -5,7 +5,7 @@ ghost use Rattle.std.specs.Prelude.{◌≡◌, ◌≤◌, ◌++◌, length};
 ghost use Rattle.cm_io.specs.Told.{Adds};
 ghost use Rattle.cm_io.specs.Fault.{PutCause};
 ghost use Rattle.cm_text.specs.Shown.{end_of_line};
-ghost use Rattle.cm_state.specs.Echo.{complaint, refusal, prompt_text, screen_byte, screen_line, taken_away};
+ghost use Rattle.cm_state.specs.Echo.{complaint, refusal, prompt_text, ring, screen_byte, screen_line, taken_away};
 
 use crate::Prompt;
 use arrayvec::ArrayVec;
@@ -71,6 +71,28 @@ pub(crate) fn put_taken<S: Sink>(before: usize, now: usize, sink: &mut S) -> Put
         return sink.put(bell());
     }
     put_times(before.saturating_sub(now) as u32, rubout(), sink)
+}
+
+// A bell, or nothing.
+#[tactic(auto, using(cm_io::proofs::Adding::add_none), unfolding(crate::specs::Echo::ring))]
+fn put_ring<S: Sink>(rings: bool, sink: &mut S) -> Put
+    ensures bytes { Adds (S.told sink.old) (S.told sink.new) (ring rings) result }
+    ensures later { S.faults sink.old ≤ S.faults sink.new }
+    ensures cause { PutCause (S.faults sink.old) (S.faults sink.new) result }
+{
+    if rings { sink.put(bell()) } else { Put::Done }
+}
+
+// Shows what came to the line, and rings or not.
+pub(crate) fn put_inserted<S: Sink>(bytes: &[u8], rings: bool, sink: &mut S) -> Put
+    ensures bytes { Adds (S.told sink.old) (S.told sink.new) (bytes.now ++ ring rings) result }
+    ensures later { S.faults sink.old ≤ S.faults sink.new }
+    ensures cause { PutCause (S.faults sink.old) (S.faults sink.new) result }
+{
+    if let Put::Failed = sink.put(bytes) {
+        return Put::Failed;
+    }
+    put_ring(rings, sink)
 }
 
 // Ends the line on the screen, and shows what a refused line shows.

@@ -1,5 +1,5 @@
 //! Laws of sessions and of editing.
-ghost use Rattle.std.specs.Prelude.{◌≡◌, ◌<◌, ℕ, List, [], None, Option, IfSome, length};
+ghost use Rattle.std.specs.Prelude.{◌≡◌, ◌<◌, ℕ, List, [], ◌++◌, None, Option, IfSome, length};
 ghost use Rattle.cm_text.specs.Text.{IsLine};
 ghost use Rattle.cm_line.specs.Keys.{class_of};
 ghost use Rattle.cm_blocks.specs.Fault.{grammar_fault};
@@ -23,10 +23,11 @@ pub fn a_start_is_ready()
         → (prompt : Prompt) → (kept : Option (List ℕ)) → IsReady s (at_start node prompt kept) }
 {}
 
-/// What a key makes of a line is a line, where the bytes kept for control-H are one.
+/// What a key makes of a line is a line, where the bytes kept for control-H are one, and the line is one with what a
+/// key puts in that completes it.
 pub fn the_edit_is_a_line()
-    ensures { (held : Held) → (key : ℕ) → IsLine (met_line held) → IfSome held.kept IsLine
-        → IsLine (edit (class_of key) key (met_line held) held.kept) }
+    ensures { (held : Held) → (key : ℕ) → (inserted : List ℕ) → IsLine (met_line held) → IfSome held.kept IsLine
+        → IsLine (met_line held ++ inserted) → IsLine (edit (class_of key) key (met_line held) held.kept inserted) }
 {}
 
 /// The fields that are kept of an old text are the first fields of the new one.

@@ -11,16 +11,15 @@ ghost use Rattle.cm_blocks.specs.Grammar.{hook_count};
 ghost use Rattle.cm_blocks.specs.Kept.{BeginsWith, common, cost, cost_behind, kept, needing};
 ghost use Rattle.cm_blocks.specs.Parse.{IsClosed, IsParse, open_at, parse_of};
 ghost use Rattle.cm_blocks.specs.Setting.{Setting, setting};
-ghost use Rattle.cm_state.specs.Edit.{before_fault, edit, edited, is_end};
+ghost use Rattle.cm_state.specs.Edit.{before_fault, completed, edited};
 ghost use Rattle.cm_state.specs.Echo.{echo, echo_of, prompt_text};
-ghost use Rattle.cm_state.specs.Front.{front};
 ghost use Rattle.cm_state.specs.Held.{Held, IsReady, at_start, met_line, parse_held, text_of};
 ghost use Rattle.cm_state.specs.Log.{log_line};
 ghost use Rattle.cm_state.specs.Stack.{Starts};
 ghost use Rattle.cm_state.specs.Turn.{put_of, turn_of};
 
-use crate::echo::{put_again, put_end, put_screen_line, put_taken, screen_byte};
-use crate::held::{before_fault, common, open_at, text_of};
+use crate::echo::{put_again, put_end, put_inserted, put_screen_line, put_taken, screen_byte};
+use crate::held::{before_fault, open_at, text_of};
 use crate::log::{line_feed, put_fields, put_head};
 use crate::parse::go_on;
 use crate::stack::Stack;
@@ -33,6 +32,8 @@ use cm_line::{KeyClass, Line};
 use cm_text::{LINE_LIMIT, bell, control_c};
 use std::marker::{Model, PhantomData};
 use std::sync::ledger::Ledger;
+
+mod editing;
 
 /// A command line: the line under edit, its parse as it then stands, and what control-H may bring back. `R` is what
 /// the hooks mean that its grammar asks.
@@ -133,8 +134,8 @@ impl<R: Rules> Session<R> {
         let class = KeyClass::of(key);
         let size = self.met_size();
         let kept = self.kept.is_some();
-        self.take(class, key, grammar, names, hooks, steps);
-        match self.echo(class, key, size, kept, sink) {
+        let rings = self.take(class, key, grammar, names, hooks, steps);
+        match self.echo(class, key, size, kept, rings, sink) {
             Put::Done => self.turn(class),
             Put::Failed => Turn::Failed,
         }
@@ -272,7 +273,8 @@ impl<R: Rules> Session<R> {
         }
     }
 
-    // Edits the line by a key, and holds the parse of the text as it then stands.
+    // Edits the line by a key, and holds the parse of the text as it then stands. The answer is whether a key that
+    // completes rings.
     fn take<N: Names, L: Ledger>(
         &mut self,
         class: KeyClass,
@@ -281,7 +283,7 @@ impl<R: Rules> Session<R> {
         names: &N,
         hooks: &Hooks<R>,
         steps: &mut Steps<L>,
-    )
+    ) -> bool
         requires class { class ≡ class_of key }
         requires text { class ≡ KeyClass.Text → is_text key ≡ true }
         requires ready { IsReady (setting grammar.now (N.catalogue names.now) R.meanings) self.old }
@@ -293,86 +295,17 @@ impl<R: Rules> Session<R> {
         ensures ready { IsReady (setting grammar.now (N.catalogue names.now) R.meanings) self.new }
         ensures keeps { BeginsWith (kept (setting grammar.now (N.catalogue names.now) R.meanings)
             self.old.node (met_line self.old) (text_of self.new)) self.new.fields }
+        ensures bell { result
+            ≡ (completed (setting grammar.now (N.catalogue names.now) R.meanings) self.old class).bell }
         ensures steps { steps.new ≡ steps.old + cost (setting grammar.now (N.catalogue names.now) R.meanings)
             self.old.node (met_line self.old) (text_of self.new) }
     {
         grammar.has_no_fault();
         self.renew();
-        let size = self.change(class, key);
-        self.keep(size);
+        let change = self.change(class, key, grammar, names, hooks);
+        self.keep(change.front);
         self.hold(grammar, names, hooks, steps);
-    }
-
-    // A key behind a finished text meets an empty line, of which nothing is known.
-    fn renew(&mut self)
-        ensures { self.new ≡ record self.old {
-          line = met_line self.old;
-          is_finished = false;
-          fields = if self.old.is_finished then [] else self.old.fields;
-        } }
-    {
-        if self.is_finished {
-            self.is_finished = false;
-            self.line.cut(0);
-            self.fields.clear();
-        }
-    }
-
-    // Edits the line by a key. The answer is how many bytes the line before it and the text behind it begin with alike.
-    #[tactic(auto, using(crate::proofs::Fronts::front_stays))]
-    fn change(&mut self, class: KeyClass, key: u8) -> usize
-        requires open { self.old.is_finished ≡ false }
-        requires text { class ≡ KeyClass.Text → is_text key ≡ true }
-        ensures edited { self.new ≡ record self.old {
-          line = edit class key self.old.line self.old.kept;
-          is_finished = is_end class;
-          kept = None;
-        } }
-        ensures common { result ≡ common self.old.line (text_of self.new) }
-    {
-        let front = self.front(class);
-        self.edit(class, key);
-        front.min(self.line.bytes().len())
-    }
-
-    // The most bytes at the front of the line that a key of this class leaves.
-    fn front(&self, class: KeyClass) -> usize
-        ensures { result ≡ front class self.now.line self.now.kept }
-    {
-        match (class, &self.kept) {
-            (KeyClass::Back, Some(kept)) => common(self.line.bytes(), kept.bytes()),
-            _ => self.line.bytes().len(),
-        }
-    }
-
-    // The line after a key, finished where the key is an end.
-    fn edit(&mut self, class: KeyClass, key: u8)
-        requires open { self.old.is_finished ≡ false }
-        requires text { class ≡ KeyClass.Text → is_text key ≡ true }
-        ensures { self.new ≡ record self.old {
-          line = edit class key self.old.line self.old.kept;
-          is_finished = is_end class;
-          kept = None;
-        } }
-    {
-        match class {
-            KeyClass::Text => {
-                self.line.push(key);
-            }
-            KeyClass::Rub => {
-                self.line.pop();
-            }
-            KeyClass::Word => self.line.cut(self.line.word_start()),
-            KeyClass::Erase | KeyClass::Stop => self.line.cut(0),
-            KeyClass::Back => {
-                if let Some(kept) = self.kept.take() {
-                    self.line = kept;
-                }
-            }
-            KeyClass::End => self.is_finished = true,
-            _ => {}
-        }
-        self.kept = None;
+        change.rings
     }
 
     // Keeps the fields before the first that needs more than so many bytes.
@@ -417,11 +350,19 @@ impl<R: Rules> Session<R> {
         self.kept = before_fault(self.is_finished, &self.line, self.ending);
     }
 
-    // Shows the echo of a key on a line of this size, with or without kept bytes.
-    fn echo<S: Sink>(&self, class: KeyClass, key: u8, size: usize, kept: bool, sink: &mut S) -> Put
+    // Shows the echo of a key on a line of this size, with or without kept bytes; a key that completes rings or not.
+    fn echo<S: Sink>(
+        &self,
+        class: KeyClass,
+        key: u8,
+        size: usize,
+        kept: bool,
+        rings: bool,
+        sink: &mut S,
+    ) -> Put
         requires { size ≤ LINE_LIMIT }
         ensures bytes { Adds (S.told sink.old) (S.told sink.new)
-            (echo_of class key size kept self.now) result }
+            (echo_of class key size kept rings self.now) result }
         ensures later { S.faults sink.old ≤ S.faults sink.new }
         ensures cause { PutCause (S.faults sink.old) (S.faults sink.new) result }
     {
@@ -431,6 +372,8 @@ impl<R: Rules> Session<R> {
             KeyClass::Rub | KeyClass::Word | KeyClass::Erase => put_taken(size, line.len(), sink),
             KeyClass::Show => put_again(self.prompt, line, sink),
             KeyClass::Back if kept => put_screen_line(line, sink),
+            KeyClass::Escape => put_inserted(&line[size.min(line.len())..], rings, sink),
+            KeyClass::Part => put_inserted(&line[size.min(line.len())..], rings, sink),
             KeyClass::Stop => put_line(control_c(), sink),
             KeyClass::End => put_end(self.ending, sink),
             _ => sink.put(bell()),

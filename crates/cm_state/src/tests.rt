@@ -5,4 +5,4 @@ mod run;
 mod setting;
 mod values;
 
-pub use setting::{Logical, Shelf};
+pub(crate) use setting::{Logical, Shelf};

@@ -44,16 +44,20 @@ fn block_of(kind: Kind) -> Block {
     }
 }
 
+fn chain_of(alloc: Global, kinds: &[Kind]) -> Result<Blocks, AllocError> {
+    let mut chain = Vec::new(alloc);
+    for kind in kinds {
+        chain.push(block_of(*kind))?;
+    }
+    Ok(Blocks::new(chain))
+}
+
 // A node for each list of blocks.
 fn nodes_of(alloc: Global, chains: &[&[Kind]]) -> Result<Vec<Node>, AllocError> {
     let mut nodes = Vec::new(alloc);
     for kinds in chains {
-        let mut chain = Vec::new(alloc);
-        for kind in *kinds {
-            chain.push(block_of(*kind))?;
-        }
         nodes.push(Node {
-            chain: Blocks::new(chain),
+            chain: chain_of(alloc, kinds)?,
             default: None,
             raw: false,
         })?;
@@ -179,6 +183,33 @@ fn finds_the_first_fault(rt: HostRuntime) -> Result<(), Fail> {
         let nodes = nodes_of(rt.alloc(), chains)?;
         let found = Grammar::new(nodes, two_tables(rt.alloc())?).err();
         assert_eq!(rt; found, fault, "at {chains:?}");
+    }
+    Ok(())
+}
+
+// The fault of a node with these blocks and a default that may not be shown: the default is a text of the node,
+// and counts where those of its blocks do.
+#[test]
+fn finds_a_bad_default_among_other_faults(rt: HostRuntime) -> Result<(), Fail> {
+    let cases: [(&[Kind], GrammarFault); 8] = [
+        (&[], GrammarFault::EmptyChain(0)),
+        (&[Kind::Confirm; 17], GrammarFault::ChainLong(0)),
+        (&[Kind::Key(2)], GrammarFault::TableRange(0)),
+        (&[Kind::Next(9)], GrammarFault::NextRange(0)),
+        (&[Kind::Confirm], GrammarFault::BadText(0)),
+        (&[Kind::Text], GrammarFault::BadText(0)),
+        (&[Kind::Flags], GrammarFault::BadText(0)),
+        (&[Kind::Word], GrammarFault::BadText(0)),
+    ];
+    for (kinds, fault) in cases {
+        let node = Node {
+            chain: chain_of(rt.alloc(), kinds)?,
+            default: Some(Name::new("A?")),
+            raw: false,
+        };
+        let nodes = Vec::from_array(rt.alloc(), [node])?;
+        let found = Grammar::new(nodes, two_tables(rt.alloc())?).err();
+        assert_eq!(rt; found, Some(fault), "at {kinds:?}");
     }
     Ok(())
 }

@@ -1,11 +1,14 @@
 // Fields that are kept over a key, whole lines, and what the trials cost.
-ghost use Rattle.std.specs.Prelude.{◌≡◌, ◌<◌};
+ghost use Rattle.std.specs.Prelude.{◌≡◌, ◌<◌, ◌≤◌, length};
+ghost use Rattle.cm_blocks.specs.Grammar.{hook_count};
+ghost use Rattle.cm_hooks.specs.Ties.{Ties, count};
 
-use super::run::{Case, Run, run_of, tries};
-use super::setting::{Logical, Shelf, grammar, hooks};
+use super::run::{Case, Run, refused, run_of, tries};
+use super::setting::{Logical, Shelf, grammar_and_hooks};
 use crate::Turn;
-use cm_blocks::{Ending, Fault, Open, Steps};
+use cm_blocks::{Ending, Fault, Grammar, Open, Steps};
 use cm_fields::{Code, Value};
+use cm_hooks::{Hooks, Rules};
 use cm_io::{MemSink, Put};
 use cm_line::Line;
 use cm_text::is_text;
@@ -81,6 +84,41 @@ fn copies(alloc: Global, count: usize, keys: &[u8]) -> Result<Vec<u8>, Fail> {
     Ok(line)
 }
 
+// How many fields the run of such keys holds, and how its parse ends.
+fn fields_held<L: Ledger>(
+    rt: &impl Abort,
+    alloc: Global,
+    times: usize,
+    more: &[u8],
+    grammar: &Grammar,
+    hooks: &Hooks<Logical>,
+    steps: &mut Steps<L>,
+) -> Result<(u8, Ending), Fail>
+    requires ties { Ties ⟦<Logical as Rules>⟧.meanings hooks.now }
+    requires hooks { hook_count grammar.now ≤ count hooks.now }
+    requires nodes { 0 < length grammar.now.nodes }
+{
+    let keys = copies(alloc, times, more)?;
+    let run = run_of(rt, alloc, &keys, grammar, &Shelf, hooks, steps)?;
+    Ok((run.session.held(), *run.session.ending()))
+}
+
+fn open(node: u16, at: u16) -> Ending {
+    Ending::Open(Open {
+        node,
+        block: Some(0),
+        at,
+    })
+}
+
+fn too_many(at: u16) -> Ending {
+    Ending::Fault(Fault {
+        code: Code::TooMany,
+        node: 41,
+        at,
+    })
+}
+
 // A line has 64 fields; one more that would be taken is a fault at its place.
 fn many_fields<L: Ledger, A: Abort>(rt: &A, runtime: &HostRuntime, blank: Blank) -> Result<(), Fail>
     requires name { blank.name ≡ L.name }
@@ -88,22 +126,8 @@ fn many_fields<L: Ledger, A: Abort>(rt: &A, runtime: &HostRuntime, blank: Blank)
     requires some { 0 < L.parts }
 {
     let alloc = runtime.alloc();
-    let grammar = grammar(alloc)?;
-    let hooks = hooks(alloc)?;
+    let (grammar, hooks) = grammar_and_hooks(rt, alloc)?;
     let mut steps: Steps<L> = Steps::new(runtime, blank);
-    assert!(rt; grammar.nodes() > 0 && grammar.hooks() <= u16::from(hooks.len()));
-    let open = |node: u16, at: u16| Ending::Open(Open {
-        node,
-        block: Some(0),
-        at,
-    });
-    let too_many = |at: u16| {
-        Ending::Fault(Fault {
-            code: Code::TooMany,
-            node: 41,
-            at,
-        })
-    };
     let cases: [(usize, &[u8], u8, Ending); 6] = [
         (30, b" ", 63, open(39, 124)),
         (30, b" /C:", 64, open(41, 127)),
@@ -112,11 +136,9 @@ fn many_fields<L: Ledger, A: Abort>(rt: &A, runtime: &HostRuntime, blank: Blank)
         (31, b"/", 64, too_many(126)),
         (31, b"/\x7f", 64, open(41, 126)),
     ];
-    for (count, more, held, ending) in cases {
-        let keys = copies(alloc, count, more)?;
-        let run = run_of(rt, alloc, &keys, &grammar, &Shelf, &hooks, &mut steps)?;
-        assert_eq!(rt; run.session.held(), held, "after {keys:?}");
-        assert_eq!(rt; *run.session.ending(), ending, "after {keys:?}");
+    for (times, more, held, ending) in cases {
+        let found = fields_held(rt, alloc, times, more, &grammar, &hooks, &mut steps)?;
+        assert_eq!(rt; found, (held, ending), "after {times} and {more:?}");
     }
     Ok(())
 }
@@ -135,19 +157,42 @@ fn line_of(rt: &impl Abort, text: &[u8]) -> Line {
     line
 }
 
-// A line that is taken whole: what it comes to, its text, and what its log line is.
+// A line that is taken whole from a node on: what it comes to, its text, and what its log line is.
+type Whole<'a> = (u16, &'a [u8], Turn, &'a [u8], &'a [u8]);
+
+// Takes a line whole, and logs it.
+fn take_whole<L: Ledger>(
+    rt: &impl Abort,
+    run: &mut Run<Logical>,
+    whole: &Whole<'_>,
+    grammar: &Grammar,
+    hooks: &Hooks<Logical>,
+    steps: &mut Steps<L>,
+)
+    requires ties { Ties ⟦<Logical as Rules>⟧.meanings hooks.now }
+    requires hooks { hook_count grammar.now ≤ count hooks.now }
+    requires nodes { 27 < length grammar.now.nodes }
+{
+    let (node, line, turn, text, logged) = whole;
+    assert!(rt; *node < grammar.nodes());
+    let line = line_of(rt, line);
+    let taken = run
+        .session
+        .whole(*node, line.bytes(), grammar, &Shelf, hooks, steps);
+    assert_eq!(rt; taken, *turn, "of {text:?}");
+    assert_eq!(rt; run.session.text(), *text);
+    assert_eq!(rt; run.session.log_line(b'\r', &mut run.logged), Put::Done);
+    assert!(rt; run.logged.bytes().ends_with(logged), "of {text:?}");
+}
+
 fn whole_lines<L: Ledger, A: Abort>(rt: &A, runtime: &HostRuntime, blank: Blank) -> Result<(), Fail>
     requires name { blank.name ≡ L.name }
     requires parts { blank.parts ≡ L.parts }
     requires some { 0 < L.parts }
 {
-    let alloc = runtime.alloc();
-    let grammar = grammar(alloc)?;
-    let hooks = hooks(alloc)?;
+    let (grammar, hooks) = grammar_and_hooks(rt, runtime.alloc())?;
     let mut steps: Steps<L> = Steps::new(runtime, blank);
-    assert!(rt; grammar.nodes() > 27 && grammar.hooks() <= u16::from(hooks.len()));
-    let refused = |code: Code, node: u16, at: u16| Turn::Refused(Fault { code, node, at });
-    let cases: [(u16, &[u8], Turn, &[u8], &[u8]); 5] = [
+    let cases: [Whole<'_>; 5] = [
         (
             0,
             b"INF VER",
@@ -178,17 +223,9 @@ fn whole_lines<L: Ledger, A: Abort>(rt: &A, runtime: &HostRuntime, blank: Blank)
             b"0d 5 F1.27@4 0.1k9@0-3 26.0n0@4-4\n",
         ),
     ];
-    let mut run: Run<Logical> = Run::new(alloc)?;
-    for (node, line, turn, text, logged) in cases {
-        assert!(rt; node < grammar.nodes());
-        let line = line_of(rt, line);
-        let taken = run
-            .session
-            .whole(node, line.bytes(), &grammar, &Shelf, &hooks, &mut steps);
-        assert_eq!(rt; taken, turn, "of {text:?}");
-        assert_eq!(rt; run.session.text(), text);
-        assert_eq!(rt; run.session.log_line(b'\r', &mut run.logged), Put::Done);
-        assert!(rt; run.logged.bytes().ends_with(logged), "of {text:?}");
+    let mut run: Run<Logical> = Run::new(runtime.alloc())?;
+    for case in &cases {
+        take_whole(rt, &mut run, case, &grammar, &hooks, &mut steps);
     }
     Ok(())
 }
@@ -198,18 +235,33 @@ fn takes_whole_lines(rt: HostRuntime) -> Result<(), Fail> {
     whole_lines::<Brand, _>(&rt, &rt, Blank::new(1))
 }
 
-// A session tells the fields that it holds.
-fn fields_told<L: Ledger, A: Abort>(rt: &A, runtime: &HostRuntime, blank: Blank) -> Result<(), Fail>
+// The run of INF VER, which has two fields.
+fn run_of_two_fields<L: Ledger, A: Abort>(
+    rt: &A,
+    runtime: &HostRuntime,
+    blank: Blank,
+) -> Result<Run<Logical>, Fail>
     requires name { blank.name ≡ L.name }
     requires parts { blank.parts ≡ L.parts }
     requires some { 0 < L.parts }
 {
-    let alloc = runtime.alloc();
-    let grammar = grammar(alloc)?;
-    let hooks = hooks(alloc)?;
+    let (grammar, hooks) = grammar_and_hooks(rt, runtime.alloc())?;
     let mut steps: Steps<L> = Steps::new(runtime, blank);
-    assert!(rt; grammar.nodes() > 0 && grammar.hooks() <= u16::from(hooks.len()));
-    let run = run_of(rt, alloc, b"INF VER", &grammar, &Shelf, &hooks, &mut steps)?;
+    run_of(
+        rt,
+        runtime.alloc(),
+        b"INF VER",
+        &grammar,
+        &Shelf,
+        &hooks,
+        &mut steps,
+    )
+}
+
+// A session tells the fields that it holds.
+#[test]
+fn tells_its_fields(rt: HostRuntime) -> Result<(), Fail> {
+    let run = run_of_two_fields::<Brand, _>(&rt, &rt, Blank::new(1))?;
     assert_eq!(rt; run.session.held(), 2);
     let verb = run.session.field(0);
     assert_eq!(rt; *verb.value(), Value::Key { entry: 8, code: 9 });
@@ -226,34 +278,46 @@ fn fields_told<L: Ledger, A: Abort>(rt: &A, runtime: &HostRuntime, blank: Blank)
     Ok(())
 }
 
-// Where a sink fails the session is where the key left it.
-fn key_unshown<L: Ledger, A: Abort>(rt: &A, runtime: &HostRuntime, blank: Blank) -> Result<(), Fail>
+// The run of INF VER, and then CR, which a sink with room for one byte does not show.
+fn run_unshown<L: Ledger>(
+    rt: &impl Abort,
+    alloc: Global,
+    grammar: &Grammar,
+    hooks: &Hooks<Logical>,
+    steps: &mut Steps<L>,
+) -> Result<Run<Logical>, Fail>
+    requires ties { Ties ⟦<Logical as Rules>⟧.meanings hooks.now }
+    requires hooks { hook_count grammar.now ≤ count hooks.now }
+    requires nodes { 0 < length grammar.now.nodes }
+{
+    let mut full = MemSink::new(alloc, 1)?;
+    let mut run = run_of(rt, alloc, b"INF VER", grammar, &Shelf, hooks, steps)?;
+    run.turn = run
+        .session
+        .key(b'\r', grammar, &Shelf, hooks, &mut full, steps);
+    Ok(run)
+}
+
+fn key_unshown<L: Ledger, A: Abort>(
+    rt: &A,
+    runtime: &HostRuntime,
+    blank: Blank,
+) -> Result<Run<Logical>, Fail>
     requires name { blank.name ≡ L.name }
     requires parts { blank.parts ≡ L.parts }
     requires some { 0 < L.parts }
 {
-    let alloc = runtime.alloc();
-    let grammar = grammar(alloc)?;
-    let hooks = hooks(alloc)?;
+    let (grammar, hooks) = grammar_and_hooks(rt, runtime.alloc())?;
     let mut steps: Steps<L> = Steps::new(runtime, blank);
-    assert!(rt; grammar.nodes() > 0 && grammar.hooks() <= u16::from(hooks.len()));
-    let mut run = run_of(rt, alloc, b"INF VER", &grammar, &Shelf, &hooks, &mut steps)?;
-    let mut full = MemSink::new(alloc, 1)?;
-    let failed = run
-        .session
-        .key(b'\r', &grammar, &Shelf, &hooks, &mut full, &mut steps);
-    assert_eq!(rt; failed, Turn::Failed);
+    run_unshown(rt, runtime.alloc(), &grammar, &hooks, &mut steps)
+}
+
+// Where a sink fails the session is where the key left it.
+#[test]
+fn takes_a_key_that_is_not_shown(rt: HostRuntime) -> Result<(), Fail> {
+    let run = key_unshown::<Brand, _>(&rt, &rt, Blank::new(1))?;
+    assert_eq!(rt; run.turn, Turn::Failed);
     assert_eq!(rt; run.session.text(), b"INF VER\r".as_slice());
     assert_eq!(rt; *run.session.ending(), Ending::Done);
     Ok(())
-}
-
-#[test]
-fn tells_its_fields(rt: HostRuntime) -> Result<(), Fail> {
-    fields_told::<Brand, _>(&rt, &rt, Blank::new(1))
-}
-
-#[test]
-fn takes_a_key_that_is_not_shown(rt: HostRuntime) -> Result<(), Fail> {
-    key_unshown::<Brand, _>(&rt, &rt, Blank::new(1))
 }

@@ -1,19 +1,15 @@
 // Lines that are typed, edited, confirmed and refused.
 ghost use Rattle.std.specs.Prelude.{◌≡◌, ◌<◌};
 
-use super::run::{Case, run_of, tries};
-use super::setting::{Shelf, grammar, hooks};
+use super::run::{Case, Run, refused, run_of, tries};
+use super::setting::{Logical, Shelf, grammar_and_hooks};
 use crate::Turn;
-use cm_blocks::{Fault, Steps};
+use cm_blocks::Steps;
 use cm_fields::Code;
 use std::marker::Brand;
 use std::process::Abort;
 use std::sync::ledger::{Blank, Ledger};
 use std::test::Fail;
-
-fn refused(code: Code, node: u16, at: u16) -> Turn {
-    Turn::Refused(Fault { code, node, at })
-}
 
 #[test]
 fn finishes_lines(rt: HostRuntime) -> Result<(), Fail> {
@@ -174,10 +170,8 @@ fn full_line_cases<L: Ledger, A: Abort>(
     requires some { 0 < L.parts }
 {
     let alloc = runtime.alloc();
-    let grammar = grammar(alloc)?;
-    let hooks = hooks(alloc)?;
+    let (grammar, hooks) = grammar_and_hooks(rt, alloc)?;
     let mut steps: Steps<L> = Steps::new(runtime, blank);
-    assert!(rt; grammar.nodes() > 0 && grammar.hooks() <= u16::from(hooks.len()));
     let cases: [(u8, usize, &[u8]); 12] = [
         (b'A', 1, b"\n41 255 O\n41 255 O\n"),
         (b'\r', 26, b"\n0d 255 F1.0@0\n"),
@@ -196,13 +190,14 @@ fn full_line_cases<L: Ledger, A: Abort>(
         let mut keys = [b'A'; 256];
         keys[255] = key;
         let run = run_of(rt, alloc, &keys, &grammar, &Shelf, &hooks, &mut steps)?;
-        assert!(rt; run.shown.bytes().starts_with(b"@AAAA"), "at {key}");
-        assert_eq!(rt;
-            run.shown.bytes().len().checked_sub(256),
-            Some(shown),
-            "at {key}"
-        );
-        assert!(rt; run.logged.bytes().ends_with(logged), "at {key}");
+        on_a_full_line(rt, &run, key, shown, logged);
     }
     Ok(())
+}
+
+fn on_a_full_line(rt: &impl Abort, run: &Run<Logical>, key: u8, shown: usize, logged: &[u8]) {
+    let bytes = run.shown.bytes();
+    assert!(rt; bytes.starts_with(b"@AAAA"), "at {key}");
+    assert_eq!(rt; bytes.len().checked_sub(256), Some(shown), "at {key}");
+    assert!(rt; run.logged.bytes().ends_with(logged), "at {key}");
 }

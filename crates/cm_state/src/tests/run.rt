@@ -6,9 +6,10 @@ ghost use Rattle.cm_blocks.specs.Setting.{Setting, setting};
 ghost use Rattle.cm_hooks.specs.Ties.{Ties, count};
 ghost use Rattle.cm_state.specs.Held.{IsReady};
 
-use super::setting::{Shelf, grammar, hooks};
+use super::setting::{Shelf, grammar_and_hooks};
 use crate::{Prompt, Session, Turn};
-use cm_blocks::{Grammar, Steps};
+use cm_blocks::{Fault, Grammar, Steps};
+use cm_fields::Code;
 use cm_files::Names;
 use cm_hooks::{Hooks, Rules};
 use cm_io::{MemSink, Put};
@@ -18,19 +19,24 @@ use std::sync::ledger::{Blank, Ledger};
 use std::test::Fail;
 
 // Keys, what the last came to, what is shown, and how the log ends.
-pub type Case<'a> = (&'a [u8], Turn, &'a [u8], &'a [u8]);
+pub(crate) type Case<'a> = (&'a [u8], Turn, &'a [u8], &'a [u8]);
+
+// A line that is refused at a place, by the chain of a node.
+pub(crate) fn refused(code: Code, node: u16, at: u16) -> Turn {
+    Turn::Refused(Fault { code, node, at })
+}
 
 // A session with what it has shown and logged, and what its last key came to.
 #[derive(Drop)]
-pub struct Run<R: Rules> {
-    pub session: Session<R>,
-    pub shown: MemSink,
-    pub logged: MemSink,
-    pub turn: Turn,
+pub(crate) struct Run<R: Rules> {
+    pub(crate) session: Session<R>,
+    pub(crate) shown: MemSink,
+    pub(crate) logged: MemSink,
+    pub(crate) turn: Turn,
 }
 
 impl<R: Rules> Run<R> {
-    pub fn new(alloc: Global) -> Result<Run<R>, Fail> {
+    pub(crate) fn new(alloc: Global) -> Result<Run<R>, Fail> {
         Ok(Run {
             session: Session::new(),
             shown: MemSink::new(alloc, 4096)?,
@@ -40,7 +46,7 @@ impl<R: Rules> Run<R> {
     }
 
     // Begins a line at the commands.
-    pub fn begin(&mut self, rt: &impl Abort)
+    pub(crate) fn begin(&mut self, rt: &impl Abort)
         ensures { (s : Setting) → grammar_fault s.graph ≡ None → 0 < length s.graph.nodes
             → IsReady s self.new.session }
     {
@@ -49,7 +55,7 @@ impl<R: Rules> Run<R> {
     }
 
     // Takes one key and logs it. Behind a line that is over it begins another.
-    pub fn key<N: Names, L: Ledger>(
+    pub(crate) fn key<N: Names, L: Ledger>(
         &mut self,
         rt: &impl Abort,
         key: u8,
@@ -75,10 +81,18 @@ impl<R: Rules> Run<R> {
         }
         self.begin(rt);
     }
+
+    // The run of these keys comes to this.
+    fn comes_to(&self, rt: &impl Abort, case: &Case<'_>) {
+        let (keys, turn, shown, logged) = case;
+        assert_eq!(rt; self.turn, *turn, "after {keys:?}");
+        assert_eq!(rt; self.shown.bytes(), *shown, "after {keys:?}");
+        assert!(rt; self.logged.bytes().ends_with(logged), "after {keys:?}");
+    }
 }
 
 // The run of some keys.
-pub fn run_of<N: Names, R: Rules, L: Ledger>(
+pub(crate) fn run_of<N: Names, R: Rules, L: Ledger>(
     rt: &impl Abort,
     alloc: Global,
     keys: &[u8],
@@ -102,7 +116,7 @@ pub fn run_of<N: Names, R: Rules, L: Ledger>(
 }
 
 // Tries runs of keys. The counter wants the runtime itself.
-pub fn tries<L: Ledger, A: Abort>(
+pub(crate) fn tries<L: Ledger, A: Abort>(
     rt: &A,
     runtime: &HostRuntime,
     blank: Blank,
@@ -113,15 +127,11 @@ pub fn tries<L: Ledger, A: Abort>(
     requires some { 0 < L.parts }
 {
     let alloc = runtime.alloc();
-    let grammar = grammar(alloc)?;
-    let hooks = hooks(alloc)?;
+    let (grammar, hooks) = grammar_and_hooks(rt, alloc)?;
     let mut steps: Steps<L> = Steps::new(runtime, blank);
-    assert!(rt; grammar.nodes() > 0 && grammar.hooks() <= u16::from(hooks.len()));
-    for (keys, turn, shown, logged) in cases {
-        let run = run_of(rt, alloc, keys, &grammar, &Shelf, &hooks, &mut steps)?;
-        assert_eq!(rt; run.turn, *turn, "after {keys:?}");
-        assert_eq!(rt; run.shown.bytes(), *shown, "after {keys:?}");
-        assert!(rt; run.logged.bytes().ends_with(logged), "after {keys:?}");
+    for case in cases {
+        let run = run_of(rt, alloc, case.0, &grammar, &Shelf, &hooks, &mut steps)?;
+        run.comes_to(rt, case);
     }
     Ok(())
 }

@@ -1,8 +1,9 @@
-// What the lines of the tests are parsed under: a catalogue of one file, one hook, and the EXEC's grammar with a word in
-// the place of a file.
-ghost use Rattle.std.specs.Prelude.{◌≡◌, ◌≤◌, [], IfOk, length, if◌then◌else◌};
+// What the lines of the tests are parsed under: a catalogue of one file, one hook, and the EXEC's grammar with a word
+// in the place of a file.
+ghost use Rattle.std.specs.Prelude.{◌≡◌, ◌<◌, ◌≤◌, [], IfOk, length, if◌then◌else◌};
+ghost use Rattle.cm_blocks.specs.Grammar.{hook_count};
 ghost use Rattle.cm_files.specs.LogicalName.{is_logical_name};
-ghost use Rattle.cm_hooks.specs.Ties.{Ties};
+ghost use Rattle.cm_hooks.specs.Ties.{Ties, count};
 ghost use Rattle.cm_text.specs.declared.name.TheConstants.{NAME_LIMIT};
 
 use cm_blocks::{Block, Blocks, Function, Grammar, Node, Role};
@@ -11,10 +12,11 @@ use cm_hooks::{Answer, Hook, Hooks, Rules, Tail};
 use cm_tables::{Entry, Flag, Table};
 use cm_text::Name;
 use std::alloc::Global;
+use std::process::Abort;
 use std::test::Fail;
 
 // The directory OPERATOR, which is connected and has the file A..1.
-pub struct Shelf;
+pub(crate) struct Shelf;
 
 impl Names for Shelf {
     ghost use Rattle.std.specs.Prelude.{[], ◌∷◌, codes, false};
@@ -58,7 +60,7 @@ impl Names for Shelf {
 }
 
 // A logical name is taken, with its number of bytes.
-pub struct Logical;
+pub(crate) struct Logical;
 
 impl Rules for Logical {
     ghost use Rattle.std.specs.Prelude.{[], if◌then◌else◌, length};
@@ -76,7 +78,7 @@ impl Rules for Logical {
 }
 
 // The one hook that answers so.
-pub fn hooks(alloc: Global) -> Result<Hooks<Logical>, Fail>
+fn hooks(alloc: Global) -> Result<Hooks<Logical>, Fail>
     ensures { IfOk result (λ hooks. Ties ⟦<Logical as Rules>⟧.meanings hooks) }
 {
     let verdict = |atom: &[u8]| -> Answer
@@ -236,7 +238,7 @@ fn chain_of(alloc: Global, node: u16) -> Result<Vec<Block>, Fail> {
     Ok(chain)
 }
 
-pub fn grammar(alloc: Global) -> Result<Grammar, Fail> {
+fn grammar(alloc: Global) -> Result<Grammar, Fail> {
     let mut nodes = Vec::new(alloc);
     for number in 0..51 {
         nodes.push(Node {
@@ -246,4 +248,19 @@ pub fn grammar(alloc: Global) -> Result<Grammar, Fail> {
         })?;
     }
     Ok(Grammar::new(nodes, tables(alloc)?)?)
+}
+
+// The grammar, and the hooks that it asks.
+pub(crate) fn grammar_and_hooks(
+    rt: &impl Abort,
+    alloc: Global,
+) -> Result<(Grammar, Hooks<Logical>), Fail>
+    ensures ties { IfOk result (λ made. Ties ⟦<Logical as Rules>⟧.meanings made.1) }
+    ensures hooks { IfOk result (λ made. hook_count made.0 ≤ count made.1) }
+    ensures nodes { IfOk result (λ made. 27 < length made.0.nodes) }
+{
+    let grammar = grammar(alloc)?;
+    let hooks = hooks(alloc)?;
+    assert!(rt; grammar.nodes() > 27 && grammar.hooks() <= u16::from(hooks.len()));
+    Ok((grammar, hooks))
 }

@@ -1,6 +1,7 @@
 // Whole runs.
 use super::given::{Case, IMAGE, Log, outcome_by, outcome_of, over, try_cases, words_of};
 use crate::Status;
+use arrayvec::ArrayVec;
 use std::test::Fail;
 
 // A run that is Done, behind which this moment comes next.
@@ -95,6 +96,86 @@ fn runs_over_the_grammar_of_the_exec(rt: HostRuntime) -> Result<(), Fail> {
         ),
     ];
     try_cases(&rt, &rt, &cases)
+}
+
+#[test]
+fn completes_what_was_begun(rt: HostRuntime) -> Result<(), Fail> {
+    let cases = [
+        done(
+            b"INF\x1b",
+            b"@INFORMATION (ABOUT) \r\n",
+            Log::Whole(b"49 1 O\n4e 2 O\n46 3 O\n1b 20 O 0.1k9@0-11 26.0n1@12-19\n"),
+            1,
+        ),
+        done(
+            b"INF\x1bV\x1b",
+            b"@INFORMATION (ABOUT) VERSION \r\n",
+            Log::End(b"\n1b 28 O 0.1k9@0-11 26.0n1@12-19 27.0k4@20-27\n"),
+            1,
+        ),
+        done(
+            b"REM\x1b",
+            b"@REMARK \r\n",
+            Log::End(b"\n1b 7 O 0.1k12@0-6\n"),
+            1,
+        ),
+        done(
+            b"DEFINE A1\x1b",
+            b"@DEFINE A1 \r\n",
+            Log::End(b"\n1b 10 O 0.1k5@0-6 28.0n0@7-7 29.0h0:2@7-9\n"),
+            1,
+        ),
+        // What was completed is edited and confirmed as what was typed.
+        done(
+            b"logo\x1b\x17\x1b\x15k\x1b\r",
+            b"@logoUT \x08 \x08\x08 \x08\x08 \x08\x08 \x08\x08 \x08\x08 \x08\x08 \x08\x07\x07kJOB \r\nLogged out\r\n",
+            Log::End(b"\n1b 5 O 0.1k10@0-4\n0d 5 D 0.1k10@0-4\n"),
+            2,
+        ),
+    ];
+    try_cases(&rt, &rt, &cases)
+}
+
+#[test]
+fn rings_where_nothing_is_certain(rt: HostRuntime) -> Result<(), Fail> {
+    let cases = [
+        done(b"L\x1b", b"@L\x07\r\n", Log::Whole(b"4c 1 O\n1b 1 O\n"), 1),
+        done(b"\x1b", b"@\x07\r\n", Log::Whole(b"1b 0 O\n"), 1),
+        done(b"X\x1b", b"@X\x07\r\n", Log::Whole(b"58 1 O\n1b 1 O\n"), 1),
+        // A part of a file name is what control-F completes, and no keyword has one.
+        done(
+            b"INF\x06",
+            b"@INF\x07\r\n",
+            Log::End(b"\n06 3 O\n"),
+            1,
+        ),
+    ];
+    try_cases(&rt, &rt, &cases)
+}
+
+// So many blanks, `INF` and ESC, which would put 17 bytes in.
+fn far_out(blanks: usize) -> ArrayVec<u8, 256>
+    requires { blanks ≤ 252 }
+{
+    let mut keys = ArrayVec::new();
+    for _ in 0..blanks {
+        keys.push(b' ');
+    }
+    for key in b"INF\x1b" {
+        keys.push(*key);
+    }
+    keys
+}
+
+#[test]
+fn puts_in_what_fits(rt: HostRuntime) -> Result<(), Fail> {
+    let fits = outcome_of(&rt, &over(&far_out(235)))?;
+    assert!(rt; fits.screen.bytes().ends_with(b" INFORMATION (ABOUT) \r\n"));
+    assert!(rt; fits.log.bytes().ends_with(b"\n1b 255 O 0.1k9@235-246 26.0n1@247-254\n"));
+    let too_long = outcome_of(&rt, &over(&far_out(236)))?;
+    assert!(rt; too_long.screen.bytes().ends_with(b" INF\x07\r\n"));
+    assert!(rt; too_long.log.bytes().ends_with(b"\n1b 239 O\n"));
+    Ok(())
 }
 
 #[test]

@@ -1,62 +1,69 @@
 use Rattle.std.proofs.Common.{◌+◌, ℕ, ap, refl, ◌∙◌, arith}
 use Rattle.cm_blocks.specs.Setting.{setting}
-use Rattle.cm_state.proofs.Editing.{takes, trimmed_starts, trims}
+use Rattle.cm_recognise.specs.declared.insertion.Insertion.{Insertion}
+use Rattle.cm_state.proofs.Editing.{met_completion, takes, trimmed_starts, trims}
 use Rattle.cm_state.proofs.session.Session.take.Goals as goal
 
 pub hold-requires : goal.hold-requires
 hold-requires g c =
     let s = setting c.args.grammar.now (g.N.Names.catalogue c.args.names.now) g.R.Rules.meanings in
-    let trim = trims s c.args.self.now c.renew.new.self c.change-size.new.self c.keep.new.self c.args.class c.args.key c.change-size.result
-    c.has_no_fault.ensures c.requires.ready c.renew.ensures c.change-size.ensures.edited c.change-size.ensures.common c.keep.ensures in
+    let trim = trims s c.args.self.now c.renew.new.self c.change-change.new.self c.keep.new.self c.args.class c.args.key c.change-change.result.front
+    c.has_no_fault.ensures c.requires.ready c.renew.ensures c.change-change.ensures.edited c.change-change.ensures.front c.keep.ensures in
     let starts = trimmed_starts s c.args.self.now c.keep.new.self c.has_no_fault.ensures c.requires.ready trim in
     (omega arith, (starts, (c.requires.ties, c.requires.hooks)))
 
 pub returns-clause-edited : goal.returns-clause-edited
 returns-clause-edited g c =
     let s = setting c.args.grammar.now (g.N.Names.catalogue c.args.names.now) g.R.Rules.meanings in
-    let trim = trims s c.args.self.now c.renew.new.self c.change-size.new.self c.keep.new.self c.args.class c.args.key c.change-size.result
-    c.has_no_fault.ensures c.requires.ready c.renew.ensures c.change-size.ensures.edited c.change-size.ensures.common c.keep.ensures in
-    let done = takes s c.args.self.now c.renew.new.self c.change-size.new.self c.keep.new.self c.hold.new.self c.args.class c.args.key
-    c.change-size.result _ c.has_no_fault.ensures c.requires.ready c.requires.class c.renew.ensures c.change-size.ensures.edited
+    let trim = trims s c.args.self.now c.renew.new.self c.change-change.new.self c.keep.new.self c.args.class c.args.key c.change-change.result.front
+    c.has_no_fault.ensures c.requires.ready c.renew.ensures c.change-change.ensures.edited c.change-change.ensures.front c.keep.ensures in
+    let done = takes s c.args.self.now c.renew.new.self c.change-change.new.self c.keep.new.self c.hold.new.self c.args.class c.args.key
+    c.change-change.result.front _ c.has_no_fault.ensures c.requires.ready c.requires.class c.renew.ensures c.change-change.ensures.edited
     c.keep.ensures trim c.hold.ensures.kept c.hold.ensures.same c.hold.ensures.parse refl in
     done.edited
 
 pub returns-clause-parse : goal.returns-clause-parse
 returns-clause-parse g c =
     let s = setting c.args.grammar.now (g.N.Names.catalogue c.args.names.now) g.R.Rules.meanings in
-    let trim = trims s c.args.self.now c.renew.new.self c.change-size.new.self c.keep.new.self c.args.class c.args.key c.change-size.result
-    c.has_no_fault.ensures c.requires.ready c.renew.ensures c.change-size.ensures.edited c.change-size.ensures.common c.keep.ensures in
-    let done = takes s c.args.self.now c.renew.new.self c.change-size.new.self c.keep.new.self c.hold.new.self c.args.class c.args.key
-    c.change-size.result _ c.has_no_fault.ensures c.requires.ready c.requires.class c.renew.ensures c.change-size.ensures.edited
+    let trim = trims s c.args.self.now c.renew.new.self c.change-change.new.self c.keep.new.self c.args.class c.args.key c.change-change.result.front
+    c.has_no_fault.ensures c.requires.ready c.renew.ensures c.change-change.ensures.edited c.change-change.ensures.front c.keep.ensures in
+    let done = takes s c.args.self.now c.renew.new.self c.change-change.new.self c.keep.new.self c.hold.new.self c.args.class c.args.key
+    c.change-change.result.front _ c.has_no_fault.ensures c.requires.ready c.requires.class c.renew.ensures c.change-change.ensures.edited
     c.keep.ensures trim c.hold.ensures.kept c.hold.ensures.same c.hold.ensures.parse refl in
     done.stands.parse
 
 pub returns-clause-ready : goal.returns-clause-ready
 returns-clause-ready g c =
     let s = setting c.args.grammar.now (g.N.Names.catalogue c.args.names.now) g.R.Rules.meanings in
-    let trim = trims s c.args.self.now c.renew.new.self c.change-size.new.self c.keep.new.self c.args.class c.args.key c.change-size.result
-    c.has_no_fault.ensures c.requires.ready c.renew.ensures c.change-size.ensures.edited c.change-size.ensures.common c.keep.ensures in
-    let done = takes s c.args.self.now c.renew.new.self c.change-size.new.self c.keep.new.self c.hold.new.self c.args.class c.args.key
-    c.change-size.result _ c.has_no_fault.ensures c.requires.ready c.requires.class c.renew.ensures c.change-size.ensures.edited
+    let trim = trims s c.args.self.now c.renew.new.self c.change-change.new.self c.keep.new.self c.args.class c.args.key c.change-change.result.front
+    c.has_no_fault.ensures c.requires.ready c.renew.ensures c.change-change.ensures.edited c.change-change.ensures.front c.keep.ensures in
+    let done = takes s c.args.self.now c.renew.new.self c.change-change.new.self c.keep.new.self c.hold.new.self c.args.class c.args.key
+    c.change-change.result.front _ c.has_no_fault.ensures c.requires.ready c.requires.class c.renew.ensures c.change-change.ensures.edited
     c.keep.ensures trim c.hold.ensures.kept c.hold.ensures.same c.hold.ensures.parse refl in
     done.stands.ready
 
 pub returns-clause-keeps : goal.returns-clause-keeps
 returns-clause-keeps g c =
     let s = setting c.args.grammar.now (g.N.Names.catalogue c.args.names.now) g.R.Rules.meanings in
-    let trim = trims s c.args.self.now c.renew.new.self c.change-size.new.self c.keep.new.self c.args.class c.args.key c.change-size.result
-    c.has_no_fault.ensures c.requires.ready c.renew.ensures c.change-size.ensures.edited c.change-size.ensures.common c.keep.ensures in
-    let done = takes s c.args.self.now c.renew.new.self c.change-size.new.self c.keep.new.self c.hold.new.self c.args.class c.args.key
-    c.change-size.result _ c.has_no_fault.ensures c.requires.ready c.requires.class c.renew.ensures c.change-size.ensures.edited
+    let trim = trims s c.args.self.now c.renew.new.self c.change-change.new.self c.keep.new.self c.args.class c.args.key c.change-change.result.front
+    c.has_no_fault.ensures c.requires.ready c.renew.ensures c.change-change.ensures.edited c.change-change.ensures.front c.keep.ensures in
+    let done = takes s c.args.self.now c.renew.new.self c.change-change.new.self c.keep.new.self c.hold.new.self c.args.class c.args.key
+    c.change-change.result.front _ c.has_no_fault.ensures c.requires.ready c.requires.class c.renew.ensures c.change-change.ensures.edited
     c.keep.ensures trim c.hold.ensures.kept c.hold.ensures.same c.hold.ensures.parse refl in
     done.keeps
 
 pub returns-clause-steps : goal.returns-clause-steps
 returns-clause-steps g c =
     let s = setting c.args.grammar.now (g.N.Names.catalogue c.args.names.now) g.R.Rules.meanings in
-    let trim = trims s c.args.self.now c.renew.new.self c.change-size.new.self c.keep.new.self c.args.class c.args.key c.change-size.result
-    c.has_no_fault.ensures c.requires.ready c.renew.ensures c.change-size.ensures.edited c.change-size.ensures.common c.keep.ensures in
-    let done = takes s c.args.self.now c.renew.new.self c.change-size.new.self c.keep.new.self c.hold.new.self c.args.class c.args.key
-    c.change-size.result _ c.has_no_fault.ensures c.requires.ready c.requires.class c.renew.ensures c.change-size.ensures.edited
+    let trim = trims s c.args.self.now c.renew.new.self c.change-change.new.self c.keep.new.self c.args.class c.args.key c.change-change.result.front
+    c.has_no_fault.ensures c.requires.ready c.renew.ensures c.change-change.ensures.edited c.change-change.ensures.front c.keep.ensures in
+    let done = takes s c.args.self.now c.renew.new.self c.change-change.new.self c.keep.new.self c.hold.new.self c.args.class c.args.key
+    c.change-change.result.front _ c.has_no_fault.ensures c.requires.ready c.requires.class c.renew.ensures c.change-change.ensures.edited
     c.keep.ensures trim c.hold.ensures.kept c.hold.ensures.same c.hold.ensures.parse refl in
     c.hold.ensures.steps ∙ ap (λ (spent : ℕ). c.args.steps.now + spent) done.cost
+
+pub returns-clause-bell : goal.returns-clause-bell
+returns-clause-bell g c =
+    let s = setting c.args.grammar.now (g.N.Names.catalogue c.args.names.now) g.R.Rules.meanings in
+    c.change-change.ensures.bell
+    ∙ ap (λ (put : Insertion). put.bell) (met_completion s c.args.self.now c.renew.new.self c.args.class c.has_no_fault.ensures c.requires.ready c.renew.ensures)

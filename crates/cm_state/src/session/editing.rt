@@ -1,0 +1,170 @@
+// What a key makes of the line of a session.
+ghost use Rattle.std.specs.Prelude.{◌≡◌, ◌≤◌, true, false, [], ◌++◌, length, None, if◌then◌else◌};
+ghost use Rattle.cm_text.specs.Bytes.{is_text};
+ghost use Rattle.cm_hooks.specs.Ties.{Ties, count};
+ghost use Rattle.cm_blocks.specs.Grammar.{hook_count};
+ghost use Rattle.cm_blocks.specs.Kept.{common};
+ghost use Rattle.cm_blocks.specs.Parse.{open_at};
+ghost use Rattle.cm_blocks.specs.Setting.{setting};
+ghost use Rattle.cm_recognise.specs.Insertion.{insertion};
+ghost use Rattle.cm_state.specs.Edit.{completion, edit, is_end};
+ghost use Rattle.cm_state.specs.Front.{front};
+ghost use Rattle.cm_state.specs.Held.{met_line, text_of};
+
+use crate::Session;
+use crate::held::{common, open_at};
+use cm_blocks::Grammar;
+use cm_files::Names;
+use cm_hooks::{Hooks, Rules};
+use cm_line::KeyClass;
+use cm_recognise::{Mode, complete};
+
+// What a key has made of a line.
+#[derive(Clone, Copy)]
+pub(crate) struct Change {
+    // How many bytes the line before it and the text behind it begin with alike.
+    pub(crate) front: usize,
+    // Whether a key that completes rings.
+    pub(crate) rings: bool,
+}
+
+impl<R: Rules> Session<R> {
+    // A key behind a finished text meets an empty line, of which nothing is known.
+    pub(crate) fn renew(&mut self)
+        ensures { self.new ≡ record self.old {
+          line = met_line self.old;
+          is_finished = false;
+          fields = if self.old.is_finished then [] else self.old.fields;
+          ending = if self.old.is_finished then open_at self.old.node 0 else self.old.ending;
+        } }
+    {
+        if self.is_finished {
+            self.is_finished = false;
+            self.line.cut(0);
+            self.fields.clear();
+            self.ending = open_at(self.node);
+        }
+    }
+
+    // Edits the line by a key.
+    pub(crate) fn change<N: Names>(
+        &mut self,
+        class: KeyClass,
+        key: u8,
+        grammar: &Grammar,
+        names: &N,
+        hooks: &Hooks<R>,
+    ) -> Change
+        requires open { self.old.is_finished ≡ false }
+        requires text { class ≡ KeyClass.Text → is_text key ≡ true }
+        requires ties { Ties R.meanings hooks.now }
+        requires hooks { hook_count grammar.now ≤ count hooks.now }
+        ensures edited { self.new ≡ record self.old {
+          line = edit class key self.old.line self.old.kept
+              (completion (setting grammar.now (N.catalogue names.now) R.meanings)
+              class self.old.ending self.old.line).bytes;
+          is_finished = is_end class;
+          kept = None;
+        } }
+        ensures front { result.front ≡ common self.old.line (text_of self.new) }
+        ensures bell { result.rings ≡ (completion (setting grammar.now (N.catalogue names.now) R.meanings)
+            class self.old.ending self.old.line).bell }
+    {
+        match class {
+            KeyClass::Escape => self.insert(Mode::Escape, grammar, names, hooks),
+            KeyClass::Part => self.insert(Mode::Part, grammar, names, hooks),
+            _ => Change {
+                front: self.edit_common(class, key),
+                rings: false,
+            },
+        }
+    }
+
+    // Puts in what completes the line.
+    fn insert<N: Names>(
+        &mut self,
+        mode: Mode,
+        grammar: &Grammar,
+        names: &N,
+        hooks: &Hooks<R>,
+    ) -> Change
+        requires open { self.old.is_finished ≡ false }
+        requires ties { Ties R.meanings hooks.now }
+        requires hooks { hook_count grammar.now ≤ count hooks.now }
+        ensures inserted { self.new ≡ record self.old {
+          line = self.old.line ++ (insertion (setting grammar.now (N.catalogue names.now) R.meanings)
+              self.old.ending self.old.line mode).bytes;
+          kept = None;
+        } }
+        ensures front { result.front ≡ common self.old.line self.new.line }
+        ensures bell { result.rings ≡ (insertion (setting grammar.now (N.catalogue names.now) R.meanings)
+            self.old.ending self.old.line mode).bell }
+    {
+        let front = self.line.bytes().len();
+        let insertion = complete(grammar, self.ending, self.line.bytes(), names, hooks, mode);
+        self.line.append(insertion.bytes.as_slice());
+        self.kept = None;
+        Change {
+            front,
+            rings: insertion.bell,
+        }
+    }
+
+    // Edits the line by a key that completes nothing. The answer is how many bytes the line before it and the text
+    // behind it begin with alike.
+    #[tactic(auto, using(crate::proofs::Fronts::front_stays))]
+    fn edit_common(&mut self, class: KeyClass, key: u8) -> usize
+        requires open { self.old.is_finished ≡ false }
+        requires text { class ≡ KeyClass.Text → is_text key ≡ true }
+        ensures edited { self.new ≡ record self.old {
+          line = edit class key self.old.line self.old.kept [];
+          is_finished = is_end class;
+          kept = None;
+        } }
+        ensures common { result ≡ common self.old.line (text_of self.new) }
+    {
+        let front = self.front(class);
+        self.edit(class, key);
+        front.min(self.line.bytes().len())
+    }
+
+    // The most bytes at the front of the line that a key of this class leaves.
+    fn front(&self, class: KeyClass) -> usize
+        ensures { result ≡ front class self.now.line self.now.kept }
+    {
+        match (class, &self.kept) {
+            (KeyClass::Back, Some(kept)) => common(self.line.bytes(), kept.bytes()),
+            _ => self.line.bytes().len(),
+        }
+    }
+
+    // The line after a key that completes nothing, finished where the key is an end.
+    fn edit(&mut self, class: KeyClass, key: u8)
+        requires open { self.old.is_finished ≡ false }
+        requires text { class ≡ KeyClass.Text → is_text key ≡ true }
+        ensures { self.new ≡ record self.old {
+          line = edit class key self.old.line self.old.kept [];
+          is_finished = is_end class;
+          kept = None;
+        } }
+    {
+        match class {
+            KeyClass::Text => {
+                self.line.push(key);
+            }
+            KeyClass::Rub => {
+                self.line.pop();
+            }
+            KeyClass::Word => self.line.cut(self.line.word_start()),
+            KeyClass::Erase | KeyClass::Stop => self.line.cut(0),
+            KeyClass::Back => {
+                if let Some(kept) = self.kept.take() {
+                    self.line = kept;
+                }
+            }
+            KeyClass::End => self.is_finished = true,
+            _ => {}
+        }
+        self.kept = None;
+    }
+}
