@@ -7,9 +7,8 @@ use Rattle.std.proofs.lemmas.Bool.{and_parts, or_parts}
 use Rattle.std.proofs.lemmas.Bool.Decides.{nat_tests}
 use Rattle.std.proofs.lemmas.List.{drop-append-le, map-append, take-append-le, take_all}
 use Rattle.std.proofs.lemmas.List.Folds.{list_all-append, prefix_len-append}
-use Rattle.std.proofs.lemmas.Slice.Eq.{bytes_eq-Decides}
 use Rattle.std.proofs.Math.Seq.{take-append_seam}
-use Rattle.cm_text.specs.BeginLaws.{begins-le, begins_whole, length-whole, lower}
+use Rattle.cm_text.specs.BeginLaws.{begins-le, begins_same, begins_whole, length-whole, lower, same_begins}
 use Rattle.cm_text.specs.Case.{begins_with, equals}
 use Rattle.cm_fields.specs.declared.code.Code.TheVariants.{BadNoise}
 use Rattle.cm_fields.specs.declared.trial.Try.{Try}
@@ -23,14 +22,6 @@ use Rattle.cm_recognise.specs.declared.outcome.Outcome.{Outcome}
 use Rattle.cm_recognise.specs.declared.outcome.Outcome.TheVariants.{Nothing, Whole}
 use Rattle.cm_recognise.specs.Outcome.{guide, missing, phrase_outcome}
 use Rattle.cm_recognise.proofs.Spans.{all_of_run, run_append, run_of_all, slice_get_seam}
-
-begins_same : (text other : List ℕ) → begins_with text other ≡ true → lower (take (length other) text) ≡ lower other
-unfolding begins_with equals
-begins_same text other begins = (bytes_eq-Decides _ _).0 begins
-
-same_begins : (text other : List ℕ) → lower (take (length other) text) ≡ lower other → begins_with text other ≡ true
-unfolding begins_with equals
-same_begins text other same = (bytes_eq-Decides _ _).1 same
 
 -- what a phrase that begins with the atom is completed by
 pub record Begins (text atom bytes : List ℕ) : Type 0 where
