@@ -8,7 +8,7 @@ ghost use Rattle.cm_blocks.specs.Well.{IsWell, IsWellBlock};
 ghost use Rattle.cm_recognise.specs.Insertion.{asked, at_block, behind, default_put, first_put, fitted, guide_behind, insertion, put_in, rung};
 ghost use Rattle.cm_recognise.specs.Outcome.{IsShort};
 
-use crate::outcome::{Outcome, guide, outcome_of};
+use crate::outcome::{Outcome, TAIL_LIMIT, guide, outcome_of};
 use crate::Bytes;
 use cm_blocks::{Block, Ending, Function, Grammar, Node, Open};
 use cm_files::Names;
@@ -62,7 +62,7 @@ fn fitted(size: usize, put: Option<Insertion>) -> Insertion
 
 // Appends the guide word that a block reads, and a space.
 fn append_guide(function: &Function, bytes: &mut Bytes)
-    requires { length bytes.old ≤ 42 }
+    requires { length bytes.old ≤ TAIL_LIMIT + 1 }
     ensures { bytes.new ≡ bytes.old ++ guide_behind function.now }
 {
     if let Function::Noise(text) = function {
@@ -73,7 +73,7 @@ fn append_guide(function: &Function, bytes: &mut Bytes)
 
 // Appends what stands behind a field that is whole.
 fn append_behind(grammar: &Grammar, next: u16, bytes: &mut Bytes)
-    requires { length bytes.old ≤ 41 }
+    requires { length bytes.old ≤ TAIL_LIMIT }
     ensures { bytes.new ≡ bytes.old ++ behind grammar.now next }
 {
     bytes.append(b" ");
@@ -86,7 +86,7 @@ fn append_behind(grammar: &Grammar, next: u16, bytes: &mut Bytes)
 
 // What one outcome puts in.
 fn put_in(grammar: &Grammar, outcome: Outcome) -> Option<Insertion>
-    requires { IsShort 41 outcome }
+    requires { IsShort TAIL_LIMIT outcome }
     ensures { result ≡ put_in grammar.now outcome }
 {
     match outcome {
