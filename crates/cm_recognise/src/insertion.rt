@@ -8,8 +8,8 @@ ghost use Rattle.cm_blocks.specs.Well.{IsWell, IsWellBlock};
 ghost use Rattle.cm_recognise.specs.Insertion.{asked, at_block, behind, default_put, first_put, fitted, guide_behind, insertion, put_in, rung};
 ghost use Rattle.cm_recognise.specs.Outcome.{IsShort};
 
-use crate::outcome::{Outcome, TAIL_LIMIT, guide, outcome_of};
 use crate::Bytes;
+use crate::outcome::{Outcome, TAIL_LIMIT, guide, outcome_of};
 use cm_blocks::{Block, Ending, Function, Grammar, Node, Open};
 use cm_files::Names;
 use cm_hooks::{Hooks, Rules};
@@ -202,7 +202,16 @@ fn at_block<N: Names, R: Rules>(
         return None;
     }
     let node = grammar.node(place.node);
-    asked(grammar, node, block, line, usize::from(place.at), names, hooks, mode)
+    asked(
+        grammar,
+        node,
+        block,
+        line,
+        usize::from(place.at),
+        names,
+        hooks,
+        mode,
+    )
 }
 
 // What is put into a line whose parse ends so.
@@ -222,7 +231,10 @@ fn inserted<N: Names, R: Rules>(
 {
     match ending {
         Ending::Open(place) if line.len() < LINE_LIMIT && usize::from(place.at) <= line.len() => {
-            fitted(line.len(), at_block(grammar, place, line, names, hooks, mode))
+            fitted(
+                line.len(),
+                at_block(grammar, place, line, names, hooks, mode),
+            )
         }
         _ => rung(),
     }

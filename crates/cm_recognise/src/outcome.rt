@@ -18,7 +18,7 @@ use cm_fields::Try;
 use cm_files::Names;
 use cm_hooks::{Hooks, Rules, Tail};
 use cm_tables::{Look, Table};
-use cm_text::{LINE_LIMIT, TEXT_LIMIT, Name, begins_with};
+use cm_text::{LINE_LIMIT, Name, TEXT_LIMIT, begins_with};
 
 // The most bytes with which a field goes on: a guide word of 39 bytes in parentheses.
 pub(crate) const TAIL_LIMIT: usize = 41;
@@ -192,7 +192,13 @@ fn token_outcome(text: &[u8], next: u16, atom: &[u8]) -> Outcome
 }
 
 // What the hook of this id says of what is typed.
-fn hook_outcome<R: Rules>(hooks: &Hooks<R>, id: u8, next: u16, atom: &[u8], plain: Outcome) -> Outcome
+fn hook_outcome<R: Rules>(
+    hooks: &Hooks<R>,
+    id: u8,
+    next: u16,
+    atom: &[u8],
+    plain: Outcome,
+) -> Outcome
     requires ties { Ties R.meanings hooks.now }
     requires id { id < count hooks.now }
     requires atom { length atom.now ≤ LINE_LIMIT }
