@@ -80,8 +80,8 @@ walk_goes s rest more at number looked code (first ∷ blocks) zero block found 
     takes value seen end accepts = (
       max looked seen,
       ap (λ (first : Block). walk s (rest ++ more) at number looked code (first ∷ blocks)) same
-      ∙ walk_step s (rest ++ more) at number looked code block blocks (Accept value seen end) accepts
-      ∙ ap (λ (b : ℕ). Takes b block.role (next_of s.graph block value) value (max looked seen) end) here,
+          ∙ walk_step s (rest ++ more) at number looked code block blocks (Accept value seen end) accepts
+          ∙ ap (λ (b : ℕ). Takes b block.role (next_of s.graph block value) value (max looked seen) end) here,
     )
 
     by : (answer : Try) → trial s block.function rest at ≡ answer
@@ -123,7 +123,7 @@ walk_goes s rest more at number looked code (first ∷ blocks) (suc place) block
               let taken = goes.takes value looked_at end accepts in (
                 taken.0,
                 walk_step s (rest ++ more) at number looked code first blocks (Refuse refusal seen) stays ∙ taken.1
-                ∙ ap (λ (b : ℕ). Takes b block.role (next_of s.graph block value) value taken.0 end) here,
+                    ∙ ap (λ (b : ℕ). Takes b block.role (next_of s.graph block value) value taken.0 end) here,
               );
         }
 

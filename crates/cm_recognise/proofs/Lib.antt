@@ -3,6 +3,7 @@ pub mod Guides
 pub mod Keywords
 pub mod Lines
 pub mod Plains
+pub mod Putting
 pub mod Spans
 pub mod Taking
 pub mod Texts

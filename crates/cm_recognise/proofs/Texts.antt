@@ -38,7 +38,7 @@ text_take zero text all = tt
 text_take (suc size) [] all = tt
 text_take (suc size) (byte ∷ text) all = (all.0, text_take size text all.1)
 
-text_of_all : (p : ℕ → Bool) → ((byte : ℕ) → p byte ≡ true → is_text byte ≡ true) → (text : List ℕ)
+pub text_of_all : (p : ℕ → Bool) → ((byte : ℕ) → p byte ≡ true → is_text byte ≡ true) → (text : List ℕ)
     → list_all p text ≡ true → AreText text
 text_of_all p one [] all = tt
 text_of_all p one (byte ∷ text) all =

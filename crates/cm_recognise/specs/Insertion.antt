@@ -71,7 +71,7 @@ fitted size (Some insertion) = if nat_le (size + length insertion.bytes) LINE_LI
 
 -- at this place of the line the blocks of a node wait from this one on
 abbrev pub at_block : Setting → Mode → List ℕ → ℕ → Option ℕ → Option Node → Option Insertion
-at_block s mode line at None node = None
+at_block s mode line at None found = None
 at_block s mode line at (Some block) None = None
 at_block s mode line at (Some block) (Some node) = asked s mode node block (drop at line) at
 

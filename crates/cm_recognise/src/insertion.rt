@@ -8,8 +8,8 @@ ghost use Rattle.cm_blocks.specs.Well.{IsWell, IsWellBlock};
 ghost use Rattle.cm_recognise.specs.Insertion.{asked, at_block, behind, default_put, first_put, fitted, guide_behind, insertion, put_in, rung};
 ghost use Rattle.cm_recognise.specs.Outcome.{IsShort};
 
-use crate::outcome::{Outcome, guide, outcome_of};
 use crate::Bytes;
+use crate::outcome::{Outcome, TAIL_LIMIT, guide, outcome_of};
 use cm_blocks::{Block, Ending, Function, Grammar, Node, Open};
 use cm_files::Names;
 use cm_hooks::{Hooks, Rules};
@@ -62,7 +62,7 @@ fn fitted(size: usize, put: Option<Insertion>) -> Insertion
 
 // Appends the guide word that a block reads, and a space.
 fn append_guide(function: &Function, bytes: &mut Bytes)
-    requires { length bytes.old ≤ 42 }
+    requires { length bytes.old ≤ TAIL_LIMIT + 1 }
     ensures { bytes.new ≡ bytes.old ++ guide_behind function.now }
 {
     if let Function::Noise(text) = function {
@@ -73,7 +73,7 @@ fn append_guide(function: &Function, bytes: &mut Bytes)
 
 // Appends what stands behind a field that is whole.
 fn append_behind(grammar: &Grammar, next: u16, bytes: &mut Bytes)
-    requires { length bytes.old ≤ 41 }
+    requires { length bytes.old ≤ TAIL_LIMIT }
     ensures { bytes.new ≡ bytes.old ++ behind grammar.now next }
 {
     bytes.append(b" ");
@@ -86,7 +86,7 @@ fn append_behind(grammar: &Grammar, next: u16, bytes: &mut Bytes)
 
 // What one outcome puts in.
 fn put_in(grammar: &Grammar, outcome: Outcome) -> Option<Insertion>
-    requires { IsShort 41 outcome }
+    requires { IsShort TAIL_LIMIT outcome }
     ensures { result ≡ put_in grammar.now outcome }
 {
     match outcome {
@@ -202,7 +202,16 @@ fn at_block<N: Names, R: Rules>(
         return None;
     }
     let node = grammar.node(place.node);
-    asked(grammar, node, block, line, usize::from(place.at), names, hooks, mode)
+    asked(
+        grammar,
+        node,
+        block,
+        line,
+        usize::from(place.at),
+        names,
+        hooks,
+        mode,
+    )
 }
 
 // What is put into a line whose parse ends so.
@@ -222,7 +231,10 @@ fn inserted<N: Names, R: Rules>(
 {
     match ending {
         Ending::Open(place) if line.len() < LINE_LIMIT && usize::from(place.at) <= line.len() => {
-            fitted(line.len(), at_block(grammar, place, line, names, hooks, mode))
+            fitted(
+                line.len(),
+                at_block(grammar, place, line, names, hooks, mode),
+            )
         }
         _ => rung(),
     }

@@ -8,7 +8,7 @@ mod outcome;
 
 pub use bytes::Bytes;
 pub use insertion::{Insertion, Mode, complete};
-pub use outcome::{Outcome, outcome_of};
+pub use outcome::Outcome;
 
 #[cfg(test)]
 mod tests;

@@ -1,5 +1,5 @@
 // How a field goes on that a block has begun to read.
-ghost use Rattle.std.specs.Prelude.{◌≡◌, ◌≤◌, ◌<◌, ◌+◌, ◌&&◌, [], ◌∷◌, ◌++◌, if◌then◌else◌, drop, length, true};
+ghost use Rattle.std.specs.Prelude.{◌≡◌, ◌≤◌, ◌<◌, ◌+◌, ◌==◌, ◌&&◌, [], ◌∷◌, ◌++◌, if◌then◌else◌, drop, length, true};
 ghost use Rattle.cm_hooks.specs.Ties.{Ties, count};
 ghost use Rattle.cm_tables.specs.Common.{common};
 ghost use Rattle.cm_tables.specs.Look.{has_text, look};
@@ -18,10 +18,10 @@ use cm_fields::Try;
 use cm_files::Names;
 use cm_hooks::{Hooks, Rules, Tail};
 use cm_tables::{Look, Table};
-use cm_text::{LINE_LIMIT, TEXT_LIMIT, Name, begins_with};
+use cm_text::{LINE_LIMIT, Name, TEXT_LIMIT, begins_with};
 
 // The most bytes with which a field goes on: a guide word of 39 bytes in parentheses.
-const TAIL_LIMIT: usize = 41;
+pub(crate) const TAIL_LIMIT: usize = 41;
 
 /// How a field goes on of which the beginning is typed (COMND's recognition).
 #[derive(Debug, Drop)]
@@ -179,9 +179,50 @@ fn plain_outcome<N: Names, R: Rules>(
     }
 }
 
-/// How the field of a block goes on of which the rest of the line from a place on is typed.
+// The rest of a token of which something is typed.
+fn token_outcome(text: &[u8], next: u16, atom: &[u8]) -> Outcome
+    requires { length text.now ≤ TAIL_LIMIT }
+    ensures value { result ≡ (if length atom.now == 0 then Outcome.Nothing else phrase_outcome text.now next atom.now) }
+    ensures short { IsShort TAIL_LIMIT result }
+{
+    if atom.is_empty() {
+        return Outcome::Nothing;
+    }
+    phrase_outcome(text, next, atom)
+}
+
+// What the hook of this id says of what is typed.
+fn hook_outcome<R: Rules>(
+    hooks: &Hooks<R>,
+    id: u8,
+    next: u16,
+    atom: &[u8],
+    plain: Outcome,
+) -> Outcome
+    requires ties { Ties R.meanings hooks.now }
+    requires id { id < count hooks.now }
+    requires atom { length atom.now ≤ LINE_LIMIT }
+    requires plain { IsShort TAIL_LIMIT plain }
+    ensures value { result ≡ (if length atom.now == 0 then Outcome.Nothing
+        else hook_outcome next plain (R.meanings.completion id atom.now)) }
+    ensures short { IsShort TAIL_LIMIT result }
+{
+    if atom.is_empty() {
+        return Outcome::Nothing;
+    }
+    match hooks.complete(id, atom) {
+        Tail::None => plain,
+        Tail::Part(text) => Outcome::Part(copied(text.as_bytes())),
+        Tail::Whole(text) => Outcome::Whole {
+            bytes: copied(text.as_bytes()),
+            next,
+        },
+    }
+}
+
+// How the field of a block goes on of which the line from a place on is typed.
 #[tactic(auto, unfolding(crate::specs::Outcome::outcome))]
-pub fn outcome_of<N: Names, R: Rules>(
+pub(crate) fn outcome_of<N: Names, R: Rules>(
     grammar: &Grammar,
     block: &Block,
     line: &[u8],
@@ -199,34 +240,16 @@ pub fn outcome_of<N: Names, R: Rules>(
     ensures short { IsShort TAIL_LIMIT result }
 {
     let atom = &line[at..];
+    let next = block.next;
     match &block.function {
         Function::Key(table) => keyword_outcome(false, grammar.table(*table), atom),
         Function::Switch(table) => switch_outcome(grammar.table(*table), atom),
-        Function::Noise(text) => phrase_outcome(guide(text).as_slice(), block.next, atom),
-        Function::Token(text) => {
-            if atom.is_empty() {
-                return Outcome::Nothing;
-            }
-            phrase_outcome(text.as_bytes(), block.next, atom)
-        }
+        Function::Noise(text) => phrase_outcome(guide(text).as_slice(), next, atom),
+        Function::Token(text) => token_outcome(text.as_bytes(), next, atom),
         Function::Hook(id) => {
-            if atom.is_empty() {
-                return Outcome::Nothing;
-            }
-            match hooks.complete(*id, atom) {
-                Tail::None => plain_outcome(grammar, block, line, at, names, hooks),
-                Tail::Part(text) => Outcome::Part(copied(text.as_bytes())),
-                Tail::Whole(text) => Outcome::Whole {
-                    bytes: copied(text.as_bytes()),
-                    next: block.next,
-                },
-            }
+            let plain = plain_outcome(grammar, block, line, at, names, hooks);
+            hook_outcome(hooks, *id, next, atom, plain)
         }
-        Function::Number => plain_outcome(grammar, block, line, at, names, hooks),
-        Function::Word => plain_outcome(grammar, block, line, at, names, hooks),
-        Function::Quoted => plain_outcome(grammar, block, line, at, names, hooks),
-        Function::Text => plain_outcome(grammar, block, line, at, names, hooks),
-        Function::Comma => plain_outcome(grammar, block, line, at, names, hooks),
-        Function::Confirm => plain_outcome(grammar, block, line, at, names, hooks),
+        _ => plain_outcome(grammar, block, line, at, names, hooks),
     }
 }
