@@ -15,7 +15,7 @@ use Rattle.ex_program.specs.declared.status.Status.{Status}
 use Rattle.ex_program.specs.declared.status.Status.TheVariants as status
 use Rattle.ex_program.specs.declared.stop.Stop.{Stop}
 use Rattle.ex_program.specs.declared.stop.Stop.TheVariants as stop
-use Rattle.ex_program.proofs.Trying.{tried_later, tried_since}
+use Rattle.ex_program.proofs.Trying.{tried_behind, tried_since}
 
 -- how a run closes, by whether LOGOUT ended it
 shown_ended : (world : World) (taken : List ℕ) → (world_after world taken).ended ≡ true → run_keys world taken ++ [] ≡ run_shown world taken
@@ -74,7 +74,7 @@ module _ (writes : Bool) (a b : Scene) (now : Told) (faults : ℕ) (result : Sta
       over = inl s.2;
       within = s.3;
       screen = subst (λ bytes. Tried a.screen now a.screen_faults faults bytes (message result)) (shown_ended w s.0 s.2.ended)
-          (tried_since a.screen b.screen now a.screen_faults b.screen_faults faults (run_keys w s.0) [] (message result) s.1.screen earlier closes.1);
+          (tried_since a.screen b.screen now a.screen_faults b.screen_faults faults (run_keys w s.0) [] (message result) s.1.screen (ap (λ (counts : Counts). counts.screen) cause) closes.1);
     };
   })
 
@@ -88,7 +88,7 @@ module _ (writes : Bool) (a b : Scene) (now : Told) (faults : ℕ) (result : Sta
       over = inr s.2;
       within = omega (arith, s.2.2);
       screen = subst (λ bytes. Tried a.screen now a.screen_faults faults bytes (message result)) (shown_going w s.0 s.2.0)
-          (tried_since a.screen b.screen now a.screen_faults b.screen_faults faults (run_keys w s.0) end_of_line (message result) s.1.screen earlier closes.1);
+          (tried_since a.screen b.screen now a.screen_faults b.screen_faults faults (run_keys w s.0) end_of_line (message result) s.1.screen (ap (λ (counts : Counts). counts.screen) cause) closes.1);
     };
   })
   keys_ended s cause (inr closes) = ran_or writes a final result status.WriteFault closes.0 (record {
@@ -113,7 +113,7 @@ module _ (writes : Bool) (a b : Scene) (now : Told) (faults : ℕ) (result : Sta
       as_taken = record { keys = s.1.as_taken.keys; log = s.1.as_taken.log; moments = s.1.as_taken.moments; steps = s.1.as_taken.steps };
       going = s.2;
       counted = s.3;
-      screen = tried_later a.screen b.screen now a.screen_faults b.screen_faults faults (run_keys (starting a.moments) s.0) (end_of_line ++ message result) s.1.screen earlier closes.1;
+      screen = tried_behind a.screen b.screen now a.screen_faults b.screen_faults faults (run_keys (starting a.moments) s.0) (end_of_line ++ message result) s.1.screen (ap (λ (counts : Counts). counts.screen) cause.1) closes.1;
     };
   })
 
@@ -126,7 +126,7 @@ module _ (writes : Bool) (a b : Scene) (now : Told) (faults : ℕ) (result : Sta
       as_taken = record { keys = s.1.as_taken.keys; log = s.1.as_taken.log; moments = s.1.as_taken.moments; steps = s.1.as_taken.steps };
       going = s.2;
       counted = s.3;
-      screen = tried_later a.screen b.screen now a.screen_faults b.screen_faults faults (run_keys (starting a.moments) s.0) (end_of_line ++ message result) s.1.screen earlier closes.1;
+      screen = tried_behind a.screen b.screen now a.screen_faults b.screen_faults faults (run_keys (starting a.moments) s.0) (end_of_line ++ message result) s.1.screen (ap (λ (counts : Counts). counts.screen) cause) closes.1;
     };
   })
 
@@ -154,7 +154,7 @@ module _ (writes : Bool) (a b : Scene) (now : Told) (faults : ℕ) (result : Sta
       record {
         at = record { before = s.0.before; key = s.0.key; keys = s.0.keys; going = s.0.going; below = s.0.below; steps = s.0.steps };
         cut = s.2;
-        screen = tried_later a.screen b.screen now a.screen_faults b.screen_faults faults _ (message result) s.1 earlier closes.1;
+        screen = tried_behind a.screen b.screen now a.screen_faults b.screen_faults faults _ (message result) s.1 (ap (λ (counts : Counts). counts.screen) cause.1) closes.1;
       },
     );
   })

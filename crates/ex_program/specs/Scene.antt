@@ -70,9 +70,9 @@ pub record AtKey (a b : Scene) : Type 0 where
   pub below : length before < KEY_LIMIT
   pub steps : Counted a b (before ++ key ∷ [])
 
--- behind these bytes stands the message, or a prefix of it where the screen failed there
+-- behind these bytes stands the message, and the count of faults stayed, or a prefix of it, and the count rose
 pub record Tried (before now : Told) (before_faults now_faults : ℕ) (bytes message : List ℕ) : Type 0 where
   pub part : List ℕ
   pub is_part : IsPart part message
   pub told : now ≡ add before (bytes ++ part)
-  pub whole : (part ≡ message) ⊎ Rose before_faults now_faults
+  pub whole : ((part ≡ message) × (now_faults ≡ before_faults)) ⊎ Rose before_faults now_faults

@@ -26,7 +26,7 @@ impl Model for Operator {
 impl Operator {
     /// With no file.
     #[tactic(auto, unfolding(crate::specs::Catalogue::operator_catalogue, cm_text::specs::Bytes::is_name, cm_text::specs::Bytes::is_word))]
-    pub fn new() -> Operator
+    pub(crate) fn new() -> Operator
         ensures { result ≡ operator_catalogue }
     {
         Operator { file: None }

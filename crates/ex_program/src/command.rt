@@ -34,7 +34,7 @@ pub enum Command {
 }
 
 /// What the line that a session holds commands, where it is confirmed.
-pub fn command_of(session: &Session<ExecRules>) -> Command
+pub(crate) fn command_of(session: &Session<ExecRules>) -> Command
     ensures { result ≡ command_of session.now.fields }
 {
     match field_of(session, Role::Verb) {
@@ -97,7 +97,7 @@ fn named(verb: u16, what: u16) -> Command
 }
 
 /// Shows the reply to a command.
-pub fn put_reply<S: Sink>(command: Command, screen: &mut S) -> Put
+pub(crate) fn put_reply<S: Sink>(command: Command, screen: &mut S) -> Put
     ensures bytes { Adds (S.told screen.old) (S.told screen.new) (reply command) result }
     ensures later { S.faults screen.old ≤ S.faults screen.new }
     ensures cause { PutCause (S.faults screen.old) (S.faults screen.new) result }

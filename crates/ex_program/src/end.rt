@@ -24,7 +24,7 @@ fn image() -> &'static [u8]
 }
 
 /// Writes the image to a file. Where the host fails, the file is absent, as before, or holds a prefix of it.
-pub fn save<H: Host>(out: &str, host: &mut H) -> Put
+pub(crate) fn save<H: Host>(out: &str, host: &mut H) -> Put
     ensures saved { IsTrue H.tells → Saves (H.files host.old out.now) (H.files host.new out.now) result }
     ensures others { IsTrue H.tells → KeepsOthers out.now (H.files host.old) (H.files host.new) }
     ensures later { H.faults host.old ≤ H.faults host.new }
@@ -42,7 +42,7 @@ pub fn save<H: Host>(out: &str, host: &mut H) -> Put
 }
 
 /// Shows the message of a status, where it has one. A screen that fails here changes nothing.
-pub fn show_message<S: Sink>(status: Status, screen: &mut S)
+pub(crate) fn show_message<S: Sink>(status: Status, screen: &mut S)
     ensures shown { Tried (S.told screen.old) (S.told screen.new)
         (S.faults screen.old) (S.faults screen.new) [] (message status) }
     ensures later { S.faults screen.old ≤ S.faults screen.new }
@@ -55,7 +55,7 @@ pub fn show_message<S: Sink>(status: Status, screen: &mut S)
 }
 
 /// Writes the image to a file. HostFault takes the place of the status where the host fails.
-pub fn keep<H: Host>(status: Status, out: &str, host: &mut H) -> Status
+pub(crate) fn keep<H: Host>(status: Status, out: &str, host: &mut H) -> Status
     requires { IsEnd status }
     ensures status { IsOr result status }
     ensures kept { IsTrue H.tells → Keeps (H.files host.old out.now) (H.files host.new out.now) result }
@@ -70,7 +70,12 @@ pub fn keep<H: Host>(status: Status, out: &str, host: &mut H) -> Status
 }
 
 /// Writes the image to a file, and shows the message of the status that it comes to.
-pub fn finish<H: Host, S: Sink>(status: Status, out: &str, host: &mut H, screen: &mut S) -> Status
+pub(crate) fn finish<H: Host, S: Sink>(
+    status: Status,
+    out: &str,
+    host: &mut H,
+    screen: &mut S,
+) -> Status
     requires { IsEnd status }
     ensures status { IsOr result status }
     ensures shown { Tried (S.told screen.old) (S.told screen.new)
@@ -90,7 +95,12 @@ pub fn finish<H: Host, S: Sink>(status: Status, out: &str, host: &mut H, screen:
 
 /// Ends the line that is open, writes the image to a file, and shows the message of the status that it
 /// comes to. A screen that fails is given no more.
-pub fn halt<H: Host, S: Sink>(status: Status, out: &str, host: &mut H, screen: &mut S) -> Status
+pub(crate) fn halt<H: Host, S: Sink>(
+    status: Status,
+    out: &str,
+    host: &mut H,
+    screen: &mut S,
+) -> Status
     requires { IsEnd status }
     ensures status { IsOr result status }
     ensures shown { Tried (S.told screen.old) (S.told screen.new)
@@ -109,7 +119,7 @@ pub fn halt<H: Host, S: Sink>(status: Status, out: &str, host: &mut H, screen: &
 }
 
 /// Ends a run that stopped so.
-pub fn close<H: Host, S: Sink>(stop: Stop, out: &str, host: &mut H, screen: &mut S) -> Status
+pub(crate) fn close<H: Host, S: Sink>(stop: Stop, out: &str, host: &mut H, screen: &mut S) -> Status
     ensures closes { Closes stop (S.told screen.old) (S.told screen.new)
         (S.faults screen.old) (S.faults screen.new) result }
     ensures later { S.faults screen.old ≤ S.faults screen.new }

@@ -101,6 +101,7 @@ fn refuse<S: Sink>(status: Status, screen: &mut S) -> Status
 ///
 /// `hooks` answer the EXEC's rules. `steps` counts the trials: a key costs those of its line behind the
 /// fields that the unchanged front of the line decides.
+#[tactic(auto, using(crate::proofs::ExecSetting::is_exec, crate::proofs::ExecSetting::enough_hooks))]
 pub fn exec20<H: Host, K: Source, S: Sink, W: Sink, C: Clock, L: Ledger>(
     alloc: Global,
     words: &Words,

@@ -21,7 +21,7 @@ pub const KEY_LIMIT: u32 = 16_777_216;
 
 /// Shows the first prompt and takes the keys in turn, until LOGOUT has acted, no key is left, as many are
 /// taken as a run takes, or the outside fails. Nothing is asked of the outside behind a call that failed.
-pub fn run<K: Source, S: Sink, W: Sink, C: Clock, L: Ledger>(
+pub(crate) fn run<K: Source, S: Sink, W: Sink, C: Clock, L: Ledger>(
     writes: bool,
     under: &Setting<'_>,
     keys: &mut K,

@@ -43,7 +43,7 @@ pub enum Step {
 
 /// Takes one key of a run that is not over: edits the line and shows the echo, logs the key, and only then
 /// does what the key came to. Only a confirmed line acts. The counter rises by what the key costs.
-pub fn take_key<S: Sink, W: Sink, C: Clock, L: Ledger>(
+pub(crate) fn take_key<S: Sink, W: Sink, C: Clock, L: Ledger>(
     writes: bool,
     key: u8,
     under: &Setting<'_>,
@@ -228,7 +228,7 @@ fn go_on<S: Sink>(command: Command, session: &mut Session<ExecRules>, screen: &m
 
 /// Begins the next line.
 #[tactic(auto, using(crate::proofs::ExecSetting::exec_has_no_fault, crate::proofs::ExecSetting::exec_has_commands))]
-pub fn next_line<S: Sink>(session: &mut Session<ExecRules>, screen: &mut S) -> Put
+pub(crate) fn next_line<S: Sink>(session: &mut Session<ExecRules>, screen: &mut S) -> Put
     ensures session { session.new ≡ at_start COMMANDS Prompt.Main session.old.kept }
     ensures ready { IsReady exec_setting session.new }
     ensures bytes { Adds (S.told screen.old) (S.told screen.new) (prompt_text Prompt.Main) result }

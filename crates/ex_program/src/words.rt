@@ -91,7 +91,7 @@ impl Words {
 
     /// What the words ask for. None where they ask for nothing that the program does.
     #[tactic(auto, unfolding(crate::specs::Form::form_of))]
-    pub fn form(&self) -> Option<Form<'_>>
+    pub(crate) fn form(&self) -> Option<Form<'_>>
         ensures { option_map (λ form. record { logs = form.logs; out = form.out.now }) result
             ≡ form_of self.now }
     {

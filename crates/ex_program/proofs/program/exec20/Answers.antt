@@ -2,14 +2,7 @@ use Rattle.std.proofs.Common.{◌≡◌, inl, subst}
 use Rattle.cm_io.specs.Told.{add}
 use Rattle.ex_program.specs.Run.{bytes_logged, starting}
 use Rattle.ex_program.proofs.Meaning.{a_form, done_counted, done_logged, done_shown, not_usage, one_form, quiet_done, quiet_limit}
-use Rattle.ex_program.proofs.ExecSetting.{enough_hooks, is_exec}
 use Rattle.ex_program.proofs.program.exec20.Goals as goal
-
-pub run_all-requires-clause-exec : goal.run_all-requires-clause-exec
-run_all-requires-clause-exec g c = is_exec c.in-Ok.grammar c.new.result c.in-Ok.ensures c.new.ensures
-
-pub run_all-requires-clause-hooks : goal.run_all-requires-clause-hooks
-run_all-requires-clause-hooks g c = enough_hooks c.in-Ok.grammar _ c.in-Ok.ensures c.requires.three
 
 pub returns-clause-done_shown : goal.returns-clause-done_shown
 returns-clause-done_shown g c = λ keys clock done. done_shown _ _ _ c.run_all.result (c.run_all.ensures.ran keys clock) done
