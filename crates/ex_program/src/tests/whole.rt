@@ -143,12 +143,7 @@ fn rings_where_nothing_is_certain(rt: HostRuntime) -> Result<(), Fail> {
         done(b"\x1b", b"@\x07\r\n", Log::Whole(b"1b 0 O\n"), 1),
         done(b"X\x1b", b"@X\x07\r\n", Log::Whole(b"58 1 O\n1b 1 O\n"), 1),
         // A part of a file name is what control-F completes, and no keyword has one.
-        done(
-            b"INF\x06",
-            b"@INF\x07\r\n",
-            Log::End(b"\n06 3 O\n"),
-            1,
-        ),
+        done(b"INF\x06", b"@INF\x07\r\n", Log::End(b"\n06 3 O\n"), 1),
     ];
     try_cases(&rt, &rt, &cases)
 }
@@ -171,7 +166,11 @@ fn far_out(blanks: usize) -> ArrayVec<u8, 256>
 fn puts_in_what_fits(rt: HostRuntime) -> Result<(), Fail> {
     let fits = outcome_of(&rt, &over(&far_out(235)))?;
     assert!(rt; fits.screen.bytes().ends_with(b" INFORMATION (ABOUT) \r\n"));
-    assert!(rt; fits.log.bytes().ends_with(b"\n1b 255 O 0.1k9@235-246 26.0n1@247-254\n"));
+    assert!(rt;
+        fits.log
+            .bytes()
+            .ends_with(b"\n1b 255 O 0.1k9@235-246 26.0n1@247-254\n")
+    );
     let too_long = outcome_of(&rt, &over(&far_out(236)))?;
     assert!(rt; too_long.screen.bytes().ends_with(b" INF\x07\r\n"));
     assert!(rt; too_long.log.bytes().ends_with(b"\n1b 239 O\n"));
