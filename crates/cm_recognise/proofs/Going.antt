@@ -1,5 +1,5 @@
 -- A line that waits at a block goes on with a field of it, where the function of the block takes what is put in.
-use Rattle.std.proofs.Common.{◌≡◌, ℕ, zero, suc, ◌+◌, ◌<◌, ◌≤◌, max, Bool, true, false, ◌==◌, if◌then◌else◌, List, [], ◌∷◌, ◌++◌, length, drop, Option, Some, None, slice_get, refl, ap, sym, subst, ◌∙◌, arith, length-drop}
+use Rattle.std.proofs.Common.{◌≡◌, ℕ, zero, suc, ◌+◌, ◌≤◌, max, Bool, true, false, if◌then◌else◌, List, [], ◌∷◌, ◌++◌, length, drop, Option, Some, None, slice_get, refl, ap, sym, subst, ◌∙◌, arith}
 use Rattle.std.proofs.lemmas.Bool.Decides.{nat_tests}
 use Rattle.std.proofs.lemmas.List.{drop-append-le}
 use Rattle.cm_text.specs.Bytes.{is_text}
@@ -20,9 +20,8 @@ use Rattle.cm_blocks.specs.declared.field.Chain.TheVariants as chain
 use Rattle.cm_blocks.specs.declared.field.Open.{Open}
 use Rattle.cm_blocks.specs.declared.node.Block.{Block}
 use Rattle.cm_blocks.specs.declared.node.Node.{Node}
-use Rattle.cm_blocks.specs.Chain.{Counted, at_node, by_default, chain_at, code_of, is_confirm, is_line_end, on_default, on_text, or_later, past_skip, typed, walk}
+use Rattle.cm_blocks.specs.Chain.{Counted, at_node, by_default, chain_at, code_of, is_confirm, is_line_end, on_text, or_later, past_skip, typed, walk}
 use Rattle.cm_blocks.specs.Setting.{Setting}
-use Rattle.cm_blocks.specs.Taken.{Taken}
 use Rattle.cm_blocks.specs.Trial.{looked_of, next_of, trial}
 use Rattle.cm_blocks.proofs.Keeping.{walk_step}
 use Rattle.cm_blocks.proofs.Trials.{trial_is_local}

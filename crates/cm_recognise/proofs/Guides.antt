@@ -1,12 +1,12 @@
 -- A guide word or a token that is completed is taken.
-use Rattle.std.proofs.Common.{◌≡◌, ◌≢◌, ℕ, zero, suc, ◌+◌, ◌-◌, ◌<◌, ◌≤◌, Bool, true, false, not, ◌==◌, ◌&&◌, ◌||◌, cond, if◌then◌else◌, List, [], ◌∷◌, ◌++◌, length, drop, take, map, Option, Some, slice_get, refl, ap, sym, subst, ◌∙◌, arith, length-append, length-drop, append_assoc}
+use Rattle.std.proofs.Common.{◌≡◌, ℕ, ◌+◌, ◌≤◌, Bool, true, false, not, ◌==◌, ◌&&◌, if◌then◌else◌, List, [], ◌∷◌, ◌++◌, length, drop, take, slice_get, refl, ap, sym, subst, ◌∙◌, arith, length-append, append_assoc}
 use Rattle.std.specs.Char.{to_ascii_lowercase}
 use Rattle.std.specs.List.{common_prefix_len, list_all, list_any, prefix_len}
 use Rattle.std.specs.Option.{option_map_or}
 use Rattle.std.proofs.lemmas.Bool.{and_parts, or_parts}
 use Rattle.std.proofs.lemmas.Bool.Decides.{nat_tests}
-use Rattle.std.proofs.lemmas.List.{drop-append-le, map-append, take-append-le, take_all}
-use Rattle.std.proofs.lemmas.List.Folds.{list_all-append, prefix_len-append}
+use Rattle.std.proofs.lemmas.List.{drop-append-le, take-append-le, take_all}
+use Rattle.std.proofs.lemmas.List.Folds.{prefix_len-append}
 use Rattle.std.proofs.Math.Seq.{take-append_seam}
 use Rattle.cm_text.specs.BeginLaws.{begins-le, begins_same, begins_whole, length-whole, lower, same_begins}
 use Rattle.cm_text.specs.Case.{begins_with, equals}
@@ -18,7 +18,6 @@ use Rattle.cm_fields.specs.Phrase.{is_inside, noise, same_letter, token, typed_n
 use Rattle.cm_fields.proofs.Holding.{by_test}
 use Rattle.cm_fields.proofs.Phrases.{token_whole}
 use Rattle.cm_blocks.specs.Fault.{is_parenthesis, is_shown_byte}
-use Rattle.cm_recognise.specs.declared.outcome.Outcome.{Outcome}
 use Rattle.cm_recognise.specs.declared.outcome.Outcome.TheVariants.{Nothing, Whole}
 use Rattle.cm_recognise.specs.Outcome.{guide, missing, phrase_outcome}
 use Rattle.cm_recognise.proofs.Spans.{all_of_run, run_append, run_of_all, slice_get_seam}

@@ -1,5 +1,5 @@
 -- A keyword or a switch that is completed is taken.
-use Rattle.std.proofs.Common.{◌≡◌, ◌≢◌, ℕ, zero, suc, ◌+◌, ◌<◌, ◌≤◌, Bool, true, false, ◌==◌, ◌&&◌, nat_lt, if◌then◌else◌, List, [], ◌∷◌, ◌++◌, length, drop, take, Option, Some, None, slice_get, Result, Ok, Err, refl, ap, sym, subst, ◌∙◌, arith, length-append, append_assoc}
+use Rattle.std.proofs.Common.{◌≡◌, ℕ, zero, suc, ◌+◌, ◌<◌, Bool, true, false, ◌==◌, ◌&&◌, nat_lt, if◌then◌else◌, List, [], ◌∷◌, ◌++◌, length, drop, take, Option, Some, None, slice_get, Result, Ok, Err, refl, ap, sym, subst, ◌∙◌, arith, length-append, append_assoc}
 use Rattle.std.specs.List.{list_all, prefix_len}
 use Rattle.std.specs.Option.{option_map_or}
 use Rattle.std.proofs.lemmas.Bool.{and_parts}
@@ -17,20 +17,16 @@ use Rattle.cm_tables.specs.Order.{is_keyword, is_keyword_byte, table_fault}
 use Rattle.cm_tables.proofs.FoundLemmas.{completed_is_exact, found_begins}
 use Rattle.cm_tables.proofs.WithinLemmas.{look-within}
 use Rattle.cm_fields.specs.declared.code.Code.{Code}
-use Rattle.cm_fields.specs.declared.code.Code.TheVariants.{NotKeyword, NeedColon, NotSwitch}
-use Rattle.cm_fields.specs.declared.trial.Try.{Try}
+use Rattle.cm_fields.specs.declared.code.Code.TheVariants.{NeedColon, NotSwitch}
 use Rattle.cm_fields.specs.declared.trial.Try.TheVariants.{Accept, Refuse, More}
-use Rattle.cm_fields.specs.declared.value.Value.{Value}
 use Rattle.cm_fields.specs.declared.value.Value.TheVariants.{Key, Switch}
 use Rattle.cm_fields.specs.Passed.{BeginsOther}
-use Rattle.cm_fields.proofs.Holding.{by_test}
-use Rattle.cm_blocks.specs.Keyword.{behind_slash, code_at, entry_position, has_colon, key, key_value, named_switch, position_of, switch}
+use Rattle.cm_blocks.specs.Keyword.{behind_slash, code_at, entry_position, has_colon, key, key_value, named_switch, switch}
 use Rattle.cm_blocks.specs.Trial.{entry_next}
-use Rattle.cm_recognise.specs.declared.outcome.Outcome.{Outcome}
-use Rattle.cm_recognise.specs.declared.outcome.Outcome.TheVariants.{Nothing, Part, Piece, Whole}
+use Rattle.cm_recognise.specs.declared.outcome.Outcome.TheVariants.{Nothing, Part, Whole}
 use Rattle.cm_recognise.specs.Outcome.{entry_outcome, keyword_outcome, missing, switch_outcome, text_at}
-use Rattle.cm_recognise.proofs.Plains.{run_wants, run_whole}
-use Rattle.cm_recognise.proofs.Spans.{run_append, run_of_all, slice_get_seam}
+use Rattle.cm_recognise.proofs.Plains.{run_wants, run_whole, space_no_word}
+use Rattle.cm_recognise.proofs.Spans.{run_append, run_of_all}
 use Rattle.cm_recognise.proofs.Texts.{AreKeywords, keywords_of}
 
 -- the entry whose rest these bytes are
@@ -101,10 +97,6 @@ keyword_at (first ∷ more) (suc position) entry all is = keyword_at more positi
 word_of_keyword : (byte : ℕ) → is_keyword_byte byte ≡ true → is_word byte ≡ true
 unfolding is_word
 word_of_keyword byte is = grind (arith, nat_tests)
-
-pub space_no_word : is_word 32 ≡ false
-unfolding is_word
-space_no_word = refl
 
 -- the whole keyword is a run that means its entry
 record IsEntry (table : List Entry) (whole : List ℕ) (position : ℕ) : Type 0 where

@@ -1,11 +1,11 @@
 -- With what is put into it a line is a line again.
-use Rattle.std.proofs.Common.{◌≡◌, ℕ, ◌+◌, ◌<◌, ◌≤◌, ◌==◌, ◌&&◌, Bool, true, false, not, nat_lt, nat_le, List, [], ◌∷◌, ◌++◌, length, drop, Option, Some, None, slice_get, get_or, refl, zero, suc, arith, length-append, length-drop}
+use Rattle.std.proofs.Common.{◌≡◌, ℕ, ◌+◌, ◌≤◌, ◌==◌, ◌&&◌, Bool, true, false, not, nat_lt, nat_le, List, [], ◌∷◌, ◌++◌, length, drop, Option, Some, None, slice_get, refl, suc, arith, length-append, length-drop}
 use Rattle.std.specs.List.{All, list_any}
 use Rattle.std.specs.Option.{option_map_or}
 use Rattle.std.proofs.lemmas.Bool.{and_parts}
 use Rattle.std.proofs.lemmas.Bool.Decides.{nat_tests}
 use Rattle.std.proofs.lemmas.List.Elements.{All-drop}
-use Rattle.cm_text.specs.Bytes.{is_name, is_text}
+use Rattle.cm_text.specs.Bytes.{is_text}
 use Rattle.cm_text.specs.Case.{begins_with}
 use Rattle.cm_text.specs.Text.{IsLine}
 use Rattle.cm_text.specs.declared.text.TheConstants.{LINE_LIMIT}
@@ -14,7 +14,6 @@ use Rattle.cm_tables.specs.declared.table.Look.{Look}
 use Rattle.cm_tables.specs.declared.table.Look.TheVariants as looks
 use Rattle.cm_tables.specs.Common.{common}
 use Rattle.cm_tables.specs.Look.{has_text, look}
-use Rattle.cm_tables.specs.Order.{table_fault}
 use Rattle.cm_fields.specs.declared.trial.Try.{Try}
 use Rattle.cm_fields.specs.declared.trial.Try.TheVariants.{Accept, Refuse, More}
 use Rattle.cm_fields.proofs.Holding.{holds_of_choice, of_choice}
@@ -31,7 +30,7 @@ use Rattle.cm_blocks.specs.declared.node.Node.{Node}
 use Rattle.cm_blocks.specs.Fault.{grammar_fault, has_phrase, is_parenthesis, is_phrase, is_shown}
 use Rattle.cm_blocks.specs.Grammar.{Graph}
 use Rattle.cm_blocks.specs.Setting.{Setting}
-use Rattle.cm_blocks.specs.Trial.{entry_next, table_of, trial}
+use Rattle.cm_blocks.specs.Trial.{trial}
 use Rattle.cm_blocks.specs.Well.{AreTables, IsWell, IsWellBlock}
 use Rattle.cm_blocks.proofs.Wells.{default_shown, well_node}
 use Rattle.cm_recognise.specs.declared.insertion.Insertion.{Insertion}
@@ -40,7 +39,7 @@ use Rattle.cm_recognise.specs.declared.insertion.Mode.TheVariants as modes
 use Rattle.cm_recognise.specs.declared.outcome.Outcome.{Outcome}
 use Rattle.cm_recognise.specs.declared.outcome.Outcome.TheVariants.{Nothing, Part, Piece, Whole}
 use Rattle.cm_recognise.specs.Insertion.{asked, at_block, behind, default_put, first_put, fitted, guide_behind, guide_of, insertion, or_put, put_in, rung}
-use Rattle.cm_recognise.specs.Outcome.{by_function, entry_outcome, guide, hook_outcome, keyword_outcome, missing, outcome, phrase_outcome, plain_outcome, switch_outcome, text_at}
+use Rattle.cm_recognise.specs.Outcome.{by_function, entry_outcome, guide, hook_outcome, keyword_outcome, missing, outcome, phrase_outcome, plain_outcome, switch_outcome}
 use Rattle.cm_recognise.proofs.Texts.{AreKeywords, AreText, common_text, keywords_of, name_text, shown_text, table_none, text_append, text_at_text, text_drop}
 
 -- the bytes of an outcome are

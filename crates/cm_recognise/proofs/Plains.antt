@@ -1,5 +1,5 @@
 -- A function that takes what is typed and a space takes it whole, and however the text goes on behind the space.
-use Rattle.std.proofs.Common.{◌≡◌, ℕ, ◌+◌, ◌≤◌, Bool, true, false, ◌==◌, ◌&&◌, nat_lt, nat_le, if◌then◌else◌, List, [], ◌∷◌, ◌++◌, length, take, Result, Ok, Err, refl, ap, sym, subst, ◌∙◌, arith, length-append, append_assoc}
+use Rattle.std.proofs.Common.{◌≡◌, ℕ, ◌+◌, Bool, true, false, ◌==◌, ◌&&◌, nat_lt, nat_le, if◌then◌else◌, List, [], ◌∷◌, ◌++◌, length, take, Result, Ok, Err, refl, arith, length-append}
 use Rattle.std.specs.Char.{is_ascii_digit}
 use Rattle.std.specs.List.{list_all, prefix_len}
 use Rattle.std.specs.Str.Parse.{digits_value}
@@ -9,19 +9,18 @@ use Rattle.std.proofs.Math.Seq.{take-append_seam}
 use Rattle.cm_text.specs.Bytes.{is_name, is_word}
 use Rattle.cm_text.specs.declared.name.TheConstants.{NAME_LIMIT}
 use Rattle.cm_fields.specs.declared.code.Code.{Code}
-use Rattle.cm_fields.specs.declared.code.Code.TheVariants.{BadNumber, NumberRange, NoField, FieldLong, NotQuoted, Rejected}
+use Rattle.cm_fields.specs.declared.code.Code.TheVariants.{BadNumber, NumberRange, NoField, FieldLong}
 use Rattle.cm_fields.specs.declared.digits.TheConstants.{NUMBER_LIMIT}
 use Rattle.cm_fields.specs.declared.trial.Try.{Try}
 use Rattle.cm_fields.specs.declared.trial.Try.TheVariants.{Accept, Refuse, More}
 use Rattle.cm_fields.specs.declared.value.Value.{Value}
 use Rattle.cm_fields.specs.declared.value.Value.TheVariants as values
-use Rattle.cm_fields.specs.Local.{IsLocal, Stays}
 use Rattle.cm_fields.specs.Mark.{comma, confirm}
 use Rattle.cm_fields.specs.Quoted.{quoted}
 use Rattle.cm_fields.specs.Run.{number, number_of, word, word_of}
 use Rattle.cm_fields.specs.Text.{is_inside, text_field, text_of}
 use Rattle.cm_fields.specs.Try.{by_run, said, span}
-use Rattle.cm_fields.proofs.Holding.{by_test, holds_of_choice, of_choice}
+use Rattle.cm_fields.proofs.Holding.{by_test, of_choice}
 use Rattle.cm_fields.proofs.Quoting.{IsQuoted, QuotedAt, quoted_ends}
 use Rattle.cm_hooks.specs.declared.answer.Answer.{Answer}
 use Rattle.cm_hooks.specs.declared.answer.Answer.TheVariants.{Yes, No}
@@ -57,9 +56,6 @@ pub run_wants : (is_part : ℕ → Bool) (decide : List ℕ → Result Value Cod
     → by_run is_part decide rest at ≡ More → prefix_len is_part rest ≡ length rest
 run_wants is_part decide rest at is = by (prefix_len is_part rest == length rest) refl is
   where
-    size : ℕ
-    size = prefix_len is_part rest
-
     by : (test : Bool) → (prefix_len is_part rest == length rest) ≡ test
         → (if test then More else said at (prefix_len is_part rest) (prefix_len is_part rest + 1) (decide (take (prefix_len is_part rest) rest))) ≡ More
         → prefix_len is_part rest ≡ length rest
@@ -106,7 +102,7 @@ hook_own : (verdict : ℕ → List ℕ → Answer) (id : ℕ) (run : List ℕ) �
 unfolding hook_of
 hook_own verdict id run = of_choice IsOwnIfOk (length run == 0) (Err NoField) _ tt (judged_own id (verdict id run))
 
-space_no_word : is_word 32 ≡ false
+pub space_no_word : is_word 32 ≡ false
 unfolding is_word
 space_no_word = refl
 

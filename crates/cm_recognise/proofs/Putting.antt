@@ -1,17 +1,16 @@
 -- What the block that a line waits at completes whole is put in.
-use Rattle.std.proofs.Common.{◌≡◌, ℕ, zero, suc, ◌+◌, ◌≤◌, Bool, true, false, ◌&&◌, nat_lt, nat_le, if◌then◌else◌, List, [], ◌∷◌, ◌++◌, length, drop, Option, Some, None, slice_get, refl, ap, ◌∙◌, arith, length-append}
+use Rattle.std.proofs.Common.{◌≡◌, ℕ, zero, suc, ◌+◌, ◌≤◌, true, false, ◌&&◌, nat_lt, nat_le, List, [], ◌∷◌, ◌++◌, length, drop, Option, Some, None, slice_get, refl, ap, ◌∙◌, arith, length-append}
 use Rattle.std.proofs.lemmas.Bool.Decides.{nat_tests}
 use Rattle.cm_text.specs.Text.{IsLine}
 use Rattle.cm_text.specs.declared.text.TheConstants.{LINE_LIMIT}
 use Rattle.cm_blocks.specs.declared.field.Ending.TheVariants as ending
 use Rattle.cm_blocks.specs.declared.node.Block.{Block}
-use Rattle.cm_blocks.specs.declared.node.Node.{Node}
 use Rattle.cm_blocks.specs.Setting.{Setting}
 use Rattle.cm_recognise.specs.declared.insertion.Insertion.{Insertion}
 use Rattle.cm_recognise.specs.declared.insertion.Mode.TheVariants as modes
 use Rattle.cm_recognise.specs.declared.outcome.Outcome.{Outcome}
 use Rattle.cm_recognise.specs.declared.outcome.Outcome.TheVariants.{Whole}
-use Rattle.cm_recognise.specs.Insertion.{asked, at_block, behind, default_put, first_put, fitted, insertion, or_put, put_in, rung}
+use Rattle.cm_recognise.specs.Insertion.{asked, at_block, behind, default_put, first_put, fitted, insertion, or_put, put_in}
 use Rattle.cm_recognise.specs.Outcome.{outcome}
 use Rattle.cm_recognise.specs.Sound.{Waits}
 use Rattle.cm_recognise.proofs.Going.{chain_goes_on}

@@ -1,16 +1,13 @@
 -- What a function takes whose field is completed whole.
-use Rattle.std.proofs.Common.{◌≡◌, ℕ, zero, suc, ◌+◌, ◌<◌, ◌≤◌, Bool, true, false, not, ◌==◌, ◌&&◌, nat_lt, if◌then◌else◌, List, [], ◌∷◌, ◌++◌, length, drop, Option, Some, None, slice_get, get_or, Result, Ok, Err, refl, ap, sym, subst, ◌∙◌, arith, length-append, length-drop, append_assoc, append-nil}
-use Rattle.std.specs.List.{list_all, list_any, prefix_len}
-use Rattle.std.specs.Option.{option_map_or}
+use Rattle.std.proofs.Common.{◌≡◌, ℕ, ◌+◌, ◌≤◌, Bool, true, false, not, ◌==◌, nat_lt, if◌then◌else◌, List, [], ◌∷◌, ◌++◌, length, drop, None, slice_get, Ok, refl, ap, sym, subst, ◌∙◌, arith, length-append, length-drop, append_assoc, append-nil}
+use Rattle.std.specs.List.{list_all, list_any}
 use Rattle.std.proofs.lemmas.Bool.{and_parts}
 use Rattle.std.proofs.lemmas.Bool.Decides.{nat_tests}
 use Rattle.std.proofs.lemmas.List.{drop_all}
 use Rattle.std.proofs.lemmas.Option.{get_or_from_slice_get, slice_get_within}
 use Rattle.cm_text.specs.Bytes.{is_blank, is_name, is_word}
-use Rattle.cm_text.specs.Case.{begins_with}
 use Rattle.cm_text.specs.Text.{IsLine}
 use Rattle.cm_text.specs.declared.text.TheConstants.{LINE_LIMIT}
-use Rattle.cm_tables.specs.declared.entry.Entry.{Entry}
 use Rattle.cm_tables.specs.Look.{look}
 use Rattle.cm_tables.proofs.WithinLemmas.{look-within}
 use Rattle.cm_fields.specs.declared.trial.Try.{Try}
@@ -20,14 +17,12 @@ use Rattle.cm_fields.specs.declared.value.Value.TheVariants as values
 use Rattle.cm_fields.specs.Local.{Stays}
 use Rattle.cm_fields.specs.Passed.{BeginsOther}
 use Rattle.cm_fields.specs.Run.{number_of, word_of}
-use Rattle.cm_fields.specs.Text.{is_inside}
 use Rattle.cm_hooks.specs.declared.answer.Answer.{Answer}
 use Rattle.cm_hooks.specs.declared.answer.Answer.TheVariants.{Yes, No}
 use Rattle.cm_hooks.specs.declared.answer.Tail.{Tail}
 use Rattle.cm_hooks.specs.declared.answer.Tail.TheVariants as tails
 use Rattle.cm_hooks.specs.Field.{hook, hook_of, judged}
 use Rattle.cm_hooks.specs.Meanings.{Completes, IsLawful, IsYes}
-use Rattle.cm_blocks.specs.declared.field.Chain.{Chain}
 use Rattle.cm_blocks.specs.declared.function.Function.{Function}
 use Rattle.cm_blocks.specs.declared.function.Function.TheVariants.{Key, Switch, Noise, Number, Word, Quoted, Token, Text, Comma, Confirm, Hook}
 use Rattle.cm_blocks.specs.declared.node.Block.{Block}
@@ -41,9 +36,9 @@ use Rattle.cm_blocks.specs.Well.{AreTables, IsWellBlock}
 use Rattle.cm_blocks.proofs.Trials.{trial_is_local}
 use Rattle.cm_blocks.proofs.Wells.{well_node}
 use Rattle.cm_recognise.specs.declared.outcome.Outcome.{Outcome}
-use Rattle.cm_recognise.specs.declared.outcome.Outcome.TheVariants.{Nothing, Part, Piece, Whole}
+use Rattle.cm_recognise.specs.declared.outcome.Outcome.TheVariants.{Nothing, Whole}
 use Rattle.cm_recognise.specs.Insertion.{behind, guide_of}
-use Rattle.cm_recognise.specs.Outcome.{by_function, guide, hook_outcome, outcome, phrase_outcome, plain_outcome}
+use Rattle.cm_recognise.specs.Outcome.{by_function, guide, hook_outcome, outcome, plain_outcome}
 use Rattle.cm_recognise.specs.Sound.{TakesField, Waits}
 use Rattle.cm_recognise.proofs.Going.{chain_goes_on}
 use Rattle.cm_recognise.proofs.Guides.{noise_bytes, noise_takes, phrase_completes, token_takes}

@@ -1,5 +1,5 @@
 -- What goes into a line is bytes that a line may have.
-use Rattle.std.proofs.Common.{◌≡◌, ℕ, zero, suc, ◌+◌, ◌≤◌, ◌==◌, ◌&&◌, Bool, true, nat_lt, List, [], ◌∷◌, ◌++◌, length, drop, take, map, filter, Option, Some, None, slice_get, unwrap_or, refl, ap, subst, arith}
+use Rattle.std.proofs.Common.{◌≡◌, ℕ, zero, suc, ◌+◌, ◌&&◌, Bool, true, nat_lt, List, [], ◌∷◌, ◌++◌, length, drop, take, map, filter, Option, Some, None, slice_get, unwrap_or, refl, ap, subst, arith}
 use Rattle.std.specs.List.{AllByRecursion, enumerate_from, list_all, reduce}
 use Rattle.std.specs.Option.{option_map_or}
 use Rattle.std.proofs.lemmas.Bool.{and_parts}

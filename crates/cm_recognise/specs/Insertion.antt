@@ -4,7 +4,6 @@ use Rattle.std.specs.Option.{option_map_or}
 use Rattle.cm_text.specs.declared.text.TheConstants.{LINE_LIMIT}
 use Rattle.cm_blocks.specs.declared.field.Ending.{Ending}
 use Rattle.cm_blocks.specs.declared.field.Ending.TheVariants as ending
-use Rattle.cm_blocks.specs.declared.field.Open.{Open}
 use Rattle.cm_blocks.specs.declared.function.Function.{Function}
 use Rattle.cm_blocks.specs.declared.function.Function.TheVariants.{Noise}
 use Rattle.cm_blocks.specs.declared.node.Block.{Block}
@@ -43,6 +42,7 @@ put_in graph (Part bytes) = if length bytes == 0 then None else Some (record { b
 put_in graph (Piece bytes) = Some (record { bytes = bytes; bell = false })
 put_in graph (Whole bytes next) = Some (record { bytes = bytes ++ behind graph next; bell = false })
 
+-- the first of two that puts anything in
 abbrev pub or_put : Option Insertion → Option Insertion → Option Insertion
 or_put None later = later
 or_put (Some insertion) later = Some insertion

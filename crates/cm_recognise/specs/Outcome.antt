@@ -1,5 +1,5 @@
 -- How a field goes on that a block has begun to read (COMND's recognition).
-use Rattle.std.specs.Prelude.{ℕ, ◌+◌, ◌≤◌, ◌==◌, ◌&&◌, Bool, true, false, if◌then◌else◌, List, [], ◌∷◌, ◌++◌, length, drop, slice_get}
+use Rattle.std.specs.Prelude.{ℕ, ◌≤◌, ◌==◌, ◌&&◌, Bool, true, false, if◌then◌else◌, List, [], ◌∷◌, ◌++◌, length, drop, slice_get}
 use Rattle.std.specs.Option.{option_map_or}
 use Rattle.cm_text.specs.Case.{begins_with}
 use Rattle.cm_tables.specs.declared.entry.Entry.{Entry}
@@ -12,7 +12,7 @@ use Rattle.cm_fields.specs.declared.trial.Try.TheVariants.{Accept, Refuse, More}
 use Rattle.cm_hooks.specs.declared.answer.Tail.{Tail}
 use Rattle.cm_hooks.specs.declared.answer.Tail.TheVariants as tails
 use Rattle.cm_blocks.specs.declared.function.Function.{Function}
-use Rattle.cm_blocks.specs.declared.function.Function.TheVariants.{Key, Switch, Noise, Number, Word, Quoted, Token, Text, Comma, Confirm, Hook}
+use Rattle.cm_blocks.specs.declared.function.Function.TheVariants.{Key, Switch, Noise, Token, Hook}
 use Rattle.cm_blocks.specs.declared.node.Block.{Block}
 use Rattle.cm_blocks.specs.Keyword.{has_colon}
 use Rattle.cm_blocks.specs.Setting.{Setting}
@@ -24,6 +24,7 @@ use Rattle.cm_recognise.specs.declared.outcome.Outcome.TheVariants.{Nothing, Par
 abbrev pub missing : List ℕ → List ℕ → List ℕ
 missing text atom = drop (length atom) text
 
+-- the text of the entry at a position
 abbrev pub text_at : List Entry → ℕ → List ℕ
 text_at table position = option_map_or (λ (entry : Entry). entry.text) (slice_get table position) []
 
@@ -81,7 +82,7 @@ by_function s (Hook id) next atom plain =
     if length atom == 0 then Nothing else hook_outcome next plain (s.meanings.completion id atom)
 by_function s function next atom plain = plain
 
--- it has at most so many bytes
+-- an outcome has at most so many bytes
 abbrev pub IsShort : ℕ → Outcome → Type 0
 IsShort most Nothing = Unit {0}
 IsShort most (Part bytes) = length bytes ≤ most

@@ -26,9 +26,9 @@ pub(crate) const TAIL_LIMIT: usize = 41;
 /// How a field goes on of which the beginning is typed (COMND's recognition).
 #[derive(Debug, Drop)]
 pub enum Outcome {
-    /// In no way, or in several that share nothing.
+    /// In no way that is certain.
     Nothing,
-    /// With these bytes, and then in several ways or none.
+    /// With these bytes, or none, and then in several ways or in no certain one.
     Part(Bytes),
     /// With these bytes, behind which it goes on by typing, as the value of a switch.
     Piece(Bytes),
