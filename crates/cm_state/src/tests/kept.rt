@@ -1,4 +1,4 @@
-// Fields that are kept over a key, whole lines, and what the trials cost.
+// Fields that are kept over a key, and whole lines.
 ghost use Rattle.std.specs.Prelude.{◌≡◌, ◌<◌, ◌≤◌, length};
 ghost use Rattle.cm_blocks.specs.Grammar.{hook_count};
 ghost use Rattle.cm_hooks.specs.Ties.{Ties, count};
