@@ -1,0 +1,10 @@
+//! The generations of one file name and type, as TOPS-20 numbers them.
+#![tactic(auto)]
+
+mod bytes;
+mod change;
+mod file;
+mod search;
+
+pub use bytes::Bytes;
+pub use file::{FILE_LIMIT, File, GENERATION_LIMIT, PAGE_BYTES};
