@@ -1,0 +1,3 @@
+pub mod Ascending
+pub mod Extremes
+pub mod Placing
