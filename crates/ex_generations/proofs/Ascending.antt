@@ -1,9 +1,9 @@
 -- What follows of files whose generations ascend.
-use Rattle.std.proofs.Common.{◌≡◌, ℕ, ◌+◌, ◌<◌, ◌≤◌, Bool, true, false, cond, suc, zero, List, [], ◌∷◌, length, get_or, drop, filter, sym, subst, arith}
+use Rattle.std.proofs.Common.{◌≡◌, ℕ, ◌+◌, ◌<◌, ◌≤◌, Bool, true, false, not, cond, suc, zero, List, [], ◌∷◌, length, get_or, drop, filter, sym, subst, arith}
 use Rattle.std.proofs.lemmas.List.{drop_more}
 use Rattle.ex_generations.specs.declared.file.File.{File}
 use Rattle.ex_generations.specs.declared.file.TheConstants.{FILE_LIMIT, GENERATION_LIMIT}
-use Rattle.ex_generations.specs.Generations.{IsAscending, is_generation, marked_as}
+use Rattle.ex_generations.specs.Generations.{IsAscending, is_generation, marked_as, without}
 use Rattle.ex_generations.specs.Retention.{kept_newest, live}
 
 -- from a lower number on, too
@@ -57,3 +57,6 @@ pub IsAscending-kept : (keep : ℕ) (files : List File) (low : ℕ) → IsAscend
 IsAscending-kept keep [] low a = tt
 IsAscending-kept keep (file ∷ more) low a =
     IsAscending-head _ file more (kept_newest keep more) low a (IsAscending-kept keep more file.generation a.3)
+
+pub IsAscending-without : (generation : ℕ) (files : List File) → IsAscending 0 files → IsAscending 0 (without generation files)
+IsAscending-without generation files a = IsAscending-filter (λ file. not (is_generation generation file)) files 0 a

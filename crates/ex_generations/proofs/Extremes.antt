@@ -1,7 +1,7 @@
 -- The lowest and the highest of files whose generations ascend: the first and the last.
 use Rattle.std.proofs.Common.{◌≡◌, ℕ, ◌+◌, ◌<◌, ◌≤◌, max, min, Bool, true, false, not, List, [], ◌∷◌, length, get_or, drop, Option, Some, None, refl, sym, ap, subst, ◌∙◌, arith}
 use Rattle.std.proofs.lemmas.List.{at_drop_more}
-use mathlib.Core.Bool.{beq}
+use Rattle.std.specs.Bool.{beq}
 use Rattle.std.specs.Option.{option_map_or, option_or}
 use Rattle.ex_generations.specs.declared.file.File.{File}
 use Rattle.ex_generations.specs.Generations.{IsAscending, highest, lowest, marked, unmarked, with_mark}

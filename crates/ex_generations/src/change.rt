@@ -1,7 +1,7 @@
 // Changes of the generations of a file.
 ghost use Rattle.std.specs.Prelude.{◌≡◌, ◌<◌, ◌≤◌, true, false, length, insert, Some, vec_capacity, vec_len, find};
-ghost use Rattle.ex_generations.specs.Generations.{IsAscending, changed, has, inserted, is_generation, marked_as, rewritten, without};
-ghost use Rattle.ex_generations.specs.Retention.{kept_newest};
+ghost use Rattle.ex_generations.specs.Generations.{IsAscending, changed, has, inserted, is_generation, marked_as, rewritten, unmarked, without};
+ghost use Rattle.ex_generations.specs.Retention.{kept_newest, retained};
 
 use crate::search::{live, place, position};
 use crate::{Bytes, FILE_LIMIT, File, GENERATION_LIMIT};
@@ -52,6 +52,17 @@ pub(crate) fn keep_newest(files: &mut [File], keep: usize)
     }
 }
 
+// Keeps so many unmarked files, or all where the number is 0.
+pub(crate) fn retain(files: &mut [File], keep: u8)
+    requires { IsAscending 0 files.old }
+    ensures retained { files.new ≡ retained keep files.old }
+    ensures ascending { IsAscending 0 files.new }
+{
+    if keep > 0 {
+        keep_newest(files, usize::from(keep));
+    }
+}
+
 // Sets or clears the mark of the file of a generation, and tells whether there is one.
 pub(crate) fn set_mark(files: &mut [File], generation: u32, deleted: bool) -> bool
     requires { IsAscending 0 files.old }
@@ -68,6 +79,14 @@ pub(crate) fn set_mark(files: &mut [File], generation: u32, deleted: bool) -> bo
     }
 }
 
+// Gives a file a moment and bytes.
+fn fill(file: &mut File, moment: u64, bytes: Bytes)
+    ensures { file.new ≡ rewritten moment bytes file.old }
+{
+    file.moment = moment;
+    file.bytes = bytes;
+}
+
 // Gives the file of a generation a moment and bytes.
 pub(crate) fn rewrite(files: &mut [File], generation: u32, moment: u64, bytes: Bytes)
     requires ascending { IsAscending 0 files.old }
@@ -76,9 +95,9 @@ pub(crate) fn rewrite(files: &mut [File], generation: u32, moment: u64, bytes: B
     ensures changed { files.new ≡ changed generation (rewritten moment bytes) files.old }
     ensures ascending { IsAscending 0 files.new }
 {
-    if let Some(at) = position(files, generation) {
-        files[at].moment = moment;
-        files[at].bytes = bytes;
+    match position(files, generation) {
+        Some(at) => fill(&mut files[at], moment, bytes),
+        None => unreachable!(),
     }
 }
 
@@ -95,4 +114,14 @@ pub(crate) fn take(files: &mut Vec<File>, generation: u32) -> File
         Some(at) => files.remove(at),
         None => unreachable!(),
     }
+}
+
+// Drops the files that are marked.
+pub(crate) fn drop_marked(files: &mut Vec<File>)
+    requires { IsAscending 0 files.old.items }
+    ensures items { files.new.items ≡ unmarked files.old.items }
+    ensures ascending { IsAscending 0 files.new.items }
+    ensures capacity { vec_capacity files.new ≡ vec_capacity files.old }
+{
+    files.retain(|file| !file.deleted);
 }

@@ -3,8 +3,12 @@
 
 mod bytes;
 mod change;
+mod errors;
 mod file;
+mod gens;
 mod search;
 
 pub use bytes::Bytes;
+pub use errors::{GenFull, NoGen};
 pub use file::{FILE_LIMIT, File, GENERATION_LIMIT, PAGE_BYTES};
+pub use gens::Gens;

@@ -1,10 +1,10 @@
 // Searches through the generations of a file, from the lowest on.
-ghost use Rattle.std.specs.Prelude.{◌≡◌, ◌≤◌, IsTrue, length, position, nat_lt};
+ghost use Rattle.std.specs.Prelude.{◌≡◌, ◌≤◌, ◌↔◌, false, length, Some, IfOk, IsErr, position, nat_lt};
 ghost use Rattle.std.specs.List.{prefix_len};
-ghost use Rattle.ex_generations.specs.Generations.{IsAscending, has, highest, is_generation, lowest, marked, page_count, pages, with_mark};
+ghost use Rattle.ex_generations.specs.Generations.{IsAscending, has, highest, is_generation, lowest, marked, next_generation, page_count, pages, with_mark};
 ghost use Rattle.ex_generations.specs.Retention.{live};
 
-use crate::{Bytes, FILE_LIMIT, File, PAGE_BYTES};
+use crate::{Bytes, FILE_LIMIT, File, GENERATION_LIMIT, GenFull, PAGE_BYTES};
 
 // Where the file of a generation stands.
 pub(crate) fn position(files: &[File], generation: u32) -> Option<usize>
@@ -32,6 +32,21 @@ pub(crate) fn highest(files: &[File], deleted: bool) -> Option<u32>
         }
     }
     highest
+}
+
+// The number above the highest generation, and 1 with no file.
+pub(crate) fn next(files: &[File]) -> Result<u32, GenFull>
+    requires { IsAscending 0 files.now }
+    ensures next { IfOk result (λ next. next ≡ next_generation files.now) }
+    ensures full { IsErr result ↔ (highest files.now ≡ Some GENERATION_LIMIT) }
+    ensures within { IfOk result (λ next. next ≤ GENERATION_LIMIT) }
+    ensures free { IfOk result (λ next. has next files.now ≡ false) }
+{
+    match files.last() {
+        None => Ok(1),
+        Some(file) if file.generation < GENERATION_LIMIT => Ok(file.generation + 1),
+        Some(_) => Err(GenFull),
+    }
 }
 
 // The lowest generation with this mark.
