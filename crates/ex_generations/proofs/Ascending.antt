@@ -28,6 +28,12 @@ short_at [] low i file a lt e = absurd (omega arith)
 short_at (first ∷ more) low zero file a lt e = subst (λ other. length other.bytes ≤ FILE_LIMIT) (sym e) a.2
 short_at (first ∷ more) low (suc i) file a lt e = short_at more first.generation i file a.3 (omega arith) e
 
+-- no generation is above the limit
+pub limit_at : (files : List File) (low i : ℕ) (d : File) → IsAscending low files → i < length files → (get_or files i d).generation ≤ GENERATION_LIMIT
+limit_at [] low i d a lt = absurd (omega arith)
+limit_at (file ∷ more) low zero d a lt = a.1
+limit_at (file ∷ more) low (suc i) d a lt = limit_at more file.generation i d a.3 (omega arith)
+
 pub IsAscending-drop : (files : List File) (low i : ℕ) → IsAscending low files → IsAscending low (drop i files)
 IsAscending-drop [] low zero a = tt
 IsAscending-drop [] low (suc i) a = tt
