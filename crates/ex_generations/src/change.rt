@@ -1,10 +1,10 @@
 // Changes of the generations of a file.
-ghost use Rattle.std.specs.Prelude.{◌≡◌, ◌<◌, ◌≤◌, true, false, length, insert, Some, vec_capacity, vec_len, find};
+ghost use Rattle.std.specs.Prelude.{◌≡◌, ◌<◌, ◌≤◌, ◌↔◌, true, false, IsErr, OnErr, length, insert, Some, vec_capacity, vec_len, find};
 ghost use Rattle.ex_generations.specs.Generations.{IsAscending, changed, has, inserted, is_generation, marked_as, rewritten, unmarked, without};
 ghost use Rattle.ex_generations.specs.Retention.{kept_newest, retained};
 
 use crate::search::{live, place, position};
-use crate::{Bytes, FILE_LIMIT, File, GENERATION_LIMIT};
+use crate::{Bytes, FILE_LIMIT, File, GENERATION_LIMIT, NoGen};
 
 // Puts a file at a place of a vector that has room for it.
 fn put_at(files: &mut Vec<File>, at: usize, file: File)
@@ -63,19 +63,20 @@ pub(crate) fn retain(files: &mut [File], keep: u8)
     }
 }
 
-// Sets or clears the mark of the file of a generation, and tells whether there is one.
-pub(crate) fn set_mark(files: &mut [File], generation: u32, deleted: bool) -> bool
+// Sets or clears the mark of the file of a generation.
+pub(crate) fn set_mark(files: &mut [File], generation: u32, deleted: bool) -> Result<(), NoGen>
     requires { IsAscending 0 files.old }
-    ensures there { result ≡ has generation files.old }
+    ensures none { IsErr result ↔ (has generation files.old ≡ false) }
     ensures changed { files.new ≡ changed generation (marked_as deleted) files.old }
+    ensures err { OnErr result (files.new ≡ files.old) }
     ensures ascending { IsAscending 0 files.new }
 {
     match position(files, generation) {
         Some(at) => {
             files[at].deleted = deleted;
-            true
+            Ok(())
         }
-        None => false,
+        None => Err(NoGen),
     }
 }
 

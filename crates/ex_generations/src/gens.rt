@@ -56,7 +56,7 @@ impl Gens {
     pub fn has(&self, generation: u32) -> bool
         ensures { result ≡ has generation self.now.files }
     {
-        search::position(&self.files, generation).is_some()
+        search::has(&self.files, generation)
     }
 
     /// The generation of a new file: one more than the highest, deleted ones included, and 1 with no file. GenFull
@@ -117,11 +117,7 @@ impl Gens {
         }) }
         ensures err { OnErr result (self.new ≡ self.old) }
     {
-        if change::set_mark(&mut self.files, generation, true) {
-            Ok(())
-        } else {
-            Err(NoGen)
-        }
+        change::set_mark(&mut self.files, generation, true)
     }
 
     /// Clears the mark of the file of a generation. NoGen where there is none, and then nothing changes.
@@ -132,11 +128,7 @@ impl Gens {
         }) }
         ensures err { OnErr result (self.new ≡ self.old) }
     {
-        if change::set_mark(&mut self.files, generation, false) {
-            Ok(())
-        } else {
-            Err(NoGen)
-        }
+        change::set_mark(&mut self.files, generation, false)
     }
 
     /// Takes the file of a generation out. The room does not fall.

@@ -13,6 +13,13 @@ pub(crate) fn position(files: &[File], generation: u32) -> Option<usize>
     files.iter().position(|file| file.generation == generation)
 }
 
+// Whether there is a file of a generation.
+pub(crate) fn has(files: &[File], generation: u32) -> bool
+    ensures { result ≡ has generation files.now }
+{
+    files.iter().any(|file| file.generation == generation)
+}
+
 // How many files are of a lower generation.
 pub(crate) fn place(files: &[File], generation: u32) -> usize
     ensures { result ≡ prefix_len (λ file. nat_lt file.generation generation) files.now }
