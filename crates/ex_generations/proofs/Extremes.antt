@@ -95,7 +95,7 @@ highest-within files file a e =
     let within : length files - 1 < length files = slice_get_within files (length files - 1) file e in
     subst (λ (last : File). last.generation ≤ GENERATION_LIMIT) (get_or_from_slice_get files (length files - 1) file file e) (limit_at files 0 (length files - 1) file a within)
 
-max-parts : (number : ℕ) (more : Option ℕ) → (number ≤ option_map_or (max number) more number) × (unwrap_or more 0 ≤ option_map_or (max number) more number)
+pub max-parts : (number : ℕ) (more : Option ℕ) → (number ≤ option_map_or (max number) more number) × (unwrap_or more 0 ≤ option_map_or (max number) more number)
 max-parts number None = (omega arith, omega arith)
 max-parts number (Some other) = (omega arith, omega arith)
 

@@ -126,12 +126,12 @@ higher-all generation (file ∷ more) low le a =
     rw (lt-ltb generation file.generation (omega (arith, a.0))) (ap (λ rest. file ∷ rest) (higher-all generation more file.generation (omega (arith, a.0)) a.3))
 
 -- a file goes behind the first, if that is lower
-inserted-behind : (new file : File) (more : List File) → file.generation < new.generation → inserted new (file ∷ more) ≡ file ∷ inserted new more
+pub inserted-behind : (new file : File) (more : List File) → file.generation < new.generation → inserted new (file ∷ more) ≡ file ∷ inserted new more
 inserted-behind new file more lt =
     rw (lt-ltb file.generation new.generation lt, le-ltb new.generation file.generation (omega arith))
 
 -- and before it, if that is higher
-inserted-before : (new file : File) (more : List File) (low : ℕ) → IsAscending low (file ∷ more) → new.generation < file.generation → inserted new (file ∷ more) ≡ new ∷ file ∷ more
+pub inserted-before : (new file : File) (more : List File) (low : ℕ) → IsAscending low (file ∷ more) → new.generation < file.generation → inserted new (file ∷ more) ≡ new ∷ file ∷ more
 inserted-before new file more low a lt =
     rw (le-ltb file.generation new.generation (omega arith), lt-ltb new.generation file.generation lt, lower-none new.generation more file.generation (omega arith) a.3, higher-all new.generation more file.generation (omega arith) a.3)
 
@@ -146,7 +146,7 @@ behind new file more n =
     let parts : (is_generation new.generation file ≡ false) × (has new.generation more ≡ false) = or_parts _ _ n.absent in
     (eqb-false file.generation new.generation parts.0, record { short = n.short; within = n.within; absent = parts.1 })
 
-order_of : (a b : ℕ) → (a ≡ b → ⊥) → (a < b) ⊎ (b < a)
+pub order_of : (a b : ℕ) → (a ≡ b → ⊥) → (a < b) ⊎ (b < a)
 order_of a b differ = go (cases_order a b) where
   go : (a ≡ b) ⊎ ((a < b) ⊎ (b < a)) → (a < b) ⊎ (b < a)
   go (inl same) = absurd (differ same)

@@ -6,6 +6,7 @@ mod change;
 mod errors;
 mod file;
 mod gens;
+pub mod laws;
 mod search;
 
 pub use bytes::Bytes;
