@@ -42,6 +42,7 @@ Contains-unmarked file files = (there, back) where
   there h =
       let found : Contains files file × (not file.deleted ≡ true) = from-filter (λ other. not other.deleted) file files h in
       (found.0, not-true file.deleted found.1)
+
   back : Contains files file × (file.deleted ≡ false) → Contains (unmarked files) file
   back h = into-filter (λ other. not other.deleted) file files h.0.0 h.0.1 h.0.2 (not_from_false file.deleted h.1)
 

@@ -1,5 +1,5 @@
 // The generations of one file.
-ghost use Rattle.std.specs.Prelude.{◌≡◌, ◌<◌, ◌≤◌, ◌+◌, ◌↔◌, [], true, false, length, find, slice_get, Some, IsTrue, IsErr, IfOk, OnErr, OnOk};
+ghost use Rattle.std.specs.Prelude.{◌≡◌, ◌<◌, ◌≤◌, ◌+◌, ◌↔◌, [], true, false, length, find, slice_get, Some, IsTrue, IsErr, IsOk, IfOk, OnErr, OnOk};
 ghost use Rattle.ex_generations.specs.Generations.{IsAscending, changed, has, highest, is_generation, lowest, marked, marked_as, next_generation, pages, rewritten, unmarked, with_mark, without};
 ghost use Rattle.ex_generations.specs.Retention.{added};
 
@@ -84,10 +84,11 @@ impl Gens {
         search::lowest(&self.files, deleted)
     }
 
-    /// Makes room for so many more files.
+    /// Makes room for so many more files. Only want of memory can be in the way, and then the files stay.
     pub fn reserve(&mut self, n: usize) -> Result<(), NoMemory>
         ensures files { self.new.files ≡ self.old.files }
         ensures room { OnOk result (length self.new.files + n ≤ self.new.room) }
+        ensures succeeds { length self.old.files + n ≤ self.old.room → IsOk result }
         ensures grows { self.old.room ≤ self.new.room }
     {
         self.files.reserve(n)?;
@@ -163,3 +164,6 @@ impl Gens {
         pages
     }
 }
+
+#[cfg(test)]
+mod tests;

@@ -24,7 +24,10 @@ pub(crate) fn has(files: &[File], generation: u32) -> bool
 pub(crate) fn place(files: &[File], generation: u32) -> usize
     ensures { result ≡ prefix_len (λ file. nat_lt file.generation generation) files.now }
 {
-    files.iter().take_while(|file| file.generation < generation).count()
+    files
+        .iter()
+        .take_while(|file| file.generation < generation)
+        .count()
 }
 
 // The highest generation with this mark.
