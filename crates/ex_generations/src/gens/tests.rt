@@ -1,15 +1,17 @@
 // The numbering, the retention and the pages of generations, by tables.
+ghost use Rattle.std.specs.Prelude.{◌≡◌, IfOk, false, length};
+
 use super::*;
 use std::process::Abort;
 use std::test::Fail;
 
-// A file of this many bytes, written at moment 5.
-fn file(alloc: Global, generation: u32, deleted: bool, size: usize) -> Result<File, NoMemory>
-    ensures { IfOk result (λ file. (file.generation ≡ generation) × (file.deleted ≡ deleted) × (length file.bytes ≡ size)) }
+// An unmarked file of this many bytes.
+fn file(alloc: Global, generation: u32, size: usize) -> Result<File, NoMemory>
+    ensures { IfOk result (λ file. (file.generation ≡ generation) × (file.deleted ≡ false) × (length file.bytes ≡ size)) }
 {
     Ok(File {
         generation,
-        deleted,
+        deleted: false,
         moment: 5,
         bytes: Bytes::new(vec![in alloc; 0; size]?),
     })
@@ -30,7 +32,7 @@ fn put(
     );
     assert!(rt; !gens.has(generation), "{generation} is there");
     assert!(rt; size <= FILE_LIMIT, "{size} bytes are too many");
-    let file = file(alloc, generation, false, size)?;
+    let file = file(alloc, generation, size)?;
     gens.reserve(1)?;
     gens.add(file, keep);
     Ok(())
@@ -182,6 +184,7 @@ fn a_file_is_replaced(rt: HostRuntime) -> Result<(), Fail> {
     let bytes = Bytes::new(b"new".to_vec(rt.alloc())?);
     assert!(rt; gens.has(1) && bytes.len() == 3 && gens.len() == 2);
     gens.replace(1, 77, bytes);
+    assert!(rt; gens.has(1));
     let file = gens.remove(1);
     assert_eq!(rt; (file.generation, file.moment), (1, 77));
     assert_eq!(rt; file.bytes.into_vec().as_slice(), b"new".as_slice());
