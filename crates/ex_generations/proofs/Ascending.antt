@@ -4,7 +4,7 @@ use Rattle.std.proofs.lemmas.List.{drop_more}
 use Rattle.ex_generations.specs.declared.file.File.{File}
 use Rattle.ex_generations.specs.declared.file.TheConstants.{FILE_LIMIT, GENERATION_LIMIT}
 use Rattle.ex_generations.specs.Generations.{IsAscending, is_generation, marked_as, without}
-use Rattle.ex_generations.specs.Retention.{kept_newest, live}
+use Rattle.ex_generations.specs.Retention.{kept_newest}
 
 -- from a lower number on, too
 pub IsAscending-from_lower : (files : List File) (low high : ℕ) → low ≤ high → IsAscending high files → IsAscending low files

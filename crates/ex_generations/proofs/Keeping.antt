@@ -1,5 +1,5 @@
 -- What stands in a list of files behind a filter, and beside a file that is added.
-use Rattle.std.proofs.Common.{◌≡◌, ℕ, ◌+◌, ◌<◌, ◌≤◌, max, Bool, true, false, not, cond, suc, zero, List, [], ◌∷◌, ◌++◌, length, get_or, filter, find, nat_lt, Contains, Option, Some, unwrap_or, refl, sym, ap, subst, ◌∙◌, ◌⊎◌, inl, inr, arith}
+use Rattle.std.proofs.Common.{◌≡◌, ℕ, ◌<◌, ◌≤◌, max, Bool, true, false, not, cond, suc, zero, List, [], ◌∷◌, ◌++◌, length, get_or, filter, find, nat_lt, Contains, Some, unwrap_or, refl, sym, ap, subst, ◌⊎◌, inl, inr, arith}
 use Rattle.std.specs.Option.{option_map_or}
 use Rattle.std.proofs.lemmas.Bool.{eq-eqb, eqb-false, le-ltb, lt-ltb, ne_eqb, not-true, not_from_false, or_parts}
 use Rattle.ex_generations.specs.declared.file.File.{File}

@@ -1,5 +1,5 @@
 -- Where the file of a generation stands, and what a change there is.
-use Rattle.std.proofs.Common.{◌≡◌, ℕ, ◌+◌, ◌-◌, ◌<◌, ◌≤◌, Bool, true, false, not, ◌||◌, cond, nat_lt, suc, zero, List, [], ◌∷◌, ◌++◌, length, get_or, set, take, drop, filter, find, insert, remove, position, Option, Some, None, refl, sym, ap, subst, ◌∙◌, ◌⊎◌, inl, inr, arith}
+use Rattle.std.proofs.Common.{◌≡◌, ℕ, ◌+◌, ◌<◌, ◌≤◌, Bool, true, false, not, ◌||◌, cond, nat_lt, suc, zero, List, [], ◌∷◌, length, get_or, set, filter, find, insert, remove, position, Some, None, refl, sym, ap, subst, ◌∙◌, ◌⊎◌, inl, inr, arith}
 use Rattle.std.specs.List.{list_any, position_or_len, prefix_len}
 use Rattle.std.proofs.lemmas.Bool.{cases_order, cond-false, cond-true, eq-eqb, eqb-false, eqb-true, le-ltb, lt-ltb, ltb-false, ne_eqb, or_parts}
 use Rattle.std.proofs.lemmas.List.Folds.{list_any_at}

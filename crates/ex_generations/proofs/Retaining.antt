@@ -1,5 +1,5 @@
 -- What retention leaves unmarked.
-use Rattle.std.proofs.Common.{◌≡◌, ℕ, ◌+◌, ◌-◌, ◌<◌, ◌≤◌, Bool, true, false, not, cond, nat_le, suc, zero, min, List, [], ◌∷◌, length, map, drop, refl, sym, ap, ◌∙◌, arith}
+use Rattle.std.proofs.Common.{◌≡◌, ℕ, ◌-◌, ◌<◌, ◌≤◌, Bool, true, false, not, cond, nat_le, suc, zero, min, List, [], ◌∷◌, length, map, drop, refl, sym, ap, ◌∙◌, arith}
 use Rattle.std.proofs.lemmas.Bool.{cond-false, cond-true, leb-false, leb-true, ne_eqb, not_from_false}
 use Rattle.std.proofs.lemmas.List.{length-drop}
 use Rattle.ex_generations.specs.declared.file.File.{File}

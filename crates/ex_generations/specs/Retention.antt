@@ -1,5 +1,5 @@
 -- How many generations are kept when one is added.
-use Rattle.std.specs.Prelude.{ℕ, ◌+◌, ◌==◌, Bool, true, if◌then◌else◌, nat_le, List, [], ◌∷◌, length}
+use Rattle.std.specs.Prelude.{ℕ, ◌==◌, true, if◌then◌else◌, nat_le, List, [], ◌∷◌, length}
 use Rattle.ex_generations.specs.declared.file.File.{File}
 use Rattle.ex_generations.specs.Generations.{inserted, marked_as, unmarked}
 

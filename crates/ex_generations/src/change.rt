@@ -35,7 +35,7 @@ pub(crate) fn insert(files: &mut Vec<File>, file: File)
     put_at(files, at, file);
 }
 
-// Marks each file that has at least so many unmarked ones above it.
+// Marks each file with at least so many unmarked ones above it.
 pub(crate) fn keep_newest(files: &mut [File], keep: usize)
     requires { IsAscending 0 files.old }
     ensures kept { files.new ≡ kept_newest keep files.old }

@@ -5,13 +5,13 @@ ghost use Rattle.ex_generations.specs.declared.file.TheConstants.{FILE_LIMIT, GE
 ghost use Rattle.ex_generations.specs.Generations.{IsAscending, has, inserted, is_generation, marked_as, next_generation, unmarked, without};
 ghost use Rattle.ex_generations.specs.Retention.{added, live, retained};
 
-/// The files that retention leaves unmarked are the so many highest of those that were unmarked.
+/// Retention keeps the highest: of the files that were unmarked, the last `keep` stay so, and no other.
 pub fn the_highest_stay_unmarked()
     ensures { (keep : ℕ) → 0 < keep → (files : List File)
         → unmarked (retained keep files) ≡ drop (live files - keep) (unmarked files) }
 {}
 
-/// Retention leaves at most so many files unmarked, and fewer only where there were fewer.
+/// Retention leaves `keep` files unmarked, and fewer only where there were fewer.
 pub fn at_most_so_many_stay_unmarked()
     ensures { (keep : ℕ) → 0 < keep → (files : List File)
         → live (retained keep files) ≡ min keep (live files) }

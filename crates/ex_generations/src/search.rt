@@ -79,7 +79,7 @@ pub(crate) fn live(files: &[File]) -> usize
     files.iter().filter(|file| !file.deleted).count()
 }
 
-// The pages of a file.
+// The pages of a file, at most 26.
 fn page_count(bytes: &Bytes) -> u32
     requires { length bytes.now ≤ FILE_LIMIT }
     ensures count { result ≡ page_count (length bytes.now) }

@@ -7,7 +7,8 @@ use std::test::Fail;
 
 // An unmarked file of this many bytes.
 fn file(alloc: Global, generation: u32, size: usize) -> Result<File, NoMemory>
-    ensures { IfOk result (λ file. (file.generation ≡ generation) × (file.deleted ≡ false) × (length file.bytes ≡ size)) }
+    ensures { IfOk result (λ file. (file.generation ≡ generation) × (file.deleted ≡ false)
+        × (length file.bytes ≡ size)) }
 {
     Ok(File {
         generation,

@@ -1,4 +1,4 @@
-use Rattle.std.proofs.Common.{◌≡◌, insert, sym, subst, ap, ◌∙◌, arith}
+use Rattle.std.proofs.Common.{◌≡◌, insert, sym, subst, ap, ◌∙◌}
 use Rattle.std.proofs.lemmas.List.Sums.{prefix_len-le-length}
 use Rattle.ex_generations.specs.Generations.{IsAscending, inserted}
 use Rattle.ex_generations.proofs.Placing.{IsAscending-inserted, IsNew, inserted_at, place_of}

@@ -1,5 +1,4 @@
-use Rattle.std.proofs.Common.{◌∙◌, arith}
-use Rattle.std.proofs.lemmas.Grind.{common_steps}
+use Rattle.std.proofs.Common.{◌∙◌}
 use Rattle.ex_generations.proofs.Extremes.{beq-same, highest_more, highest_skip}
 use Rattle.ex_generations.proofs.search.highest.Goals.{then-file-deleted, else-file-deleted}
 use Rattle.ex_generations.proofs.search.highest.Goals as goal
