@@ -1,0 +1,5 @@
+pub mod Ascending
+pub mod Extremes
+pub mod Keeping
+pub mod Placing
+pub mod Retaining

@@ -1,0 +1,26 @@
+use Rattle.std.proofs.Common.{◌≡◌, true, false, refl, sym, ◌∙◌}
+use Rattle.std.proofs.lemmas.Bool.{both_ways, false≢true}
+use Rattle.ex_generations.specs.Generations.{has, marked_as}
+use Rattle.ex_generations.proofs.Placing.{IsAscending-set, StandsAt-from_position, absent-from_position, changed-absent, set_is}
+use Rattle.ex_generations.proofs.change.set_mark.Goals as goal
+
+pub returns-in-Some-clause-none : goal.returns-in-Some-clause-none
+returns-in-Some-clause-none c =
+    let there : has c.args.generation c.args.files.now ≡ true = (StandsAt-from_position c.args.generation c.args.files.now c.in-Some.at (sym c.position.ensures ∙ c.in-Some.is)).there in
+    (λ (e : false ≡ true). absurd (false≢true e), λ (e : has c.args.generation c.args.files.now ≡ false). absurd (both_ways _ e there))
+
+pub returns-in-Some-clause-changed : goal.returns-in-Some-clause-changed
+returns-in-Some-clause-changed c =
+    set_is c.args.generation (marked_as c.args.deleted) c.args.files.now c.in-Some.at c.index-files-at.result c.requires (sym c.position.ensures ∙ c.in-Some.is)
+
+pub returns-in-Some-clause-ascending : goal.returns-in-Some-clause-ascending
+returns-in-Some-clause-ascending c =
+    IsAscending-set c.args.generation (marked_as c.args.deleted) c.args.files.now c.in-Some.at c.index-files-at.result (λ other. refl) (λ other short. short) c.requires (sym c.position.ensures ∙ c.in-Some.is)
+
+pub returns-in-None-clause-none : goal.returns-in-None-clause-none
+returns-in-None-clause-none c =
+    (λ _. absent-from_position c.args.generation c.args.files.now (sym c.position.ensures ∙ c.in-None.is), λ _. refl)
+
+pub returns-in-None-clause-changed : goal.returns-in-None-clause-changed
+returns-in-None-clause-changed c =
+    sym (changed-absent c.args.generation (marked_as c.args.deleted) c.args.files.now (absent-from_position c.args.generation c.args.files.now (sym c.position.ensures ∙ c.in-None.is)))

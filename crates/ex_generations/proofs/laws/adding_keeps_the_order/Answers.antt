@@ -1,0 +1,5 @@
+use Rattle.ex_generations.proofs.Retaining.{IsAscending-added}
+use Rattle.ex_generations.proofs.laws.adding_keeps_the_order.Goals as goal
+
+pub returns : goal.returns
+returns c = IsAscending-added

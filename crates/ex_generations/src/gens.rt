@@ -1,0 +1,169 @@
+// The generations of one file.
+ghost use Rattle.std.specs.Prelude.{◌≡◌, ◌<◌, ◌≤◌, ◌+◌, ◌↔◌, [], true, false, length, find, slice_get, Some, IsTrue, IsErr, IsOk, IfOk, OnErr, OnOk};
+ghost use Rattle.ex_generations.specs.Generations.{IsAscending, changed, has, highest, is_generation, lowest, marked, marked_as, next_generation, pages, rewritten, unmarked, with_mark, without};
+ghost use Rattle.ex_generations.specs.Retention.{added};
+
+use crate::{Bytes, FILE_LIMIT, File, GENERATION_LIMIT, GenFull, NoGen, change, search};
+use cm_io::NoMemory;
+use std::alloc::Global;
+use std::marker::Model;
+
+/// The files of one name and type, in ascending order of their generations. Contracts see the files, and for how
+/// many there is room.
+#[derive(Drop)]
+pub struct Gens {
+    files: Vec<File>,
+}
+
+impl Model for Gens {
+    ghost use Rattle.std.specs.Prelude.{vec_capacity};
+    ghost use Rattle.ex_generations.specs.Generations.{IsAscending, Kept};
+
+    ghost Value = { Kept };
+
+    ghost view = { λ gens. record { files = gens.files.items; room = vec_capacity gens.files } };
+
+    ghost invariant = { λ gens. IsAscending 0 gens.files.items };
+}
+
+impl Gens {
+    /// No file, and room for none.
+    pub fn new(alloc: Global) -> Gens
+        ensures { result.files ≡ [] }
+    {
+        Gens {
+            files: Vec::new(alloc),
+        }
+    }
+
+    /// How many files there are, deleted ones included.
+    pub fn len(&self) -> u32
+        ensures length { result ≡ length self.now.files }
+        ensures ordered { IsAscending 0 self.now.files }
+    {
+        self.files.len() as u32
+    }
+
+    /// The file at a place in the ascending order.
+    pub fn file(&self, i: u32) -> &File
+        requires { i < length self.now.files }
+        ensures { slice_get self.now.files i ≡ Some result.now }
+    {
+        &self.files[i as usize]
+    }
+
+    /// Whether there is a file of this generation.
+    pub fn has(&self, generation: u32) -> bool
+        ensures { result ≡ has generation self.now.files }
+    {
+        search::has(&self.files, generation)
+    }
+
+    /// The generation of a new file: one more than the highest, deleted ones included, and 1 with no file. GenFull
+    /// where the highest is 131,071.
+    pub fn next(&self) -> Result<u32, GenFull>
+        ensures next { IfOk result (λ next. next ≡ next_generation self.now.files) }
+        ensures full { IsErr result ↔ (highest self.now.files ≡ Some GENERATION_LIMIT) }
+        ensures within { IfOk result (λ next. next ≤ GENERATION_LIMIT) }
+        ensures free { IfOk result (λ next. has next self.now.files ≡ false) }
+    {
+        search::next(&self.files)
+    }
+
+    /// The highest generation of the files with this mark.
+    pub fn highest(&self, deleted: bool) -> Option<u32>
+        ensures { result ≡ highest (with_mark deleted self.now.files) }
+    {
+        search::highest(&self.files, deleted)
+    }
+
+    /// The lowest generation of the files with this mark.
+    pub fn lowest(&self, deleted: bool) -> Option<u32>
+        ensures { result ≡ lowest (with_mark deleted self.now.files) }
+    {
+        search::lowest(&self.files, deleted)
+    }
+
+    /// Makes room for so many more files. Only want of memory can be in the way, and then the files stay.
+    pub fn reserve(&mut self, n: usize) -> Result<(), NoMemory>
+        ensures files { self.new.files ≡ self.old.files }
+        ensures room { OnOk result (length self.new.files + n ≤ self.new.room) }
+        ensures succeeds { length self.old.files + n ≤ self.old.room → IsOk result }
+        ensures grows { self.old.room ≤ self.new.room }
+    {
+        self.files.reserve(n)?;
+        Ok(())
+    }
+
+    /// Adds a file at its place in the order. Where `keep` is not 0, all unmarked files but so many of the highest
+    /// are then marked as deleted.
+    pub fn add(&mut self, file: File, keep: u8)
+        requires room { length self.old.files < self.old.room }
+        requires unmarked { file.deleted ≡ false }
+        requires short { length file.bytes ≤ FILE_LIMIT }
+        requires from_one { 0 < file.generation }
+        requires to_limit { file.generation ≤ GENERATION_LIMIT }
+        requires absent { has file.generation self.old.files ≡ false }
+        ensures { self.new ≡ record self.old { files = added keep file self.old.files } }
+    {
+        change::insert(&mut self.files, file);
+        change::retain(&mut self.files, keep);
+    }
+
+    /// Marks the file of a generation as deleted. NoGen where there is none, and then nothing changes.
+    pub fn mark(&mut self, generation: u32) -> Result<(), NoGen>
+        ensures none { IsErr result ↔ (has generation self.old.files ≡ false) }
+        ensures marked { OnOk result (self.new ≡ record self.old {
+          files = changed generation (marked_as true) self.old.files;
+        }) }
+        ensures err { OnErr result (self.new ≡ self.old) }
+    {
+        change::set_mark(&mut self.files, generation, true)
+    }
+
+    /// Clears the mark of the file of a generation. NoGen where there is none, and then nothing changes.
+    pub fn unmark(&mut self, generation: u32) -> Result<(), NoGen>
+        ensures none { IsErr result ↔ (has generation self.old.files ≡ false) }
+        ensures unmarked { OnOk result (self.new ≡ record self.old {
+          files = changed generation (marked_as false) self.old.files;
+        }) }
+        ensures err { OnErr result (self.new ≡ self.old) }
+    {
+        change::set_mark(&mut self.files, generation, false)
+    }
+
+    /// Takes the file of a generation out. The room does not fall.
+    pub fn remove(&mut self, generation: u32) -> File
+        requires { has generation self.old.files ≡ true }
+        ensures file { find (is_generation generation) self.old.files ≡ Some result }
+        ensures files { self.new.files ≡ without generation self.old.files }
+        ensures room { self.old.room ≤ self.new.room }
+    {
+        change::take(&mut self.files, generation)
+    }
+
+    /// Gives the file of a generation another moment and other bytes.
+    pub fn replace(&mut self, generation: u32, moment: u64, bytes: Bytes)
+        requires there { has generation self.old.files ≡ true }
+        requires short { length bytes ≤ FILE_LIMIT }
+        ensures { self.new ≡ record self.old {
+          files = changed generation (rewritten moment bytes) self.old.files;
+        } }
+    {
+        change::rewrite(&mut self.files, generation, moment, bytes);
+    }
+
+    /// Removes the files that are marked as deleted, and tells how many pages they had.
+    pub fn expunge(&mut self) -> u32
+        ensures files { self.new.files ≡ unmarked self.old.files }
+        ensures pages { result ≡ pages (marked self.old.files) }
+        ensures room { self.old.room ≤ self.new.room }
+    {
+        let pages = search::marked_pages(&self.files);
+        change::drop_marked(&mut self.files);
+        pages
+    }
+}
+
+#[cfg(test)]
+mod tests;

@@ -1,0 +1,103 @@
+// Searches through the generations of a file, from the lowest on.
+ghost use Rattle.std.specs.Prelude.{◌≡◌, ◌≤◌, ◌↔◌, false, length, Some, IfOk, IsErr, position, nat_lt};
+ghost use Rattle.std.specs.List.{prefix_len};
+ghost use Rattle.ex_generations.specs.Generations.{IsAscending, has, highest, is_generation, lowest, marked, next_generation, page_count, pages, with_mark};
+ghost use Rattle.ex_generations.specs.Retention.{live};
+
+use crate::{Bytes, FILE_LIMIT, File, GENERATION_LIMIT, GenFull, PAGE_BYTES};
+
+// Where the file of a generation stands.
+pub(crate) fn position(files: &[File], generation: u32) -> Option<usize>
+    ensures { result ≡ position (is_generation generation) files.now }
+{
+    files.iter().position(|file| file.generation == generation)
+}
+
+// Whether there is a file of a generation.
+pub(crate) fn has(files: &[File], generation: u32) -> bool
+    ensures { result ≡ has generation files.now }
+{
+    files.iter().any(|file| file.generation == generation)
+}
+
+// How many files are of a lower generation.
+pub(crate) fn place(files: &[File], generation: u32) -> usize
+    ensures { result ≡ prefix_len (λ file. nat_lt file.generation generation) files.now }
+{
+    files
+        .iter()
+        .take_while(|file| file.generation < generation)
+        .count()
+}
+
+// The highest generation with this mark.
+pub(crate) fn highest(files: &[File], deleted: bool) -> Option<u32>
+    requires { IsAscending 0 files.now }
+    ensures { result ≡ highest (with_mark deleted files.now) }
+{
+    let mut highest = None;
+    for file in files {
+        if file.deleted == deleted {
+            highest = Some(file.generation);
+        }
+    }
+    highest
+}
+
+// The number above the highest generation, and 1 with no file.
+pub(crate) fn next(files: &[File]) -> Result<u32, GenFull>
+    requires { IsAscending 0 files.now }
+    ensures next { IfOk result (λ next. next ≡ next_generation files.now) }
+    ensures full { IsErr result ↔ (highest files.now ≡ Some GENERATION_LIMIT) }
+    ensures within { IfOk result (λ next. next ≤ GENERATION_LIMIT) }
+    ensures free { IfOk result (λ next. has next files.now ≡ false) }
+{
+    match files.last() {
+        None => Ok(1),
+        Some(file) if file.generation < GENERATION_LIMIT => Ok(file.generation + 1),
+        Some(_) => Err(GenFull),
+    }
+}
+
+// The lowest generation with this mark.
+pub(crate) fn lowest(files: &[File], deleted: bool) -> Option<u32>
+    requires { IsAscending 0 files.now }
+    ensures { result ≡ lowest (with_mark deleted files.now) }
+{
+    for file in files {
+        if file.deleted == deleted {
+            return Some(file.generation);
+        }
+    }
+    None
+}
+
+// How many files are not marked.
+pub(crate) fn live(files: &[File]) -> usize
+    ensures { result ≡ live files.now }
+{
+    files.iter().filter(|file| !file.deleted).count()
+}
+
+// The pages of a file, at most 26.
+fn page_count(bytes: &Bytes) -> u32
+    requires { length bytes.now ≤ FILE_LIMIT }
+    ensures count { result ≡ page_count (length bytes.now) }
+    ensures few { result ≤ 26 }
+{
+    bytes.len().div_ceil(PAGE_BYTES) as u32
+}
+
+// The pages of the files that are marked.
+pub(crate) fn marked_pages(files: &[File]) -> u32
+    requires { IsAscending 0 files.now }
+    ensures { result ≡ pages (marked files.now) }
+{
+    let mut pages = 0;
+    for file in files {
+        if file.deleted {
+            pages += page_count(&file.bytes);
+        }
+    }
+    pages
+}
