@@ -1,7 +1,7 @@
 // The generations of one file.
 ghost use Rattle.std.specs.Prelude.{◌≡◌, ◌<◌, ◌≤◌, ◌+◌, ◌↔◌, [], true, false, length, find, slice_get, Some, IsTrue, IsErr, IsOk, IfOk, OnErr, OnOk};
 ghost use Rattle.ex_generations.specs.Generations.{IsAscending, changed, has, highest, is_generation, lowest, marked, marked_as, next_generation, pages, rewritten, unmarked, with_mark, without};
-ghost use Rattle.ex_generations.specs.Retention.{added};
+ghost use Rattle.ex_generations.specs.Retention.{added, retained};
 
 use crate::{Bytes, FILE_LIMIT, File, GENERATION_LIMIT, GenFull, NoGen, change, search};
 use cm_io::NoMemory;
@@ -29,7 +29,7 @@ impl Model for Gens {
 impl Gens {
     /// No file, and room for none.
     pub fn new(alloc: Global) -> Gens
-        ensures { result.files ≡ [] }
+        ensures { result ≡ record { files = []; room = 0 } }
     {
         Gens {
             files: Vec::new(alloc),
@@ -110,6 +110,13 @@ impl Gens {
         change::retain(&mut self.files, keep);
     }
 
+    /// Marks all unmarked files as deleted but so many of the highest; with 0 none.
+    pub fn retain_newest(&mut self, keep: u8)
+        ensures { self.new ≡ record self.old { files = retained keep self.old.files } }
+    {
+        change::retain(&mut self.files, keep);
+    }
+
     /// Marks the file of a generation as deleted. NoGen where there is none, and then nothing changes.
     pub fn mark(&mut self, generation: u32) -> Result<(), NoGen>
         ensures none { IsErr result ↔ (has generation self.old.files ≡ false) }
@@ -132,12 +139,11 @@ impl Gens {
         change::set_mark(&mut self.files, generation, false)
     }
 
-    /// Takes the file of a generation out. The room does not fall.
+    /// Takes the file of a generation out. The room stays.
     pub fn remove(&mut self, generation: u32) -> File
         requires { has generation self.old.files ≡ true }
         ensures file { find (is_generation generation) self.old.files ≡ Some result }
-        ensures files { self.new.files ≡ without generation self.old.files }
-        ensures room { self.old.room ≤ self.new.room }
+        ensures rest { self.new ≡ record self.old { files = without generation self.old.files } }
     {
         change::take(&mut self.files, generation)
     }
@@ -155,9 +161,8 @@ impl Gens {
 
     /// Removes the files that are marked as deleted, and tells how many pages they had.
     pub fn expunge(&mut self) -> u32
-        ensures files { self.new.files ≡ unmarked self.old.files }
+        ensures kept { self.new ≡ record self.old { files = unmarked self.old.files } }
         ensures pages { result ≡ pages (marked self.old.files) }
-        ensures room { self.old.room ≤ self.new.room }
     {
         let pages = search::marked_pages(&self.files);
         change::drop_marked(&mut self.files);

@@ -193,6 +193,19 @@ fn a_file_is_replaced(rt: HostRuntime) -> Result<(), Fail> {
 }
 
 #[test]
+fn retention_may_come_alone(rt: HostRuntime) -> Result<(), Fail> {
+    let marks = [(1, false), (2, true), (3, false), (4, false)];
+    let mut gens = made(&rt, rt.alloc(), &marks)?;
+    gens.retain_newest(0);
+    assert!(rt; stand(&gens, &marks));
+    gens.retain_newest(2);
+    assert!(rt; stand(&gens, &[(1, true), (2, true), (3, false), (4, false)]));
+    gens.retain_newest(1);
+    assert!(rt; stand(&gens, &[(1, true), (2, true), (3, true), (4, false)]));
+    Ok(())
+}
+
+#[test]
 fn room_is_made(rt: HostRuntime) {
     let mut gens = Gens::new(rt.alloc());
     assert_eq!(rt; gens.reserve(0), Ok(()));
