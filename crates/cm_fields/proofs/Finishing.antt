@@ -1,5 +1,5 @@
 -- The end of the line decides every trial.
-use Rattle.std.proofs.Common.{◌≡◌, ℕ, zero, suc, ◌+◌, ◌<◌, ◌≤◌, Bool, true, false, not, ◌==◌, ◌&&◌, nat_le, cond, if◌then◌else◌, List, [], ◌∷◌, ◌++◌, length, take, slice_get, Result, Ok, Err, refl, arith, length-append}
+use Rattle.std.proofs.Common.{◌≡◌, ℕ, zero, suc, ◌+◌, ◌<◌, ◌≤◌, Bool, true, false, not, ◌==◌, ◌&&◌, nat_le, cond, List, [], ◌∷◌, ◌++◌, length, take, slice_get, Result, Ok, Err, refl, arith, length-append}
 use Rattle.std.proofs.lemmas.Bool.{and_parts}
 use Rattle.std.specs.List.{common_prefix_len, prefix_len}
 use Rattle.std.specs.Option.{option_map_or}
@@ -9,15 +9,13 @@ use Rattle.cm_text.specs.declared.name.TheConstants.{NAME_LIMIT}
 use Rattle.cm_fields.specs.declared.code.Code.{Code}
 use Rattle.cm_fields.specs.declared.quotes.Closing.{Closing}
 use Rattle.cm_fields.specs.declared.quotes.Closing.TheVariants.{Closed, Cut, Unknown}
-use Rattle.cm_fields.specs.declared.trial.Try.{Try}
-use Rattle.cm_fields.specs.declared.trial.Try.TheVariants.{Accept, Refuse, More}
 use Rattle.cm_fields.specs.declared.value.Value.{Value}
 use Rattle.cm_fields.specs.Finish.{Decides, DecidesFinished, has_no_end}
 use Rattle.cm_fields.specs.Mark.{comma, confirm}
 use Rattle.cm_fields.specs.Phrase.{is_inside, noise, same_letter, token, typed_noise}
 use Rattle.cm_fields.specs.Quoted.{by_closing, closing, quoted}
 use Rattle.cm_fields.specs.Try.{by_run, said}
-use Rattle.cm_fields.proofs.Holding.{by_test, holds_of_choice, of_choice}
+use Rattle.cm_fields.proofs.Holding.{holds_of_choice, of_choice}
 
 -- a run that the end of the line is no part of ends before it
 run_one : (is_here : Bool) (most size : ℕ) → size ≤ most → cond is_here (1 + size) 0 ≤ suc most
