@@ -182,7 +182,8 @@ fn plain_outcome<N: Names, R: Rules>(
 // The rest of a token of which something is typed.
 fn token_outcome(text: &[u8], next: u16, atom: &[u8]) -> Outcome
     requires { length text.now ≤ TAIL_LIMIT }
-    ensures value { result ≡ (if length atom.now == 0 then Outcome.Nothing else phrase_outcome text.now next atom.now) }
+    ensures value { result ≡ (if length atom.now == 0 then Outcome.Nothing
+        else phrase_outcome text.now next atom.now) }
     ensures short { IsShort TAIL_LIMIT result }
 {
     if atom.is_empty() {

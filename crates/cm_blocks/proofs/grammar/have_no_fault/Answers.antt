@@ -1,4 +1,4 @@
-use Rattle.std.proofs.Common.{◌≡◌, List, None, subst, sym, arith}
+use Rattle.std.proofs.Common.{◌≡◌, List, None, subst, arith}
 use Rattle.std.proofs.lemmas.List.{take_all}
 use Rattle.std.proofs.lemmas.List.Elements.{All-more}
 use Rattle.cm_tables.specs.declared.entry.Entry.{Entry}
