@@ -8,7 +8,7 @@ ghost use Rattle.cm_io.specs.Fault.{PutCause};
 ghost use Rattle.cm_hooks.specs.Ties.{Ties, count};
 ghost use Rattle.cm_blocks.specs.Fault.{grammar_fault};
 ghost use Rattle.cm_blocks.specs.Grammar.{hook_count};
-ghost use Rattle.cm_blocks.specs.Kept.{BeginsWith, common, cost, cost_behind, kept, needing};
+ghost use Rattle.cm_blocks.specs.Kept.{BeginsWith, cost, cost_behind, kept, needing};
 ghost use Rattle.cm_blocks.specs.Parse.{IsClosed, IsParse, open_at, parse_of};
 ghost use Rattle.cm_blocks.specs.Setting.{Setting, setting};
 ghost use Rattle.cm_state.specs.Edit.{before_fault, completed, edited};

@@ -1,5 +1,5 @@
 // What a key makes of the line of a session.
-ghost use Rattle.std.specs.Prelude.{◌≡◌, ◌≤◌, true, false, [], ◌++◌, length, None, if◌then◌else◌};
+ghost use Rattle.std.specs.Prelude.{◌≡◌, ◌≤◌, true, false, [], ◌++◌, None, if◌then◌else◌};
 ghost use Rattle.cm_text.specs.Bytes.{is_text};
 ghost use Rattle.cm_hooks.specs.Ties.{Ties, count};
 ghost use Rattle.cm_blocks.specs.Grammar.{hook_count};
