@@ -1,7 +1,7 @@
 // Whole runs.
 use super::given::{Case, IMAGE, Log, outcome_by, outcome_of, over, try_cases, words_of};
 use crate::Status;
-use arrayvec::ArrayVec;
+use std::alloc::Global;
 use std::test::Fail;
 
 // A run that is Done, behind which this moment comes next.
@@ -149,31 +149,33 @@ fn rings_where_nothing_is_certain(rt: HostRuntime) -> Result<(), Fail> {
 }
 
 // So many blanks, `INF` and ESC, which would put 17 bytes in.
-fn far_out(blanks: usize) -> ArrayVec<u8, 256>
-    requires { blanks ≤ 252 }
-{
-    let mut keys = ArrayVec::new();
-    for _ in 0..blanks {
-        keys.push(b' ');
-    }
+fn far_out(alloc: Global, blanks: usize) -> Result<Vec<u8>, Fail> {
+    let mut keys = vec![in alloc; b' '; blanks]?;
     for key in b"INF\x1b" {
-        keys.push(*key);
+        keys.push(*key)?;
     }
-    keys
+    Ok(keys)
 }
 
 #[test]
 fn puts_in_what_fits(rt: HostRuntime) -> Result<(), Fail> {
-    let fits = outcome_of(&rt, &over(&far_out(235)))?;
+    let keys = far_out(rt.alloc(), 235)?;
+    let fits = outcome_of(&rt, &over(&keys))?;
     assert!(rt; fits.screen.bytes().ends_with(b" INFORMATION (ABOUT) \r\n"));
     assert!(rt;
         fits.log
             .bytes()
             .ends_with(b"\n1b 255 O 0.1k9@235-246 26.0n1@247-254\n")
     );
-    let too_long = outcome_of(&rt, &over(&far_out(236)))?;
-    assert!(rt; too_long.screen.bytes().ends_with(b" INF\x07\r\n"));
-    assert!(rt; too_long.log.bytes().ends_with(b"\n1b 239 O\n"));
+    Ok(())
+}
+
+#[test]
+fn puts_nothing_in_that_does_not_fit(rt: HostRuntime) -> Result<(), Fail> {
+    let keys = far_out(rt.alloc(), 236)?;
+    let full = outcome_of(&rt, &over(&keys))?;
+    assert!(rt; full.screen.bytes().ends_with(b" INF\x07\r\n"));
+    assert!(rt; full.log.bytes().ends_with(b"\n1b 239 O\n"));
     Ok(())
 }
 
