@@ -118,7 +118,7 @@ fn refuses_lines(rt: HostRuntime) -> Result<(), Fail> {
 
 #[test]
 fn edits_lines(rt: HostRuntime) -> Result<(), Fail> {
-    let cases: [Case<'_>; 6] = [
+    let cases: [Case<'_>; 7] = [
         (
             b"INF\x03",
             Turn::Abandoned,
@@ -139,10 +139,16 @@ fn edits_lines(rt: HostRuntime) -> Result<(), Fail> {
             b"17 2 F25.6@1 0.1k1@0-1\n17 1 O\n17 0 O\n17 0 O\n",
         ),
         (
-            b"A\x08\x1b\x06?\x00\xff",
+            b"L\x08\x1b\x06?\x00\xff",
             Turn::Edited,
-            b"@A\x07\x07\x07\x07\x07\x07",
+            b"@L\x07\x07\x07\x07\x07\x07",
             b"08 1 O\n1b 1 O\n06 1 O\n3f 1 O\n00 1 O\nff 1 O\n",
+        ),
+        (
+            b"CONN\x1b\x1b",
+            Turn::Edited,
+            b"@CONNECT (TO DIRECTORY) OPERATOR ",
+            b"1b 23 O 0.1k3@0-7 17.0n1@8-22\n1b 32 O 0.1k3@0-7 17.0n1@8-22 18.1w@23-31\n",
         ),
         (
             b"\x7f\x17\x15\x12\x08\x1b\x06?\x00",
