@@ -1,2 +1,9 @@
 pub mod Catalogue
+pub mod Fields
 pub mod LogicalName
+pub mod Passing
+pub mod Pattern
+pub mod Place
+pub mod Resolve
+pub mod Selection
+pub mod Spec

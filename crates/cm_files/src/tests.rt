@@ -1,0 +1,3 @@
+// What no clause says: worked rows, over a small catalogue.
+
+mod patterns;
