@@ -1,5 +1,5 @@
 -- Users, directories and files, each a run of bytes (.CMUSR, .CMDIR, .CMIFI, .CMOFI, .CMFIL).
-use Rattle.std.specs.Prelude.{ℕ, ◌+◌, ◌==◌, Bool, not, ◌||◌, ◌&&◌, nat_lt, if◌then◌else◌, List, length, take, slice_get, is_some, is_none, Option, Some, None, option_map, Result, Ok, Err}
+use Rattle.std.specs.Prelude.{ℕ, ◌+◌, ◌==◌, Bool, false, not, ◌||◌, ◌&&◌, nat_lt, if◌then◌else◌, List, length, take, slice_get, is_some, is_none, Option, Some, None, option_map, Result, Ok, Err}
 use Rattle.std.specs.List.{list_all, list_any, position_from, prefix_len}
 use Rattle.std.specs.Option.{option_map_or}
 use Rattle.cm_text.specs.Bytes.{is_name}

@@ -1,7 +1,7 @@
 // Users, directories and files.
-ghost use Rattle.std.specs.Prelude.{◌≡◌, ◌+◌, ◌<◌, ◌≤◌, Ok, drop, length, option_map};
-ghost use Rattle.std.specs.List.{list_all, prefix_len};
-ghost use Rattle.cm_files.specs.Fields.{directory, directory_of, directory_read, file, file_of, is_file, is_plain_path, is_user, is_user_named, moved, moved_spec, new_directory, refusal, user, user_named, user_of};
+ghost use Rattle.std.specs.Prelude.{◌≡◌, ◌+◌, ◌<◌, ◌≤◌, ◌==◌, Ok, drop, length, option_map};
+ghost use Rattle.std.specs.List.{list_all, list_any, prefix_len};
+ghost use Rattle.cm_files.specs.Fields.{directory, directory_of, directory_read, file, file_of, is_file, is_plain_path, is_user_named, moved, moved_spec, new_directory, refusal, user, user_named, user_of};
 ghost use Rattle.cm_fields.specs.declared.value.Value.TheVariants as values;
 ghost use Rattle.cm_files.specs.Passing.{passes_at};
 ghost use Rattle.cm_files.specs.Spec.{IsPartOf, IsSpecOf};
@@ -237,11 +237,11 @@ pub fn directory<N: Names>(new: bool, names: &N, text: &[u8], at: usize) -> Try
     directory_behind(new, names, text.split_at(at).1, at as u16)
 }
 
-// Whether a name of a directory is that of a user.
-fn is_user(name: &[u8]) -> bool
-    ensures { result ≡ is_user name.now }
+// Whether a text has a point.
+fn has_point(text: &[u8]) -> bool
+    ensures { result ≡ list_any (λ byte. byte == 46) text.now }
 {
-    !name.iter().any(|byte| *byte == b'.')
+    text.iter().any(|byte| *byte == b'.')
 }
 
 // Whether the directory with this number is that of the user with this name.
@@ -250,10 +250,11 @@ fn is_user_at<N: Names>(names: &N, i: u16, name: &[u8]) -> bool
     ensures { result ≡ passes_at (is_user_named name.now) (N.catalogue names.now).directories i }
 {
     let directory = names.directory(i).as_bytes();
-    is_user(directory) && equals(directory, name)
+    !has_point(directory) && equals(directory, name)
 }
 
 // The number of the user with this name.
+#[tactic(auto, using(crate::proofs::Walking::found_here, crate::proofs::Walking::not_here, crate::proofs::Walking::nowhere))]
 fn user_named<N: Names>(names: &N, name: &[u8]) -> Option<u16>
     ensures { result ≡ user_named (N.catalogue names.now) name.now }
 {

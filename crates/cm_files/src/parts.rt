@@ -76,8 +76,7 @@ fn path_run(text: &[u8]) -> usize
 fn are_parts(path: &[u8]) -> bool
     ensures { result ≡ are_parts path.now }
 {
-    path.split(|byte| *byte == b'.')
-        .all(|part| !part.is_empty())
+    path.split(|byte| *byte == b'.').all(|part| part.len() > 0)
 }
 
 // A part from a place on, of this size, and where the next one begins.

@@ -1,5 +1,6 @@
 // Patterns of names.
 ghost use Rattle.std.specs.Prelude.{◌≡◌, ◌+◌, ◌≤◌, IfSome, length};
+ghost use Rattle.std.specs.Bool.{OnTrue};
 ghost use Rattle.std.specs.List.{common_prefix_len, prefix_len};
 ghost use Rattle.cm_files.specs.Pattern.{is_plain, matches, some_end, stands_for};
 ghost use Rattle.cm_files.specs.Place.{ends_like, fits, place_from};
@@ -26,7 +27,8 @@ fn alike(part: &[u8], name: &[u8]) -> usize
 
 // Whether a part without `*` stands for the first bytes of a name. The bytes compared are added to `looked`.
 fn fits(part: &[u8], name: &[u8], looked: &mut u64) -> bool
-    ensures { result ≡ fits part.now name.now }
+    ensures value { result ≡ fits part.now name.now }
+    ensures within { OnTrue result (length part.now ≤ length name.now) }
 {
     let size = alike(part, name);
     *looked = looked.saturating_add(size as u64 + 1);
@@ -34,16 +36,21 @@ fn fits(part: &[u8], name: &[u8], looked: &mut u64) -> bool
 }
 
 // The first place of a name where such a part stands for the bytes.
+#[tactic(auto, using(crate::proofs::Stars::part_here, crate::proofs::Stars::part_next, crate::proofs::Stars::part_past))]
 fn place_of(part: &[u8], name: &[u8], looked: &mut u64) -> Option<usize>
     ensures value { result ≡ place_from part.now 0 name.now }
     ensures within { IfSome result (λ place. place + length part.now ≤ length name.now) }
 {
-    for place in 0..=name.len() {
+    for place in 0..name.len() {
         if fits(part, name.split_at(place).1, looked) {
             return Some(place);
         }
     }
-    None
+    if fits(part, name.split_at(name.len()).1, looked) {
+        Some(name.len())
+    } else {
+        None
+    }
 }
 
 // Whether such a part stands for the last bytes of a name.
@@ -55,24 +62,27 @@ fn ends_like(part: &[u8], name: &[u8], looked: &mut u64) -> bool
 
 // Whether a pattern means some end of a name: each part between two `*` at its first place behind the part
 // before, and the last part at the end of the name.
+#[tactic(auto, using(crate::proofs::Stars::means_next, crate::proofs::Stars::means_nowhere, crate::proofs::Stars::means_last))]
 fn means_an_end(pattern: &[u8], name: &[u8], looked: &mut u64) -> bool
     ensures { result ≡ some_end (matches pattern.now) name.now }
 {
-    let mut pattern = pattern;
-    let mut name = name;
-    let mut size = plain_run(pattern);
-    while size < pattern.len() {
-        let Some(place) = place_of(pattern.split_at(size).0, name, looked) else {
+    let mut parts = pattern;
+    let mut rest = name;
+    let mut size = plain_run(parts);
+    while size < parts.len() {
+        let part = parts.split_at(size).0;
+        let Some(place) = place_of(part, rest, looked) else {
             return false;
         };
-        name = name.split_at(place + size).1;
-        pattern = pattern.split_at(size + 1).1;
-        size = plain_run(pattern);
+        rest = rest.split_at(place).1.split_at(part.len()).1;
+        parts = parts.split_at(size + 1).1;
+        size = plain_run(parts);
     }
-    ends_like(pattern, name, looked)
+    ends_like(parts, rest, looked)
 }
 
 // Whether a pattern means a name. The bytes compared are added to `looked`.
+#[tactic(auto, using(crate::proofs::Stars::means_unlike, crate::proofs::Stars::means_behind, crate::proofs::Stars::means_whole))]
 fn means(pattern: &[u8], name: &[u8], looked: &mut u64) -> bool
     ensures { result ≡ matches pattern.now name.now }
 {
@@ -80,10 +90,11 @@ fn means(pattern: &[u8], name: &[u8], looked: &mut u64) -> bool
     if !fits(pattern.split_at(size).0, name, looked) {
         return false;
     }
-    if size == pattern.len() {
-        return size == name.len();
+    if size < pattern.len() {
+        means_an_end(pattern.split_at(size + 1).1, name.split_at(size).1, looked)
+    } else {
+        pattern.len() == name.len()
     }
-    means_an_end(pattern.split_at(size + 1).1, name.split_at(size).1, looked)
 }
 
 /// Whether a pattern means a name: `*` stands for any run of bytes, `%` for one byte, and any other byte for
