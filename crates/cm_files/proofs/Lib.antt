@@ -1,3 +1,4 @@
 pub mod Choosing
+pub mod Fielding
 pub mod Stars
 pub mod Walking

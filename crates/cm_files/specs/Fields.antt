@@ -21,7 +21,7 @@ use Rattle.cm_files.specs.declared.spec.SpecFault.TheVariants.{Shape, NameLong, 
 use Rattle.cm_files.specs.Catalogue.{Catalogue}
 use Rattle.cm_files.specs.Pattern.{is_wild}
 use Rattle.cm_files.specs.Resolve.{by_device, by_directory, has_wild, refuse, resolve, then_in}
-use Rattle.cm_files.specs.Spec.{is_path, read_spec}
+use Rattle.cm_files.specs.Spec.{is_path, read_spec, stands_at}
 
 -- a byte that may stand in a file specification
 abbrev pub is_file : ℕ → Bool
@@ -118,10 +118,10 @@ user_or_refused (Some directory) = Ok (values.User directory)
 unfoldable pub user_of : Catalogue → Bool → List ℕ → Result Value Code
 user_of c has_colon run = refuse has_colon NoUser (user_or_refused (user_named c run))
 
+-- a colon stands behind such a name
+abbrev pub has_colon_behind : List ℕ → Bool
+has_colon_behind rest = stands_at rest (prefix_len is_plain_path rest) 58
+
 -- a user; the byte behind the name decides
 abbrev pub user : Catalogue → List ℕ → ℕ → Try
-user c rest at =
-    let size = prefix_len is_plain_path rest in
-    if size == length rest then More
-    else said at size (size + 1)
-    (user_of c (option_map_or (λ byte. byte == 58) (slice_get rest size) false) (take size rest))
+user c rest at = by_run is_plain_path (user_of c (has_colon_behind rest)) rest at

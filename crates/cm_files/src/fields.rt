@@ -6,7 +6,7 @@ ghost use Rattle.cm_fields.specs.declared.value.Value.TheVariants as values;
 ghost use Rattle.cm_files.specs.Passing.{passes_at};
 ghost use Rattle.cm_files.specs.Spec.{IsPartOf, IsSpecOf};
 
-use crate::parts::is_path;
+use crate::parts::{is_path, stands_at};
 use crate::resolve::{has_wild, resolve};
 use crate::{FileKind, Flags, Names, SpecFault, by_device, by_directory, read_spec};
 use cm_fields::{Code, Span, Spec, Try, Value, said};
@@ -296,6 +296,6 @@ pub fn user<N: Names>(names: &N, text: &[u8], at: usize) -> Try
         at,
         size,
         size + 1,
-        user_of(names, rest[size] == b':', &rest[..size]),
+        user_of(names, stands_at(rest, size, b':'), &rest[..size]),
     )
 }

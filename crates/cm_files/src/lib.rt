@@ -5,6 +5,7 @@
 mod fields;
 mod flags;
 mod generation;
+pub mod laws;
 mod logical;
 mod names;
 mod parts;

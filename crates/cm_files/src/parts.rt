@@ -24,8 +24,8 @@ struct Read {
     next: usize,
 }
 
-// Whether this byte stands at a place.
-fn stands_at(atom: &[u8], place: usize, byte: u8) -> bool
+/// Whether this byte stands at a place.
+pub(crate) fn stands_at(atom: &[u8], place: usize, byte: u8) -> bool
     ensures { result ≡ stands_at atom.now place byte }
 {
     match atom.get(place) {
