@@ -251,6 +251,9 @@ pub(crate) fn outcome_of<N: Names, R: Rules>(
             let plain = plain_outcome(grammar, block, line, at, names, hooks);
             hook_outcome(hooks, *id, next, atom, plain)
         }
+        Function::User | Function::Directory | Function::InFile | Function::AnyFile => {
+            Outcome::Nothing
+        }
         _ => plain_outcome(grammar, block, line, at, names, hooks),
     }
 }
