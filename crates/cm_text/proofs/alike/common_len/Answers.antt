@@ -1,18 +1,18 @@
-use Rattle.std.proofs.Common.{◌≡◌, ℕ, ◌+◌, Bool, cond, nat_eq, List, [], ◌∷◌, refl, ap, rules, tests, ◌∙◌}
+use Rattle.std.proofs.Common.{◌≡◌, ℕ, ◌+◌, ◌==◌, Bool, cond, List, [], ◌∷◌, refl, ap, rules, tests, ◌∙◌}
 use Rattle.std.specs.List.{common_prefix_len, prefix_len, zip}
 use Rattle.std.proofs.lemmas.Iterator.{YieldsList-from_slice, YieldsList-from_zip}
 use Rattle.std.proofs.lemmas.Iterator.Consumers.{YieldsList-at, count_from_yields_List}
 use Rattle.std.proofs.lemmas.Iterator.Search.{YieldsList-from_take_while}
 use Rattle.std.proofs.lemmas.List.Folds.{length-prefix_len}
-use Rattle.cm_tables.proofs.common.same_bytes.Goals as goal
+use Rattle.cm_text.proofs.alike.common_len.Goals as goal
 
 abbrev is_same : ℕ × ℕ → Bool
-is_same pair = nat_eq pair.0 pair.1
+is_same pair = pair.0 == pair.1
 
-prefix_len-zip : (xs ys : List ℕ) → prefix_len is_same (zip xs ys) ≡ common_prefix_len nat_eq xs ys
+prefix_len-zip : (xs ys : List ℕ) → prefix_len is_same (zip xs ys) ≡ common_prefix_len ◌==◌ xs ys
 prefix_len-zip [] ys = refl
 prefix_len-zip (x ∷ xs) [] = refl
-prefix_len-zip (x ∷ xs) (y ∷ ys) = ap (λ size. cond (nat_eq x y) (1 + size) 0) (prefix_len-zip xs ys)
+prefix_len-zip (x ∷ xs) (y ∷ ys) = ap (λ size. cond (x == y) (1 + size) 0) (prefix_len-zip xs ys)
 
 pub returns-clause-value : goal.returns-clause-value
 returns-clause-value c =
