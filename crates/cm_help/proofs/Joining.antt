@@ -1,7 +1,7 @@
 -- Phrases that are put one behind the other.
-use Rattle.std.proofs.Common.{◌≡◌, ℕ, suc, ◌+◌, Bool, true, false, not, if◌then◌else◌, List, [], ◌∷◌, ◌++◌, map, filter, drop, refl, ap, sym, ◌∙◌, append_assoc}
+use Rattle.std.proofs.Common.{◌≡◌, ℕ, ◌+◌, Bool, true, false, List, [], ◌∷◌, ◌++◌, drop, refl, ap, sym, ◌∙◌, ◌<◌, length, get_or, subst, append_assoc}
+use Rattle.std.proofs.lemmas.List.{drop_more}
 use Rattle.std.specs.List.{flat_map}
-use Rattle.cm_tables.specs.declared.entry.Entry.{Entry}
 use Rattle.cm_blocks.specs.declared.node.Block.{Block}
 use Rattle.cm_blocks.specs.Setting.{Setting}
 use Rattle.cm_blocks.specs.Trial.{trial}
@@ -36,3 +36,20 @@ pub left_more : (s : Setting) (atom : List ℕ) (at : ℕ) (first : Bool) (block
     → left s atom at first (block ∷ more)
     ≡ listing first (phrases s.graph s.meanings atom block) ++ left s atom at false more
 left_more s atom at first block more is = rw is (listing_append first _ _ _)
+
+-- the blocks from one on begin with it
+pub drop_here : (blocks : List Block) (i : ℕ) (block : Block) → i < length blocks → block ≡ get_or blocks i block
+    → drop i blocks ≡ block ∷ drop (i + 1) blocks
+drop_here blocks i block within is =
+    subst (λ (first : Block). drop i blocks ≡ first ∷ drop (i + 1) blocks) (sym is) (drop_more blocks i block within)
+
+-- the same of the block with a number that does not refuse, where this is what is typed
+pub left_here : (s : Setting) (atom typed : List ℕ) (at : ℕ) (first : Bool) (blocks : List Block) (i : ℕ) (block : Block)
+    → typed ≡ atom → i < length blocks → block ≡ get_or blocks i block → refuses (trial s block.function atom at) ≡ false
+    → left s atom at first (drop i blocks)
+    ≡ listing first (phrases s.graph s.meanings typed block) ++ left s atom at false (drop (i + 1) blocks)
+left_here s atom typed at first blocks i block same within is taken =
+    ap (left s atom at first) (drop_here blocks i block within is)
+    ∙ left_more s atom at first block (drop (i + 1) blocks) taken
+    ∙ ap (λ (typed : List ℕ). listing first (phrases s.graph s.meanings typed block)
+    ++ left s atom at false (drop (i + 1) blocks)) (sym same)

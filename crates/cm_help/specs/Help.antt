@@ -1,5 +1,5 @@
 -- What `?` shows of a line (COMND's help).
-use Rattle.std.specs.Prelude.{ℕ, Bool, true, false, not, if◌then◌else◌, nat_le, List, [], ◌∷◌, ◌++◌, length, drop, map, filter, codes, Option, Some, None, slice_get}
+use Rattle.std.specs.Prelude.{ℕ, Bool, true, false, not, if◌then◌else◌, nat_le, List, [], ◌∷◌, ◌++◌, ◌==◌, ◌&&◌, length, drop, map, filter, codes, Option, Some, None, slice_get}
 use Rattle.std.specs.List.{flat_map}
 use Rattle.cm_text.specs.Shown.{end_of_line}
 use Rattle.cm_fields.specs.declared.trial.Try.{Try}
@@ -32,15 +32,19 @@ abbrev pub node_phrases : Graph → Meanings → Option Node → List (List ℕ)
 node_phrases graph meanings None = []
 node_phrases graph meanings (Some node) = map (phrase graph meanings []) node.chain
 
+abbrev pub is_guide : Function → Bool
+is_guide (Noise text) = true
+is_guide function = false
+
 -- behind a guide word of which nothing is typed, and which may be left out, the blocks of its next node may come too
-abbrev pub behind_guide : Graph → Meanings → Function → ℕ → List ℕ → List (List ℕ)
-behind_guide graph meanings (Noise text) next [] = node_phrases graph meanings (slice_get graph.nodes next)
-behind_guide graph meanings function next atom = []
+abbrev pub behind_guide : Graph → Meanings → Block → List ℕ → List (List ℕ)
+behind_guide graph meanings block atom =
+    if is_guide block.function && length atom == 0 then node_phrases graph meanings (slice_get graph.nodes block.next)
+    else []
 
 -- the phrases that a block gives
 abbrev pub phrases : Graph → Meanings → List ℕ → Block → List (List ℕ)
-phrases graph meanings atom block =
-    phrase graph meanings atom block ∷ behind_guide graph meanings block.function block.next atom
+phrases graph meanings atom block = phrase graph meanings atom block ∷ behind_guide graph meanings block atom
 
 -- the first phrase stands behind a space, each further one on a line of its own
 unfoldable pub lead : Bool → List ℕ
@@ -55,17 +59,21 @@ listing first (phrase ∷ more) = (lead first ++ phrase) ++ listing false more
 unfoldable pub comment : List ℕ
 comment = codes " comment"
 
--- what may come where the blocks of a node wait from this one on; with no block a comment is not ended
-abbrev pub at_block : Setting → List ℕ → ℕ → Option ℕ → Option Node → List ℕ
-at_block s line at None found = comment
-at_block s line at (Some block) None = []
-at_block s line at (Some block) (Some node) =
-    listing true (flat_map (phrases s.graph s.meanings (drop at line)) (possible s (drop at line) at (drop block node.chain)))
+-- what may come where the blocks of a node wait from this one on
+abbrev pub waiting : Setting → Node → ℕ → List ℕ → ℕ → List ℕ
+waiting s node block atom at =
+    listing true (flat_map (phrases s.graph s.meanings atom) (possible s atom at (drop block node.chain)))
+
+-- what may come at this place of the line; where no block waits, a comment is not ended
+abbrev pub at_place : Setting → List ℕ → ℕ → Option ℕ → Option Node → List ℕ
+at_place s line at None found = comment
+at_place s line at (Some block) None = []
+at_place s line at (Some block) (Some node) = waiting s node block (drop at line) at
 
 -- what may come behind a line whose parse ends so, or why it is refused; a place that is none of the line gives nothing
 unfoldable pub help_text : Setting → Ending → List ℕ → List ℕ
 help_text s (ending.Open place) line =
-    if nat_le place.at (length line) then at_block s line place.at place.block (slice_get s.graph.nodes place.node)
+    if nat_le place.at (length line) then at_place s line place.at place.block (slice_get s.graph.nodes place.node)
     else []
 help_text s ending.Done line = []
 help_text s (ending.Fault fault) line = lead true ++ code_text fault.code

@@ -13,7 +13,7 @@ ghost use Rattle.cm_blocks.specs.Setting.{setting};
 ghost use Rattle.cm_blocks.specs.Trial.{trial};
 ghost use Rattle.cm_blocks.specs.Well.{IsWell, IsWellBlock};
 ghost use Rattle.cm_help.specs.Phrase.{phrase};
-ghost use Rattle.cm_help.specs.Help.{at_block, behind_guide, comment, help_text, lead, listing, node_phrases, phrases, possible, refuses};
+ghost use Rattle.cm_help.specs.Help.{at_place, behind_guide, comment, help_text, is_guide, lead, listing, node_phrases, phrases, possible, refuses, waiting};
 
 use crate::phrase::put_phrase;
 use cm_blocks::{Block, Ending, Function, Grammar, Node, Open, try_function};
@@ -93,6 +93,27 @@ fn put_untouched<R: Rules, S: Sink>(
     Put::Done
 }
 
+// Puts the phrases of all blocks of a node, of which nothing is typed, behind others.
+fn put_node<R: Rules, S: Sink>(grammar: &Grammar, number: u16, hooks: &Hooks<R>, sink: &mut S) -> Put
+    requires ties { Ties R.meanings hooks.now }
+    requires hooks { hook_count grammar.now ≤ count hooks.now }
+    ensures bytes { Adds (S.told sink.old) (S.told sink.new)
+        (listing false (node_phrases grammar.now R.meanings (slice_get grammar.now.nodes number))) result }
+    ensures later { S.faults sink.old ≤ S.faults sink.new }
+    ensures cause { PutCause (S.faults sink.old) (S.faults sink.new) result }
+{
+    if number >= grammar.nodes() {
+        return Put::Done;
+    }
+    put_untouched(grammar, grammar.node(number).chain.as_slice(), hooks, sink)
+}
+
+fn is_guide(function: &Function) -> bool
+    ensures { result ≡ is_guide function.now }
+{
+    matches!(function, Function::Noise(_))
+}
+
 // Puts the phrases behind a guide word of which nothing is typed.
 fn put_behind_guide<R: Rules, S: Sink>(
     grammar: &Grammar,
@@ -104,15 +125,14 @@ fn put_behind_guide<R: Rules, S: Sink>(
     requires ties { Ties R.meanings hooks.now }
     requires hooks { hook_count grammar.now ≤ count hooks.now }
     ensures bytes { Adds (S.told sink.old) (S.told sink.new)
-        (listing false (behind_guide grammar.now R.meanings block.now.function block.now.next atom.now)) result }
+        (listing false (behind_guide grammar.now R.meanings block.now atom.now)) result }
     ensures later { S.faults sink.old ≤ S.faults sink.new }
     ensures cause { PutCause (S.faults sink.old) (S.faults sink.new) result }
 {
-    match (&block.function, atom) {
-        (Function::Noise(_), []) if block.next < grammar.nodes() => {
-            put_untouched(grammar, grammar.node(block.next).chain.as_slice(), hooks, sink)
-        }
-        _ => Put::Done,
+    if is_guide(&block.function) && atom.is_empty() {
+        put_node(grammar, block.next, hooks, sink)
+    } else {
+        Put::Done
     }
 }
 
@@ -185,20 +205,49 @@ fn put_possible<N: Names, R: Rules, S: Sink>(
     ensures later { S.faults sink.old ≤ S.faults sink.new }
     ensures cause { PutCause (S.faults sink.old) (S.faults sink.new) result }
 {
+    let atom = line.split_at(at).1;
     let mut first = true;
     for block in blocks {
-        if !refuses(grammar, block, line, at, names, hooks) {
-            if let Put::Failed = put_phrases(first, grammar, block, &line[at..], hooks, sink) {
-                return Put::Failed;
-            }
-            first = false;
+        if refuses(grammar, block, line, at, names, hooks) {
+            continue;
         }
+        if let Put::Failed = put_phrases(first, grammar, block, atom, hooks, sink) {
+            return Put::Failed;
+        }
+        first = false;
     }
     Put::Done
 }
 
+// Puts what may come where the blocks of a node wait from this one on.
+fn put_waiting<N: Names, R: Rules, S: Sink>(
+    grammar: &Grammar,
+    node: &Node,
+    block: u8,
+    line: &[u8],
+    at: usize,
+    names: &N,
+    hooks: &Hooks<R>,
+    sink: &mut S,
+) -> Put
+    requires well { IsWell grammar.now node.now }
+    requires ties { Ties R.meanings hooks.now }
+    requires hooks { hook_count grammar.now ≤ count hooks.now }
+    requires short { length line.now ≤ LINE_LIMIT }
+    requires place { at ≤ length line.now }
+    ensures bytes { Adds (S.told sink.old) (S.told sink.new)
+        (waiting (setting grammar.now (N.catalogue names.now) R.meanings) node.now block (drop at line.now) at)
+        result }
+    ensures later { S.faults sink.old ≤ S.faults sink.new }
+    ensures cause { PutCause (S.faults sink.old) (S.faults sink.new) result }
+{
+    let chain = node.chain.as_slice();
+    let first = usize::from(block).min(chain.len());
+    put_possible(grammar, &chain[first..], line, at, names, hooks, sink)
+}
+
 // Puts what may come at a place of the line.
-fn put_block<N: Names, R: Rules, S: Sink>(
+fn put_place<N: Names, R: Rules, S: Sink>(
     grammar: &Grammar,
     place: Open,
     line: &[u8],
@@ -211,7 +260,7 @@ fn put_block<N: Names, R: Rules, S: Sink>(
     requires short { length line.now ≤ LINE_LIMIT }
     requires place { place.at ≤ length line.now }
     ensures bytes { Adds (S.told sink.old) (S.told sink.new)
-        (at_block (setting grammar.now (N.catalogue names.now) R.meanings) line.now place.at place.block
+        (at_place (setting grammar.now (N.catalogue names.now) R.meanings) line.now place.at place.block
         (slice_get grammar.now.nodes place.node)) result }
     ensures later { S.faults sink.old ≤ S.faults sink.new }
     ensures cause { PutCause (S.faults sink.old) (S.faults sink.new) result }
@@ -222,9 +271,9 @@ fn put_block<N: Names, R: Rules, S: Sink>(
     if place.node >= grammar.nodes() {
         return Put::Done;
     }
-    let chain = grammar.node(place.node).chain.as_slice();
-    let first = usize::from(block).min(chain.len());
-    put_possible(grammar, &chain[first..], line, usize::from(place.at), names, hooks, sink)
+    let node = grammar.node(place.node);
+    let at = usize::from(place.at);
+    put_waiting(grammar, node, block, line, at, names, hooks, sink)
 }
 
 // Puts why a line is refused.
@@ -267,7 +316,7 @@ pub fn help<N: Names, R: Rules, S: Sink>(
 {
     match ending {
         Ending::Open(place) if usize::from(place.at) <= line.len() => {
-            put_block(grammar, place, line, names, hooks, sink)
+            put_place(grammar, place, line, names, hooks, sink)
         }
         Ending::Fault(fault) => put_refusal(fault.code, sink),
         Ending::Open(_) | Ending::Done => Put::Done,

@@ -141,6 +141,8 @@ impl Table {
         ensures value { result ≡ next_listed self.now from atom.now }
         // It is a position of the table, and not before the one that was given.
         ensures within { IfSome result (λ position. (from ≤ position) × (position < length self.now)) }
+        // A table has no more entries than it may.
+        ensures few { length self.now ≤ ENTRY_LIMIT }
     {
         listed::next_listed(&self.entries, from, atom)
     }
