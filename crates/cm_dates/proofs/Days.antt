@@ -20,7 +20,9 @@ pub year_of_day : (y : ℤ) (m d : ℕ) → IsCivilDate y m d → IsBetween (pos
 year_of_day y m d civil within =
     let count = days_from_civil-day_count y m d in
     by_lt_z y (pos 1970)
-    (λ early. absurd (omega (arith, signed_arith, count, day_count-epoch, day_count-lt_year y m d (pos 1970) 1 1 civil (omega arith) early)))
+    (λ early. let before = day_count-lt_year y m d (pos 1970) 1 1 civil (omega arith) early in
+    absurd (omega (arith, signed_arith, count, day_count-epoch, before)))
     (λ from. by_lt_z (pos 2099) y
-    (λ late. absurd (omega (arith, signed_arith, count, last_day, day_count-lt_year (pos 2099) 12 31 y m d last_date civil.2.0 late)))
+    (λ late. let behind = day_count-lt_year (pos 2099) 12 31 y m d last_date civil.2.0 late in
+    absurd (omega (arith, signed_arith, count, last_day, behind)))
     (λ to. (from, to)))

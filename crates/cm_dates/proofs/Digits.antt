@@ -12,9 +12,11 @@ pub numerals : IsNumeralModel AreDigits (digits_value 10)
 numerals = numerals_by_value AreDigits (search rules)
 
 -- at most four digits write a number of at most four digits
-pub few_digits : (digits : List ℕ) → list_all is_ascii_digit digits ≡ true → length digits ≤ 4 → digits_value 10 digits ≤ 9999
+pub few_digits : (digits : List ℕ) → list_all is_ascii_digit digits ≡ true → length digits ≤ 4
+    → digits_value 10 digits ≤ 9999
 few_digits digits are few = let small = digits_value_short numerals digits 4 are few in omega arith
 
 -- and at most two one of at most two
-pub two_digits : (digits : List ℕ) → list_all is_ascii_digit digits ≡ true → length digits ≤ 2 → digits_value 10 digits ≤ 99
+pub two_digits : (digits : List ℕ) → list_all is_ascii_digit digits ≡ true → length digits ≤ 2
+    → digits_value 10 digits ≤ 99
 two_digits digits are few = let small = digits_value_short numerals digits 2 are few in omega arith

@@ -4,3 +4,4 @@ pub mod Digits
 pub mod MonthNames
 pub mod OneText
 pub mod Reading
+pub mod Texts

@@ -20,7 +20,8 @@ month_found month letters first last same =
     ∙ ap (λ test. if test then Some month else month_among (drop (month + 1 - 1) months) (month + 1) letters) same
 
 pub month_passed : (month : ℕ) (letters : List ℕ) → 1 ≤ month → month ≤ 12 → equals (month_name month) letters ≡ false
-    → month_among (drop (month - 1) months) month letters ≡ month_among (drop (month + 1 - 1) months) (month + 1) letters
+    → month_among (drop (month - 1) months) month letters
+    ≡ month_among (drop (month + 1 - 1) months) (month + 1) letters
 month_passed month letters first last other =
     ap (λ names. month_among names month letters) (here month first last)
     ∙ ap (λ test. if test then Some month else month_among (drop (month + 1 - 1) months) (month + 1) letters) other
@@ -35,16 +36,29 @@ pub record IsName (month : ℕ) : Type 0 where
 pub is_name : (month : ℕ) → IsInRange 1 12 month → IsName month
 unfolding month_name month_of equals is_word
 is_name zero range = absurd (omega (arith, range.0))
-is_name (suc zero) range = record { size = refl; words = refl; plain = refl; same = refl }
-is_name (suc (suc zero)) range = record { size = refl; words = refl; plain = refl; same = refl }
-is_name (suc (suc (suc zero))) range = record { size = refl; words = refl; plain = refl; same = refl }
-is_name (suc (suc (suc (suc zero)))) range = record { size = refl; words = refl; plain = refl; same = refl }
-is_name (suc (suc (suc (suc (suc zero))))) range = record { size = refl; words = refl; plain = refl; same = refl }
-is_name (suc (suc (suc (suc (suc (suc zero)))))) range = record { size = refl; words = refl; plain = refl; same = refl }
-is_name (suc (suc (suc (suc (suc (suc (suc zero))))))) range = record { size = refl; words = refl; plain = refl; same = refl }
-is_name (suc (suc (suc (suc (suc (suc (suc (suc zero)))))))) range = record { size = refl; words = refl; plain = refl; same = refl }
-is_name (suc (suc (suc (suc (suc (suc (suc (suc (suc zero))))))))) range = record { size = refl; words = refl; plain = refl; same = refl }
-is_name (suc (suc (suc (suc (suc (suc (suc (suc (suc (suc zero)))))))))) range = record { size = refl; words = refl; plain = refl; same = refl }
-is_name (suc (suc (suc (suc (suc (suc (suc (suc (suc (suc (suc zero))))))))))) range = record { size = refl; words = refl; plain = refl; same = refl }
-is_name (suc (suc (suc (suc (suc (suc (suc (suc (suc (suc (suc (suc zero)))))))))))) range = record { size = refl; words = refl; plain = refl; same = refl }
-is_name (suc (suc (suc (suc (suc (suc (suc (suc (suc (suc (suc (suc (suc month))))))))))))) range = absurd (omega (arith, range.1))
+is_name (suc zero) range =
+    record { size = refl; words = refl; plain = refl; same = refl }
+is_name (suc (suc zero)) range =
+    record { size = refl; words = refl; plain = refl; same = refl }
+is_name (suc (suc (suc zero))) range =
+    record { size = refl; words = refl; plain = refl; same = refl }
+is_name (suc (suc (suc (suc zero)))) range =
+    record { size = refl; words = refl; plain = refl; same = refl }
+is_name (suc (suc (suc (suc (suc zero))))) range =
+    record { size = refl; words = refl; plain = refl; same = refl }
+is_name (suc (suc (suc (suc (suc (suc zero)))))) range =
+    record { size = refl; words = refl; plain = refl; same = refl }
+is_name (suc (suc (suc (suc (suc (suc (suc zero))))))) range =
+    record { size = refl; words = refl; plain = refl; same = refl }
+is_name (suc (suc (suc (suc (suc (suc (suc (suc zero)))))))) range =
+    record { size = refl; words = refl; plain = refl; same = refl }
+is_name (suc (suc (suc (suc (suc (suc (suc (suc (suc zero))))))))) range =
+    record { size = refl; words = refl; plain = refl; same = refl }
+is_name (suc (suc (suc (suc (suc (suc (suc (suc (suc (suc zero)))))))))) range =
+    record { size = refl; words = refl; plain = refl; same = refl }
+is_name (suc (suc (suc (suc (suc (suc (suc (suc (suc (suc (suc zero))))))))))) range =
+    record { size = refl; words = refl; plain = refl; same = refl }
+is_name (suc (suc (suc (suc (suc (suc (suc (suc (suc (suc (suc (suc zero)))))))))))) range =
+    record { size = refl; words = refl; plain = refl; same = refl }
+is_name (suc (suc (suc (suc (suc (suc (suc (suc (suc (suc (suc (suc (suc month))))))))))))) range =
+    absurd (omega (arith, range.1))

@@ -17,10 +17,12 @@ date_of_text day text shown = record {
 pub one_text : (day : ℤ) (text other : List ℕ) → IsDayText day text → IsDayText day other → text ≡ other
 unfolding date_of_text
 one_text day text other first second =
-    let same = epoch_day_injective (date_of_text day text first) (date_of_text day other second) (first.day_is ∙ sym second.day_is) in
+    let day_is = first.day_is ∙ sym second.day_is in
+    let same = epoch_day_injective (date_of_text day text first) (date_of_text day other second) day_is in
     let year : first.year ≡ second.year = (let signed : pos first.year ≡ pos second.year = same.0 in cc) in
     let month : first.month ≡ second.month = same.1 in
     let day_of_month : first.day_of_month ≡ second.day_of_month = same.2 in
-    let texts : date_text first.year first.month first.day_of_month ≡ date_text second.year second.month second.day_of_month =
+    let texts : date_text first.year first.month first.day_of_month
+    ≡ date_text second.year second.month second.day_of_month =
     rw (year, month, day_of_month) refl in
     first.text_is ∙ texts ∙ sym second.text_is

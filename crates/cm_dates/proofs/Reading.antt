@@ -30,8 +30,8 @@ prefix_all p (first ∷ front) byte more all stop =
     let later = prefix_all p front byte more both.1 stop in
     rw (both.0, later) (omega arith)
 
-all_weaker : (p q : ℕ → Bool) → ((byte : ℕ) → p byte ≡ true → q byte ≡ true) → (bytes : List ℕ) → list_all p bytes ≡ true
-    → list_all q bytes ≡ true
+all_weaker : (p q : ℕ → Bool) → ((byte : ℕ) → p byte ≡ true → q byte ≡ true) → (bytes : List ℕ)
+    → list_all p bytes ≡ true → list_all q bytes ≡ true
 all_weaker p q weaker [] all = refl
 all_weaker p q weaker (byte ∷ bytes) all =
     let both = and_parts (p byte) (list_all p bytes) all in
@@ -50,11 +50,13 @@ word_digit byte digit = grind (arith, nat_tests)
 
 before_part : (part more : List ℕ) → list_all is_plain part ≡ true → before_first is_hyphen (part ++ 45 ∷ more) ≡ part
 before_part part more plain =
-    ap (λ size. take size (part ++ 45 ∷ more)) (prefix_all is_plain part 45 more plain refl) ∙ take-append_seam part (45 ∷ more)
+    ap (λ size. take size (part ++ 45 ∷ more)) (prefix_all is_plain part 45 more plain refl)
+    ∙ take-append_seam part (45 ∷ more)
 
 behind_part : (part more : List ℕ) → list_all is_plain part ≡ true → after_first is_hyphen (part ++ 45 ∷ more) ≡ more
 behind_part part more plain =
-    ap (λ size. drop (size + 1) (part ++ 45 ∷ more)) (prefix_all is_plain part 45 more plain refl) ∙ drop-append-add part (45 ∷ more) 1
+    ap (λ size. drop (size + 1) (part ++ 45 ∷ more)) (prefix_all is_plain part 45 more plain refl)
+    ∙ drop-append-add part (45 ∷ more) 1
 
 -- what three parts say
 parts_read : (day letters year : List ℕ) → list_all is_plain day ≡ true → list_all is_plain letters ≡ true
@@ -79,7 +81,8 @@ day_read year month day civil range =
     rw (early, late, end) refl
 
 dated_of : (day year : List ℕ) (month : ℕ) → is_number 1 2 day ≡ true → is_number 2 4 year ≡ true
-    → (digits_value 10 day == 0) ≡ false → dated day (Some month) year ≡ day_in (year_of year) month (digits_value 10 day)
+    → (digits_value 10 day == 0) ≡ false
+    → dated day (Some month) year ≡ day_in (year_of year) month (digits_value 10 day)
 dated_of day year month first second some = rw (first, second, some) refl
 
 number_of_size : (few many : ℕ) (digits : List ℕ) → (length digits == few || length digits == many) ≡ true

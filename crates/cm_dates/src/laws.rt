@@ -7,7 +7,7 @@ ghost use Rattle.cm_fields.specs.Local.{IsLocal};
 ghost use Rattle.cm_fields.specs.declared.trial.Try.TheVariants.{Accept};
 ghost use Rattle.cm_fields.specs.declared.value.Value.TheVariants.{Date};
 ghost use Rattle.cm_dates.specs.Date.{date};
-ghost use Rattle.cm_dates.specs.DayText.{IsDayText};
+ghost use Rattle.cm_dates.specs.DayText.{IsDayText, day_text};
 ghost use Rattle.cm_dates.specs.declared.written.TheConstants.{DAY_LIMIT};
 
 /// What a trial decides on the first bytes of a text it decides on every text that begins with them, with the
@@ -28,7 +28,13 @@ pub fn text_is_read()
         → date (text ++ stop ∷ more) at ≡ Accept (Date day) (length text + 1) (at + length text) }
 {}
 
+/// Each day from 1-JAN-1970 to 31-DEC-2099 has its text.
+pub fn a_day_has_its_text()
+    ensures { (day : ℤ) → IsBetween (pos 0) DAY_LIMIT day → IsDayText day (day_text day) }
+{}
+
 /// A day has one text.
 pub fn a_day_has_one_text()
-    ensures { (day : ℤ) → (text other : List ℕ) → IsDayText day text → IsDayText day other → text ≡ other }
+    ensures { (day : ℤ) → (text other : List ℕ) → IsDayText day text → IsDayText day other
+        → text ≡ other }
 {}

@@ -1,5 +1,8 @@
 // Dates by example. Day numbers are those of Python's `datetime`.
-use crate::laws::{a_date_is_local, a_day_has_one_text, a_finished_date_is_decided, text_is_read};
+use crate::laws::{
+    a_date_is_local, a_day_has_its_text, a_day_has_one_text, a_finished_date_is_decided,
+    text_is_read,
+};
 use crate::{date, day_text};
 use cm_fields::{Code, Try, Value};
 
@@ -122,5 +125,6 @@ fn the_laws_hold() {
     a_date_is_local();
     a_finished_date_is_decided();
     text_is_read();
+    a_day_has_its_text();
     a_day_has_one_text();
 }

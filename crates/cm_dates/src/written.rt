@@ -4,7 +4,7 @@ ghost use Rattle.std.specs.Fmt.{decimal};
 ghost use Rattle.std.specs.Int.{IsInRange};
 ghost use Rattle.jiff_core.specs.Calendar.{IsBetween};
 ghost use Rattle.jiff_core.specs.Date.{epoch_day};
-ghost use Rattle.cm_dates.specs.DayText.{IsDayText, date_text};
+ghost use Rattle.cm_dates.specs.DayText.{IsDayText, date_text, day_text};
 
 use crate::months::month_name;
 use arrayvec::ArrayString;
@@ -20,7 +20,8 @@ pub const DAY_TEXT_LIMIT: usize = 11;
 /// and the year in four digits.
 pub fn day_text(day: i32) -> ArrayString<DAY_TEXT_LIMIT>
     requires { IsBetween (pos 0) DAY_LIMIT day }
-    ensures { IsDayText day result.bytes }
+    ensures date { IsDayText day result.bytes }
+    ensures text { result.bytes ≡ day_text day }
 {
     let date = date_of_day(day);
     date_text(date.year as u16, date.month, date.day)

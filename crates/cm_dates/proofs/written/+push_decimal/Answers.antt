@@ -18,7 +18,8 @@ push_digit-requires-else-number-lt10-clause-room t c =
 
 pub returns-then-number-lt10-clause-bytes : goal.returns-then-number-lt10-clause-bytes
 returns-then-number-lt10-clause-bytes t c =
-    c.push_digit.ensures ∙ ap (λ digits. c.args.text.now.bytes ++ digits) (sym (decimal_digit c.args.number c.if-number-lt10.true))
+    c.push_digit.ensures
+    ∙ ap (λ digits. c.args.text.now.bytes ++ digits) (sym (decimal_digit c.args.number c.if-number-lt10.true))
 
 pub returns-then-number-lt10-clause-size : goal.returns-then-number-lt10-clause-size
 returns-then-number-lt10-clause-size t c =
