@@ -13,6 +13,7 @@ use Rattle.cm_fields.specs.declared.value.Value.{Value}
 use Rattle.cm_fields.specs.declared.value.Value.TheVariants.{Date}
 use Rattle.cm_fields.specs.Try.{by_run}
 
+-- the byte between the parts of a date
 abbrev pub is_hyphen : ℕ → Bool
 is_hyphen byte = byte == 45
 
@@ -58,11 +59,13 @@ dated day (Some month) year =
     if not (is_number 1 2 day) || not (is_number 2 4 year) || digits_value 10 day == 0 then Err BadDate
     else day_in (year_of year) month (digits_value 10 day)
 
--- a run with a hyphen too few has an empty part, and one with a hyphen too many a year with a hyphen
+-- what a run says as a date: its day stands before its first hyphen, its month before the next, and its year behind
+-- that; so a hyphen too few leaves a part empty, and one too many stands in the year
 unfoldable pub date_of : List ℕ → Result Value Code
 date_of run =
     let more = after_first is_hyphen run in
     dated (before_first is_hyphen run) (month_of (before_first is_hyphen more)) (after_first is_hyphen more)
 
+-- a run of word bytes that is a date
 abbrev pub date : List ℕ → ℕ → Try
 date rest at = by_run is_word date_of rest at
