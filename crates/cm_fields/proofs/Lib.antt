@@ -6,3 +6,4 @@ pub mod Quoting
 pub mod Marks
 pub mod Phrases
 pub mod Passing
+pub mod Unquoting
