@@ -1,2 +1,3 @@
 pub mod Catalogue
 pub mod LogicalName
+pub mod OneDirectory

@@ -78,6 +78,14 @@ impl Table {
         }
     }
 
+    /// The table with entries that are known to have no fault, as a program's own are, whose proof computes that.
+    pub fn of(entries: Vec<Entry>) -> Table
+        requires { table_fault entries.items ≡ None }
+        ensures { result ≡ entries.items }
+    {
+        Table::new(entries).unwrap()
+    }
+
     /// Hands what `new` saw to on to a proof: the table has no fault. It does nothing.
     pub fn has_no_fault(&self)
         ensures { table_fault self.now ≡ None }
