@@ -2,7 +2,7 @@
 ghost use Rattle.std.specs.Prelude.{◌≡◌, ◌<◌, length, option_copied};
 ghost use Rattle.cm_files.specs.Catalogue.{rows_of};
 ghost use Rattle.cm_files.specs.Passing.{may_pass, may_take, passes_at};
-ghost use Rattle.cm_files.specs.Selection.{name_matches, selects, wanted};
+ghost use Rattle.cm_files.specs.Selection.{is_seen, name_matches, selects, wanted};
 
 use crate::{Names, Sought, matches};
 use cm_fields::Gen;
@@ -28,18 +28,28 @@ fn may_take(generation: Gen, number: u32) -> bool
     }
 }
 
-// Whether the row with this number may be selected.
-#[tactic(auto, unfolding(crate::specs::Selection::is_seen, crate::specs::Passing::may_pass))]
-fn may_pass_at<N: Names>(names: &N, directory: u16, i: u32, sought: &Sought<'_>) -> bool
+/// Whether the row with this number has the name, the type and the mark that are looked for.
+#[tactic(auto, unfolding(crate::specs::Selection::is_seen))]
+pub(crate) fn is_seen_at<N: Names>(names: &N, directory: u16, i: u32, sought: &Sought<'_>) -> bool
     requires directory { directory < length (N.catalogue names.now).directories }
     requires row { i < length (rows_of (N.catalogue names.now) directory) }
-    ensures { result ≡ passes_at (may_pass (wanted sought.now)) (rows_of (N.catalogue names.now) directory) i }
+    ensures { result ≡ passes_at (is_seen (wanted sought.now)) (rows_of (N.catalogue names.now) directory) i }
 {
     let row = names.row(directory, i);
     row.deleted == sought.deleted
         && name_matches(sought.name, row.name.as_bytes())
         && matches(sought.kind, row.kind.as_bytes())
-        && may_take(sought.generation, row.generation)
+}
+
+// Whether the row with this number may be selected.
+#[tactic(auto, unfolding(crate::specs::Passing::may_pass))]
+fn may_pass_at<N: Names>(names: &N, directory: u16, i: u32, sought: &Sought<'_>) -> bool
+    requires directory { directory < length (N.catalogue names.now).directories }
+    requires row { i < length (rows_of (N.catalogue names.now) directory) }
+    ensures { result ≡ passes_at (may_pass (wanted sought.now)) (rows_of (N.catalogue names.now) directory) i }
+{
+    is_seen_at(names, directory, i, sought)
+        && may_take(sought.generation, names.row(directory, i).generation)
 }
 
 /// Whether a file of a directory is selected (GTJFN), in one pass over its files. A file is, where its name
