@@ -1,3 +1,11 @@
 pub mod Catalogue
+pub mod Fields
 pub mod LogicalName
+pub mod Neighbours
 pub mod OneDirectory
+pub mod Passing
+pub mod Pattern
+pub mod Place
+pub mod Resolve
+pub mod Selection
+pub mod Spec

@@ -1,0 +1,6 @@
+pub mod Beside
+pub mod Choosing
+pub mod Fielding
+pub mod Ordered
+pub mod Stars
+pub mod Walking

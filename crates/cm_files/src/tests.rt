@@ -1,0 +1,4 @@
+// What no clause says: worked rows, over a small catalogue.
+
+mod listing;
+mod patterns;
