@@ -40,7 +40,8 @@ impl Name {
 
     /// The name as a text.
     pub fn as_str(&self) -> &str
-        ensures { result.now ≡ self.now }
+        ensures value { result.now ≡ self.now }
+        ensures within { length result.now ≤ NAME_LIMIT }
     {
         self.text.as_str()
     }
