@@ -6,6 +6,7 @@ use crate::{GENERATION_LIMIT, Names, Row};
 use std::cell::Cell;
 
 // The directory OPERATOR, with so many generations of A.TXT, of which all but one are marked deleted.
+#[derive(Drop)]
 pub(crate) struct Many {
     pub count: u32,
     pub unmarked: u32,

@@ -2,6 +2,7 @@
 
 use crate::{SpecFault, part, read_spec};
 use cm_fields::{Gen, Span, Spec};
+use std::alloc::AllocError;
 use std::process::Abort;
 
 // A part of a text is this one, or is not given.
@@ -130,17 +131,13 @@ fn faults_come_in_their_order(rt: HostRuntime) {
 }
 
 #[test]
-fn a_fault_is_shown_by_its_name(rt: HostRuntime) {
-    assert_eq!(rt;
-        format!(in rt.alloc(); "{}", SpecFault::Shape)?.as_str(),
-        "Shape"
-    );
-    assert_eq!(rt;
-        format!(in rt.alloc(); "{}", SpecFault::NameLong)?.as_str(),
-        "NameLong"
-    );
-    assert_eq!(rt;
-        format!(in rt.alloc(); "{}", SpecFault::GenRange)?.as_str(),
-        "GenRange"
-    );
+fn a_fault_is_shown_by_its_name(rt: HostRuntime) -> Result<(), AllocError> {
+    for (fault, name) in [
+        (SpecFault::Shape, "Shape"),
+        (SpecFault::NameLong, "NameLong"),
+        (SpecFault::GenRange, "GenRange"),
+    ] {
+        assert_eq!(rt; format!(in rt.alloc(); "{fault}")?.as_str(), name);
+    }
+    Ok(())
 }
