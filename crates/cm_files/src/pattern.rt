@@ -81,9 +81,9 @@ fn means_an_end(pattern: &[u8], name: &[u8], looked: &mut u64) -> bool
     ends_like(parts, rest, looked)
 }
 
-// Whether a pattern means a name. The bytes compared are added to `looked`.
+/// Whether a pattern means a name. The bytes compared are added to `looked`.
 #[tactic(auto, using(crate::proofs::Stars::means_unlike, crate::proofs::Stars::means_behind, crate::proofs::Stars::means_whole))]
-fn means(pattern: &[u8], name: &[u8], looked: &mut u64) -> bool
+pub(crate) fn means(pattern: &[u8], name: &[u8], looked: &mut u64) -> bool
     ensures { result ≡ matches pattern.now name.now }
 {
     let size = plain_run(pattern);
