@@ -94,7 +94,12 @@ fn put_untouched<R: Rules, S: Sink>(
 }
 
 // Puts the phrases of all blocks of a node, of which nothing is typed, behind others.
-fn put_node<R: Rules, S: Sink>(grammar: &Grammar, number: u16, hooks: &Hooks<R>, sink: &mut S) -> Put
+fn put_node<R: Rules, S: Sink>(
+    grammar: &Grammar,
+    number: u16,
+    hooks: &Hooks<R>,
+    sink: &mut S,
+) -> Put
     requires ties { Ties R.meanings hooks.now }
     requires hooks { hook_count grammar.now ≤ count hooks.now }
     ensures bytes { Adds (S.told sink.old) (S.told sink.new)

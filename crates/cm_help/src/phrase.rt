@@ -164,7 +164,12 @@ fn put_function<R: Rules, S: Sink>(
 {
     match function {
         Function::Key(table) => put_keywords(false, grammar.table(*table), atom, sink),
-        Function::Switch(table) => put_keywords(true, grammar.table(*table), behind_slash(atom), sink),
+        Function::Switch(table) => put_keywords(
+            true,
+            grammar.table(*table),
+            behind_slash(atom),
+            sink,
+        ),
         Function::Noise(text) => put_between(guide_word(), text.as_bytes(), guide_end(), sink),
         Function::Number => sink.put(b"decimal number"),
         Function::Word => sink.put(b"word"),
