@@ -7,3 +7,4 @@ pub mod Quoting
 pub mod Marks
 pub mod Phrases
 pub mod Passing
+pub mod Unquoting

@@ -57,9 +57,15 @@ pub enum FileKind {
 #[derive(Clone, Copy, Debug, PartialEq, Eq)]
 pub enum Value {
     /// A keyword (.CMKEY): the position of its entry in the table, and the entry's code.
-    Key { entry: u16, code: u16 },
+    Key {
+        entry: u16,
+        code: u16,
+    },
     /// A switch (.CMSWI): the position of its entry in the table, and the entry's code.
-    Switch { entry: u16, code: u16 },
+    Switch {
+        entry: u16,
+        code: u16,
+    },
     /// A guide word (.CMNOI), and whether it was typed.
     Noise(bool),
     /// A decimal number (.CMNUM), at most 34,359,738,367.
@@ -80,7 +86,11 @@ pub enum Value {
     NewDirectory(Span),
     /// A file specification (.CMIFI, .CMOFI, .CMFIL): what the file is wanted for, the parts that are given, and
     /// the number of the directory that it means.
-    File { kind: FileKind, spec: Spec, directory: u16 },
+    File {
+        kind: FileKind,
+        spec: Spec,
+        directory: u16,
+    },
     /// The rest of the line (.CMTXT).
     Text(Span),
     /// A comma (.CMCMA).
@@ -88,5 +98,8 @@ pub enum Value {
     /// The end of the line (.CMCFM).
     Confirm,
     /// What a function of the program's own made of the field: its id, and the value.
-    Hook { id: u8, value: u64 },
+    Hook {
+        id: u8,
+        value: u64,
+    },
 }

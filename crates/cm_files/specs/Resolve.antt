@@ -60,7 +60,8 @@ is_bad_generation kind generation = false
 abbrev pub has_bad_copy : FileKind → List ℕ → Spec → Bool
 has_bad_copy In atom spec = false
 has_bad_copy Any atom spec = false
-has_bad_copy Out atom spec = is_all spec.generation || has_wild_and_more atom spec.name || has_wild_and_more atom spec.kind
+has_bad_copy Out atom spec =
+    is_all spec.generation || has_wild_and_more atom spec.name || has_wild_and_more atom spec.kind
 
 -- a wildcard where none may stand
 abbrev pub has_bad_wild : FileKind → Flags → List ℕ → Spec → Bool

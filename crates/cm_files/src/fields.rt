@@ -7,8 +7,8 @@ ghost use Rattle.cm_files.specs.Passing.{passes_at};
 ghost use Rattle.cm_files.specs.Spec.{IsPartOf, IsSpecOf};
 
 use crate::parts::{is_path, stands_at};
-use crate::resolve::{has_wild, resolve};
-use crate::{Flags, Names, SpecFault, by_device, by_directory, read_spec};
+use crate::resolution::has_wild;
+use crate::{Flags, Names, SpecFault, by_device, by_directory, read_spec, resolve};
 use cm_fields::{Code, FileKind, Span, Spec, Try, Value, said};
 use cm_text::{LINE_LIMIT, TEXT_LIMIT, equals, is_name};
 
@@ -258,7 +258,7 @@ fn is_user_at<N: Names>(names: &N, i: u16, name: &[u8]) -> bool
 }
 
 // The number of the user with this name.
-#[tactic(auto, using(crate::proofs::Walking::found_here, crate::proofs::Walking::not_here, crate::proofs::Walking::nowhere))]
+#[tactic(auto, using(crate::proofs::Walking::first_walk))]
 fn user_named<N: Names>(names: &N, name: &[u8]) -> Option<u16>
     ensures { result ≡ user_named (N.catalogue names.now) name.now }
 {

@@ -78,6 +78,14 @@ impl Table {
         }
     }
 
+    /// The table with entries that are known to have no fault, as a program's own are, whose proof computes that.
+    pub fn of(entries: Vec<Entry>) -> Table
+        requires { table_fault entries.items ≡ None }
+        ensures { result ≡ entries.items }
+    {
+        Table::new(entries).unwrap()
+    }
+
     /// Hands what `new` saw to on to a proof: the table has no fault. It does nothing.
     pub fn has_no_fault(&self)
         ensures { table_fault self.now ≡ None }
@@ -141,6 +149,8 @@ impl Table {
         ensures value { result ≡ next_listed self.now from atom.now }
         // It is a position of the table, and not before the one that was given.
         ensures within { IfSome result (λ position. (from ≤ position) × (position < length self.now)) }
+        // A table has no more entries than it may.
+        ensures few { length self.now ≤ ENTRY_LIMIT }
     {
         listed::next_listed(&self.entries, from, atom)
     }

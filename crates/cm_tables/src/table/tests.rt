@@ -268,3 +268,23 @@ fn lists_plain_entries_alone(rt: HostRuntime) -> Result<(), Fail> {
     }
     Ok(())
 }
+
+#[test]
+#[tactic(auto, unfolding(crate::specs::Order::table_fault, cm_text::specs::Case::begins_with, cm_text::specs::Case::equals))]
+fn is_made_of_words(rt: HostRuntime) -> Result<(), Fail> {
+    let entries = vec![in rt.alloc(); Entry::new("LIST", 3, 2), Entry::with_value("SIZE", 4, 6)]?;
+    let table = Table::of(entries);
+    assert_eq!(rt; table.len(), 2);
+    for (position, text, colon, code, next) in [
+        (0, b"LIST".as_slice(), false, 3, 2),
+        (1, b"SIZE".as_slice(), true, 4, 6),
+    ] {
+        let entry = table.entry(position);
+        assert_eq!(rt; entry.text.as_bytes(), text);
+        assert_eq!(rt; entry.flag, Flag::Plain);
+        assert_eq!(rt; entry.colon, colon);
+        assert_eq!(rt; entry.code, code);
+        assert_eq!(rt; entry.next, next);
+    }
+    Ok(())
+}
