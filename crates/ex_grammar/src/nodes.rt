@@ -4,7 +4,7 @@ ghost use Rattle.ex_grammar.specs.Graph.{append_blocks, build_blocks, copy_block
 ghost use Rattle.ex_grammar.specs.Words.{only};
 
 use crate::node::{
-    confirm, directory, either, either_or, guide, hook, keyword, later, only, remark, token, user,
+    confirm, directory, either, either_or, guide, hook, keyword, later, remark, token, user,
 };
 use crate::tables::{COMMAND_TABLE, TOPIC_TABLE};
 use cm_blocks::{Block, Node, Role};
@@ -36,7 +36,7 @@ fn push_each(nodes: &mut Vec<Node>, alloc: Global, blocks: Vec<Block>) -> Result
     ensures { IfOk result (λ _. nodes.new.items ≡ nodes.old.items ++ map only blocks.items) }
 {
     for block in blocks {
-        nodes.push(only(alloc, block)?)?;
+        nodes.push(Node::new(vec![in alloc; block]?))?;
     }
     Ok(())
 }
