@@ -1,0 +1,4 @@
+pub mod Faultless
+pub mod Pieces
+pub mod Lines
+pub mod LampSetting
