@@ -49,9 +49,9 @@ room next = reads (Hook 0) roles.What next
 abbrev pub commands : Node
 commands = either confirm (reads (Key COMMAND_TABLE) roles.Verb LINE_END)
 
--- node 1, behind the room that DIM names: how much, or the end of the line
+-- node 1, behind the room that DIM names: the end of the line, or how much
 abbrev pub how_much : Node
-how_much = either (reads (Switch SWITCH_TABLE) roles.None LINE_END) confirm
+how_much = either confirm (reads (Switch SWITCH_TABLE) roles.None LINE_END)
 
 -- nodes 2 to 11, of one block each: the end of a line; SET; DIM; NAME
 unfoldable pub blocks : List Block

@@ -73,12 +73,12 @@ fn commands(alloc: Global) -> Result<Node, NoMemory>
     either(alloc, confirm(), command)
 }
 
-// Node 1, behind the room that DIM names: how much, or the end of the line.
+// Node 1, behind the room that DIM names: the end of the line, or how much.
 fn how_much(alloc: Global) -> Result<Node, NoMemory>
     ensures { IfOk result (λ node. node ≡ how_much) }
 {
     let switch = reads(Function::Switch(SWITCH_TABLE), Role::None, LINE_END);
-    either(alloc, switch, confirm())
+    either(alloc, confirm(), switch)
 }
 
 // Nodes 2 to 11, of one block each: the end of a line; SET; DIM; NAME.

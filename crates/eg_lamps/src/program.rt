@@ -119,10 +119,11 @@ impl Program {
         ensures later { S.faults screen.old ≤ S.faults screen.new }
         ensures cause { PutCause (S.faults screen.old) (S.faults screen.new) result }
     {
-        match self.edit(key, grammar, hooks, screen, steps) {
-            Turn::Failed => Put::Failed,
-            turn => self.take_turn(turn, screen),
+        let turn = self.edit(key, grammar, hooks, screen, steps);
+        if let Turn::Failed = turn {
+            return Put::Failed;
         }
+        self.take_turn(turn, screen)
     }
 
     // Edits the line by a key, and shows the echo.

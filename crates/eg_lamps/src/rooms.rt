@@ -55,10 +55,10 @@ pub(crate) fn completion(atom: &[u8]) -> Tail
     if atom.is_empty() {
         return Tail::None;
     }
-    let tail = with_room(Tail::None, HALL, atom);
-    let tail = with_room(tail, KITCHEN, atom);
-    let tail = with_room(tail, STAIRS, atom);
-    with_room(tail, STUDY, atom)
+    let hall = with_room(Tail::None, HALL, atom);
+    let kitchen = with_room(hall, KITCHEN, atom);
+    let stairs = with_room(kitchen, STAIRS, atom);
+    with_room(stairs, STUDY, atom)
 }
 
 /// What the help says of a room.
