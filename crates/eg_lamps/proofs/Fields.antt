@@ -5,7 +5,7 @@ use Rattle.std.proofs.lemmas.List.{drop_more}
 use Rattle.std.proofs.lemmas.Option.{get_or_from_slice_get, slice_get_within}
 use Rattle.cm_blocks.specs.declared.function.Role.{Role}
 use Rattle.cm_blocks.specs.Taken.{Taken}
-use Rattle.eg_lamps.specs.Command.{is_role, value_of}
+use Rattle.eg_lamps.specs.Library.{field_of, is_role}
 
 -- from a field on
 from_field : (fields : List Taken) (number : ℕ) (field : Taken) → slice_get fields number ≡ Some field
@@ -16,13 +16,13 @@ from_field fields number field is =
 
 -- it is the first, or those behind it are searched
 pub found : (wanted : Role) (fields : List Taken) (number : ℕ) (field : Taken) (role : Role) → slice_get fields number ≡ Some field
-    → role ≡ field.role → is_role wanted role ≡ true → value_of wanted (drop number fields) ≡ Some field.value
+    → role ≡ field.role → is_role wanted role ≡ true → field_of wanted (drop number fields) ≡ Some field
 found wanted fields number field role is has same =
     let wants : is_role wanted field.role ≡ true = sym (ap (λ (it : Role). is_role wanted it) has) ∙ same in
-    ap (λ (rest : List Taken). value_of wanted rest) (from_field fields number field is) ∙ rw wants refl
+    ap (λ (rest : List Taken). field_of wanted rest) (from_field fields number field is) ∙ rw wants refl
 
 pub passed : (wanted : Role) (fields : List Taken) (number : ℕ) (field : Taken) (role : Role) → slice_get fields number ≡ Some field
-    → role ≡ field.role → is_role wanted role ≡ false → value_of wanted (drop number fields) ≡ value_of wanted (drop (number + 1) fields)
+    → role ≡ field.role → is_role wanted role ≡ false → field_of wanted (drop number fields) ≡ field_of wanted (drop (number + 1) fields)
 passed wanted fields number field role is has other =
     let passes : is_role wanted field.role ≡ false = sym (ap (λ (it : Role). is_role wanted it) has) ∙ other in
-    ap (λ (rest : List Taken). value_of wanted rest) (from_field fields number field is) ∙ rw passes refl
+    ap (λ (rest : List Taken). field_of wanted rest) (from_field fields number field is) ∙ rw passes refl

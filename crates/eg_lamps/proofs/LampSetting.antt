@@ -5,7 +5,8 @@ use Rattle.cm_blocks.specs.Grammar.{Graph, hook_count}
 use Rattle.cm_blocks.specs.Setting.{setting}
 use Rattle.eg_lamps.specs.Graph.{lamp_graph}
 use Rattle.eg_lamps.specs.Rooms.{room_meanings}
-use Rattle.eg_lamps.specs.Setting.{lamp_setting, shelf}
+use Rattle.eg_lamps.specs.Library.{shelf}
+use Rattle.eg_lamps.specs.Setting.{lamp_setting}
 use Rattle.eg_lamps.specs.declared.grammar.TheConstants.{COMMANDS}
 use Rattle.eg_lamps.proofs.Faultless.{graph_has_no_fault, graph_hooks, graph_nodes}
 

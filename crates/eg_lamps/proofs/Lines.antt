@@ -5,7 +5,7 @@ use Rattle.std.proofs.lemmas.Grind.{flat_map-append}
 use Rattle.std.proofs.lemmas.Option.{get_or_from_slice_get, slice_get_within}
 use Rattle.cm_io.specs.Told.{Told, add, AddsPart}
 use Rattle.cm_io.proofs.Adding.{add_none, add_append, adds_early, adds_late}
-use Rattle.eg_lamps.specs.declared.lamp.Lamp.{Lamp}
+use Rattle.eg_lamps.specs.declared.lamps.Lamp.{Lamp}
 use Rattle.eg_lamps.specs.Lamps.{lamp_line, lamp_lines}
 
 -- no line is put at first

@@ -9,7 +9,7 @@ use Rattle.cm_state.specs.Echo.{echo}
 use Rattle.cm_state.specs.Turn.{put_of, turn_of}
 use Rattle.cm_state.specs.declared.turn.Turn.{Turn}
 use Rattle.cm_state.specs.declared.turn.Turn.TheVariants as turns
-use Rattle.eg_lamps.specs.declared.lamp.Lamp.{Lamp}
+use Rattle.eg_lamps.specs.declared.lamps.Lamp.{Lamp}
 use Rattle.eg_lamps.specs.declared.program.Program.{Program}
 use Rattle.eg_lamps.specs.End.{KeyCut, Took}
 use Rattle.eg_lamps.specs.Run.{after_turn, key_turn, shows, step, turn_bytes, with_key}

@@ -6,11 +6,11 @@ use Rattle.cm_io.specs.declared.sink.Put.{Put}
 use Rattle.cm_io.specs.declared.sink.Put.TheVariants as puts
 use Rattle.cm_state.specs.declared.prompt.Prompt.TheVariants.{Main}
 use Rattle.cm_state.specs.Echo.{echo, prompt_text}
-use Rattle.eg_lamps.specs.declared.lamp.Lamp.{Lamp}
+use Rattle.eg_lamps.specs.declared.lamps.Lamp.{Lamp}
 use Rattle.eg_lamps.specs.declared.program.Program.{Program}
 use Rattle.eg_lamps.specs.declared.program.TheConstants.{KEY_LIMIT}
-use Rattle.eg_lamps.specs.declared.status.Status.{Status}
-use Rattle.eg_lamps.specs.declared.status.Status.TheVariants as status
+use Rattle.eg_lamps.specs.declared.program.Status.{Status}
+use Rattle.eg_lamps.specs.declared.program.Status.TheVariants as status
 use Rattle.eg_lamps.specs.Run.{key_turn, run_after, run_shown, shows, step, turn_bytes, with_key}
 use Rattle.eg_lamps.specs.Setting.{lamp_setting}
 

@@ -88,7 +88,7 @@ one_whole atom one (name ∷ names) is = by (begins_with name.1 atom) refl (one_
 
     by : (b : Bool) → begins_with name.1 atom ≡ b
         → (under atom names ≡ one ∷ []
-            → (under (atom ++ drop (length atom) one.1) names ≡ one ∷ []) × (begins_with one.1 atom ≡ true))
+        → (under (atom ++ drop (length atom) one.1) names ≡ one ∷ []) × (begins_with one.1 atom ≡ true))
         → cond b (name ∷ under atom names) (under atom names) ≡ one ∷ []
         → (under (atom ++ drop (length atom) one.1) (name ∷ names) ≡ one ∷ []) × (begins_with one.1 atom ≡ true)
     by true begins rest is = found begins cc cc
@@ -113,8 +113,7 @@ completes_by atom [] some all is = tt
 completes_by atom (one ∷ []) some (bytes, short, all) is =
     let whole = one_whole atom one (enumerate_from 0 rooms) is in
     let size = length-whole one.1 atom whole.1 in
-    let more : 0 < length (atom ++ drop (length atom) one.1) = simp length-append (omega arith) in
-    (
+    let more : 0 < length (atom ++ drop (length atom) one.1) = simp length-append (omega arith) in (
       list_all-drop is_name (length atom) one.1 bytes,
       record {
         short = omega (arith, size);

@@ -8,8 +8,8 @@ use Rattle.cm_state.specs.Echo.{echo, prompt_text}
 use Rattle.cm_state.specs.Edit.{edited}
 use Rattle.cm_state.specs.Held.{at_start}
 use Rattle.cm_state.specs.Turn.{turn_of}
-use Rattle.eg_lamps.specs.declared.command.Command.{Command}
-use Rattle.eg_lamps.specs.declared.command.Command.TheVariants as commands
+use Rattle.eg_lamps.specs.declared.lamps.Command.{Command}
+use Rattle.eg_lamps.specs.declared.lamps.Command.TheVariants as commands
 use Rattle.eg_lamps.specs.declared.grammar.TheConstants.{COMMANDS}
 use Rattle.eg_lamps.specs.declared.program.Program.{Program}
 use Rattle.eg_lamps.specs.Command.{command_of}
@@ -33,7 +33,7 @@ after_command at command =
 -- its reply, and the prompt of the next line
 abbrev pub command_bytes : Program → Command → List ℕ
 command_bytes at command =
-    reply command (obeyed command at.lamps) ++ (if is_quit command then [] else prompt_text Main)
+    reply command at.lamps ++ (if is_quit command then [] else prompt_text Main)
 
 -- what a key that came to this leads to; only a confirmed line acts
 unfoldable pub after_turn : Program → Turn → Program

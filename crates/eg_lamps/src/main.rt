@@ -6,30 +6,26 @@ ghost use Rattle.eg_lamps.specs.Rooms.{room_completion, room_help, room_verdict}
 
 mod command;
 mod grammar;
-mod lamp;
+mod lamps;
 mod laws;
+mod library;
 mod note;
 mod program;
-mod reply;
 mod rooms;
-mod shelf;
-mod status;
 
 use cm_blocks::Steps;
 use cm_hooks::{Answer, Hook, Hooks, Tail};
 use cm_io::{Sink, Source, StdSink, StdSource};
 use cm_text::Name;
+pub use command::command_of;
+pub use grammar::grammar;
+pub use lamps::{Change, Command, Lamp, dark_lamps, obey};
+pub use note::Note;
+pub use program::{Program, Status};
+pub use rooms::RoomRules;
 use std::marker::Brand;
 use std::process::ExitCode;
 use std::sync::ledger::{Blank, Ledger};
-
-pub use command::Command;
-pub use grammar::grammar;
-pub use lamp::Lamp;
-pub use note::Note;
-pub use program::Program;
-pub use rooms::RoomRules;
-pub use status::Status;
 
 #[cfg(test)]
 mod tests;

@@ -1,7 +1,7 @@
 // The program in its course: the loop over the keys, what each key comes to, and the act.
 #![tactic(auto, using(crate::proofs::Pieces::pieces))]
 
-ghost use Rattle.std.specs.Prelude.{◌≡◌, ◌≤◌, ◌<◌, ◌++◌, [], IsTrue, None, false, if◌then◌else◌};
+ghost use Rattle.std.specs.Prelude.{◌≡◌, ◌≤◌, ◌<◌, IsTrue, None, false};
 ghost use Rattle.cm_io.specs.Told.{Adds};
 ghost use Rattle.cm_io.specs.Fault.{PutCause};
 ghost use Rattle.cm_line.specs.Keys.{class_of};
@@ -12,18 +12,17 @@ ghost use Rattle.cm_state.specs.Echo.{echo, prompt_text};
 ghost use Rattle.cm_state.specs.Edit.{edited};
 ghost use Rattle.cm_state.specs.Held.{IsReady, at_start};
 ghost use Rattle.cm_state.specs.Turn.{put_of, turn_of};
-ghost use Rattle.eg_lamps.specs.End.{EndCause, Ends, Took};
+ghost use Rattle.eg_lamps.specs.End.{EndCause, Ends, Took, number_of};
 ghost use Rattle.eg_lamps.specs.Graph.{lamp_graph};
-ghost use Rattle.eg_lamps.specs.Lamps.{dark_lamps, reply};
+ghost use Rattle.eg_lamps.specs.Lamps.{dark_lamps};
 ghost use Rattle.eg_lamps.specs.Rooms.{room_meanings};
 ghost use Rattle.eg_lamps.specs.Run.{after_command, after_turn, command_bytes, is_quit, next_line, turn_bytes, with_key};
-ghost use Rattle.eg_lamps.specs.Setting.{lamp_setting, shelf};
+ghost use Rattle.eg_lamps.specs.Library.{shelf};
+ghost use Rattle.eg_lamps.specs.Setting.{lamp_setting};
 
-use crate::command::command_of;
 use crate::grammar::COMMANDS;
-use crate::lamp::{dark_lamps, obey};
-use crate::shelf::Shelf;
-use crate::{Command, Lamp, RoomRules, Status};
+use crate::library::Shelf;
+use crate::{Command, Lamp, RoomRules, command_of, dark_lamps, obey};
 use cm_blocks::{Grammar, Steps};
 use cm_hooks::Hooks;
 use cm_io::{Got, Put, Sink, Source};
@@ -32,6 +31,33 @@ use std::sync::ledger::Ledger;
 
 /// The most keys that a run takes.
 pub const KEY_LIMIT: u64 = u64::MAX;
+
+/// How a run of the program ended.
+#[derive(Clone, Copy, Debug, PartialEq, Eq)]
+pub enum Status {
+    /// QUIT acted, the keys were read to their end, or as many were taken as a run takes.
+    Done,
+    /// The keys could not be read on.
+    ReadFault,
+    /// The screen could not be written on.
+    WriteFault,
+    /// Memory was wanting, before the first prompt.
+    NoMemory,
+}
+
+impl Status {
+    /// The number that the process ends with.
+    pub fn number(self) -> u8
+        ensures { result ≡ number_of self }
+    {
+        match self {
+            Status::Done => 0,
+            Status::ReadFault => 1,
+            Status::WriteFault => 2,
+            Status::NoMemory => 3,
+        }
+    }
+}
 
 /// The program in its course.
 #[derive(Drop)]
@@ -182,23 +208,10 @@ impl Program {
         if let Put::Failed = obey(command, &mut self.lamps, screen) {
             return Put::Failed;
         }
-        self.go_on(screen)
-    }
-
-    // Begins the next line, unless QUIT has acted.
-    fn go_on<S: Sink>(&mut self, screen: &mut S) -> Put
-        ensures program { self.new ≡ (if self.old.has_quit then self.old else next_line self.old) }
-        ensures ready { IsReady lamp_setting self.old.session → IsReady lamp_setting self.new.session }
-        ensures bytes { Adds (S.told screen.old) (S.told screen.new)
-            (if self.old.has_quit then [] else prompt_text Prompt.Main) result }
-        ensures later { S.faults screen.old ≤ S.faults screen.new }
-        ensures cause { PutCause (S.faults screen.old) (S.faults screen.new) result }
-    {
         if self.has_quit {
-            Put::Done
-        } else {
-            self.next_line(screen)
+            return Put::Done;
         }
+        self.next_line(screen)
     }
 
     // Begins the next line.

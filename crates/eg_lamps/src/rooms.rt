@@ -31,7 +31,7 @@ impl Rules for RoomRules {
 
 /// Whether an atom is a room, or abbreviates one alone: then Yes with its number. Letters have no case.
 #[tactic(auto, unfolding(crate::specs::Rooms::room_verdict))]
-pub(crate) fn verdict(atom: &[u8]) -> Answer
+pub fn verdict(atom: &[u8]) -> Answer
     ensures { result ≡ room_verdict atom.now }
 {
     if atom.is_empty() {
@@ -49,7 +49,7 @@ pub(crate) fn verdict(atom: &[u8]) -> Answer
 /// How an atom goes on to a room: Whole with the rest of the only one, Part with what several begin with
 /// alike. An empty atom goes on in no one way.
 #[tactic(auto, unfolding(crate::specs::Rooms::room_completion))]
-pub(crate) fn completion(atom: &[u8]) -> Tail
+pub fn completion(atom: &[u8]) -> Tail
     ensures { result ≡ room_completion atom.now }
 {
     if atom.is_empty() {
@@ -63,7 +63,7 @@ pub(crate) fn completion(atom: &[u8]) -> Tail
 
 /// What the help says of a room.
 #[tactic(auto, unfolding(crate::specs::Rooms::room_help))]
-pub(crate) fn help() -> Name
+pub fn help() -> Name
     ensures { result ≡ room_help }
 {
     Name::new("room")

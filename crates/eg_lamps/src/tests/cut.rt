@@ -3,27 +3,32 @@ use super::given::{leaves, outcome_of};
 use crate::Status;
 use std::test::Fail;
 
-const KEYS: &[u8] = b"S H 50\rLIST\r";
+const KEYS: &[u8] = b"S H 50\rS H 101\r";
 
 #[test]
 fn stops_where_the_keys_fail(rt: HostRuntime) -> Result<(), Fail> {
     let mut outcome = outcome_of(&rt, KEYS, Some(8), 4096)?;
     assert_eq!(rt; outcome.status, Status::ReadFault);
-    assert_eq!(rt; outcome.screen.bytes(), b"@S H 50\r\nHALL 50\r\n@L".as_slice());
+    assert_eq!(rt; outcome.screen.bytes(), b"@S H 50\r\n@S".as_slice());
     assert_eq!(rt; outcome.program.lamps[0].brightness, 50);
-    assert!(rt; leaves(&mut outcome.keys, b"IST\r"));
+    assert!(rt; leaves(&mut outcome.keys, b" H 101\r"));
     Ok(())
 }
 
 #[test]
 fn takes_no_key_behind_a_failed_screen(rt: HostRuntime) -> Result<(), Fail> {
-    // In the first prompt, in an echo, in that of the key that confirms, in the reply and in the next prompt.
+    // In the first prompt, in an echo, in that of the key that confirms, in the next prompt and in a reply.
     for (room, screen, brightness, left) in [
         (0, b"".as_slice(), 0, KEYS),
-        (5, b"@S H ".as_slice(), 0, b"0\rLIST\r".as_slice()),
-        (8, b"@S H 50\r".as_slice(), 0, b"LIST\r".as_slice()),
-        (11, b"@S H 50\r\nHA".as_slice(), 50, b"LIST\r".as_slice()),
-        (18, b"@S H 50\r\nHALL 50\r\n".as_slice(), 50, b"LIST\r".as_slice()),
+        (5, b"@S H ".as_slice(), 0, b"0\rS H 101\r".as_slice()),
+        (8, b"@S H 50\r".as_slice(), 0, b"S H 101\r".as_slice()),
+        (9, b"@S H 50\r\n".as_slice(), 50, b"S H 101\r".as_slice()),
+        (
+            20,
+            b"@S H 50\r\n@S H 101\r\n?".as_slice(),
+            50,
+            b"".as_slice(),
+        ),
     ] {
         let mut outcome = outcome_of(&rt, KEYS, None, room)?;
         assert_eq!(rt; outcome.status, Status::WriteFault, "{room}");

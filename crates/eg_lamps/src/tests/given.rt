@@ -49,11 +49,12 @@ pub(crate) fn leaves(keys: &mut MemSource, left: &[u8]) -> bool {
     keys.get() == Got::End
 }
 
-// A run that is Done, and what it shows.
+// A run that is Done, what it shows, and how bright the lamps are at its end.
 #[derive(Clone, Copy)]
 pub struct Case<'a> {
     pub keys: &'a [u8],
     pub screen: &'a [u8],
+    pub levels: [u64; 4],
 }
 
 // Runs each case. The counter wants the runtime itself.
@@ -67,6 +68,9 @@ pub(crate) fn try_cases(
         let mut outcome = outcome_of(runtime, keys, None, 4096)?;
         assert_eq!(rt; outcome.status, Status::Done, "after {keys:?}");
         assert_eq!(rt; outcome.screen.bytes(), case.screen, "after {keys:?}");
+        for (lamp, level) in outcome.program.lamps.iter().zip(case.levels) {
+            assert_eq!(rt; lamp.brightness, level, "after {keys:?}");
+        }
         assert!(rt; leaves(&mut outcome.keys, b""), "keys after {keys:?}");
     }
     Ok(())

@@ -1,7 +1,7 @@
 use Rattle.std.proofs.Common.{◌≡◌, take}
 use Rattle.cm_io.specs.Told.{add}
 use Rattle.eg_lamps.specs.Lamps.{lamp_lines}
-use Rattle.eg_lamps.proofs.reply.put_lamps.Given as goal
+use Rattle.eg_lamps.proofs.lamps.put_lamps.Given as goal
 
 -- the lines so far are put, and no fault was counted
 abbrev pub invariant-loop-lamp : goal.invariant-loop-lamp
