@@ -6,3 +6,5 @@ pub mod Joining
 pub mod Fields
 pub mod Running
 pub mod Steps
+pub mod Acting
+pub mod Changing

@@ -7,7 +7,7 @@ use Rattle.cm_state.specs.declared.prompt.Prompt.TheVariants.{Main}
 use Rattle.cm_state.specs.Echo.{prompt_text}
 use Rattle.eg_lamps.specs.declared.program.Program.{Program}
 use Rattle.eg_lamps.specs.declared.program.TheConstants.{KEY_LIMIT}
-use Rattle.eg_lamps.specs.declared.status.Status.TheVariants as status
+use Rattle.eg_lamps.specs.declared.program.Status.TheVariants as status
 use Rattle.eg_lamps.specs.End.{Behind, Ends, KeyCut, Scene}
 use Rattle.eg_lamps.specs.Run.{after, next_line, run_after, run_shown, shown, shows, step}
 

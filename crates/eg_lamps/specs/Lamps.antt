@@ -1,5 +1,5 @@
 -- The lamps, what a command makes of them, and what it shows.
-use Rattle.std.specs.Prelude.{ℕ, ◌-◌, nat_le, if◌then◌else◌, List, [], ◌∷◌, ◌++◌, codes, map, slice_get, slice_set}
+use Rattle.std.specs.Prelude.{ℕ, ◌-◌, ◌==◌, nat_le, if◌then◌else◌, List, [], ◌∷◌, ◌++◌, length, codes, map, slice_get, slice_set}
 use Rattle.std.specs.Fmt.{decimal}
 use Rattle.std.specs.List.{flat_map}
 use Rattle.std.specs.Option.{option_map_or}
@@ -35,8 +35,7 @@ obeyed commands.Quit lamps = lamps
 
 -- a space and a note, where there is one
 unfoldable pub note_shown : List ℕ → List ℕ
-note_shown [] = []
-note_shown (byte ∷ note) = codes " " ++ (byte ∷ note)
+note_shown note = if length note == 0 then [] else codes " " ++ note
 
 -- `HALL 40`
 unfoldable pub level_shown : Lamp → List ℕ

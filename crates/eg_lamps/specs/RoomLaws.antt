@@ -81,22 +81,27 @@ one_whole atom one (name ∷ names) is = by (begins_with name.1 atom) refl (one_
   where
     found : begins_with name.1 atom ≡ true → name ≡ one → under atom names ≡ []
         → (under (atom ++ drop (length atom) one.1) (name ∷ names) ≡ one ∷ []) × (begins_with one.1 atom ≡ true)
-    found begins refl none = (
-      rw (begins_whole name.1 atom begins, none_longer atom (drop (length atom) name.1) names none) refl,
-      begins,
-    )
+    found begins same none =
+        let IsFound : (ℕ × List ℕ) → Type 0 = λ it.
+        (under (atom ++ drop (length atom) it.1) (name ∷ names) ≡ it ∷ []) × (begins_with it.1 atom ≡ true) in
+        let longer : under (atom ++ drop (length atom) name.1) (name ∷ names) ≡ name ∷ [] =
+        rw (begins_whole name.1 atom begins, none_longer atom (drop (length atom) name.1) names none) refl in
+        subst IsFound same (longer, begins)
 
     by : (b : Bool) → begins_with name.1 atom ≡ b
         → (under atom names ≡ one ∷ []
         → (under (atom ++ drop (length atom) one.1) names ≡ one ∷ []) × (begins_with one.1 atom ≡ true))
         → cond b (name ∷ under atom names) (under atom names) ≡ one ∷ []
         → (under (atom ++ drop (length atom) one.1) (name ∷ names) ≡ one ∷ []) × (begins_with one.1 atom ≡ true)
-    by true begins rest is = found begins cc cc
+    by true begins rest is =
+        let same : name ≡ one = cc in
+        let none : under atom names ≡ [] = cc in
+        found begins same none
     by false begins rest is = rw (begins_longer name.1 atom (drop (length atom) one.1) begins) (rest is)
 
 rooms_are_names : AreNames (enumerate_from 0 rooms)
 unfolding is_name is_word
-rooms_are_names = (refl, omega arith, refl, omega arith, refl, omega arith, refl, omega arith, tt)
+rooms_are_names = (refl, omega arith, (refl, omega arith, (refl, omega arith, (refl, omega arith, tt))))
 
 -- an atom that is not empty and with which one room begins is taken
 taken : (atom : List ℕ) (one : ℕ × List ℕ) → 0 < length atom → under atom (enumerate_from 0 rooms) ≡ one ∷ []

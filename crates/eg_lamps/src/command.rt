@@ -87,6 +87,6 @@ fn note_of(text: &[u8], value: Option<Value>) -> Note
 fn part(text: &[u8], span: Span) -> &[u8]
     ensures { result.now ≡ part text.now span }
 {
-    let end = usize::from(span.end).min(text.len());
-    &text[usize::from(span.start).min(end)..end]
+    let front = &text[..usize::from(span.end).min(text.len())];
+    &front[usize::from(span.start).min(front.len())..]
 }

@@ -85,6 +85,7 @@ pub fn obey<S: Sink>(command: Command, lamps: &mut [Lamp], screen: &mut S) -> Pu
 }
 
 // Changes the lamp of a room, of which there may be none.
+#[tactic(auto, using(crate::proofs::Changing::set_at, crate::proofs::Changing::none_at))]
 fn change_room<S: Sink>(room: u64, change: Change, lamps: &mut [Lamp], screen: &mut S) -> Put
     ensures lamps { lamps.new ≡ obeyed (Command.Change room change) lamps.old }
     ensures reply { Adds (S.told screen.old) (S.told screen.new) (refusal change) result }
@@ -92,8 +93,9 @@ fn change_room<S: Sink>(room: u64, change: Change, lamps: &mut [Lamp], screen: &
     ensures cause { PutCause (S.faults screen.old) (S.faults screen.new) result }
 {
     let put = put_refusal(&change, screen);
-    if let Some(lamp) = lamps.get_mut(room as usize) {
-        apply(change, lamp);
+    let room = room as usize;
+    if room < lamps.len() {
+        apply(change, &mut lamps[room]);
     }
     put
 }
@@ -124,7 +126,7 @@ fn put_refusal<S: Sink>(change: &Change, screen: &mut S) -> Put
 }
 
 // Shows the line of each lamp.
-#[tactic(auto, using(crate::proofs::Lines::lines))]
+#[tactic(auto, using(crate::proofs::Lines::add_no_lines, crate::proofs::Lines::add_lines_more, crate::proofs::Lines::lines_late))]
 fn put_lamps<S: Sink>(lamps: &[Lamp], screen: &mut S) -> Put
     ensures bytes { Adds (S.told screen.old) (S.told screen.new) (lamp_lines lamps.now) result }
     ensures later { S.faults screen.old ≤ S.faults screen.new }
@@ -170,7 +172,7 @@ fn put_level<S: Sink>(lamp: &Lamp, screen: &mut S) -> Put
 }
 
 // Shows a space and a note, where there is one.
-#[tactic(auto, using(crate::proofs::Pieces::pieces), unfolding(crate::specs::Lamps::note_shown))]
+#[tactic(auto, using(crate::proofs::Pieces::pieces, crate::proofs::Pieces::add_byte, crate::proofs::Pieces::adds_byte, crate::proofs::Pieces::adds_behind_byte), unfolding(crate::specs::Lamps::note_shown))]
 fn put_note<S: Sink>(note: &[u8], screen: &mut S) -> Put
     ensures bytes { Adds (S.told screen.old) (S.told screen.new) (note_shown note.now) result }
     ensures later { S.faults screen.old ≤ S.faults screen.new }

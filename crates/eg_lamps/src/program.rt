@@ -12,6 +12,7 @@ ghost use Rattle.cm_state.specs.Echo.{echo, prompt_text};
 ghost use Rattle.cm_state.specs.Edit.{edited};
 ghost use Rattle.cm_state.specs.Held.{IsReady, at_start};
 ghost use Rattle.cm_state.specs.Turn.{put_of, turn_of};
+ghost use Rattle.eg_lamps.specs.Command.{command_of};
 ghost use Rattle.eg_lamps.specs.End.{EndCause, Ends, Took, number_of};
 ghost use Rattle.eg_lamps.specs.Graph.{lamp_graph};
 ghost use Rattle.eg_lamps.specs.Lamps.{dark_lamps};
@@ -86,6 +87,7 @@ impl Program {
     /// lamps and shows its reply. It ends where QUIT has acted, no key is left, or keys or screen fail.
     ///
     /// `grammar` is that of the lamps, the hook 0 of `hooks` reads a room, and `steps` counts the trials.
+    #[tactic(auto, using(crate::proofs::LampSetting::is_lamp, crate::proofs::LampSetting::enough_hooks))]
     pub fn run<K: Source, S: Sink, L: Ledger>(
         &mut self,
         grammar: &Grammar,
@@ -188,11 +190,21 @@ impl Program {
     {
         match turn {
             Turn::Edited => Put::Done,
-            Turn::Confirmed => self.act(command_of(&self.session), screen),
+            Turn::Confirmed => {
+                let command = self.command();
+                self.act(command, screen)
+            }
             Turn::Refused(_) => self.next_line(screen),
             Turn::Abandoned => self.next_line(screen),
             Turn::Failed => Put::Done,
         }
+    }
+
+    // What the line that is held commands.
+    fn command(&self) -> Command
+        ensures { result ≡ command_of self.now.session }
+    {
+        command_of(&self.session)
     }
 
     // Does what a confirmed line commands, shows the reply, and unless it is QUIT begins the next line.
