@@ -8,3 +8,4 @@ pub mod Setting
 pub mod Taken
 pub mod Trial
 pub mod Well
+pub mod Words

@@ -82,6 +82,15 @@ impl Grammar {
         }
     }
 
+    /// The grammar with nodes and tables that are known to have no fault, as a program's own are, whose proof computes
+    /// that.
+    pub fn of(nodes: Vec<Node>, tables: Vec<Table>) -> Grammar
+        requires { grammar_fault (record { nodes = nodes.items; tables = tables.items }) ≡ None }
+        ensures { result ≡ record { nodes = nodes.items; tables = tables.items } }
+    {
+        Grammar::new(nodes, tables).unwrap()
+    }
+
     /// Hands what `new` saw to on to a proof: the grammar has no fault. It does nothing.
     pub fn has_no_fault(&self)
         ensures { grammar_fault self.now ≡ None }

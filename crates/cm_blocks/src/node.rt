@@ -21,6 +21,30 @@ pub struct Block {
     pub next: u16,
 }
 
+impl Block {
+    ghost use Rattle.cm_blocks.specs.Words.{block};
+
+    /// A block that reads this, for this, before the node that follows. It has no flags, and no help of its own.
+    pub fn new(function: Function, role: Role, next: u16) -> Block
+        ensures { result ≡ block function role next }
+    {
+        Block {
+            function,
+            flags: Flags {
+                wild: false,
+                all_generations: false,
+                deleted: false,
+                default_all: false,
+                from_source: false,
+                new: false,
+            },
+            help: None,
+            role,
+            next,
+        }
+    }
+}
+
 /// Blocks in the order in which they are tried. Contracts see the list of them.
 #[derive(Debug, Drop)]
 pub struct Blocks {
@@ -68,4 +92,19 @@ pub struct Node {
     pub default: Option<Name>,
     /// Whether `!` and `;` are plain bytes here, and begin no comment.
     pub raw: bool,
+}
+
+impl Node {
+    ghost use Rattle.cm_blocks.specs.Words.{node};
+
+    /// The node with this chain. It has no default, and comments begin there.
+    pub fn new(chain: Vec<Block>) -> Node
+        ensures { result ≡ node chain.items }
+    {
+        Node {
+            chain: Blocks::new(chain),
+            default: None,
+            raw: false,
+        }
+    }
 }

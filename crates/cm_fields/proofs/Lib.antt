@@ -1,3 +1,4 @@
+pub mod Ends
 pub mod Finishing
 pub mod Holding
 pub mod Runs
@@ -6,3 +7,4 @@ pub mod Quoting
 pub mod Marks
 pub mod Phrases
 pub mod Passing
+pub mod Unquoting

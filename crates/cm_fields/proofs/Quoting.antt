@@ -15,7 +15,7 @@ use Rattle.cm_fields.specs.Quoted.{IsWithin, by_closing, closing, quoted}
 use Rattle.cm_fields.specs.Try.{span}
 use Rattle.cm_fields.proofs.Holding.{LooksBeyond, Reaches, ReachesIfAccept, by_test, holds_beyond, holds_both, holds_of_choice, holds_same, is_local, of_choice, reaches_accepted}
 
-differs : (byte other : ℕ) → byte ≢ other → (byte == other) ≡ false
+pub differs : (byte other : ℕ) → byte ≢ other → (byte == other) ≡ false
 differs byte other unequal = grind (arith, nat_tests)
 
 -- behind a byte that is neither a quote nor the end of the line

@@ -1,5 +1,5 @@
 -- A quoted text (.CMQST): from a quote to a quote that no quote follows; a quote inside stands twice.
-use Rattle.std.specs.Prelude.{ℕ, ◌+◌, ◌==◌, ◌≤◌, nat_le, if◌then◌else◌, List, [], ◌∷◌}
+use Rattle.std.specs.Prelude.{ℕ, ◌+◌, ◌==◌, ◌&&◌, ◌≤◌, nat_le, if◌then◌else◌, List, [], ◌∷◌}
 use Rattle.cm_text.specs.declared.name.TheConstants.{NAME_LIMIT}
 use Rattle.cm_fields.specs.declared.code.Code.TheVariants.{NotQuoted, NoQuote, FieldLong}
 use Rattle.cm_fields.specs.declared.quotes.Closing.{Closing}
@@ -38,3 +38,10 @@ by_closing at Unknown = More
 abbrev pub quoted : List ℕ → ℕ → Try
 quoted [] at = More
 quoted (byte ∷ rest) at = if byte == 34 then by_closing at (closing 0 0 rest) else Refuse NotQuoted 1
+
+-- what is said by what stands between the outer quotes: a quote that stands twice is one
+abbrev pub unquoted : List ℕ → List ℕ
+unquoted [] = []
+unquoted (byte ∷ []) = byte ∷ []
+unquoted (byte ∷ next ∷ more) =
+    if byte == 34 && next == 34 then 34 ∷ unquoted more else byte ∷ unquoted (next ∷ more)

@@ -20,7 +20,7 @@ pub use code::Code;
 pub use digits::{NUMBER_LIMIT, are_digits, value_of};
 pub use mark::{comma, confirm};
 pub use phrase::{noise, token};
-pub use quotes::quoted;
+pub use quotes::{quoted, unquoted};
 pub use run::{number, word, word_run};
 pub use skipped::skip;
 pub use text::text_field;

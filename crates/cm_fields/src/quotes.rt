@@ -1,10 +1,11 @@
 // Quoted texts.
-ghost use Rattle.std.specs.Prelude.{◌≡◌, ◌+◌, ◌≤◌, drop, length};
-ghost use Rattle.cm_fields.specs.Quoted.{IsWithin, by_closing, closing, quoted};
+ghost use Rattle.std.specs.Prelude.{◌≡◌, ◌+◌, ◌≤◌, ◌∷◌, ◌++◌, drop, length, take};
+ghost use Rattle.std.specs.Str.{IsAscii};
+ghost use Rattle.cm_fields.specs.Quoted.{IsWithin, by_closing, closing, quoted, unquoted};
 
 use crate::trial::{said, span_of};
 use crate::{Code, Try, Value};
-use cm_text::{NAME_LIMIT, TEXT_LIMIT};
+use cm_text::{NAME_LIMIT, Name, TEXT_LIMIT};
 
 // How the text behind an opening quote goes on.
 enum Closing {
@@ -66,5 +67,50 @@ pub fn quoted(text: &[u8], at: usize) -> Try
         [] => Try::More,
         [b'"', inside @ ..] => by_closing(at, closing_from(0, 0, inside)),
         _ => said(at, 0, 1, Err(Code::NotQuoted)),
+    }
+}
+
+/// What a quoted text says (.CMQST), of what stands between its outer quotes, as the span of its value gives it: a
+/// quote that stands twice is one. At most 39 bytes of it, and a quoted text that is taken says no more.
+pub fn unquoted(text: &[u8]) -> Name
+    requires { IsAscii text.now }
+    ensures { result ≡ take NAME_LIMIT (unquoted text.now) }
+{
+    let mut name = Name::new("");
+    push_unquoted(&mut name, text);
+    name
+}
+
+// Puts what a quoted text says behind a name, as far as it fits.
+#[tactic(auto, using(crate::proofs::Unquoting::rest_is_ascii, crate::proofs::Unquoting::pushed_within, crate::proofs::Unquoting::nothing_pushed))]
+fn push_unquoted(name: &mut Name, text: &[u8])
+    requires ascii { IsAscii text.now }
+    requires within { length name.old ≤ NAME_LIMIT }
+    ensures { name.new ≡ take NAME_LIMIT (name.old ++ unquoted text.now) }
+{
+    match text {
+        [] => {}
+        [byte, more @ ..] => {
+            name.push(*byte);
+            push_unquoted(name, behind_byte(*byte, more));
+        }
+    }
+}
+
+// What is left of a quoted text behind a byte, where this goes on: a quote that stands twice is passed whole.
+#[tactic(auto, using(crate::proofs::Unquoting::rest_is_ascii, crate::proofs::Unquoting::plain_passed, crate::proofs::Unquoting::quote_passed, crate::proofs::Unquoting::lone_quote_passed, crate::proofs::Unquoting::last_passed))]
+fn behind_byte(byte: u8, more: &[u8]) -> &[u8]
+    requires { IsAscii more.now }
+    ensures said { unquoted (byte ∷ more.now) ≡ byte ∷ unquoted result.now }
+    ensures ascii { IsAscii result.now }
+    ensures shorter { length result.now ≤ length more.now }
+{
+    if byte != b'"' {
+        return more;
+    }
+    match more {
+        [] => more,
+        [b'"', rest @ ..] => rest,
+        [_, ..] => more,
     }
 }

@@ -1,7 +1,8 @@
 // Field functions by example.
 use crate::laws::{skip_passes_blanks_and_comments, skip_stays, trials_are_local};
 use crate::{
-    Code, Span, Try, Value, comma, confirm, noise, number, quoted, skip, text_field, token, word,
+    Code, Span, Try, Value, comma, confirm, noise, number, quoted, skip, text_field, token,
+    unquoted, word,
 };
 
 fn accept(value: Value, looked: u16, end: u16) -> Try {
@@ -226,6 +227,28 @@ fn takes_quoted_texts(rt: HostRuntime) {
     for (text, at, tried) in cases {
         assert!(rt; text.len() <= 256 && at <= text.len());
         assert_eq!(rt; quoted(text, at), tried, "{text:?} from {at}");
+    }
+}
+
+// What stands between the quotes, and what it says.
+#[test]
+fn takes_the_quotes_out(rt: HostRuntime) {
+    let cases: [(&str, &[u8]); 8] = [
+        ("", b""),
+        ("Note 1", b"Note 1"),
+        ("say \"\"no\"\" now", b"say \"no\" now"),
+        ("\"\"", b"\""),
+        ("\"\"\"\"", b"\"\""),
+        ("\"\"\"", b"\"\""),
+        ("A\"B", b"A\"B"),
+        (
+            "thirty-nine bytes stand before the end \"\"40",
+            b"thirty-nine bytes stand before the end ",
+        ),
+    ];
+    for (inside, says) in cases {
+        assert!(rt; inside.is_ascii());
+        assert_eq!(rt; unquoted(inside.as_bytes()).as_bytes(), says, "{inside}");
     }
 }
 

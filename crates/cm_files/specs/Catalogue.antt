@@ -9,6 +9,7 @@ use Rattle.std.specs.declared.cmp.Ordering.{Ordering}
 use Rattle.cm_text.specs.declared.name.TheConstants.{NAME_LIMIT}
 use Rattle.cm_text.specs.Bytes.{is_name}
 use Rattle.cm_text.specs.Case.{equals}
+use Rattle.cm_files.specs.declared.generation.TheConstants.{GENERATION_LIMIT}
 use Rattle.cm_files.specs.declared.row.FileRow.{FileRow}
 use Rattle.cm_files.specs.declared.row.LogicalName.{LogicalName}
 use Rattle.cm_files.specs.declared.row.Row.{Row}
@@ -67,12 +68,12 @@ is_directory_name name =
     nat_le (length name) NAME_LIMIT
     && list_all (λ part. nat_lt 0 (length part) && is_upper_name part) (slice_split (λ byte. byte == 46) name)
 
--- a file of one of so many directories: a name of 1 to 39 bytes, a type of at most 39, a generation from 1 to 131071
+-- a file of one of so many directories: a name of 1 to 39 bytes, a type of at most 39, a generation from 1 on that is not too high
 abbrev pub is_row : ℕ → FileRow → Bool
 is_row directories row =
     nat_lt row.directory directories && nat_lt 0 (length row.name) && nat_le (length row.name) NAME_LIMIT
     && is_upper_name row.name && nat_le (length row.kind) NAME_LIMIT && is_upper_name row.kind
-    && nat_lt 0 row.generation && nat_le row.generation 131071
+    && nat_lt 0 row.generation && nat_le row.generation GENERATION_LIMIT
 
 -- a logical name that stands for one of so many directories
 abbrev pub is_logical : ℕ → LogicalName → Bool

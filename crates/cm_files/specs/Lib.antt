@@ -1,2 +1,12 @@
 pub mod Catalogue
+pub mod Fields
 pub mod LogicalName
+pub mod Many
+pub mod Neighbours
+pub mod OneDirectory
+pub mod Passing
+pub mod Pattern
+pub mod Place
+pub mod Resolve
+pub mod Selection
+pub mod Spec

@@ -1,8 +1,9 @@
 // The catalogue that file specifications are looked up in.
-ghost use Rattle.std.specs.Prelude.{◌≡◌, ◌<◌, Some, IfSome, length, slice_get};
+ghost use Rattle.std.specs.Prelude.{◌≡◌, ◌<◌, ◌≤◌, Some, IfSome, length, slice_get};
 ghost use Rattle.cm_files.specs.Catalogue.{Catalogue, IsCatalogue, logical_of, row_of, rows_of};
 
 use crate::Row;
+use cm_text::NAME_LIMIT;
 
 /// The names that a file specification may mean. Directories, logical names and files are each in ascending
 /// order of their bytes, a beginning before what is longer, and none stands twice; generations ascend by
@@ -18,7 +19,8 @@ pub trait Names {
     /// The name of the directory with this number.
     fn directory(&self, i: u16) -> &str
         requires { i < length (catalogue self.now).directories }
-        ensures { slice_get (catalogue self.now).directories i ≡ Some result.now };
+        ensures value { slice_get (catalogue self.now).directories i ≡ Some result.now }
+        ensures short { length result.now ≤ NAME_LIMIT };
 
     /// The number of the directory that is connected: it is meant where none is given.
     fn connected(&self) -> u16
@@ -34,13 +36,15 @@ pub trait Names {
     /// How many files a directory has, each generation counted, those that are marked deleted too.
     fn rows(&self, directory: u16) -> u32
         requires { directory < length (catalogue self.now).directories }
-        ensures { result ≡ length (rows_of (catalogue self.now) directory) };
+        ensures value { result ≡ length (rows_of (catalogue self.now) directory) }
+        ensures lawful { IsCatalogue (catalogue self.now) };
 
     /// One of the files of a directory, in ascending order of name, type and generation.
     fn row(&self, directory: u16, i: u32) -> Row<'_>
         requires directory { directory < length (catalogue self.now).directories }
         requires row { i < length (rows_of (catalogue self.now) directory) }
-        ensures { slice_get (rows_of (catalogue self.now) directory) i ≡ Some (row_of directory result) };
+        ensures value { slice_get (rows_of (catalogue self.now) directory) i ≡ Some (row_of directory result) }
+        ensures short { (length result.name.now ≤ NAME_LIMIT) × (length result.kind.now ≤ NAME_LIMIT) };
 }
 
 #[cfg(test)]

@@ -2,6 +2,7 @@
 ghost use Rattle.std.specs.Prelude.{◌≡◌, ◌+◌, ◌-◌, ◌<◌, ◌≤◌, ◌↔◌, ℕ, true, List, [], ◌∷◌, ◌++◌, length, take, IsTrue, IfSome, IfNone};
 ghost use Rattle.std.specs.Bool.{OnTrue, OnFalse};
 ghost use Rattle.std.specs.List.{AllByRecursion, suffix_len};
+ghost use Rattle.std.specs.Str.{IsAscii};
 ghost use Rattle.cm_text.specs.Bytes.{is_blank, is_text, is_word};
 ghost use Rattle.cm_text.specs.Text.{IsLine, finished};
 ghost use Rattle.cm_line.specs.Finished.{line_of};
@@ -46,8 +47,10 @@ impl Line {
     }
 
     /// The finished text: the bytes of the line, and a carriage return.
+    #[tactic(auto, using(cm_text::proofs::Ascii::finished_is_ascii))]
     pub fn finished(&self) -> &[u8]
         ensures value { result.now ≡ finished self.now }
+        ensures ascii { IsAscii result.now }
         ensures short { length result.now ≤ TEXT_LIMIT }
     {
         self.text.as_slice()

@@ -4,13 +4,14 @@ use Rattle.cm_text.specs.declared.text.TheConstants.{LINE_LIMIT}
 use Rattle.cm_text.specs.Shown.{bell, control_c, end_of_line, question, rubout}
 use Rattle.cm_io.specs.Pieces.{times}
 use Rattle.cm_line.specs.declared.key.KeyClass.{KeyClass}
-use Rattle.cm_line.specs.declared.key.KeyClass.TheVariants.{Text, End, Rub, Word, Erase, Show, Back, Stop, Escape, Part}
+use Rattle.cm_line.specs.declared.key.KeyClass.TheVariants.{Text, End, Rub, Word, Erase, Show, Back, Stop, Escape, Part, Help}
 use Rattle.cm_line.specs.Keys.{class_of}
 use Rattle.cm_fields.specs.declared.code.Code.{Code}
 use Rattle.cm_fields.specs.Code.{code_text}
 use Rattle.cm_blocks.specs.declared.field.Ending.{Ending}
 use Rattle.cm_blocks.specs.declared.field.Ending.TheVariants as ending
 use Rattle.cm_blocks.specs.Setting.{Setting}
+use Rattle.cm_help.specs.Help.{help_text}
 use Rattle.cm_state.specs.declared.prompt.Prompt.{Prompt}
 use Rattle.cm_state.specs.declared.prompt.Prompt.TheVariants.{Main, Sub}
 use Rattle.cm_state.specs.Held.{Held, met_line}
@@ -26,6 +27,10 @@ screen_line line = map screen_byte line
 unfoldable pub prompt_text : Prompt → List ℕ
 prompt_text Main = codes "@"
 prompt_text Sub = codes "@@"
+
+-- the end of the line, and the line again behind its prompt
+unfoldable pub again : Prompt → List ℕ → List ℕ
+again prompt line = end_of_line ++ prompt_text prompt ++ screen_line line
 
 -- why a line is refused
 unfoldable pub refusal : Code → List ℕ
@@ -48,21 +53,22 @@ ring false = []
 
 -- the echo of a key on a line of this size, with or without kept bytes, that left the session so; a key that completes
 -- shows the bytes that came to the line, and rings or not
-abbrev pub echo_of : KeyClass → ℕ → ℕ → Bool → Bool → Held → List ℕ
-echo_of Text key size kept rings now = if nat_lt size LINE_LIMIT then screen_byte key ∷ [] else bell
-echo_of Rub key size kept rings now = taken_away size (length now.line)
-echo_of Word key size kept rings now = taken_away size (length now.line)
-echo_of Erase key size kept rings now = taken_away size (length now.line)
-echo_of Show key size kept rings now = end_of_line ++ prompt_text now.prompt ++ screen_line now.line
-echo_of Back key size kept rings now = if kept then screen_line now.line else bell
-echo_of Stop key size kept rings now = control_c ++ end_of_line
-echo_of Escape key size kept rings now = drop size now.line ++ ring rings
-echo_of Part key size kept rings now = drop size now.line ++ ring rings
-echo_of End key size kept rings now = end_of_line ++ complaint now.ending
-echo_of class key size kept rings now = bell
+abbrev pub echo_of : Setting → KeyClass → ℕ → ℕ → Bool → Bool → Held → List ℕ
+echo_of s Text key size kept rings now = if nat_lt size LINE_LIMIT then screen_byte key ∷ [] else bell
+echo_of s Rub key size kept rings now = taken_away size (length now.line)
+echo_of s Word key size kept rings now = taken_away size (length now.line)
+echo_of s Erase key size kept rings now = taken_away size (length now.line)
+echo_of s Show key size kept rings now = again now.prompt now.line
+echo_of s Help key size kept rings now = question ++ help_text s now.ending now.line ++ again now.prompt now.line
+echo_of s Back key size kept rings now = if kept then screen_line now.line else bell
+echo_of s Stop key size kept rings now = control_c ++ end_of_line
+echo_of s Escape key size kept rings now = drop size now.line ++ ring rings
+echo_of s Part key size kept rings now = drop size now.line ++ ring rings
+echo_of s End key size kept rings now = end_of_line ++ complaint now.ending
+echo_of s class key size kept rings now = bell
 
 -- the bytes that a key shows
 unfoldable pub echo : Setting → Held → ℕ → List ℕ
 echo s held key =
     let class = class_of key in
-    echo_of class key (length (met_line held)) (is_some held.kept) (completed s held class).bell (edited s held key)
+    echo_of s class key (length (met_line held)) (is_some held.kept) (completed s held class).bell (edited s held key)

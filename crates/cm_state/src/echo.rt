@@ -4,13 +4,20 @@
 ghost use Rattle.std.specs.Prelude.{◌≡◌, ◌≤◌, ◌++◌, length};
 ghost use Rattle.cm_io.specs.Told.{Adds};
 ghost use Rattle.cm_io.specs.Fault.{PutCause};
-ghost use Rattle.cm_text.specs.Shown.{end_of_line};
-ghost use Rattle.cm_state.specs.Echo.{complaint, refusal, prompt_text, ring, screen_byte, screen_line, taken_away};
+ghost use Rattle.cm_text.specs.Shown.{end_of_line, question};
+ghost use Rattle.cm_hooks.specs.Ties.{Ties, count};
+ghost use Rattle.cm_blocks.specs.Grammar.{hook_count};
+ghost use Rattle.cm_blocks.specs.Setting.{setting};
+ghost use Rattle.cm_help.specs.Help.{help_text};
+ghost use Rattle.cm_state.specs.Echo.{again, complaint, refusal, prompt_text, ring, screen_byte, screen_line, taken_away};
 
 use crate::Prompt;
 use arrayvec::ArrayVec;
-use cm_blocks::Ending;
+use cm_blocks::{Ending, Grammar};
 use cm_fields::Code;
+use cm_files::Names;
+use cm_help::help;
+use cm_hooks::{Hooks, Rules};
 use cm_io::{Put, Sink, put_line, put_times};
 use cm_text::{LINE_LIMIT, bell, end_of_line, question, rubout};
 
@@ -44,10 +51,10 @@ pub(crate) fn put_screen_line<S: Sink>(line: &[u8], sink: &mut S) -> Put
 }
 
 // Shows the end of the line, and the line again behind its prompt.
+#[tactic(auto, using(crate::proofs::Putting::pieces), unfolding(crate::specs::Echo::again))]
 pub(crate) fn put_again<S: Sink>(prompt: Prompt, line: &[u8], sink: &mut S) -> Put
     requires { length line.now ≤ LINE_LIMIT }
-    ensures bytes { Adds (S.told sink.old) (S.told sink.new)
-        (end_of_line ++ prompt_text prompt ++ screen_line line.now) result }
+    ensures bytes { Adds (S.told sink.old) (S.told sink.new) (again prompt line.now) result }
     ensures later { S.faults sink.old ≤ S.faults sink.new }
     ensures cause { PutCause (S.faults sink.old) (S.faults sink.new) result }
 {
@@ -58,6 +65,34 @@ pub(crate) fn put_again<S: Sink>(prompt: Prompt, line: &[u8], sink: &mut S) -> P
         return Put::Failed;
     }
     put_screen_line(line, sink)
+}
+
+// Shows what may come behind the line, and the line again.
+pub(crate) fn put_help<N: Names, R: Rules, S: Sink>(
+    grammar: &Grammar,
+    ending: Ending,
+    prompt: Prompt,
+    line: &[u8],
+    names: &N,
+    hooks: &Hooks<R>,
+    sink: &mut S,
+) -> Put
+    requires line { length line.now ≤ LINE_LIMIT }
+    requires ties { Ties R.meanings hooks.now }
+    requires hooks { hook_count grammar.now ≤ count hooks.now }
+    ensures bytes { Adds (S.told sink.old) (S.told sink.new)
+        (question ++ help_text (setting grammar.now (N.catalogue names.now) R.meanings) ending line.now
+        ++ again prompt line.now) result }
+    ensures later { S.faults sink.old ≤ S.faults sink.new }
+    ensures cause { PutCause (S.faults sink.old) (S.faults sink.new) result }
+{
+    if let Put::Failed = sink.put(question()) {
+        return Put::Failed;
+    }
+    if let Put::Failed = help(grammar, ending, line, names, hooks, sink) {
+        return Put::Failed;
+    }
+    put_again(prompt, line, sink)
 }
 
 // Takes bytes from the screen: from a line of the first size to one of the second.

@@ -18,7 +18,7 @@ ghost use Rattle.cm_state.specs.Log.{log_line};
 ghost use Rattle.cm_state.specs.Stack.{Starts};
 ghost use Rattle.cm_state.specs.Turn.{put_of, turn_of};
 
-use crate::echo::{put_again, put_end, put_inserted, put_screen_line, put_taken, screen_byte};
+use crate::echo::{put_again, put_end, put_help, put_inserted, put_screen_line, put_taken, screen_byte};
 use crate::held::{before_fault, open_at, text_of};
 use crate::log::{line_feed, put_fields, put_head};
 use crate::parse::go_on;
@@ -34,6 +34,17 @@ use std::marker::{Model, PhantomData};
 use std::sync::ledger::Ledger;
 
 mod editing;
+
+// A key and the line that it met: of which size, and whether bytes were kept for control-H. A key that completed the
+// line rings or not.
+#[derive(Clone, Copy)]
+struct Keystroke {
+    class: KeyClass,
+    key: u8,
+    size: usize,
+    kept: bool,
+    rings: bool,
+}
 
 /// A command line: the line under edit, its parse as it then stands, and what control-H may bring back. `R` is what
 /// the hooks mean that its grammar asks.
@@ -135,7 +146,14 @@ impl<R: Rules> Session<R> {
         let size = self.met_size();
         let kept = self.kept.is_some();
         let rings = self.take(class, key, grammar, names, hooks, steps);
-        match self.echo(class, key, size, kept, rings, sink) {
+        let stroke = Keystroke {
+            class,
+            key,
+            size,
+            kept,
+            rings,
+        };
+        match self.echo(stroke, grammar, names, hooks, sink) {
             Put::Done => self.turn(class),
             Put::Failed => Turn::Failed,
         }
@@ -350,30 +368,36 @@ impl<R: Rules> Session<R> {
         self.kept = before_fault(self.is_finished, &self.line, self.ending);
     }
 
-    // Shows the echo of a key on a line of this size, with or without kept bytes; a key that completes rings or not.
-    fn echo<S: Sink>(
+    // Shows the echo of a key.
+    fn echo<N: Names, S: Sink>(
         &self,
-        class: KeyClass,
-        key: u8,
-        size: usize,
-        kept: bool,
-        rings: bool,
+        stroke: Keystroke,
+        grammar: &Grammar,
+        names: &N,
+        hooks: &Hooks<R>,
         sink: &mut S,
     ) -> Put
-        requires { size ≤ LINE_LIMIT }
+        requires size { stroke.size ≤ LINE_LIMIT }
+        requires ties { Ties R.meanings hooks.now }
+        requires hooks { hook_count grammar.now ≤ count hooks.now }
         ensures bytes { Adds (S.told sink.old) (S.told sink.new)
-            (echo_of class key size kept rings self.now) result }
+            (echo_of (setting grammar.now (N.catalogue names.now) R.meanings)
+            stroke.class stroke.key stroke.size stroke.kept stroke.rings self.now) result }
         ensures later { S.faults sink.old ≤ S.faults sink.new }
         ensures cause { PutCause (S.faults sink.old) (S.faults sink.new) result }
     {
         let line = self.line.bytes();
-        match class {
-            KeyClass::Text if size < LINE_LIMIT => sink.put(&[screen_byte(key)]),
-            KeyClass::Rub | KeyClass::Word | KeyClass::Erase => put_taken(size, line.len(), sink),
+        let behind = &line[stroke.size.min(line.len())..];
+        match stroke.class {
+            KeyClass::Text if stroke.size < LINE_LIMIT => sink.put(&[screen_byte(stroke.key)]),
+            KeyClass::Rub | KeyClass::Word | KeyClass::Erase => {
+                put_taken(stroke.size, line.len(), sink)
+            }
             KeyClass::Show => put_again(self.prompt, line, sink),
-            KeyClass::Back if kept => put_screen_line(line, sink),
-            KeyClass::Escape => put_inserted(&line[size.min(line.len())..], rings, sink),
-            KeyClass::Part => put_inserted(&line[size.min(line.len())..], rings, sink),
+            KeyClass::Help => put_help(grammar, self.ending, self.prompt, line, names, hooks, sink),
+            KeyClass::Back if stroke.kept => put_screen_line(line, sink),
+            KeyClass::Escape => put_inserted(behind, stroke.rings, sink),
+            KeyClass::Part => put_inserted(behind, stroke.rings, sink),
             KeyClass::Stop => put_line(control_c(), sink),
             KeyClass::End => put_end(self.ending, sink),
             _ => sink.put(bell()),

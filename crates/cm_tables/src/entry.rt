@@ -1,7 +1,7 @@
 // The entries of a keyword table.
-ghost use Rattle.std.specs.Prelude.{◌≡◌};
+ghost use Rattle.std.specs.Prelude.{◌≡◌, ◌≤◌, length};
 
-use cm_text::Name;
+use cm_text::{NAME_LIMIT, Name};
 
 /// How an entry takes part in the look-up (TBLUK).
 #[derive(Clone, Copy, Debug, PartialEq, Eq)]
@@ -40,4 +40,37 @@ pub struct Entry {
     pub code: u16,
     /// The node of the grammar that follows it.
     pub next: u16,
+}
+
+impl Entry {
+    ghost use Rattle.cm_tables.specs.Words.{entry, value_entry};
+
+    /// A keyword with this text and code, which leads to this node: it is listed and may be abbreviated, and no colon
+    /// follows it.
+    pub fn new(text: &str, code: u16, next: u16) -> Entry
+        requires { length text.now ≤ NAME_LIMIT }
+        ensures { result ≡ entry text.now code next }
+    {
+        Entry {
+            text: Name::new(text),
+            flag: Flag::Plain,
+            colon: false,
+            code,
+            next,
+        }
+    }
+
+    /// The same with a colon: a switch, whose value this node reads.
+    pub fn with_value(text: &str, code: u16, next: u16) -> Entry
+        requires { length text.now ≤ NAME_LIMIT }
+        ensures { result ≡ value_entry text.now code next }
+    {
+        Entry {
+            text: Name::new(text),
+            flag: Flag::Plain,
+            colon: true,
+            code,
+            next,
+        }
+    }
 }

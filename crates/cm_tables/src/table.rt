@@ -1,11 +1,12 @@
 // Keyword tables.
-ghost use Rattle.std.specs.Prelude.{◌≡◌, ◌<◌, ◌≤◌, List, length, Some, None, MatchResult, slice_get, vec_len};
+ghost use Rattle.std.specs.Prelude.{◌≡◌, ◌<◌, ◌≤◌, List, length, Some, None, IfSome, MatchResult, slice_get, vec_len};
 ghost use Rattle.cm_tables.specs.Common.{common};
+ghost use Rattle.cm_tables.specs.Listed.{next_listed};
 ghost use Rattle.cm_tables.specs.Look.{IsWithin, has_text, look};
 ghost use Rattle.cm_tables.specs.Order.{table_fault};
 
 use crate::fault::{ENTRY_LIMIT, table_fault};
-use crate::{Entry, common, search};
+use crate::{Entry, common, listed, search};
 use cm_text::NAME_LIMIT;
 use std::marker::Model;
 use thiserror::Error;
@@ -77,6 +78,14 @@ impl Table {
         }
     }
 
+    /// The table with entries that are known to have no fault, as a program's own are, whose proof computes that.
+    pub fn of(entries: Vec<Entry>) -> Table
+        requires { table_fault entries.items ≡ None }
+        ensures { result ≡ entries.items }
+    {
+        Table::new(entries).unwrap()
+    }
+
     /// Hands what `new` saw to on to a proof: the table has no fault. It does nothing.
     pub fn has_no_fault(&self)
         ensures { table_fault self.now ≡ None }
@@ -131,6 +140,19 @@ impl Table {
         ensures within { length result.now ≤ NAME_LIMIT }
     {
         common::common(&self.entries, atom)
+    }
+
+    /// The position of the first entry at or behind a position that a list shows where the atom was typed, as `?` wants
+    /// it (TBLUK): a Plain entry that begins with the atom, with no regard to the case of letters. None where there is
+    /// no more such entry, as from a position past the end.
+    pub fn next_listed(&self, from: u16, atom: &[u8]) -> Option<u16>
+        ensures value { result ≡ next_listed self.now from atom.now }
+        // It is a position of the table, and not before the one that was given.
+        ensures within { IfSome result (λ position. (from ≤ position) × (position < length self.now)) }
+        // A table has no more entries than it may.
+        ensures few { length self.now ≤ ENTRY_LIMIT }
+    {
+        listed::next_listed(&self.entries, from, atom)
     }
 }
 

@@ -1,5 +1,6 @@
 // Short names.
-ghost use Rattle.std.specs.Prelude.{◌≡◌, ◌≤◌, ℕ, List, length};
+ghost use Rattle.std.specs.Prelude.{◌≡◌, ◌<◌, ◌≤◌, ◌↔◌, ℕ, List, [], ◌∷◌, ◌++◌, IsTrue, length};
+ghost use Rattle.std.specs.Bool.{OnTrue, OnFalse};
 
 use arrayvec::ArrayString;
 use std::marker::Model;
@@ -30,6 +31,16 @@ impl Name {
         Name { text: name }
     }
 
+    /// Puts an ASCII byte behind the name. False where the name has 39 bytes, which then stays as it was.
+    pub fn push(&mut self, byte: u8) -> bool
+        requires { byte < 128 }
+        ensures fits { IsTrue result ↔ (length self.old < NAME_LIMIT) }
+        ensures pushed { OnTrue result (self.new ≡ self.old ++ byte ∷ []) }
+        ensures full { OnFalse result (self.new ≡ self.old) }
+    {
+        self.text.try_push(char::from(byte)).is_ok()
+    }
+
     /// The bytes of the name.
     pub fn as_bytes(&self) -> &[u8]
         ensures value { result.now ≡ self.now }
@@ -40,7 +51,8 @@ impl Name {
 
     /// The name as a text.
     pub fn as_str(&self) -> &str
-        ensures { result.now ≡ self.now }
+        ensures value { result.now ≡ self.now }
+        ensures within { length result.now ≤ NAME_LIMIT }
     {
         self.text.as_str()
     }
@@ -57,6 +69,28 @@ mod tests {
             let name = Name::new(text);
             assert_eq!(rt; name.as_str(), text);
             assert_eq!(rt; name.as_bytes(), text.as_bytes());
+        }
+    }
+
+    #[test]
+    fn a_name_grows_to_39_bytes(rt: HostRuntime) {
+        for (text, pushes, longer) in [
+            ("", true, "Z"),
+            (
+                "A-NAME-OF-THIRTY-EIGHT-BYTES-IN-LENGTH",
+                true,
+                "A-NAME-OF-THIRTY-EIGHT-BYTES-IN-LENGTHZ",
+            ),
+            (
+                "A-NAME-OF-THIRTY-NINE-BYTES-IN-LENGTH-1",
+                false,
+                "A-NAME-OF-THIRTY-NINE-BYTES-IN-LENGTH-1",
+            ),
+        ] {
+            assert!(rt; text.len() <= NAME_LIMIT, "{text} is too long");
+            let mut name = Name::new(text);
+            assert_eq!(rt; name.push(b'Z'), pushes, "{text}");
+            assert_eq!(rt; name.as_str(), longer);
         }
     }
 }

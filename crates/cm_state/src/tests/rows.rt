@@ -139,10 +139,10 @@ fn edits_lines(rt: HostRuntime) -> Result<(), Fail> {
             b"17 2 F25.6@1 0.1k1@0-1\n17 1 O\n17 0 O\n17 0 O\n",
         ),
         (
-            b"L\x08\x1b\x06?\x00\xff",
+            b"L\x08\x1b\x06\x00\xff",
             Turn::Edited,
-            b"@L\x07\x07\x07\x07\x07\x07",
-            b"08 1 O\n1b 1 O\n06 1 O\n3f 1 O\n00 1 O\nff 1 O\n",
+            b"@L\x07\x07\x07\x07\x07",
+            b"08 1 O\n1b 1 O\n06 1 O\n00 1 O\nff 1 O\n",
         ),
         (
             b"CONN\x1b\x1b",
@@ -151,10 +151,47 @@ fn edits_lines(rt: HostRuntime) -> Result<(), Fail> {
             b"1b 23 O 0.1k3@0-7 17.0n1@8-22\n1b 32 O 0.1k3@0-7 17.0n1@8-22 18.1w@23-31\n",
         ),
         (
-            b"\x7f\x17\x15\x12\x08\x1b\x06?\x00",
+            b"\x7f\x17\x15\x12\x08\x1b\x06\x00",
             Turn::Edited,
-            b"@\x07\x07\x07\r\n@\x07\x07\x07\x07\x07",
-            b"7f 0 O\n17 0 O\n15 0 O\n12 0 O\n08 0 O\n1b 0 O\n06 0 O\n3f 0 O\n00 0 O\n",
+            b"@\x07\x07\x07\r\n@\x07\x07\x07\x07",
+            b"7f 0 O\n17 0 O\n15 0 O\n12 0 O\n08 0 O\n1b 0 O\n06 0 O\n00 0 O\n",
+        ),
+    ];
+    tries::<Brand, _>(&rt, &rt, Blank::new(1), &cases)
+}
+
+#[test]
+fn shows_what_may_come(rt: HostRuntime) -> Result<(), Fail> {
+    let cases: [Case<'_>; 5] = [
+        (
+            b"INF ?",
+            Turn::Edited,
+            b"@INF ? guide word (ABOUT)\r\n or one of the following:\r\n  VERSION\r\n@INF ",
+            b"\n3f 4 O 0.1k9@0-3\n",
+        ),
+        (
+            b"COPY\t?",
+            Turn::Edited,
+            b"@COPY ? guide word (FROM)\r\n or \"TTY:\"\r\n@COPY ",
+            b"\n3f 5 O 0.1k4@0-4\n",
+        ),
+        (
+            b"P A/?C",
+            Turn::Edited,
+            b"@P A/? one of the following:\r\n  /COPIES:\r\n  /JOBNAME:\r\n  /NOTE:\r\n@P A/C",
+            b"\n3f 4 O 0.1k11@0-1 37.0n0@2-2 38.0w@2-3\n43 5 O 0.1k11@0-1 37.0n0@2-2 38.0w@2-3\n",
+        ),
+        (
+            b"X ?",
+            Turn::Edited,
+            b"@X ? Unrecognized keyword\r\n@X ",
+            b"\n3f 2 F1.0@0\n",
+        ),
+        (
+            b"INF X\r?\x08",
+            Turn::Edited,
+            b"@INF X\r\n?Unrecognized keyword\r\n@? confirm with carriage return\r\n or one of the following:\r\n  APPEND\r\n  BUILD\r\n  CONNECT\r\n  COPY\r\n  DEFINE\r\n  DELETE\r\n  DIRECTORY\r\n  EXPUNGE\r\n  INFORMATION\r\n  LOGOUT\r\n  PRINT\r\n  REMARK\r\n  RENAME\r\n  TAKE\r\n  TYPE\r\n  UNDELETE\r\n@\x07",
+            b"\n3f 0 O\n08 0 O\n",
         ),
     ];
     tries::<Brand, _>(&rt, &rt, Blank::new(1), &cases)
@@ -189,7 +226,7 @@ fn full_line_cases<L: Ledger, A: Abort>(
         (b'C' - 64, 5, b"\n03 0 O\n"),
         (27, 1, b"\n1b 255 O\n"),
         (b'F' - 64, 1, b"\n06 255 O\n"),
-        (b'?', 1, b"\n3f 255 O\n"),
+        (b'?', 281, b"\n3f 255 O\n"),
         (0, 1, b"\n00 255 O\n"),
     ];
     for (key, shown, logged) in cases {

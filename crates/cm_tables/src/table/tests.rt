@@ -228,3 +228,63 @@ fn gives_its_entries(rt: HostRuntime) -> Result<(), Fail> {
     assert_eq!(rt; baker.flag, Flag::Invisible);
     Ok(())
 }
+
+#[test]
+fn lists_plain_entries_alone(rt: HostRuntime) -> Result<(), Fail> {
+    let keywords = [
+        ("D", Flag::Short(2)),
+        ("DEASSIGN", Flag::Invisible),
+        plain("DEFINE"),
+        plain("DIRECTORY"),
+        ("DISMOUNT", Flag::NoRecognise),
+        plain("EXIT"),
+    ];
+    let table = Table::new(entries(&rt, rt.alloc(), &keywords)?)?;
+    for (from, atom, found) in [
+        (0, "", Some(2)),
+        (2, "", Some(2)),
+        (3, "", Some(3)),
+        (4, "", Some(5)),
+        (5, "", Some(5)),
+        (6, "", None),
+        (7, "", None),
+        (u16::MAX, "", None),
+        (0, "D", Some(2)),
+        (0, "DI", Some(3)),
+        (0, "di", Some(3)),
+        (0, "directory", Some(3)),
+        (4, "D", None),
+        (0, "DEA", None),
+        (0, "DIS", None),
+        (0, "E", Some(5)),
+        (0, "EXITS", None),
+        (0, "X", None),
+    ] {
+        assert_eq!(rt;
+            table.next_listed(from, atom.as_bytes()),
+            found,
+            "{atom} from {from}"
+        );
+    }
+    Ok(())
+}
+
+#[test]
+#[tactic(auto, unfolding(crate::specs::Order::table_fault, cm_text::specs::Case::begins_with, cm_text::specs::Case::equals))]
+fn is_made_of_words(rt: HostRuntime) -> Result<(), Fail> {
+    let entries = vec![in rt.alloc(); Entry::new("LIST", 3, 2), Entry::with_value("SIZE", 4, 6)]?;
+    let table = Table::of(entries);
+    assert_eq!(rt; table.len(), 2);
+    for (position, text, colon, code, next) in [
+        (0, b"LIST".as_slice(), false, 3, 2),
+        (1, b"SIZE".as_slice(), true, 4, 6),
+    ] {
+        let entry = table.entry(position);
+        assert_eq!(rt; entry.text.as_bytes(), text);
+        assert_eq!(rt; entry.flag, Flag::Plain);
+        assert_eq!(rt; entry.colon, colon);
+        assert_eq!(rt; entry.code, code);
+        assert_eq!(rt; entry.next, next);
+    }
+    Ok(())
+}

@@ -148,6 +148,49 @@ fn rings_where_nothing_is_certain(rt: HostRuntime) -> Result<(), Fail> {
     try_cases(&rt, &rt, &cases)
 }
 
+#[test]
+fn shows_what_may_come(rt: HostRuntime) -> Result<(), Fail> {
+    let cases = [
+        done(
+            b"DEFINE (LOGICAL NAME) ?",
+            b"@DEFINE (LOGICAL NAME) ? logical name\r\n@DEFINE (LOGICAL NAME) \r\n",
+            Log::End(b"\n3f 22 O 0.1k5@0-6 28.0n1@7-21\n"),
+            1,
+        ),
+        done(
+            b"INF ! x?",
+            b"@INF ! x? comment\r\n@INF ! x\r\n",
+            Log::End(b"\n3f 7 O 0.1k9@0-3\n"),
+            1,
+        ),
+        done(
+            b"X ?",
+            b"@X ? Unrecognized keyword\r\n@X \r\n",
+            Log::End(b"\n3f 2 F1.0@0\n"),
+            1,
+        ),
+        done(
+            b"INF ?",
+            b"@INF ? guide word (ABOUT)\r\n or one of the following:\r\n  VERSION\r\n@INF \r\n",
+            Log::End(b"\n3f 4 O 0.1k9@0-3\n"),
+            1,
+        ),
+        done(
+            b"INF V?ER\r",
+            b"@INF V? one of the following:\r\n  VERSION\r\n@INF VER\r\n EXEC20 1\r\n@\r\n",
+            Log::End(b"\n0d 7 D 0.1k9@0-3 26.0n0@4-4 27.0k4@4-7\n"),
+            2,
+        ),
+        done(
+            b"K?JOB\r",
+            b"@K? keyword, none matches\r\n@KJOB\r\nLogged out\r\n",
+            Log::Whole(b"4b 1 O\n3f 1 O\n4a 2 O\n4f 3 O\n42 4 O\n0d 4 D 0.1k10@0-4\n"),
+            2,
+        ),
+    ];
+    try_cases(&rt, &rt, &cases)
+}
+
 // So many blanks, `INF` and ESC, which would put 17 bytes in.
 fn far_out(alloc: Global, blanks: usize) -> Result<Vec<u8>, Fail> {
     let mut keys = vec![in alloc; b' '; blanks]?;

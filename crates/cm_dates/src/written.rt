@@ -1,0 +1,80 @@
+// A day as it is shown.
+ghost use Rattle.std.specs.Prelude.{◌≡◌, ◌+◌, ◌<◌, ◌≤◌, [], ◌∷◌, ◌++◌, length, pos};
+ghost use Rattle.std.specs.Fmt.{decimal};
+ghost use Rattle.std.specs.Int.{IsInRange};
+ghost use Rattle.jiff_core.specs.Calendar.{IsBetween};
+ghost use Rattle.jiff_core.specs.Date.{epoch_day};
+ghost use Rattle.cm_dates.specs.DayText.{IsDayText, date_text, day_text};
+
+use crate::months::month_name;
+use arrayvec::ArrayString;
+use jiff_core::civil;
+
+/// The last day that a date field can have, 31-DEC-2099.
+pub const DAY_LIMIT: i32 = 47_481;
+
+/// The most bytes of the text of a day.
+pub const DAY_TEXT_LIMIT: usize = 11;
+
+/// The text of a day, 0 for 1-JAN-1970: the day of the month with no zero before it, the month in upper case,
+/// and the year in four digits.
+pub fn day_text(day: i32) -> ArrayString<DAY_TEXT_LIMIT>
+    requires { IsBetween (pos 0) DAY_LIMIT day }
+    ensures date { IsDayText day result.bytes }
+    ensures text { result.bytes ≡ day_text day }
+{
+    let date = date_of_day(day);
+    date_text(date.year as u16, date.month, date.day)
+}
+
+// The date of a day.
+fn date_of_day(day: i32) -> civil::Date
+    requires { IsBetween (pos 0) DAY_LIMIT day }
+    ensures day { epoch_day result ≡ day }
+    ensures year { IsBetween (pos 1970) (pos 2099) result.year }
+{
+    match civil::Date::from_unix_epoch_day(i64::from(day)) {
+        Ok(date) => date,
+        Err(_) => unreachable!(),
+    }
+}
+
+// The text of a date.
+#[tactic(auto, using(crate::proofs::Decimals::at_most_two, crate::proofs::Decimals::at_most_four))]
+fn date_text(year: u16, month: u8, day: u8) -> ArrayString<DAY_TEXT_LIMIT>
+    requires year { year ≤ 9999 }
+    requires month { IsInRange 1 12 month }
+    requires day { day ≤ 99 }
+    ensures { result.bytes ≡ date_text year month day }
+{
+    let mut text = ArrayString::new();
+    push_decimal(&mut text, u16::from(day));
+    text.push_str("-");
+    text.push_str(month_name(month));
+    text.push_str("-");
+    push_decimal(&mut text, year);
+    text
+}
+
+// Puts the decimal digits of a number, with no zero before them, behind a text.
+fn push_decimal(text: &mut ArrayString<DAY_TEXT_LIMIT>, number: u16)
+    requires { length text.old.bytes + length (decimal number) ≤ DAY_TEXT_LIMIT }
+    ensures bytes { text.new.bytes ≡ text.old.bytes ++ decimal number }
+    ensures size { length text.new.bytes ≡ length text.old.bytes + length (decimal number) }
+{
+    if number < 10 {
+        push_digit(text, number as u8);
+    } else {
+        push_decimal(text, number / 10);
+        push_digit(text, (number % 10) as u8);
+    }
+}
+
+// Puts the digit of a number below 10 behind a text.
+fn push_digit(text: &mut ArrayString<DAY_TEXT_LIMIT>, number: u8)
+    requires digit { number < 10 }
+    requires room { length text.old.bytes < DAY_TEXT_LIMIT }
+    ensures { text.new.bytes ≡ text.old.bytes ++ (48 + number) ∷ [] }
+{
+    text.push(char::from(b'0' + number));
+}

@@ -1,0 +1,7 @@
+pub mod Beside
+pub mod Choosing
+pub mod Fielding
+pub mod Multitude
+pub mod Ordered
+pub mod Stars
+pub mod Walking

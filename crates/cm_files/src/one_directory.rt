@@ -1,0 +1,106 @@
+// A catalogue of one directory.
+ghost use Rattle.std.specs.Prelude.{◌≡◌, true};
+ghost use Rattle.cm_files.specs.Catalogue.{is_directory_name};
+ghost use Rattle.cm_files.specs.OneDirectory.{one_directory};
+
+use crate::{FileRow, Names, Row};
+use cm_text::Name;
+use std::marker::Model;
+
+/// A catalogue of one directory, which is connected, with no file and no logical name, for a program whose grammar
+/// asks for none. Contracts see the catalogue.
+#[derive(Debug, Drop)]
+pub struct OneDirectory {
+    name: Name,
+    // No file. But the type could hold one: the toolchain refuses an implementation of `Names` of whose files none
+    // can be asked for.
+    file: Option<FileRow>,
+}
+
+impl Model for OneDirectory {
+    ghost use Rattle.cm_files.specs.Catalogue.{Catalogue, IsCatalogue};
+    ghost use Rattle.cm_files.specs.OneDirectory.{directory_with};
+
+    ghost Value = { Catalogue };
+
+    ghost view = { λ it. directory_with it.name it.file };
+
+    ghost invariant = { λ it. IsCatalogue (directory_with it.name it.file) };
+}
+
+impl OneDirectory {
+    /// The directory of this name: 1 to 39 bytes, parts of capital letters, digits, hyphens, dollar signs and
+    /// underscores, with single points between.
+    #[tactic(auto, unfolding(crate::specs::OneDirectory::one_directory))]
+    pub fn new(name: &str) -> OneDirectory
+        requires { is_directory_name name.now ≡ true }
+        ensures { result ≡ one_directory name.now }
+    {
+        OneDirectory {
+            name: Name::new(name),
+            file: None,
+        }
+    }
+}
+
+impl Names for OneDirectory {
+    ghost catalogue = { λ it. it };
+
+    fn directories(&self) -> u16 {
+        let _ = &self.file;
+        1
+    }
+
+    fn directory(&self, _i: u16) -> &str {
+        self.name.as_str()
+    }
+
+    fn connected(&self) -> u16 {
+        let _ = &self.file;
+        0
+    }
+
+    fn logical(&self, _name: &[u8]) -> Option<u16> {
+        let _ = &self.file;
+        None
+    }
+
+    fn rows(&self, _directory: u16) -> u32 {
+        match &self.file {
+            Some(_) => 1,
+            None => 0,
+        }
+    }
+
+    fn row(&self, _directory: u16, _i: u32) -> Row<'_> {
+        match &self.file {
+            Some(file) => Row {
+                name: file.name.as_str(),
+                kind: file.kind.as_str(),
+                generation: file.generation,
+                deleted: file.deleted,
+            },
+            None => unreachable!(),
+        }
+    }
+}
+
+#[cfg(test)]
+mod tests {
+    use super::*;
+    use std::process::Abort;
+
+    fn tells_one_directory<N: Names>(rt: &impl Abort, names: &N, name: &str) {
+        assert_eq!(rt; names.directories(), 1);
+        assert_eq!(rt; names.directory(0), name);
+        assert_eq!(rt; names.connected(), 0);
+        assert_eq!(rt; names.logical(name.as_bytes()), None);
+        assert_eq!(rt; names.rows(0), 0);
+    }
+
+    #[test]
+    #[tactic(auto, unfolding(cm_text::specs::Bytes::is_name, cm_text::specs::Bytes::is_word))]
+    fn is_one_directory_and_no_more(rt: HostRuntime) {
+        tells_one_directory(&rt, &OneDirectory::new("LAMPS.UP-1"), "LAMPS.UP-1");
+    }
+}

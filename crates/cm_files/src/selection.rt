@@ -1,0 +1,69 @@
+// Which files of a directory are selected.
+ghost use Rattle.std.specs.Prelude.{◌≡◌, ◌<◌, length, option_copied};
+ghost use Rattle.cm_files.specs.Catalogue.{rows_of};
+ghost use Rattle.cm_files.specs.Passing.{may_pass, may_take, passes_at};
+ghost use Rattle.cm_files.specs.Selection.{is_seen, name_matches, selects, wanted};
+
+use crate::{Names, Sought, matches};
+use cm_fields::Gen;
+
+// Whether a name is looked for.
+fn name_matches(pattern: Option<&[u8]>, name: &[u8]) -> bool
+    ensures { result ≡ name_matches (option_copied pattern.entry) name.now }
+{
+    match pattern {
+        Some(pattern) => matches(pattern, name),
+        None => false,
+    }
+}
+
+// Whether a file of this generation may be meant, whichever others there are.
+fn may_take(generation: Gen, number: u32) -> bool
+    ensures { result ≡ may_take generation number }
+{
+    match generation {
+        Gen::Next => false,
+        Gen::Number(wanted) => number == wanted,
+        Gen::Missing | Gen::Highest | Gen::Lowest | Gen::All => true,
+    }
+}
+
+/// Whether the row with this number has the name, the type and the mark that are looked for.
+#[tactic(auto, unfolding(crate::specs::Selection::is_seen))]
+pub(crate) fn is_seen_at<N: Names>(names: &N, directory: u16, i: u32, sought: &Sought<'_>) -> bool
+    requires directory { directory < length (N.catalogue names.now).directories }
+    requires row { i < length (rows_of (N.catalogue names.now) directory) }
+    ensures { result ≡ passes_at (is_seen (wanted sought.now)) (rows_of (N.catalogue names.now) directory) i }
+{
+    let row = names.row(directory, i);
+    row.deleted == sought.deleted
+        && name_matches(sought.name, row.name.as_bytes())
+        && matches(sought.kind, row.kind.as_bytes())
+}
+
+// Whether the row with this number may be selected.
+#[tactic(auto, unfolding(crate::specs::Passing::may_pass))]
+fn may_pass_at<N: Names>(names: &N, directory: u16, i: u32, sought: &Sought<'_>) -> bool
+    requires directory { directory < length (N.catalogue names.now).directories }
+    requires row { i < length (rows_of (N.catalogue names.now) directory) }
+    ensures { result ≡ passes_at (may_pass (wanted sought.now)) (rows_of (N.catalogue names.now) directory) i }
+{
+    is_seen_at(names, directory, i, sought)
+        && may_take(sought.generation, names.row(directory, i).generation)
+}
+
+/// Whether a file of a directory is selected (GTJFN), in one pass over its files. A file is, where its name
+/// and type match and its mark is the one that is looked for, and where of those files of its name and type
+/// it has a generation that is meant: the number given, the highest, the lowest, or each.
+#[tactic(auto, using(crate::proofs::Choosing::any_may_pass, crate::proofs::Walking::any_here, crate::proofs::Walking::any_next, crate::proofs::Walking::any_past))]
+pub fn selects<N: Names>(names: &N, directory: u16, sought: &Sought<'_>) -> bool
+    requires { directory < length (N.catalogue names.now).directories }
+    ensures { result ≡ selects (wanted sought.now) (rows_of (N.catalogue names.now) directory) }
+{
+    for i in 0..names.rows(directory) {
+        if may_pass_at(names, directory, i, sought) {
+            return true;
+        }
+    }
+    false
+}

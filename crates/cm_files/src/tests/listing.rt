@@ -1,0 +1,100 @@
+// The walk over what is selected, and how many files it looks at.
+
+use super::{Many, Sample};
+use crate::{GENERATION_LIMIT, Names, Sought, select, selects};
+use cm_fields::Gen;
+use std::cell::Cell;
+use std::process::Abort;
+
+fn sought(generation: Gen, deleted: bool) -> Sought<'static> {
+    Sought {
+        name: Some(b"*"),
+        kind: b"*",
+        generation,
+        all_generations: false,
+        deleted,
+    }
+}
+
+// How many files of the first directory are selected, one found after the other.
+fn listed<N: Names>(names: &N, sought: &Sought<'_>) -> u32 {
+    let mut from = 0;
+    let mut found = 0;
+    for _ in 0..=names.rows(0) {
+        match select(names, 0, sought, from) {
+            Some(i) => {
+                found += 1;
+                from = i + 1;
+            }
+            None => return found,
+        }
+    }
+    found
+}
+
+// How many files are listed of so many generations, and how many looks that takes.
+fn looks(rt: &impl Abort, count: u32, is_last: bool, sought: &Sought<'_>) -> (u32, u32) {
+    assert!(rt; count <= GENERATION_LIMIT);
+    let unmarked = if is_last { count } else { 1 };
+    let many = Many {
+        count,
+        unmarked,
+        looked: Cell::new(0),
+    };
+    (listed(&many, sought), many.looked.get())
+}
+
+// All but one of the files are seen, or one alone, which is the first or the last.
+#[test]
+fn a_listing_takes_time_in_proportion(rt: HostRuntime) {
+    for (generation, deleted, of_1024, of_4096) in [
+        (Gen::All, true, 1023, 4095),
+        (Gen::Missing, true, 1, 1),
+        (Gen::Highest, true, 1, 1),
+        (Gen::Lowest, true, 1, 1),
+        (Gen::Number(2), true, 1, 1),
+        (Gen::Next, true, 0, 0),
+        (Gen::Highest, false, 1, 1),
+        (Gen::Lowest, false, 1, 1),
+        (Gen::All, false, 1, 1),
+    ] {
+        for is_last in [false, true] {
+            let sought = sought(generation, deleted);
+            let (few, short) = looks(&rt, 1024, is_last, &sought);
+            let (more, long) = looks(&rt, 4096, is_last, &sought);
+            assert_eq!(rt; (few, more), (of_1024, of_4096), "{generation:?}");
+            assert!(rt;
+                long <= 4 * short + 16,
+                "{long} and {short} looks, {generation:?}"
+            );
+            assert!(rt; long <= 5 * 4096, "{long} looks, {generation:?}");
+        }
+    }
+}
+
+#[test]
+fn the_next_file_that_is_selected(rt: HostRuntime) {
+    for (generation, deleted, from, next) in [
+        (Gen::Missing, false, 0, Some(0)),
+        (Gen::Missing, false, 1, Some(2)),
+        (Gen::Missing, false, 3, None),
+        (Gen::Missing, true, 0, Some(1)),
+        (Gen::Number(2), false, 0, None),
+        (Gen::Next, false, 0, None),
+        (Gen::All, false, 1, Some(2)),
+    ] {
+        let sought = sought(generation, deleted);
+        assert_eq!(rt;
+            select(&Sample, 0, &sought, from),
+            next,
+            "{generation:?} from {from}"
+        );
+    }
+    assert!(rt; selects(&Sample, 1, &sought(Gen::Lowest, false)));
+    let none = Sought {
+        name: None,
+        ..sought(Gen::All, false)
+    };
+    assert!(rt; !selects(&Sample, 0, &none));
+    assert_eq!(rt; select(&Sample, 0, &none, 0), None);
+}

@@ -1,0 +1,7 @@
+//! Help: what `?` shows of a line (COMND).
+#![tactic(auto)]
+
+mod listing;
+mod phrase;
+
+pub use listing::help;

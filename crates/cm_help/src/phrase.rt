@@ -1,0 +1,201 @@
+// What a block reads, in words.
+#![tactic(auto, using(crate::proofs::Pieces::pieces))]
+
+ghost use Rattle.std.specs.Prelude.{◌≡◌, ◌≤◌, ◌<◌, ◌++◌, ◌&&◌, true, drop, length, None};
+ghost use Rattle.cm_text.specs.Shown.{end_of_line};
+ghost use Rattle.cm_tables.specs.Listed.{listed_from};
+ghost use Rattle.cm_io.specs.Told.{Adds};
+ghost use Rattle.cm_io.specs.Fault.{PutCause};
+ghost use Rattle.cm_hooks.specs.Ties.{Ties, count};
+ghost use Rattle.cm_blocks.specs.Fault.{has_table};
+ghost use Rattle.cm_blocks.specs.Grammar.{hook_count, hook_limit};
+ghost use Rattle.cm_blocks.specs.Well.{IsWellBlock};
+ghost use Rattle.cm_help.specs.Phrase.{colon, entry_line, entry_lines, function_phrase, guide_end, guide_word, indent, keywords, none_matches, one_of, phrase, quote};
+
+use cm_blocks::{Block, Function, Grammar};
+use cm_hooks::{Hooks, Rules};
+use cm_io::{Put, Sink};
+use cm_tables::{Entry, Table};
+use cm_text::end_of_line;
+
+#[tactic(auto, unfolding(crate::specs::Phrase::indent))]
+fn indent(switch: bool) -> &'static [u8]
+    ensures { result.now ≡ indent switch }
+{
+    if switch { b"  /" } else { b"  " }
+}
+
+#[tactic(auto, unfolding(crate::specs::Phrase::colon))]
+fn colon(has_value: bool) -> &'static [u8]
+    ensures { result.now ≡ colon has_value }
+{
+    if has_value { b":" } else { b"" }
+}
+
+#[tactic(auto, unfolding(crate::specs::Phrase::one_of))]
+fn one_of() -> &'static [u8]
+    ensures { result.now ≡ one_of }
+{
+    b"one of the following:"
+}
+
+#[tactic(auto, unfolding(crate::specs::Phrase::none_matches))]
+fn none_matches() -> &'static [u8]
+    ensures { result.now ≡ none_matches }
+{
+    b"keyword, none matches"
+}
+
+#[tactic(auto, unfolding(crate::specs::Phrase::guide_word))]
+fn guide_word() -> &'static [u8]
+    ensures { result.now ≡ guide_word }
+{
+    b"guide word ("
+}
+
+#[tactic(auto, unfolding(crate::specs::Phrase::guide_end))]
+fn guide_end() -> &'static [u8]
+    ensures { result.now ≡ guide_end }
+{
+    b")"
+}
+
+#[tactic(auto, unfolding(crate::specs::Phrase::quote))]
+fn quote() -> &'static [u8]
+    ensures { result.now ≡ quote }
+{
+    b"\""
+}
+
+// Puts an entry on a line of its own.
+#[tactic(auto, using(crate::proofs::Pieces::pieces), unfolding(crate::specs::Phrase::entry_line))]
+fn put_entry<S: Sink>(switch: bool, entry: &Entry, sink: &mut S) -> Put
+    ensures bytes { Adds (S.told sink.old) (S.told sink.new) (entry_line switch entry.now) result }
+    ensures later { S.faults sink.old ≤ S.faults sink.new }
+    ensures cause { PutCause (S.faults sink.old) (S.faults sink.new) result }
+{
+    if let Put::Failed = sink.put(end_of_line()) {
+        return Put::Failed;
+    }
+    if let Put::Failed = sink.put(indent(switch)) {
+        return Put::Failed;
+    }
+    if let Put::Failed = sink.put(entry.text.as_bytes()) {
+        return Put::Failed;
+    }
+    sink.put(colon(switch && entry.colon))
+}
+
+// Puts the listed entries that go on from an atom, one behind the other.
+#[tactic(auto)]
+fn put_entries<S: Sink>(switch: bool, table: &Table, atom: &[u8], sink: &mut S) -> Put
+    ensures bytes { Adds (S.told sink.old) (S.told sink.new)
+        (entry_lines switch (listed_from 0 table.now atom.now)) result }
+    ensures later { S.faults sink.old ≤ S.faults sink.new }
+    ensures cause { PutCause (S.faults sink.old) (S.faults sink.new) result }
+{
+    let mut from = 0;
+    while let Some(position) = table.next_listed(from, atom) {
+        if let Put::Failed = put_entry(switch, table.entry(position), sink) {
+            return Put::Failed;
+        }
+        from = position + 1;
+    }
+    Put::Done
+}
+
+// Puts the listed entries that go on from an atom, or that there are none.
+fn put_keywords<S: Sink>(switch: bool, table: &Table, atom: &[u8], sink: &mut S) -> Put
+    ensures bytes { Adds (S.told sink.old) (S.told sink.new)
+        (keywords switch (listed_from 0 table.now atom.now)) result }
+    ensures later { S.faults sink.old ≤ S.faults sink.new }
+    ensures cause { PutCause (S.faults sink.old) (S.faults sink.new) result }
+{
+    if table.next_listed(0, atom).is_none() {
+        return sink.put(none_matches());
+    }
+    if let Put::Failed = sink.put(one_of()) {
+        return Put::Failed;
+    }
+    put_entries(switch, table, atom, sink)
+}
+
+// Puts a text between two others.
+fn put_between<S: Sink>(before: &[u8], text: &[u8], behind: &[u8], sink: &mut S) -> Put
+    ensures bytes { Adds (S.told sink.old) (S.told sink.new) (before.now ++ text.now ++ behind.now) result }
+    ensures later { S.faults sink.old ≤ S.faults sink.new }
+    ensures cause { PutCause (S.faults sink.old) (S.faults sink.new) result }
+{
+    if let Put::Failed = sink.put(before) {
+        return Put::Failed;
+    }
+    if let Put::Failed = sink.put(text) {
+        return Put::Failed;
+    }
+    sink.put(behind)
+}
+
+// What is typed of a switch behind its slash.
+fn behind_slash(atom: &[u8]) -> &[u8]
+    ensures { result.now ≡ drop 1 atom.now }
+{
+    match atom {
+        [] => atom,
+        [_, behind @ ..] => behind,
+    }
+}
+
+// Puts what a function reads, in its own words.
+#[tactic(auto, unfolding(crate::specs::Phrase::function_phrase))]
+fn put_function<R: Rules, S: Sink>(
+    grammar: &Grammar,
+    function: &Function,
+    atom: &[u8],
+    hooks: &Hooks<R>,
+    sink: &mut S,
+) -> Put
+    requires table { has_table grammar.now.tables function.now ≡ true }
+    requires ties { Ties R.meanings hooks.now }
+    requires hook { hook_limit function.now ≤ count hooks.now }
+    ensures bytes { Adds (S.told sink.old) (S.told sink.new)
+        (function_phrase grammar.now R.meanings function.now atom.now) result }
+    ensures later { S.faults sink.old ≤ S.faults sink.new }
+    ensures cause { PutCause (S.faults sink.old) (S.faults sink.new) result }
+{
+    match function {
+        Function::Key(table) => put_keywords(false, grammar.table(*table), atom, sink),
+        Function::Switch(table) => put_keywords(true, grammar.table(*table), behind_slash(atom), sink),
+        Function::Noise(text) => put_between(guide_word(), text.as_bytes(), guide_end(), sink),
+        Function::Number => sink.put(b"decimal number"),
+        Function::Word => sink.put(b"word"),
+        Function::Quoted => sink.put(b"quoted string"),
+        Function::Token(text) => put_between(quote(), text.as_bytes(), quote(), sink),
+        Function::Text => sink.put(b"text to end of line"),
+        Function::Comma => sink.put(b"comma"),
+        Function::Confirm => sink.put(b"confirm with carriage return"),
+        Function::Hook(id) => sink.put(hooks.help(*id).as_bytes()),
+    }
+}
+
+// Puts what a block reads of which the atom is typed.
+#[tactic(auto)]
+pub(crate) fn put_phrase<R: Rules, S: Sink>(
+    grammar: &Grammar,
+    block: &Block,
+    atom: &[u8],
+    hooks: &Hooks<R>,
+    sink: &mut S,
+) -> Put
+    requires well { IsWellBlock grammar.now block.now }
+    requires ties { Ties R.meanings hooks.now }
+    requires hooks { hook_count grammar.now ≤ count hooks.now }
+    ensures bytes { Adds (S.told sink.old) (S.told sink.new)
+        (phrase grammar.now R.meanings atom.now block.now) result }
+    ensures later { S.faults sink.old ≤ S.faults sink.new }
+    ensures cause { PutCause (S.faults sink.old) (S.faults sink.new) result }
+{
+    match &block.help {
+        Some(text) => sink.put(text.as_bytes()),
+        None => put_function(grammar, &block.function, atom, hooks, sink),
+    }
+}
