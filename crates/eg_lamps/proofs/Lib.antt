@@ -3,8 +3,8 @@ pub mod Pieces
 pub mod Lines
 pub mod LampSetting
 pub mod Joining
-pub mod Fields
 pub mod Running
 pub mod Steps
 pub mod Acting
 pub mod Changing
+pub mod Parts

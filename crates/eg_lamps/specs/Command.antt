@@ -2,6 +2,7 @@
 use Rattle.std.specs.Prelude.{ℕ, ◌==◌, List, [], drop, take, if◌then◌else◌, Option, Some, None}
 use Rattle.std.specs.Option.{option_map}
 use Rattle.cm_text.specs.declared.name.TheConstants.{NAME_LIMIT}
+use Rattle.cm_fields.specs.Quoted.{unquoted}
 use Rattle.cm_fields.specs.declared.value.Span.{Span}
 use Rattle.cm_fields.specs.declared.value.Value.{Value}
 use Rattle.cm_fields.specs.declared.value.Value.TheVariants as values
@@ -9,13 +10,12 @@ use Rattle.cm_blocks.specs.declared.function.Role.{Role}
 use Rattle.cm_blocks.specs.declared.function.Role.TheVariants as roles
 use Rattle.cm_blocks.specs.Taken.{Taken}
 use Rattle.cm_state.specs.Held.{Held, text_of}
+use Rattle.cm_state.specs.Roles.{field_of}
 use Rattle.eg_lamps.specs.declared.lamps.Change.TheVariants.{Set, Dim, Note}
 use Rattle.eg_lamps.specs.declared.lamps.Command.{Command}
 use Rattle.eg_lamps.specs.declared.lamps.Command.TheVariants as commands
 use Rattle.eg_lamps.specs.declared.command.TheConstants.{NO_ROOM, STEP}
 use Rattle.eg_lamps.specs.declared.grammar.TheConstants.{DIM, LIST, NAME, QUIT, SET}
-use Rattle.eg_lamps.specs.Library.{field_of}
-use Rattle.eg_lamps.specs.Quotes.{unquoted}
 
 -- what the first field of a role stands for
 abbrev pub value_of : Role → List Taken → Option Value

@@ -8,7 +8,8 @@ use Rattle.cm_blocks.specs.declared.node.Block.{Block}
 use Rattle.cm_blocks.specs.declared.node.Node.{Node}
 use Rattle.cm_blocks.specs.Grammar.{Graph}
 use Rattle.eg_lamps.specs.declared.grammar.TheConstants.{DIM, LINE_END, LIST, NAME, QUIT, SET}
-use Rattle.eg_lamps.specs.Library.{block, entry, node, value_entry}
+use Rattle.cm_tables.specs.Words.{entry, value_entry}
+use Rattle.cm_blocks.specs.Words.{block, node}
 
 abbrev pub confirm : Block
 confirm = block Confirm None LINE_END

@@ -2,8 +2,6 @@ pub mod Command
 pub mod End
 pub mod Graph
 pub mod Lamps
-pub mod Library
-pub mod Quotes
 pub mod RoomLaws
 pub mod Rooms
 pub mod Run

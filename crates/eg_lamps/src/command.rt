@@ -1,14 +1,14 @@
 // What a confirmed line commands, by the roles of its fields.
-ghost use Rattle.std.specs.Prelude.{◌≡◌, take};
-ghost use Rattle.cm_text.specs.declared.name.TheConstants.{NAME_LIMIT};
+ghost use Rattle.std.specs.Prelude.{◌≡◌};
+ghost use Rattle.std.specs.Str.{IsAscii};
 ghost use Rattle.eg_lamps.specs.Command.{command_of, named, note_of, number_or, part, room_of, value_of};
 
 use crate::grammar::{DIM, LIST, NAME, QUIT};
-use crate::library::field_of;
-use crate::{Change, Command, Note, RoomRules};
+use crate::{Change, Command, RoomRules};
 use cm_blocks::Role;
-use cm_fields::{Span, Value};
+use cm_fields::{Span, Value, unquoted};
 use cm_state::Session;
+use cm_text::Name;
 
 // By how much a lamp is dimmed where the line does not say.
 const STEP: u64 = 10;
@@ -31,6 +31,7 @@ pub fn command_of(session: &Session<RoomRules>) -> Command
 
 // The command that a keyword names, with its room and its value.
 fn named(verb: u16, room: u64, value: Option<Value>, text: &[u8]) -> Command
+    requires { IsAscii text.now }
     ensures { result ≡ named verb room value text.now }
 {
     let change = match verb {
@@ -47,7 +48,7 @@ fn named(verb: u16, room: u64, value: Option<Value>, text: &[u8]) -> Command
 fn value_of(session: &Session<RoomRules>, role: Role) -> Option<Value>
     ensures { result ≡ value_of role session.now.fields }
 {
-    match field_of(session, role) {
+    match session.field_of(role) {
         Some(field) => Some(*field.value()),
         None => None,
     }
@@ -74,18 +75,22 @@ fn number_or(default: u64, value: Option<Value>) -> u64
 }
 
 // The note that a quoted text says.
-fn note_of(text: &[u8], value: Option<Value>) -> Note
+fn note_of(text: &[u8], value: Option<Value>) -> Name
+    requires { IsAscii text.now }
     ensures { result ≡ note_of text.now value }
 {
     match value {
-        Some(Value::Quoted(span)) => Note::unquoted(part(text, span)),
-        _ => Note::new(),
+        Some(Value::Quoted(span)) => unquoted(part(text, span)),
+        _ => Name::new(""),
     }
 }
 
 // A part of a text.
+#[tactic(auto, using(crate::proofs::Parts::part_is_ascii))]
 fn part(text: &[u8], span: Span) -> &[u8]
-    ensures { result.now ≡ part text.now span }
+    requires { IsAscii text.now }
+    ensures value { result.now ≡ part text.now span }
+    ensures ascii { IsAscii result.now }
 {
     let front = &text[..usize::from(span.end).min(text.len())];
     &front[usize::from(span.start).min(front.len())..]

@@ -2,10 +2,9 @@
 ghost use Rattle.std.specs.Prelude.{◌≡◌, ◌≤◌, IfOk, length};
 ghost use Rattle.eg_lamps.specs.Graph.{blocks, command_entries, confirm, guide, lamp_graph, lamp_nodes, room, switch_entries, value};
 
-use crate::library::{block, entry, grammar_of, node, table_of, value_entry};
 use cm_blocks::{Block, Function, Grammar, Node, Role};
 use cm_io::NoMemory;
-use cm_tables::Table;
+use cm_tables::{Entry, Table};
 use cm_text::{NAME_LIMIT, Name};
 use std::alloc::Global;
 
@@ -32,7 +31,7 @@ pub fn grammar(alloc: Global) -> Result<Grammar, NoMemory>
     ensures { IfOk result (λ grammar. grammar ≡ lamp_graph) }
 {
     let tables = vec![in alloc; commands(alloc)?, switches(alloc)?]?;
-    Ok(grammar_of(nodes(alloc)?, tables))
+    Ok(Grammar::of(nodes(alloc)?, tables))
 }
 
 // The commands, each with the node behind it.
@@ -40,12 +39,12 @@ pub fn grammar(alloc: Global) -> Result<Grammar, NoMemory>
 fn commands(alloc: Global) -> Result<Table, NoMemory>
     ensures { IfOk result (λ table. table ≡ command_entries) }
 {
-    Ok(table_of(vec![in alloc;
-        entry("DIM", DIM, 7),
-        entry("LIST", LIST, LINE_END),
-        entry("NAME", NAME, 9),
-        entry("QUIT", QUIT, LINE_END),
-        entry("SET", SET, 3),
+    Ok(Table::of(vec![in alloc;
+        Entry::new("DIM", DIM, 7),
+        Entry::new("LIST", LIST, LINE_END),
+        Entry::new("NAME", NAME, 9),
+        Entry::new("QUIT", QUIT, LINE_END),
+        Entry::new("SET", SET, 3),
     ]?))
 }
 
@@ -54,7 +53,7 @@ fn commands(alloc: Global) -> Result<Table, NoMemory>
 fn switches(alloc: Global) -> Result<Table, NoMemory>
     ensures { IfOk result (λ table. table ≡ switch_entries) }
 {
-    Ok(table_of(vec![in alloc; value_entry("BY", 0, 6)]?))
+    Ok(Table::of(vec![in alloc; Entry::with_value("BY", 0, 6)]?))
 }
 
 // At node 0 a line begins, with nothing or a command. Node 1 stands behind the room that DIM names: there the line
@@ -63,13 +62,13 @@ fn switches(alloc: Global) -> Result<Table, NoMemory>
 fn nodes(alloc: Global) -> Result<Vec<Node>, NoMemory>
     ensures { IfOk result (λ nodes. nodes.items ≡ lamp_nodes) }
 {
-    let command = block(Function::Key(0), Role::Verb, LINE_END);
-    let switch = block(Function::Switch(1), Role::None, LINE_END);
+    let command = Block::new(Function::Key(0), Role::Verb, LINE_END);
+    let switch = Block::new(Function::Switch(1), Role::None, LINE_END);
     let mut nodes = Vec::new(alloc);
-    nodes.push(node(vec![in alloc; confirm(), command]?))?;
-    nodes.push(node(vec![in alloc; confirm(), switch]?))?;
+    nodes.push(Node::new(vec![in alloc; confirm(), command]?))?;
+    nodes.push(Node::new(vec![in alloc; confirm(), switch]?))?;
     for block in blocks(alloc)? {
-        nodes.push(node(vec![in alloc; block]?))?;
+        nodes.push(Node::new(vec![in alloc; block]?))?;
     }
     Ok(nodes)
 }
@@ -96,26 +95,26 @@ fn blocks(alloc: Global) -> Result<Vec<Block>, NoMemory>
 fn confirm() -> Block
     ensures { result ≡ confirm }
 {
-    block(Function::Confirm, Role::None, LINE_END)
+    Block::new(Function::Confirm, Role::None, LINE_END)
 }
 
 fn guide(word: &str, next: u16) -> Block
     requires { length word.now ≤ NAME_LIMIT }
     ensures { result ≡ guide word.now next }
 {
-    block(Function::Noise(Name::new(word)), Role::None, next)
+    Block::new(Function::Noise(Name::new(word)), Role::None, next)
 }
 
 // A room, which the hook 0 reads.
 fn room(next: u16) -> Block
     ensures { result ≡ room next }
 {
-    block(Function::Hook(0), Role::What, next)
+    Block::new(Function::Hook(0), Role::What, next)
 }
 
 // What a line ends with: a number or a quoted text.
 fn value(function: Function) -> Block
     ensures { result ≡ value function }
 {
-    block(function, Role::Value, LINE_END)
+    Block::new(function, Role::Value, LINE_END)
 }

@@ -7,7 +7,6 @@ ghost use Rattle.cm_io.specs.Fault.{PutCause};
 ghost use Rattle.cm_text.specs.declared.name.TheConstants.{NAME_LIMIT};
 ghost use Rattle.eg_lamps.specs.Lamps.{changed, dark, dark_lamps, lamp_line, lamp_lines, level_shown, note_shown, obeyed, refusal, reply, too_bright};
 
-use crate::Note;
 use crate::rooms::{HALL, KITCHEN, STAIRS, STUDY};
 use cm_io::{Put, Sink, put_decimal, put_line};
 use cm_text::{NAME_LIMIT, Name, end_of_line};
@@ -23,7 +22,7 @@ pub struct Lamp {
     /// How bright it is, from 0 to 100.
     pub brightness: u64,
     /// What is noted of it.
-    pub note: Note,
+    pub note: Name,
 }
 
 /// What a command changes of a lamp.
@@ -34,7 +33,7 @@ pub enum Change {
     /// DIM: it is to be darker by so much.
     Dim(u64),
     /// NAME: this is to be noted of it.
-    Note(Note),
+    Note(Name),
 }
 
 /// What a confirmed line commands. A room goes by its number, from 0.
@@ -64,7 +63,7 @@ fn dark(room: &str) -> Lamp
     Lamp {
         room: Name::new(room),
         brightness: 0,
-        note: Note::new(),
+        note: Name::new(""),
     }
 }
 

@@ -8,8 +8,6 @@ mod command;
 mod grammar;
 mod lamps;
 mod laws;
-mod library;
-mod note;
 mod program;
 mod rooms;
 
@@ -20,8 +18,7 @@ use cm_text::Name;
 pub use command::command_of;
 pub use grammar::grammar;
 pub use lamps::{Change, Command, Lamp, dark_lamps, obey};
-pub use note::Note;
-pub use program::{Program, Status};
+pub use program::{Parser, Program, Status};
 pub use rooms::RoomRules;
 use std::marker::Brand;
 use std::process::ExitCode;
@@ -78,5 +75,10 @@ fn run_with_hook<K: Source, S: Sink, L: Ledger>(
     let mut hooks: Hooks<RoomRules> = Hooks::new();
     let _ = hooks.push(Hook::new(0, verdict, completion, help));
     let mut steps: Steps<L> = Steps::new(rt, blank);
-    program.run(&grammar, &hooks, keys, screen, &mut steps)
+    let parser = Parser {
+        grammar,
+        names: house(),
+        hooks: &hooks,
+    };
+    program.run(&parser, keys, screen, &mut steps)
 }

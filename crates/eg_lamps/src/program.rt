@@ -1,7 +1,7 @@
 // The program in its course: the loop over the keys, what each key comes to, and the act.
 #![tactic(auto, using(crate::proofs::Pieces::pieces))]
 
-ghost use Rattle.std.specs.Prelude.{◌≡◌, ◌≤◌, ◌<◌, IsTrue, None, false};
+ghost use Rattle.std.specs.Prelude.{◌≡◌, ◌≤◌, IsTrue, None, false};
 ghost use Rattle.cm_io.specs.Told.{Adds};
 ghost use Rattle.cm_io.specs.Fault.{PutCause};
 ghost use Rattle.cm_line.specs.Keys.{class_of};
@@ -14,17 +14,15 @@ ghost use Rattle.cm_state.specs.Held.{IsReady, at_start};
 ghost use Rattle.cm_state.specs.Turn.{put_of, turn_of};
 ghost use Rattle.eg_lamps.specs.Command.{command_of};
 ghost use Rattle.eg_lamps.specs.End.{EndCause, Ends, Took, number_of};
-ghost use Rattle.eg_lamps.specs.Graph.{lamp_graph};
 ghost use Rattle.eg_lamps.specs.Lamps.{dark_lamps};
 ghost use Rattle.eg_lamps.specs.Rooms.{room_meanings};
 ghost use Rattle.eg_lamps.specs.Run.{after_command, after_turn, command_bytes, is_quit, next_line, turn_bytes, with_key};
-ghost use Rattle.eg_lamps.specs.Library.{shelf};
 ghost use Rattle.eg_lamps.specs.Setting.{lamp_setting};
 
 use crate::grammar::COMMANDS;
-use crate::library::Shelf;
 use crate::{Command, Lamp, RoomRules, command_of, dark_lamps, obey};
 use cm_blocks::{Grammar, Steps};
+use cm_files::OneDirectory;
 use cm_hooks::Hooks;
 use cm_io::{Got, Put, Sink, Source};
 use cm_state::{Prompt, Session, Turn};
@@ -32,6 +30,17 @@ use std::sync::ledger::Ledger;
 
 /// The most keys that a run takes.
 pub const KEY_LIMIT: u64 = u64::MAX;
+
+/// What the lines are parsed under.
+#[derive(Drop)]
+pub struct Parser<'a> {
+    /// The grammar of the lamps.
+    pub grammar: Grammar,
+    /// The names that a line may mean, for grammars that read files.
+    pub names: OneDirectory,
+    /// The hook that reads a room.
+    pub hooks: &'a Hooks<RoomRules>,
+}
 
 /// How a run of the program ended.
 #[derive(Clone, Copy, Debug, PartialEq, Eq)]
@@ -86,19 +95,17 @@ impl Program {
     /// Shows a prompt and takes the keys in turn: each edits the line, and a line that is confirmed acts on the
     /// lamps and shows its reply. It ends where QUIT has acted, no key is left, or keys or screen fail.
     ///
-    /// `grammar` is that of the lamps, the hook 0 of `hooks` reads a room, and `steps` counts the trials.
-    #[tactic(auto, using(crate::proofs::LampSetting::is_lamp, crate::proofs::LampSetting::enough_hooks))]
+    /// `parser` has the grammar of the lamps and a hook that reads rooms, and `steps` counts the trials.
     pub fn run<K: Source, S: Sink, L: Ledger>(
         &mut self,
-        grammar: &Grammar,
-        hooks: &Hooks<RoomRules>,
+        parser: &Parser<'_>,
         keys: &mut K,
         screen: &mut S,
         steps: &mut Steps<L>,
     ) -> Status
-        requires grammar { grammar.now ≡ lamp_graph }
-        requires ties { Ties room_meanings hooks.now }
-        requires hook { 0 < count hooks.now }
+        requires setting { setting parser.now.grammar parser.now.names room_meanings ≡ lamp_setting }
+        requires ties { Ties room_meanings parser.now.hooks.now }
+        requires hooks { hook_count parser.now.grammar ≤ count parser.now.hooks.now }
         // What is shown, and what becomes of the lamps: those of the keys taken, or on a fault up to the key that
         // was cut.
         ensures ends { IsTrue K.tells → Ends
@@ -121,7 +128,7 @@ impl Program {
                 Got::End => return Status::Done,
                 Got::Failed => return Status::ReadFault,
             };
-            if let Put::Failed = self.take_key(key, grammar, hooks, screen, steps) {
+            if let Put::Failed = self.take_key(key, parser, screen, steps) {
                 return Status::WriteFault;
             }
         }
@@ -132,14 +139,13 @@ impl Program {
     fn take_key<S: Sink, L: Ledger>(
         &mut self,
         key: u8,
-        grammar: &Grammar,
-        hooks: &Hooks<RoomRules>,
+        parser: &Parser<'_>,
         screen: &mut S,
         steps: &mut Steps<L>,
     ) -> Put
-        requires setting { setting grammar.now shelf room_meanings ≡ lamp_setting }
-        requires ties { Ties room_meanings hooks.now }
-        requires hooks { hook_count grammar.now ≤ count hooks.now }
+        requires setting { setting parser.now.grammar parser.now.names room_meanings ≡ lamp_setting }
+        requires ties { Ties room_meanings parser.now.hooks.now }
+        requires hooks { hook_count parser.now.grammar ≤ count parser.now.hooks.now }
         requires ready { IsReady lamp_setting self.old.session }
         requires going { self.old.has_quit ≡ false }
         ensures took { Took self.old self.new key (S.told screen.old) (S.told screen.new) result }
@@ -147,7 +153,7 @@ impl Program {
         ensures later { S.faults screen.old ≤ S.faults screen.new }
         ensures cause { PutCause (S.faults screen.old) (S.faults screen.new) result }
     {
-        let turn = self.edit(key, grammar, hooks, screen, steps);
+        let turn = self.edit(key, parser, screen, steps);
         if let Turn::Failed = turn {
             return Put::Failed;
         }
@@ -158,14 +164,13 @@ impl Program {
     fn edit<S: Sink, L: Ledger>(
         &mut self,
         key: u8,
-        grammar: &Grammar,
-        hooks: &Hooks<RoomRules>,
+        parser: &Parser<'_>,
         screen: &mut S,
         steps: &mut Steps<L>,
     ) -> Turn
-        requires setting { setting grammar.now shelf room_meanings ≡ lamp_setting }
-        requires ties { Ties room_meanings hooks.now }
-        requires hooks { hook_count grammar.now ≤ count hooks.now }
+        requires setting { setting parser.now.grammar parser.now.names room_meanings ≡ lamp_setting }
+        requires ties { Ties room_meanings parser.now.hooks.now }
+        requires hooks { hook_count parser.now.grammar ≤ count parser.now.hooks.now }
         requires ready { IsReady lamp_setting self.old.session }
         ensures edited { self.new ≡ with_key self.old key }
         ensures ready { IsReady lamp_setting self.new.session }
@@ -175,7 +180,14 @@ impl Program {
         ensures later { S.faults screen.old ≤ S.faults screen.new }
         ensures cause { PutCause (S.faults screen.old) (S.faults screen.new) (put_of result) }
     {
-        self.session.key(key, grammar, &Shelf, hooks, screen, steps)
+        self.session.key(
+            key,
+            &parser.grammar,
+            &parser.names,
+            parser.hooks,
+            screen,
+            steps,
+        )
     }
 
     // Does what a key came to: a confirmed line acts, and behind one that is refused or given up the next begins.

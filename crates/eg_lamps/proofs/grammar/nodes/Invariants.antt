@@ -3,7 +3,7 @@ use Rattle.cm_blocks.specs.declared.function.Function.TheVariants.{Key, Switch}
 use Rattle.cm_blocks.specs.declared.function.Role.TheVariants.{None, Verb}
 use Rattle.cm_blocks.specs.declared.node.Block.{Block}
 use Rattle.eg_lamps.specs.Graph.{confirm}
-use Rattle.eg_lamps.specs.Library.{block, node}
+use Rattle.cm_blocks.specs.Words.{block, node}
 use Rattle.eg_lamps.proofs.grammar.nodes.Given as goal
 
 -- the two nodes of two blocks, and one for each block so far
