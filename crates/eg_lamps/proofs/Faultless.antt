@@ -1,0 +1,27 @@
+-- The tables and the grammar of the lamps have no fault.
+use Rattle.std.proofs.Common.{◌≡◌, length, None, refl}
+use Rattle.cm_tables.specs.Order.{table_fault}
+use Rattle.cm_text.specs.Case.{begins_with, equals}
+use Rattle.cm_blocks.specs.Fault.{grammar_fault}
+use Rattle.cm_blocks.specs.Grammar.{hook_count}
+use Rattle.eg_lamps.specs.Graph.{blocks, command_entries, lamp_graph, lamp_nodes, switch_entries}
+
+pub commands_have_no_fault : table_fault command_entries ≡ None
+unfolding table_fault command_entries
+commands_have_no_fault = refl
+
+pub switches_have_no_fault : table_fault switch_entries ≡ None
+unfolding table_fault switch_entries
+switches_have_no_fault = refl
+
+pub graph_has_no_fault : grammar_fault lamp_graph ≡ None
+unfolding grammar_fault lamp_graph lamp_nodes blocks command_entries switch_entries
+graph_has_no_fault = refl
+
+pub graph_hooks : hook_count lamp_graph ≡ 1
+unfolding lamp_graph lamp_nodes blocks command_entries switch_entries
+graph_hooks = refl
+
+pub graph_nodes : length lamp_graph.nodes ≡ 12
+unfolding lamp_graph lamp_nodes blocks command_entries switch_entries
+graph_nodes = refl

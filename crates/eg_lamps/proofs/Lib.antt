@@ -1,0 +1,10 @@
+pub mod Faultless
+pub mod Pieces
+pub mod Lines
+pub mod LampSetting
+pub mod Joining
+pub mod Running
+pub mod Steps
+pub mod Acting
+pub mod Changing
+pub mod Parts

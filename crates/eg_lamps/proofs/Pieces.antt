@@ -1,0 +1,20 @@
+-- Pieces that are put one behind the other.
+use Rattle.std.proofs.Common.{◌≡◌, ℕ, List, [], ◌∷◌}
+use Rattle.cm_io.specs.Told.{Told, add, AddsPart}
+use Rattle.cm_io.proofs.Adding.{add_append, add_none, adds_early, adds_late}
+use Rattle.cm_state.proofs.Putting as putting
+
+-- what joins them
+pub ruleset pieces = (add_none, putting.pieces)
+
+-- the first piece is one byte
+pub add_byte : (told : Told) (byte : ℕ) (rest : List ℕ) → add told (byte ∷ rest) ≡ add (add told (byte ∷ [])) rest
+add_byte told byte rest = add_append told (byte ∷ []) rest
+
+pub adds_byte : (before now : Told) (byte : ℕ) (rest : List ℕ) → AddsPart before now (byte ∷ [])
+    → AddsPart before now (byte ∷ rest)
+adds_byte before now byte rest adds = adds_early before now (byte ∷ []) rest adds
+
+pub adds_behind_byte : (before now : Told) (byte : ℕ) (rest : List ℕ) → AddsPart (add before (byte ∷ [])) now rest
+    → AddsPart before now (byte ∷ rest)
+adds_behind_byte before now byte rest adds = adds_late before now (byte ∷ []) rest adds

@@ -1,0 +1,66 @@
+-- The grammar of the lamps: nodes, each a chain of blocks, and the keyword tables that they name.
+use Rattle.std.specs.Prelude.{ℕ, List, [], ◌∷◌, codes, map}
+use Rattle.cm_tables.specs.declared.entry.Entry.{Entry}
+use Rattle.cm_blocks.specs.declared.function.Function.{Function}
+use Rattle.cm_blocks.specs.declared.function.Function.TheVariants.{Key, Switch, Noise, Number, Quoted, Confirm, Hook}
+use Rattle.cm_blocks.specs.declared.function.Role.TheVariants.{None, Verb, What, Value}
+use Rattle.cm_blocks.specs.declared.node.Block.{Block}
+use Rattle.cm_blocks.specs.declared.node.Node.{Node}
+use Rattle.cm_blocks.specs.Grammar.{Graph}
+use Rattle.eg_lamps.specs.declared.grammar.TheConstants.{DIM, LINE_END, LIST, NAME, QUIT, SET}
+use Rattle.cm_tables.specs.Words.{entry, value_entry}
+use Rattle.cm_blocks.specs.Words.{block, node}
+
+abbrev pub confirm : Block
+confirm = block Confirm None LINE_END
+
+abbrev pub guide : List ℕ → ℕ → Block
+guide word next = block (Noise word) None next
+
+-- a room, which the hook 0 reads
+abbrev pub room : ℕ → Block
+room next = block (Hook 0) What next
+
+-- what a line ends with: a number or a quoted text
+abbrev pub value : Function → Block
+value function = block function Value LINE_END
+
+-- nodes 2 to 11, of one block each: the end of a line; SET; DIM; NAME
+unfoldable pub blocks : List Block
+blocks =
+    confirm
+    ∷ guide (codes "LAMP IN") 4
+    ∷ room 5
+    ∷ guide (codes "TO") 6
+    ∷ value Number
+    ∷ guide (codes "LAMP IN") 8
+    ∷ room 1
+    ∷ guide (codes "LAMP IN") 10
+    ∷ room 11
+    ∷ value Quoted
+    ∷ []
+
+-- at node 0 a line begins, with nothing or a command; node 1 stands behind the room that DIM names: there the line
+-- ends, or a switch says by how much
+unfoldable pub lamp_nodes : List Node
+lamp_nodes =
+    node (confirm ∷ block (Key 0) Verb LINE_END ∷ [])
+    ∷ node (confirm ∷ block (Switch 1) None LINE_END ∷ [])
+    ∷ map (λ (it : Block). node (it ∷ [])) blocks
+
+-- the commands, each with the node behind it
+unfoldable pub command_entries : List Entry
+command_entries =
+    entry (codes "DIM") DIM 7
+    ∷ entry (codes "LIST") LIST LINE_END
+    ∷ entry (codes "NAME") NAME 9
+    ∷ entry (codes "QUIT") QUIT LINE_END
+    ∷ entry (codes "SET") SET 3
+    ∷ []
+
+-- the switch of DIM, and its number
+unfoldable pub switch_entries : List Entry
+switch_entries = value_entry (codes "BY") 0 6 ∷ []
+
+unfoldable pub lamp_graph : Graph
+lamp_graph = record { nodes = lamp_nodes; tables = command_entries ∷ switch_entries ∷ [] }
