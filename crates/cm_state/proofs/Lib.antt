@@ -4,5 +4,6 @@ mod Going
 mod Lines
 mod Logging
 pub mod Putting
+mod Roles
 mod Stacking
 mod Starting

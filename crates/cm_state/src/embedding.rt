@@ -2,52 +2,20 @@
 ghost use Rattle.std.specs.Prelude.{◌≡◌, ◌<◌, ◌≤◌, length};
 ghost use Rattle.cm_blocks.specs.Grammar.{hook_count};
 ghost use Rattle.cm_hooks.specs.Ties.{Ties, count};
-ghost use Rattle.cm_text.specs.declared.name.TheConstants.{NAME_LIMIT};
 
 use crate::tests::{Logical, Shelf};
 use crate::{Prompt, Session, Turn};
-use cm_blocks::{Block, Blocks, Function, Grammar, Node, Role, Steps};
+use cm_blocks::{Block, Function, Grammar, Node, Role, Steps};
 use cm_fields::Value;
-use cm_files::{Flags, Names};
+use cm_files::Names;
 use cm_hooks::{Hooks, Rules};
 use cm_io::{MemSink, Sink};
-use cm_tables::{Entry, Flag, Table};
-use cm_text::Name;
+use cm_tables::{Entry, Table};
 use std::alloc::Global;
 use std::marker::Brand;
 use std::process::Abort;
 use std::sync::ledger::{Blank, Ledger};
 use std::test::Fail;
-
-fn keyword(text: &str, code: u16, next: u16) -> Entry
-    requires { length text.now ≤ NAME_LIMIT }
-{
-    Entry {
-        text: Name::new(text),
-        flag: Flag::Plain,
-        colon: false,
-        code,
-        next,
-    }
-}
-
-fn block(function: Function, next: u16) -> Block {
-    Block {
-        function,
-        flags: Flags::default(),
-        help: None,
-        role: Role::None,
-        next,
-    }
-}
-
-fn node(chain: Vec<Block>) -> Node {
-    Node {
-        chain: Blocks::new(chain),
-        default: None,
-        raw: false,
-    }
-}
 
 const ADD: u16 = 1;
 
@@ -55,11 +23,14 @@ const RESET: u16 = 2;
 
 // ADD and a number, RESET, or an empty line. A line begins at node 0; node 1 is behind ADD, and node 2 ends the line.
 fn grammar(alloc: Global) -> Result<Grammar, Fail> {
-    let words = vec![in alloc; keyword("ADD", ADD, 1), keyword("RESET", RESET, 2)]?;
+    let words = vec![in alloc; Entry::new("ADD", ADD, 1), Entry::new("RESET", RESET, 2)]?;
     let nodes = vec![in alloc;
-        node(vec![in alloc; block(Function::Confirm, 2), block(Function::Key(0), 2)]?),
-        node(vec![in alloc; block(Function::Number, 2)]?),
-        node(vec![in alloc; block(Function::Confirm, 2)]?),
+        Node::new(vec![in alloc;
+            Block::new(Function::Confirm, Role::None, 2),
+            Block::new(Function::Key(0), Role::Verb, 2),
+        ]?),
+        Node::new(vec![in alloc; Block::new(Function::Number, Role::Value, 2)]?),
+        Node::new(vec![in alloc; Block::new(Function::Confirm, Role::None, 2)]?),
     ]?;
     Ok(Grammar::new(nodes, vec![in alloc; Table::new(words)?]?)?)
 }

@@ -1,5 +1,6 @@
 // What a session holds of lines and texts.
 ghost use Rattle.std.specs.Prelude.{◌≡◌, ◌≤◌, None, length, take, if◌then◌else◌};
+ghost use Rattle.std.specs.Str.{IsAscii};
 ghost use Rattle.cm_text.specs.Text.{finished};
 ghost use Rattle.cm_blocks.specs.Parse.{open_at};
 ghost use Rattle.cm_state.specs.Edit.{before_fault};
@@ -9,8 +10,10 @@ use cm_line::Line;
 use cm_text::TEXT_LIMIT;
 
 // The text of a line: with the CR that finished it, where one did.
+#[tactic(auto, using(cm_text::proofs::Ascii::line_is_ascii))]
 pub(crate) fn text_of(line: &Line, is_finished: bool) -> &[u8]
     ensures text { result.now ≡ (if is_finished then finished line.now else line.now) }
+    ensures ascii { IsAscii result.now }
     ensures short { length result.now ≤ TEXT_LIMIT }
 {
     if is_finished {

@@ -1,5 +1,7 @@
 // A session: the line under edit, and the parse of it that is held.
 ghost use Rattle.std.specs.Prelude.{◌≡◌, ◌+◌, ◌≤◌, ◌<◌, ℕ, true, false, [], ◌++◌, length, take, None, slice_get, Some, if◌then◌else◌};
+ghost use Rattle.std.specs.Option.{option_copied};
+ghost use Rattle.std.specs.Str.{IsAscii};
 ghost use Rattle.cm_text.specs.Bytes.{is_text};
 ghost use Rattle.cm_text.specs.Text.{IsLine, finished};
 ghost use Rattle.cm_line.specs.Keys.{class_of};
@@ -15,6 +17,7 @@ ghost use Rattle.cm_state.specs.Edit.{before_fault, completed, edited};
 ghost use Rattle.cm_state.specs.Echo.{echo, echo_of, prompt_text};
 ghost use Rattle.cm_state.specs.Held.{Held, IsReady, at_start, met_line, parse_held, text_of};
 ghost use Rattle.cm_state.specs.Log.{log_line};
+ghost use Rattle.cm_state.specs.Roles.{field_of, is_role};
 ghost use Rattle.cm_state.specs.Stack.{Starts};
 ghost use Rattle.cm_state.specs.Turn.{put_of, turn_of};
 
@@ -24,7 +27,7 @@ use crate::log::{line_feed, put_fields, put_head};
 use crate::parse::go_on;
 use crate::stack::Stack;
 use crate::{Prompt, Turn};
-use cm_blocks::{Ending, Field, Grammar, Steps};
+use cm_blocks::{Ending, Field, Grammar, Role, Steps};
 use cm_files::Names;
 use cm_hooks::{Hooks, Rules};
 use cm_io::{Put, Sink, put_line};
@@ -213,7 +216,8 @@ impl<R: Rules> Session<R> {
 
     /// The whole text: the line, or the line and the CR that finished it.
     pub fn text(&self) -> &[u8]
-        ensures { result.now ≡ text_of self.now }
+        ensures value { result.now ≡ text_of self.now }
+        ensures ascii { IsAscii result.now }
     {
         text_of(&self.line, self.is_finished)
     }
@@ -231,6 +235,19 @@ impl<R: Rules> Session<R> {
         ensures { slice_get self.now.fields number ≡ Some result.now }
     {
         self.fields.get(number)
+    }
+
+    /// The first field of a role. None where no field has it.
+    pub fn field_of(&self, role: Role) -> Option<&Field>
+        ensures { option_copied result ≡ field_of role self.now.fields }
+    {
+        for number in 0..self.held() {
+            let field = self.field(number);
+            if is_role(role, field.role()) {
+                return Some(field);
+            }
+        }
+        None
     }
 
     /// What stands behind the last field.
@@ -416,4 +433,11 @@ impl<R: Rules> Session<R> {
             _ => Turn::Edited,
         }
     }
+}
+
+// Whether two roles are one.
+fn is_role(wanted: Role, role: Role) -> bool
+    ensures { result ≡ is_role wanted role }
+{
+    role == wanted
 }

@@ -6,7 +6,7 @@ ghost use Rattle.cm_hooks.specs.Ties.{Ties, count};
 use super::run::{Case, Run, refused, run_of, tries};
 use super::setting::{Logical, Shelf, grammar_and_hooks};
 use crate::Turn;
-use cm_blocks::{Ending, Fault, Grammar, Open, Steps};
+use cm_blocks::{Ending, Fault, Grammar, Open, Role, Steps};
 use cm_fields::{Code, Value};
 use cm_hooks::{Hooks, Rules};
 use cm_io::{MemSink, Put};
@@ -275,6 +275,20 @@ fn tells_its_fields(rt: HostRuntime) -> Result<(), Fail> {
         ],
         [0, 0, 3, 4, 26]
     );
+    Ok(())
+}
+
+// A field is found by its role.
+#[test]
+fn finds_a_field_by_its_role(rt: HostRuntime) -> Result<(), Fail> {
+    let run = run_of_two_fields::<Brand, _>(&rt, &rt, Blank::new(1))?;
+    for (role, node) in [
+        (Role::Verb, Some(0)),
+        (Role::What, Some(27)),
+        (Role::Value, None),
+    ] {
+        assert_eq!(rt; run.session.field_of(role).map(|field| field.node()), node);
+    }
     Ok(())
 }
 

@@ -1,0 +1,24 @@
+-- What the fields of a line are for.
+use Rattle.std.specs.Prelude.{ℕ, ◌==◌, Bool, List, find, Option}
+use Rattle.cm_blocks.specs.declared.function.Role.{Role}
+use Rattle.cm_blocks.specs.declared.function.Role.TheVariants as roles
+use Rattle.cm_blocks.specs.Taken.{Taken}
+
+-- the number of a role, by which two are compared
+abbrev pub role_number : Role → ℕ
+role_number roles.None = 0
+role_number roles.Verb = 1
+role_number roles.What = 2
+role_number roles.Source = 3
+role_number roles.Target = 4
+role_number roles.Files = 5
+role_number roles.Sub = 6
+role_number roles.Value = 7
+
+-- the two are one role
+abbrev pub is_role : Role → Role → Bool
+is_role wanted role = role_number role == role_number wanted
+
+-- the first field of a role
+abbrev pub field_of : Role → List Taken → Option Taken
+field_of wanted fields = find (λ field. is_role wanted field.role) fields
