@@ -40,6 +40,7 @@ fn shown(tail: &Tail) -> Option<(&str, bool)> {
 }
 
 #[test]
+#[tactic(auto, unfolding(cm_text::specs::Bytes::is_name, cm_text::specs::Bytes::is_word))]
 fn an_atom_goes_on_to_the_names_under_it(rt: HostRuntime) {
     for (atom, tail) in [
         ("", None),
@@ -68,6 +69,7 @@ fn an_atom_goes_on_to_the_names_under_it(rt: HostRuntime) {
 }
 
 #[test]
+#[tactic(auto, unfolding(cm_text::specs::Bytes::is_name, cm_text::specs::Bytes::is_word))]
 fn of_no_names_none_is_told(rt: HostRuntime) {
     assert_eq!(rt; verdict_among(&[], b"A"), Answer::No);
     assert_eq!(rt; shown(&completion_among(&[], b"A")), None);
