@@ -1,3 +1,5 @@
+pub mod Among
+pub mod AmongLaws
 pub mod Field
 pub mod Meanings
 pub mod Ties

@@ -1,8 +1,9 @@
 //! Laws of hooks.
-ghost use Rattle.std.specs.Prelude.{ℕ, List};
+ghost use Rattle.std.specs.Prelude.{◌≡◌, ℕ, List, true};
 ghost use Rattle.cm_fields.specs.Local.{IsLocal};
+ghost use Rattle.cm_hooks.specs.Among.{are_names, completion_among, verdict_among};
 ghost use Rattle.cm_hooks.specs.Field.{hook};
-ghost use Rattle.cm_hooks.specs.Meanings.{IsLawful};
+ghost use Rattle.cm_hooks.specs.Meanings.{Completes, IsLawful};
 ghost use Rattle.cm_hooks.specs.declared.answer.Answer.{Answer};
 
 use crate::Rules;
@@ -17,4 +18,11 @@ pub fn hook_field_is_local()
 /// bytes and is taken.
 pub fn completions_are_taken<R: Rules>()
     ensures { IsLawful R.meanings }
+{}
+
+/// What completes an atom to one of several names is name bytes, and where it completes it whole, the two together
+/// have at most 255 bytes and are taken. So it is of all names of name bytes, each of at most 39.
+pub fn completions_among_names_are_taken()
+    ensures { (names : List (List ℕ)) → are_names names ≡ true → (atom : List ℕ)
+        → Completes (verdict_among names) atom (completion_among names atom) }
 {}

@@ -2,6 +2,7 @@
 //! judge an atom, to complete one, and for its help text.
 #![tactic(auto)]
 
+mod among;
 mod answer;
 mod field;
 mod hook;
@@ -9,6 +10,7 @@ mod hooks;
 pub mod laws;
 mod rules;
 
+pub use among::{completion_among, verdict_among};
 pub use answer::{Answer, Tail};
 pub use field::hook_field;
 pub use hook::Hook;

@@ -1,25 +1,29 @@
 -- What the EXEC's hooks mean: 0 a logical name, 1 the name of a form, 2 a retention count.
-use Rattle.std.specs.Prelude.{ℕ, ◌==◌, if◌then◌else◌, List, length, codes}
+use Rattle.std.specs.Prelude.{ℕ, ◌==◌, if◌then◌else◌, List, [], ◌∷◌, length, codes}
 use Rattle.cm_files.specs.LogicalName.{is_logical_name}
+use Rattle.cm_hooks.specs.Among.{completion_among, verdict_among}
 use Rattle.cm_hooks.specs.declared.answer.Answer.{Answer}
 use Rattle.cm_hooks.specs.declared.answer.Answer.TheVariants.{Yes, No}
 use Rattle.cm_hooks.specs.declared.answer.Tail.{Tail}
 use Rattle.cm_hooks.specs.declared.answer.Tail.TheVariants as tails
 use Rattle.cm_hooks.specs.Meanings.{Meanings}
-use Rattle.ex_grammar.specs.FormName.{form_completion, form_verdict}
 use Rattle.ex_grammar.specs.RetentionCount.{retention_verdict}
 
 -- a logical name is taken with the number of its bytes
 abbrev pub logical_verdict : List ℕ → Answer
 logical_verdict atom = if is_logical_name atom then Yes (length atom) else No
 
+-- the names of forms, in the order of their numbers
+abbrev pub forms : List (List ℕ)
+forms = codes "NARROW" ∷ codes "NORMAL" ∷ codes "WIDE" ∷ []
+
 abbrev pub rule_verdict : ℕ → List ℕ → Answer
 rule_verdict id atom =
-    if id == 0 then logical_verdict atom else (if id == 1 then form_verdict atom else retention_verdict atom)
+    if id == 0 then logical_verdict atom else (if id == 1 then verdict_among forms atom else retention_verdict atom)
 
 -- only the name of a form is completed
 abbrev pub rule_completion : ℕ → List ℕ → Tail
-rule_completion id atom = if id == 1 then form_completion atom else tails.None
+rule_completion id atom = if id == 1 then completion_among forms atom else tails.None
 
 unfoldable pub rule_help : ℕ → List ℕ
 rule_help id =

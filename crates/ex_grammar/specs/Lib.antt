@@ -1,6 +1,5 @@
 pub mod ExecLaws
 pub mod ExecRules
-pub mod FormName
 pub mod Graph
 pub mod RetentionCount
 pub mod Tables

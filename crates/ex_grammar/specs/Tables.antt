@@ -1,29 +1,30 @@
 -- The keyword tables of the EXEC: the commands that are built, and what INFORMATION tells about.
-use Rattle.std.specs.Prelude.{ℕ, false, List, [], ◌∷◌, codes}
+use Rattle.std.specs.Prelude.{List, [], ◌∷◌, codes}
 use Rattle.cm_tables.specs.declared.entry.Entry.{Entry}
 use Rattle.cm_tables.specs.declared.entry.Flag.{Flag}
-use Rattle.cm_tables.specs.declared.entry.Flag.TheVariants.{Plain, Invisible, NoRecognise}
+use Rattle.cm_tables.specs.declared.entry.Flag.TheVariants.{Invisible, NoRecognise}
+use Rattle.cm_tables.specs.Words.{entry}
 use Rattle.ex_grammar.specs.declared.node.TheConstants.{LINE_END}
 use Rattle.ex_grammar.specs.declared.code.TheConstants.{DEFINE, INFORMATION, LOGOUT, NO_KEYWORD, REMARK, VERSION}
 
--- a keyword, which no colon follows: its text, how it may be abbreviated, its code, and the node that follows it
-abbrev pub entry : List ℕ → Flag → ℕ → ℕ → Entry
-entry text flag code next = record { text = text; flag = flag; colon = false; code = code; next = next }
+-- the same keyword, which takes part in the look-up in this way
+abbrev pub flagged : Entry → Flag → Entry
+flagged keyword flag = record keyword { flag = flag }
 
 unfoldable pub command_entries : List Entry
 command_entries =
-    entry (codes "DEFINE") Plain DEFINE 28
-    ∷ entry (codes "INFORMATION") Plain INFORMATION 26
-    ∷ entry (codes "KJOB") Invisible LOGOUT LINE_END
-    ∷ entry (codes "L") NoRecognise NO_KEYWORD LINE_END
-    ∷ entry (codes "LO") NoRecognise NO_KEYWORD LINE_END
-    ∷ entry (codes "LOGOUT") Plain LOGOUT LINE_END
-    ∷ entry (codes "REMARK") Plain REMARK 45
+    entry (codes "DEFINE") DEFINE 28
+    ∷ entry (codes "INFORMATION") INFORMATION 26
+    ∷ flagged (entry (codes "KJOB") LOGOUT LINE_END) Invisible
+    ∷ flagged (entry (codes "L") NO_KEYWORD LINE_END) NoRecognise
+    ∷ flagged (entry (codes "LO") NO_KEYWORD LINE_END) NoRecognise
+    ∷ entry (codes "LOGOUT") LOGOUT LINE_END
+    ∷ entry (codes "REMARK") REMARK 45
     ∷ []
 
 -- what INFORMATION tells about
 unfoldable pub topic_entries : List Entry
-topic_entries = entry (codes "VERSION") Plain VERSION LINE_END ∷ []
+topic_entries = entry (codes "VERSION") VERSION LINE_END ∷ []
 
 -- the tables, each at its number
 unfoldable pub exec_tables : List (List Entry)

@@ -1,32 +1,16 @@
 -- The small words in which nodes are written.
-use Rattle.std.specs.Prelude.{ℕ, true, false, List, [], ◌∷◌, None}
-use Rattle.cm_files.specs.declared.flags.Flags.{Flags}
-use Rattle.cm_blocks.specs.declared.function.Function.{Function}
+use Rattle.std.specs.Prelude.{ℕ, true, List, [], ◌∷◌}
 use Rattle.cm_blocks.specs.declared.function.Function.TheVariants.{Key, Noise, Token, Text, Confirm, Hook}
 use Rattle.cm_blocks.specs.declared.function.Role.{Role}
 use Rattle.cm_blocks.specs.declared.function.Role.TheVariants as roles
 use Rattle.cm_blocks.specs.declared.node.Block.{Block}
 use Rattle.cm_blocks.specs.declared.node.Node.{Node}
+use Rattle.cm_blocks.specs.Words.{block, node}
 use Rattle.ex_grammar.specs.declared.node.TheConstants.{LINE_END}
-
-abbrev pub no_flags : Flags
-no_flags = record {
-  wild = false;
-  all_generations = false;
-  deleted = false;
-  default_all = false;
-  from_source = false;
-  new = false;
-}
-
--- a block that reads this, for this, before the node that follows
-abbrev pub reads : Function → Role → ℕ → Block
-reads function role next =
-    record { function = function; flags = no_flags; help = None; role = role; next = next }
 
 -- the end of the line
 abbrev pub confirm : Block
-confirm = reads Confirm roles.None LINE_END
+confirm = block Confirm roles.None LINE_END
 
 -- what a node takes whose command is not built yet
 abbrev pub later : Block
@@ -34,30 +18,30 @@ later = confirm
 
 -- a keyword of this table
 abbrev pub keyword : ℕ → Role → Block
-keyword table role = reads (Key table) role LINE_END
+keyword table role = block (Key table) role LINE_END
 
 -- a guide word
 abbrev pub guide : List ℕ → ℕ → Block
-guide word next = reads (Noise word) roles.None next
+guide word next = block (Noise word) roles.None next
 
 abbrev pub token : List ℕ → ℕ → Block
-token sign next = reads (Token sign) roles.None next
+token sign next = block (Token sign) roles.None next
 
 -- what the rule of this id takes
 abbrev pub hook : ℕ → ℕ → Block
-hook id next = reads (Hook id) roles.Value next
+hook id next = block (Hook id) roles.Value next
 
 abbrev pub rest_of_line : Block
-rest_of_line = reads Text roles.None LINE_END
+rest_of_line = block Text roles.None LINE_END
 
 -- a node of one block
 abbrev pub only : Block → Node
-only block = record { chain = block ∷ []; default = None; raw = false }
+only it = node (it ∷ [])
 
 -- a node of two blocks, tried in this order
 abbrev pub either : Block → Block → Node
-either first second = record { chain = first ∷ second ∷ []; default = None; raw = false }
+either first second = node (first ∷ second ∷ [])
 
 -- the node of a remark, where no comment begins
 abbrev pub remark : Node
-remark = record { chain = rest_of_line ∷ []; default = None; raw = true }
+remark = record (only rest_of_line) { raw = true }

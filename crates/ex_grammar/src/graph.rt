@@ -1,14 +1,11 @@
 // The grammar of the EXEC.
-ghost use Rattle.std.specs.Prelude.{◌≡◌, IfOk, None};
-ghost use Rattle.cm_blocks.specs.Fault.{grammar_fault};
-ghost use Rattle.cm_blocks.specs.Grammar.{Graph};
+ghost use Rattle.std.specs.Prelude.{◌≡◌, IfOk};
 ghost use Rattle.ex_grammar.specs.Graph.{exec_graph};
 
 use crate::nodes::nodes;
 use crate::tables::tables;
-use cm_blocks::{Grammar, Node};
+use cm_blocks::Grammar;
 use cm_io::NoMemory;
-use cm_tables::Table;
 use std::alloc::Global;
 
 /// The grammar of the EXEC: 51 nodes, at the numbers that the log gives, and the keyword tables of the commands and
@@ -17,15 +14,7 @@ use std::alloc::Global;
 pub fn grammar(alloc: Global) -> Result<Grammar, NoMemory>
     ensures { IfOk result (λ grammar. grammar ≡ exec_graph) }
 {
-    Ok(grammar_of(nodes(alloc)?, tables(alloc)?))
-}
-
-// The grammar with nodes and tables that have no fault.
-fn grammar_of(nodes: Vec<Node>, tables: Vec<Table>) -> Grammar
-    requires { grammar_fault (record { nodes = nodes.items; tables = tables.items }) ≡ None }
-    ensures { result ≡ record { nodes = nodes.items; tables = tables.items } }
-{
-    Grammar::new(nodes, tables).unwrap()
+    Ok(Grammar::of(nodes(alloc)?, tables(alloc)?))
 }
 
 #[cfg(test)]

@@ -2,7 +2,6 @@
 #![tactic(auto)]
 
 mod code;
-mod form;
 mod graph;
 pub mod laws;
 mod node;

@@ -1,9 +1,8 @@
 // The small words in which nodes are written, and the nodes that are named.
 ghost use Rattle.std.specs.Prelude.{◌≡◌, ◌≤◌, IfOk, length};
-ghost use Rattle.ex_grammar.specs.Words.{confirm, either, guide, hook, keyword, later, only, reads, remark, rest_of_line, token};
+ghost use Rattle.ex_grammar.specs.Words.{confirm, either, guide, hook, keyword, later, remark, rest_of_line, token};
 
-use cm_blocks::{Block, Blocks, Function, Node, Role};
-use cm_files::Flags;
+use cm_blocks::{Block, Function, Node, Role};
 use cm_io::NoMemory;
 use cm_text::{NAME_LIMIT, Name};
 use std::alloc::Global;
@@ -14,31 +13,11 @@ pub const COMMANDS: u16 = 0;
 // The node where only the end of the line may stand.
 pub(crate) const LINE_END: u16 = 5;
 
-// A block that reads this, for this, before the node that follows.
-fn reads(function: Function, role: Role, next: u16) -> Block
-    ensures { result ≡ reads function role next }
-{
-    Block {
-        function,
-        flags: Flags {
-            wild: false,
-            all_generations: false,
-            deleted: false,
-            default_all: false,
-            from_source: false,
-            new: false,
-        },
-        help: None,
-        role,
-        next,
-    }
-}
-
 // The end of the line.
 pub(crate) fn confirm() -> Block
     ensures { result ≡ confirm }
 {
-    reads(Function::Confirm, Role::None, LINE_END)
+    Block::new(Function::Confirm, Role::None, LINE_END)
 }
 
 // What a node takes whose command is not built yet.
@@ -52,56 +31,41 @@ pub(crate) fn later() -> Block
 pub(crate) fn keyword(table: u16, role: Role) -> Block
     ensures { result ≡ keyword table role }
 {
-    reads(Function::Key(table), role, LINE_END)
+    Block::new(Function::Key(table), role, LINE_END)
 }
 
 pub(crate) fn guide(word: &str, next: u16) -> Block
     requires { length word.now ≤ NAME_LIMIT }
     ensures { result ≡ guide word.now next }
 {
-    reads(Function::Noise(Name::new(word)), Role::None, next)
+    Block::new(Function::Noise(Name::new(word)), Role::None, next)
 }
 
 pub(crate) fn token(sign: &str, next: u16) -> Block
     requires { length sign.now ≤ NAME_LIMIT }
     ensures { result ≡ token sign.now next }
 {
-    reads(Function::Token(Name::new(sign)), Role::None, next)
+    Block::new(Function::Token(Name::new(sign)), Role::None, next)
 }
 
 // What the rule of this id takes.
 pub(crate) fn hook(id: u8, next: u16) -> Block
     ensures { result ≡ hook id next }
 {
-    reads(Function::Hook(id), Role::Value, next)
+    Block::new(Function::Hook(id), Role::Value, next)
 }
 
 fn rest_of_line() -> Block
     ensures { result ≡ rest_of_line }
 {
-    reads(Function::Text, Role::None, LINE_END)
-}
-
-// A node of one block.
-pub(crate) fn only(alloc: Global, block: Block) -> Result<Node, NoMemory>
-    ensures { IfOk result (λ node. node ≡ only block) }
-{
-    Ok(Node {
-        chain: Blocks::new(vec![in alloc; block]?),
-        default: None,
-        raw: false,
-    })
+    Block::new(Function::Text, Role::None, LINE_END)
 }
 
 // A node of two blocks, tried in this order.
 pub(crate) fn either(alloc: Global, first: Block, second: Block) -> Result<Node, NoMemory>
     ensures { IfOk result (λ node. node ≡ either first second) }
 {
-    Ok(Node {
-        chain: Blocks::new(vec![in alloc; first, second]?),
-        default: None,
-        raw: false,
-    })
+    Ok(Node::new(vec![in alloc; first, second]?))
 }
 
 // The node of a remark, where no comment begins.
@@ -109,8 +73,7 @@ pub(crate) fn remark(alloc: Global) -> Result<Node, NoMemory>
     ensures { IfOk result (λ node. node ≡ remark) }
 {
     Ok(Node {
-        chain: Blocks::new(vec![in alloc; rest_of_line()]?),
-        default: None,
         raw: true,
+        ..Node::new(vec![in alloc; rest_of_line()]?)
     })
 }

@@ -3,7 +3,7 @@ ghost use Rattle.std.specs.Prelude.{◌≡◌, ◌++◌, IfOk, map};
 ghost use Rattle.ex_grammar.specs.Graph.{append_blocks, build_blocks, copy_blocks, define_blocks, delete_blocks, information_blocks, subcommand_blocks, switch_blocks, type_blocks, exec_nodes};
 ghost use Rattle.ex_grammar.specs.Words.{only};
 
-use crate::node::{confirm, either, guide, hook, keyword, later, only, remark, token};
+use crate::node::{confirm, either, guide, hook, keyword, later, remark, token};
 use crate::tables::{COMMAND_TABLE, TOPIC_TABLE};
 use cm_blocks::{Block, Node, Role};
 use cm_io::NoMemory;
@@ -33,7 +33,7 @@ fn push_each(nodes: &mut Vec<Node>, alloc: Global, blocks: Vec<Block>) -> Result
     ensures { IfOk result (λ _. nodes.new.items ≡ nodes.old.items ++ map only blocks.items) }
 {
     for block in blocks {
-        nodes.push(only(alloc, block)?)?;
+        nodes.push(Node::new(vec![in alloc; block]?))?;
     }
     Ok(())
 }

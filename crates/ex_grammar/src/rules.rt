@@ -2,11 +2,13 @@
 ghost use Rattle.std.specs.Prelude.{◌≡◌, ◌<◌, ◌≤◌, length};
 ghost use Rattle.ex_grammar.specs.ExecRules.{logical_verdict, rule_completion, rule_help, rule_verdict};
 
-use crate::form::{form_completion, form_verdict};
 use crate::retention::retention_verdict;
 use cm_files::is_logical_name;
-use cm_hooks::{Answer, Rules, Tail};
+use cm_hooks::{Answer, Rules, Tail, completion_among, verdict_among};
 use cm_text::{LINE_LIMIT, Name};
+
+// The names of forms, in the order of their numbers.
+const FORMS: [&str; 3] = ["NARROW", "NORMAL", "WIDE"];
 
 /// What the EXEC's hooks mean: 0 is a logical name, 1 the name of a form, 2 a retention count.
 pub struct ExecRules;
@@ -41,20 +43,21 @@ pub fn rule_verdict(id: u8, atom: &[u8]) -> Answer
 {
     match id {
         0 => logical_verdict(atom),
-        1 => form_verdict(atom),
+        1 => verdict_among(&FORMS, atom),
         _ => retention_verdict(atom),
     }
 }
 
 /// How the rule with this id completes an atom: to the name of a form, or as far as several go together. An
 /// empty atom, and one of another rule, is not completed.
+#[tactic(auto, unfolding(cm_text::specs::Bytes::is_name, cm_text::specs::Bytes::is_word))]
 pub fn rule_completion(id: u8, atom: &[u8]) -> Tail
     requires id { id < 3 }
     requires short { length atom.now ≤ LINE_LIMIT }
     ensures { result ≡ rule_completion id atom.now }
 {
     match id {
-        1 => form_completion(atom),
+        1 => completion_among(&FORMS, atom),
         _ => Tail::None,
     }
 }

@@ -1,0 +1,86 @@
+// Which of several names an atom stands for by its beginning.
+ghost use Rattle.std.specs.Prelude.{◌≡◌, ◌≤◌, drop, length, true};
+ghost use Rattle.std.specs.Str.{IsAscii};
+ghost use Rattle.cm_text.specs.Case.{begins_with};
+ghost use Rattle.cm_hooks.specs.Among.{are_names, completion_among, is_name_text, joined, shared, texts, verdict_among};
+
+use crate::{Answer, Tail};
+use cm_text::{NAME_LIMIT, Name, begins_with, common_len};
+
+/// Whether an atom stands for one of some names: it is the name or abbreviates it, with no regard to the case of
+/// letters. Then Yes with the number of the name, its position in `names`. No where no name begins with the atom,
+/// where several do, also if the atom is one of them, and where the atom is empty.
+#[tactic(auto, unfolding(crate::specs::Among::verdict_among))]
+pub fn verdict_among(names: &[&str], atom: &[u8]) -> Answer
+    ensures { result ≡ verdict_among (texts names.now) atom.now }
+{
+    if atom.is_empty() {
+        return Answer::No;
+    }
+    let mut found = None;
+    for (number, name) in names.iter().enumerate() {
+        if begins_with(name.as_bytes(), atom) {
+            if found.is_some() {
+                return Answer::No;
+            }
+            found = Some(number as u64);
+        }
+    }
+    found.map_or(Answer::No, Answer::Yes)
+}
+
+// What is left of a name behind an atom.
+fn rest<'a>(name: &'a str, atom: &[u8]) -> &'a str
+    requires name { is_name_text name.now ≡ true }
+    requires begins { begins_with name.now atom.now ≡ true }
+    ensures value { result.now ≡ drop (length atom.now) name.now }
+    ensures within { length result.now ≤ NAME_LIMIT }
+    ensures ascii { IsAscii result.now }
+{
+    &name[atom.len()..]
+}
+
+// What a text begins with as one before it does.
+fn shared<'a>(before: &[u8], text: &'a str) -> &'a str
+    requires { IsAscii text.now }
+    ensures value { result.now ≡ shared before.now text.now }
+    ensures within { length result.now ≤ length text.now }
+{
+    &text[..common_len(text.as_bytes(), before)]
+}
+
+// A completion with the rest of one name more.
+fn joined(tail: Tail, rest: &str) -> Tail
+    requires short { length rest.now ≤ NAME_LIMIT }
+    requires ascii { IsAscii rest.now }
+    ensures { result ≡ joined tail rest.now }
+{
+    match tail {
+        Tail::None => Tail::Whole(Name::new(rest)),
+        Tail::Part(text) => Tail::Part(Name::new(shared(text.as_bytes(), rest))),
+        Tail::Whole(text) => Tail::Part(Name::new(shared(text.as_bytes(), rest))),
+    }
+}
+
+/// How an atom goes on to one of some names, each of name bytes and at most 39: Whole with the rest of the only
+/// name that begins with it, Part with what the rests of several begin with alike, byte for byte. None where no
+/// name begins with it, and where the atom is empty.
+#[tactic(auto, unfolding(crate::specs::Among::completion_among))]
+pub fn completion_among(names: &[&str], atom: &[u8]) -> Tail
+    requires { are_names (texts names.now) ≡ true }
+    ensures { result ≡ completion_among (texts names.now) atom.now }
+{
+    if atom.is_empty() {
+        return Tail::None;
+    }
+    let mut tail = Tail::None;
+    for name in names {
+        if begins_with(name.as_bytes(), atom) {
+            tail = joined(tail, rest(name, atom));
+        }
+    }
+    tail
+}
+
+#[cfg(test)]
+mod tests;
