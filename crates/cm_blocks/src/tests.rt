@@ -14,6 +14,7 @@ use std::test::Fail;
 mod chains;
 mod costs;
 mod faults;
+mod files;
 mod keywords;
 mod setting;
 

@@ -42,13 +42,30 @@ pub struct Spec {
     pub generation: Gen,
 }
 
+/// What a file is wanted for.
+#[derive(Clone, Copy, Debug, PartialEq, Eq)]
+pub enum FileKind {
+    /// To be read: it is there already (.CMIFI).
+    In,
+    /// To be written: it may be a new one (.CMOFI).
+    Out,
+    /// Either (.CMFIL).
+    Any,
+}
+
 /// What a field stands for, by the function that took it (COMND). A span is a part of the text.
 #[derive(Clone, Copy, Debug, PartialEq, Eq)]
 pub enum Value {
     /// A keyword (.CMKEY): the position of its entry in the table, and the entry's code.
-    Key { entry: u16, code: u16 },
+    Key {
+        entry: u16,
+        code: u16,
+    },
     /// A switch (.CMSWI): the position of its entry in the table, and the entry's code.
-    Switch { entry: u16, code: u16 },
+    Switch {
+        entry: u16,
+        code: u16,
+    },
     /// A guide word (.CMNOI), and whether it was typed.
     Noise(bool),
     /// A decimal number (.CMNUM), at most 34,359,738,367.
@@ -67,8 +84,13 @@ pub enum Value {
     Directory(u16),
     /// The name of a directory that may be a new one (.CMDIR).
     NewDirectory(Span),
-    /// A file specification (.CMIFI, .CMOFI, .CMFIL), and the number of the directory that it means.
-    File { spec: Spec, directory: u16 },
+    /// A file specification (.CMIFI, .CMOFI, .CMFIL): what the file is wanted for, the parts that are given, and
+    /// the number of the directory that it means.
+    File {
+        kind: FileKind,
+        spec: Spec,
+        directory: u16,
+    },
     /// The rest of the line (.CMTXT).
     Text(Span),
     /// A comma (.CMCMA).
@@ -76,5 +98,8 @@ pub enum Value {
     /// The end of the line (.CMCFM).
     Confirm,
     /// What a function of the program's own made of the field: its id, and the value.
-    Hook { id: u8, value: u64 },
+    Hook {
+        id: u8,
+        value: u64,
+    },
 }

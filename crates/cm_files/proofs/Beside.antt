@@ -333,3 +333,8 @@ bottom_past c lawful directory i j w row at clear none =
     let all : IsClear w (rows_of c directory) row 0 i =
     record { clear = λ k other after before is. clear.clear k other (omega arith) before is } in
     sym (passed _ (rows_of c directory) i row at ∙ bottom_is c lawful directory i w row at all)
+
+-- the goals of the walk behind a row, and of the one before it
+pub ruleset walk_behind = (clear_none, clear_up, top_ends, top_fails, top_past)
+
+pub ruleset walk_before = (clear_none, clear_down, bottom_ends, bottom_fails, bottom_past)

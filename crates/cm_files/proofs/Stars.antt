@@ -370,3 +370,10 @@ part_next part name i first walk within fit =
 pub part_past : (part name : List ℕ) (i : ℕ) (first : Option ℕ) → place_from part i (drop i name) ≡ first
     → length name ≤ i → fits part (drop i name) ≡ false → None ≡ first
 part_past part name i first walk past fit = sym (place_last part i i name past fit) ∙ walk
+
+-- the goals of the walk for the first place of a part, of the walk from star to star, and of the first part
+pub ruleset part_walk = (part_here, part_next, part_past)
+
+pub ruleset star_walk = (means_next, means_nowhere, means_last)
+
+pub ruleset first_parts = (means_unlike, means_behind, means_whole)

@@ -64,3 +64,8 @@ any_next test xs i some walk within passes =
 pub any_past : {X : Type 0} (test : X → Bool) (xs : List X) (i : ℕ) (some : Bool)
     → list_any test (drop i xs) ≡ some → length xs ≤ i → false ≡ some
 any_past test xs i some walk past = sym (ap (list_any test) (drop_past i xs past)) ∙ walk
+
+-- the goals of a walk for the first element that passes, and of one that asks whether there is one
+pub ruleset first_walk = (found_here, not_here, nowhere)
+
+pub ruleset some_walk = (any_here, any_next, any_past)

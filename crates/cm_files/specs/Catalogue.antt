@@ -68,7 +68,7 @@ is_directory_name name =
     nat_le (length name) NAME_LIMIT
     && list_all (λ part. nat_lt 0 (length part) && is_upper_name part) (slice_split (λ byte. byte == 46) name)
 
--- a file of one of so many directories: a name of 1 to 39 bytes, a type of at most 39, a generation from 1 on that is not too high
+-- a file of one of so many directories: a name of 1 to 39 bytes, a type of at most 39, a generation that may be
 abbrev pub is_row : ℕ → FileRow → Bool
 is_row directories row =
     nat_lt row.directory directories && nat_lt 0 (length row.name) && nat_le (length row.name) NAME_LIMIT

@@ -8,8 +8,8 @@ use Rattle.cm_fields.specs.declared.value.Gen.{Gen}
 use Rattle.cm_fields.specs.declared.value.Gen.TheVariants.{Missing, Highest, Next, Lowest, All, Number}
 use Rattle.cm_fields.specs.declared.value.Span.{Span}
 use Rattle.cm_fields.specs.declared.value.Spec.{Spec}
-use Rattle.cm_files.specs.declared.flags.FileKind.{FileKind}
-use Rattle.cm_files.specs.declared.flags.FileKind.TheVariants.{In, Out, Any}
+use Rattle.cm_fields.specs.declared.value.FileKind.{FileKind}
+use Rattle.cm_fields.specs.declared.value.FileKind.TheVariants.{In, Out, Any}
 use Rattle.cm_files.specs.declared.flags.Flags.{Flags}
 use Rattle.cm_files.specs.Catalogue.{Catalogue, logical_of, rows_of}
 use Rattle.cm_files.specs.Pattern.{is_wild}
@@ -60,7 +60,8 @@ is_bad_generation kind generation = false
 abbrev pub has_bad_copy : FileKind → List ℕ → Spec → Bool
 has_bad_copy In atom spec = false
 has_bad_copy Any atom spec = false
-has_bad_copy Out atom spec = is_all spec.generation || has_wild_and_more atom spec.name || has_wild_and_more atom spec.kind
+has_bad_copy Out atom spec =
+    is_all spec.generation || has_wild_and_more atom spec.name || has_wild_and_more atom spec.kind
 
 -- a wildcard where none may stand
 abbrev pub has_bad_wild : FileKind → Flags → List ℕ → Spec → Bool

@@ -5,7 +5,7 @@ use Rattle.std.specs.Str.{bytes_eq}
 use Rattle.cm_fields.specs.declared.value.Gen.{Gen}
 use Rattle.cm_fields.specs.declared.value.Gen.TheVariants.{Missing, Highest, Next, Lowest, All, Number}
 use Rattle.cm_files.specs.declared.row.FileRow.{FileRow}
-use Rattle.cm_files.specs.declared.sought.Sought.{Sought}
+use Rattle.cm_files.specs.declared.selection.Sought.{Sought}
 use Rattle.cm_files.specs.Pattern.{matches}
 
 -- the patterns of name and type, where no name selects nothing; which generations of each file, and whether a

@@ -86,13 +86,17 @@ parts_behind atom device directory name =
     })
     else None
 
+-- behind the device and the directory comes the name
+abbrev pub name_behind : List ℕ → Option Span → Read → Option Parts
+name_behind atom device directory =
+    option_and_then (parts_behind atom device directory.part) (name_read atom directory.next)
+
 -- the parts of an atom, in their order; none where it is no specification
 abbrev pub parts_of : List ℕ → Option Parts
 parts_of atom =
     let device = device_read atom in
     if length atom == 0 then None
-    else option_and_then (λ directory. option_and_then (parts_behind atom device.part directory.part) (name_read atom directory.next))
-    (directory_read atom device.next)
+    else option_and_then (name_behind atom device.part) (directory_read atom device.next)
 
 -- the bytes of a part
 abbrev pub part : List ℕ → Span → List ℕ

@@ -12,24 +12,22 @@ mod neighbours;
 mod one_directory;
 mod parts;
 mod pattern;
-mod resolve;
+mod resolution;
 mod row;
 mod selection;
-mod sought;
 mod spec;
 #[cfg(test)]
 mod tests;
 
 pub use fields::{directory, directory_behind, file, file_behind, user};
-pub use flags::{FileKind, Flags};
+pub use flags::Flags;
 pub use generation::GENERATION_LIMIT;
 pub use logical::is_logical_name;
 pub use names::Names;
 pub use neighbours::select;
 pub use one_directory::OneDirectory;
 pub use pattern::matches;
-pub use resolve::{by_device, by_directory, has_bad_wild};
+pub use resolution::{by_device, by_directory, has_bad_wild, resolve, sought};
 pub use row::{FileRow, LogicalName, Row};
-pub use selection::selects;
-pub use sought::Sought;
+pub use selection::{Sought, selects};
 pub use spec::{SpecFault, part, read_spec};

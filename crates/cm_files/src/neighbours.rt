@@ -20,7 +20,8 @@ fn mark_at<N: Names>(
 ) -> Option<bool>
     requires directory { directory < length (N.catalogue names.now).directories }
     requires row { i < length (rows_of (N.catalogue names.now) directory) }
-    ensures { result ≡ option_and_then (mark_of_same (row_of directory row.now) deleted) (slice_get (rows_of (N.catalogue names.now) directory) i) }
+    ensures { let rows = rows_of (N.catalogue names.now) directory in
+        result ≡ option_and_then (mark_of_same (row_of directory row.now) deleted) (slice_get rows i) }
 {
     let other = names.row(directory, i);
     if other.name == row.name && other.kind == row.kind {
@@ -31,13 +32,14 @@ fn mark_at<N: Names>(
 }
 
 // Whether none of the rows seen of the file of this one stands behind it.
-#[tactic(auto, using(crate::proofs::Beside::clear_none, crate::proofs::Beside::clear_up, crate::proofs::Beside::top_ends, crate::proofs::Beside::top_fails, crate::proofs::Beside::top_past))]
+#[tactic(auto, using(crate::proofs::Beside::walk_behind))]
 fn is_top_at<N: Names>(names: &N, directory: u16, i: u32, sought: &Sought<'_>) -> bool
     requires directory { directory < length (N.catalogue names.now).directories }
     requires row { i < length (rows_of (N.catalogue names.now) directory) }
     requires lawful { IsCatalogue (N.catalogue names.now) }
     requires seen { passes_at (is_seen (wanted sought.now)) (rows_of (N.catalogue names.now) directory) i ≡ true }
-    ensures { result ≡ passes_at (is_top (wanted sought.now) (rows_of (N.catalogue names.now) directory)) (rows_of (N.catalogue names.now) directory) i }
+    ensures { let rows = rows_of (N.catalogue names.now) directory in
+        result ≡ passes_at (is_top (wanted sought.now) rows) rows i }
 {
     let row = names.row(directory, i);
     let count = names.rows(directory);
@@ -52,13 +54,14 @@ fn is_top_at<N: Names>(names: &N, directory: u16, i: u32, sought: &Sought<'_>) -
 }
 
 // Whether none of the rows seen of the file of this one stands before it.
-#[tactic(auto, using(crate::proofs::Beside::clear_none, crate::proofs::Beside::clear_down, crate::proofs::Beside::bottom_ends, crate::proofs::Beside::bottom_fails, crate::proofs::Beside::bottom_past))]
+#[tactic(auto, using(crate::proofs::Beside::walk_before))]
 fn is_bottom_at<N: Names>(names: &N, directory: u16, i: u32, sought: &Sought<'_>) -> bool
     requires directory { directory < length (N.catalogue names.now).directories }
     requires row { i < length (rows_of (N.catalogue names.now) directory) }
     requires lawful { IsCatalogue (N.catalogue names.now) }
     requires seen { passes_at (is_seen (wanted sought.now)) (rows_of (N.catalogue names.now) directory) i ≡ true }
-    ensures { result ≡ passes_at (is_bottom (wanted sought.now) (rows_of (N.catalogue names.now) directory)) (rows_of (N.catalogue names.now) directory) i }
+    ensures { let rows = rows_of (N.catalogue names.now) directory in
+        result ≡ passes_at (is_bottom (wanted sought.now) rows) rows i }
 {
     let row = names.row(directory, i);
     let mut behind = i;
@@ -79,7 +82,8 @@ fn is_taken_at<N: Names>(names: &N, directory: u16, i: u32, sought: &Sought<'_>)
     requires row { i < length (rows_of (N.catalogue names.now) directory) }
     requires lawful { IsCatalogue (N.catalogue names.now) }
     requires seen { passes_at (is_seen (wanted sought.now)) (rows_of (N.catalogue names.now) directory) i ≡ true }
-    ensures { result ≡ passes_at (is_taken (wanted sought.now) (rows_of (N.catalogue names.now) directory)) (rows_of (N.catalogue names.now) directory) i }
+    ensures { let rows = rows_of (N.catalogue names.now) directory in
+        result ≡ passes_at (is_taken (wanted sought.now) rows) rows i }
 {
     match sought.generation {
         Gen::All => true,
@@ -98,7 +102,8 @@ fn is_selected_at<N: Names>(names: &N, directory: u16, i: u32, sought: &Sought<'
     requires directory { directory < length (N.catalogue names.now).directories }
     requires row { i < length (rows_of (N.catalogue names.now) directory) }
     requires lawful { IsCatalogue (N.catalogue names.now) }
-    ensures { result ≡ passes_at (is_selected (wanted sought.now) (rows_of (N.catalogue names.now) directory)) (rows_of (N.catalogue names.now) directory) i }
+    ensures { let rows = rows_of (N.catalogue names.now) directory in
+        result ≡ passes_at (is_selected (wanted sought.now) rows) rows i }
 {
     is_seen_at(names, directory, i, sought) && is_taken_at(names, directory, i, sought)
 }
@@ -106,10 +111,11 @@ fn is_selected_at<N: Names>(names: &N, directory: u16, i: u32, sought: &Sought<'
 /// The first file of a directory that is selected, among those with this number or a later one; none where
 /// there is no such file. Files of one name and type are neighbours, so a walk over all that are selected looks
 /// at each file a few times at most.
-#[tactic(auto, using(crate::proofs::Walking::found_here, crate::proofs::Walking::not_here, crate::proofs::Walking::nowhere))]
+#[tactic(auto, using(crate::proofs::Walking::first_walk))]
 pub fn select<N: Names>(names: &N, directory: u16, sought: &Sought<'_>, from: u32) -> Option<u32>
     requires { directory < length (N.catalogue names.now).directories }
-    ensures { result ≡ position_from (is_selected (wanted sought.now) (rows_of (N.catalogue names.now) directory)) from (drop from (rows_of (N.catalogue names.now) directory)) }
+    ensures { let rows = rows_of (N.catalogue names.now) directory in
+        result ≡ position_from (is_selected (wanted sought.now) rows) from (drop from rows) }
 {
     for i in from..names.rows(directory) {
         if is_selected_at(names, directory, i, sought) {

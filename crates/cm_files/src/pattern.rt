@@ -36,7 +36,7 @@ fn fits(part: &[u8], name: &[u8], looked: &mut u64) -> bool
 }
 
 // The first place of a name where such a part stands for the bytes.
-#[tactic(auto, using(crate::proofs::Stars::part_here, crate::proofs::Stars::part_next, crate::proofs::Stars::part_past))]
+#[tactic(auto, using(crate::proofs::Stars::part_walk))]
 fn place_of(part: &[u8], name: &[u8], looked: &mut u64) -> Option<usize>
     ensures value { result ≡ place_from part.now 0 name.now }
     ensures within { IfSome result (λ place. place + length part.now ≤ length name.now) }
@@ -62,7 +62,7 @@ fn ends_like(part: &[u8], name: &[u8], looked: &mut u64) -> bool
 
 // Whether a pattern means some end of a name: each part between two `*` at its first place behind the part
 // before, and the last part at the end of the name.
-#[tactic(auto, using(crate::proofs::Stars::means_next, crate::proofs::Stars::means_nowhere, crate::proofs::Stars::means_last))]
+#[tactic(auto, using(crate::proofs::Stars::star_walk))]
 fn means_an_end(pattern: &[u8], name: &[u8], looked: &mut u64) -> bool
     ensures { result ≡ some_end (matches pattern.now) name.now }
 {
@@ -82,7 +82,7 @@ fn means_an_end(pattern: &[u8], name: &[u8], looked: &mut u64) -> bool
 }
 
 /// Whether a pattern means a name. The bytes compared are added to `looked`.
-#[tactic(auto, using(crate::proofs::Stars::means_unlike, crate::proofs::Stars::means_behind, crate::proofs::Stars::means_whole))]
+#[tactic(auto, using(crate::proofs::Stars::first_parts))]
 pub(crate) fn means(pattern: &[u8], name: &[u8], looked: &mut u64) -> bool
     ensures { result ≡ matches pattern.now name.now }
 {

@@ -4,8 +4,23 @@ ghost use Rattle.cm_files.specs.Catalogue.{rows_of};
 ghost use Rattle.cm_files.specs.Passing.{may_pass, may_take, passes_at};
 ghost use Rattle.cm_files.specs.Selection.{is_seen, name_matches, selects, wanted};
 
-use crate::{Names, Sought, matches};
+use crate::{Names, matches};
 use cm_fields::Gen;
+
+/// What files of a directory are looked for (GTJFN).
+#[derive(Clone, Copy, Debug)]
+pub struct Sought<'a> {
+    /// The pattern of their names. None selects no file.
+    pub name: Option<&'a [u8]>,
+    /// The pattern of their types.
+    pub kind: &'a [u8],
+    /// Which generations of each name and type.
+    pub generation: Gen,
+    /// Whether all generations are meant where none is given, in place of the highest.
+    pub all_generations: bool,
+    /// Whether files that are marked deleted are meant, in place of those that are not.
+    pub deleted: bool,
+}
 
 // Whether a name is looked for.
 fn name_matches(pattern: Option<&[u8]>, name: &[u8]) -> bool
@@ -55,7 +70,7 @@ fn may_pass_at<N: Names>(names: &N, directory: u16, i: u32, sought: &Sought<'_>)
 /// Whether a file of a directory is selected (GTJFN), in one pass over its files. A file is, where its name
 /// and type match and its mark is the one that is looked for, and where of those files of its name and type
 /// it has a generation that is meant: the number given, the highest, the lowest, or each.
-#[tactic(auto, using(crate::proofs::Choosing::any_may_pass, crate::proofs::Walking::any_here, crate::proofs::Walking::any_next, crate::proofs::Walking::any_past))]
+#[tactic(auto, using(crate::proofs::Choosing::any_may_pass, crate::proofs::Walking::some_walk))]
 pub fn selects<N: Names>(names: &N, directory: u16, sought: &Sought<'_>) -> bool
     requires { directory < length (N.catalogue names.now).directories }
     ensures { result ≡ selects (wanted sought.now) (rows_of (N.catalogue names.now) directory) }

@@ -27,12 +27,12 @@ left s atom at first blocks = listing first (flat_map (phrases s.graph s.meaning
 
 -- a block that refuses gives none
 pub left_refused : (s : Setting) (atom : List ℕ) (at : ℕ) (first : Bool) (block : Block) (more : List Block)
-    → refuses (trial s block.function atom at) ≡ true → left s atom at first (block ∷ more) ≡ left s atom at first more
+    → refuses (trial s block.function block.flags atom at) ≡ true → left s atom at first (block ∷ more) ≡ left s atom at first more
 left_refused s atom at first block more is = rw is refl
 
 -- any other gives its own, and what follows are further ones
 pub left_more : (s : Setting) (atom : List ℕ) (at : ℕ) (first : Bool) (block : Block) (more : List Block)
-    → refuses (trial s block.function atom at) ≡ false
+    → refuses (trial s block.function block.flags atom at) ≡ false
     → left s atom at first (block ∷ more)
     ≡ listing first (phrases s.graph s.meanings atom block) ++ left s atom at false more
 left_more s atom at first block more is = rw is (listing_append first _ _ _)
@@ -45,7 +45,7 @@ drop_here blocks i block within is =
 
 -- the same of the block with a number that does not refuse, where this is what is typed
 pub left_here : (s : Setting) (atom typed : List ℕ) (at : ℕ) (first : Bool) (blocks : List Block) (i : ℕ) (block : Block)
-    → typed ≡ atom → i < length blocks → block ≡ get_or blocks i block → refuses (trial s block.function atom at) ≡ false
+    → typed ≡ atom → i < length blocks → block ≡ get_or blocks i block → refuses (trial s block.function block.flags atom at) ≡ false
     → left s atom at first (drop i blocks)
     ≡ listing first (phrases s.graph s.meanings typed block) ++ left s atom at false (drop (i + 1) blocks)
 left_here s atom typed at first blocks i block same within is taken =

@@ -94,7 +94,12 @@ fn put_untouched<R: Rules, S: Sink>(
 }
 
 // Puts the phrases of all blocks of a node, of which nothing is typed, behind others.
-fn put_node<R: Rules, S: Sink>(grammar: &Grammar, number: u16, hooks: &Hooks<R>, sink: &mut S) -> Put
+fn put_node<R: Rules, S: Sink>(
+    grammar: &Grammar,
+    number: u16,
+    hooks: &Hooks<R>,
+    sink: &mut S,
+) -> Put
     requires ties { Ties R.meanings hooks.now }
     requires hooks { hook_count grammar.now ≤ count hooks.now }
     ensures bytes { Adds (S.told sink.old) (S.told sink.new)
@@ -174,9 +179,9 @@ fn refuses<N: Names, R: Rules>(
     requires short { length line.now ≤ LINE_LIMIT }
     requires place { at ≤ length line.now }
     ensures { result ≡ refuses (trial (setting grammar.now (N.catalogue names.now) R.meanings)
-        block.now.function (drop at line.now) at) }
+        block.now.function block.now.flags (drop at line.now) at) }
 {
-    match try_function(grammar, &block.function, line, at, names, hooks) {
+    match try_function(grammar, block, line, at, names, hooks) {
         Try::Refuse { .. } => true,
         Try::Accept { .. } | Try::More => false,
     }

@@ -164,12 +164,22 @@ fn put_function<R: Rules, S: Sink>(
 {
     match function {
         Function::Key(table) => put_keywords(false, grammar.table(*table), atom, sink),
-        Function::Switch(table) => put_keywords(true, grammar.table(*table), behind_slash(atom), sink),
+        Function::Switch(table) => put_keywords(
+            true,
+            grammar.table(*table),
+            behind_slash(atom),
+            sink,
+        ),
         Function::Noise(text) => put_between(guide_word(), text.as_bytes(), guide_end(), sink),
         Function::Number => sink.put(b"decimal number"),
         Function::Word => sink.put(b"word"),
         Function::Quoted => sink.put(b"quoted string"),
         Function::Token(text) => put_between(quote(), text.as_bytes(), quote(), sink),
+        Function::User => sink.put(b"user name"),
+        Function::Directory => sink.put(b"directory name"),
+        Function::InFile => sink.put(b"input file"),
+        Function::OutFile => sink.put(b"output file"),
+        Function::AnyFile => sink.put(b"file specification"),
         Function::Text => sink.put(b"text to end of line"),
         Function::Comma => sink.put(b"comma"),
         Function::Confirm => sink.put(b"confirm with carriage return"),

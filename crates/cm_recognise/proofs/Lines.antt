@@ -24,7 +24,7 @@ use Rattle.cm_hooks.specs.Meanings.{Completes, IsLawful}
 use Rattle.cm_blocks.specs.declared.field.Ending.{Ending}
 use Rattle.cm_blocks.specs.declared.field.Ending.TheVariants as ending
 use Rattle.cm_blocks.specs.declared.function.Function.{Function}
-use Rattle.cm_blocks.specs.declared.function.Function.TheVariants.{Key, Switch, Noise, Number, Word, Quoted, Token, Text, Comma, Confirm, Hook}
+use Rattle.cm_blocks.specs.declared.function.Function.TheVariants.{Key, Switch, Noise, Number, Word, Quoted, Token, User, Directory, InFile, OutFile, AnyFile, Text, Comma, Confirm, Hook}
 use Rattle.cm_blocks.specs.declared.node.Block.{Block}
 use Rattle.cm_blocks.specs.declared.node.Node.{Node}
 use Rattle.cm_blocks.specs.Fault.{grammar_fault, has_phrase, is_parenthesis, is_phrase, is_shown}
@@ -114,6 +114,11 @@ function_text s (Hook id) next atom plain tables lawful has short own =
 function_text s Number next atom plain tables lawful has short own = own
 function_text s Word next atom plain tables lawful has short own = own
 function_text s Quoted next atom plain tables lawful has short own = own
+function_text s User next atom plain tables lawful has short own = tt
+function_text s Directory next atom plain tables lawful has short own = tt
+function_text s InFile next atom plain tables lawful has short own = tt
+function_text s AnyFile next atom plain tables lawful has short own = tt
+function_text s OutFile next atom plain tables lawful has short own = own
 function_text s Text next atom plain tables lawful has short own = own
 function_text s Comma next atom plain tables lawful has short own = own
 function_text s Confirm next atom plain tables lawful has short own = own
@@ -123,7 +128,7 @@ pub outcome_text : (s : Setting) (block : Block) (atom : List ℕ) (at : ℕ) �
 unfolding outcome
 outcome_text s block atom at tables lawful has short =
     function_text s block.function block.next atom _ tables lawful has short
-    (plain_text block.next (trial s block.function (atom ++ 32 ∷ []) at))
+    (plain_text block.next (trial s block.function block.flags (atom ++ 32 ∷ []) at))
 
 -- what stands behind a field that is whole
 guide_behind_text : (function : Function) → has_phrase function ≡ true → AreText (guide_behind function)

@@ -12,11 +12,14 @@ use Rattle.cm_tables.specs.Look.{look}
 use Rattle.cm_tables.proofs.WithinLemmas.{look-within}
 use Rattle.cm_fields.specs.declared.trial.Try.{Try}
 use Rattle.cm_fields.specs.declared.trial.Try.TheVariants.{Accept, Refuse, More}
+use Rattle.cm_fields.specs.declared.value.FileKind.TheVariants.{Out}
 use Rattle.cm_fields.specs.declared.value.Value.{Value}
 use Rattle.cm_fields.specs.declared.value.Value.TheVariants as values
 use Rattle.cm_fields.specs.Local.{Stays}
 use Rattle.cm_fields.specs.Passed.{BeginsOther}
 use Rattle.cm_fields.specs.Run.{number_of, word_of}
+use Rattle.cm_files.specs.declared.flags.Flags.{Flags}
+use Rattle.cm_files.specs.Fields.{file_of}
 use Rattle.cm_hooks.specs.declared.answer.Answer.{Answer}
 use Rattle.cm_hooks.specs.declared.answer.Answer.TheVariants.{Yes, No}
 use Rattle.cm_hooks.specs.declared.answer.Tail.{Tail}
@@ -24,7 +27,7 @@ use Rattle.cm_hooks.specs.declared.answer.Tail.TheVariants as tails
 use Rattle.cm_hooks.specs.Field.{hook, hook_of, judged}
 use Rattle.cm_hooks.specs.Meanings.{Completes, IsLawful, IsYes}
 use Rattle.cm_blocks.specs.declared.function.Function.{Function}
-use Rattle.cm_blocks.specs.declared.function.Function.TheVariants.{Key, Switch, Noise, Number, Word, Quoted, Token, Text, Comma, Confirm, Hook}
+use Rattle.cm_blocks.specs.declared.function.Function.TheVariants.{Key, Switch, Noise, Number, Word, Quoted, Token, User, Directory, InFile, OutFile, AnyFile, Text, Comma, Confirm, Hook}
 use Rattle.cm_blocks.specs.declared.node.Block.{Block}
 use Rattle.cm_blocks.specs.Chain.{chain_at, is_confirm}
 use Rattle.cm_blocks.specs.Fault.{grammar_fault, has_phrase, is_parenthesis, is_phrase, is_shown}
@@ -44,7 +47,7 @@ use Rattle.cm_recognise.proofs.Going.{chain_goes_on}
 use Rattle.cm_recognise.proofs.Guides.{noise_bytes, noise_takes, phrase_completes, token_takes}
 use Rattle.cm_recognise.proofs.Keywords.{key_begins, key_takes, keyword_completes, switch_takes}
 use Rattle.cm_recognise.proofs.Lines.{IsText, behind_text, outcome_text}
-use Rattle.cm_recognise.proofs.Plains.{EndsAt, IsOwn, comma_ends, confirm_ends, hook_ends, number_ends, quoted_closes, run_wants, run_whole, space_no_name, text_ends, word_ends}
+use Rattle.cm_recognise.proofs.Plains.{EndsAt, IsOwn, comma_ends, confirm_ends, file_ends, hook_ends, number_ends, quoted_closes, run_wants, run_whole, space_no_name, text_ends, word_ends}
 use Rattle.cm_recognise.proofs.Spans.{run_append, run_of_all}
 use Rattle.cm_recognise.proofs.Texts.{table_none, text_append}
 
@@ -53,7 +56,7 @@ use Rattle.cm_recognise.proofs.Texts.{table_none, text_append}
 pub record TakesWhole (s : Setting) (block : Block) (atom bytes more : List ℕ) (at next : ℕ) : Type 0 where
   pub value : Value
   pub seen : ℕ
-  pub accepts : trial s block.function (atom ++ (bytes ++ 32 ∷ more)) at ≡ Accept value seen (at + length (atom ++ bytes))
+  pub accepts : trial s block.function block.flags (atom ++ (bytes ++ 32 ∷ more)) at ≡ Accept value seen (at + length (atom ++ bytes))
   pub field : is_confirm value ≡ false
   pub leads : next_of s.graph block value ≡ next
 
@@ -68,27 +71,27 @@ own_leads graph block value own = refl
 
 -- what the function takes of what is typed and a space it takes however the text goes on
 plain_takes : (s : Setting) (block : Block) (atom bytes more : List ℕ) (at next : ℕ)
-    → EndsAt (at + length atom) (trial s block.function (atom ++ 32 ∷ []) at)
-    → plain_outcome block.next (trial s block.function (atom ++ 32 ∷ []) at) ≡ Whole bytes next
+    → EndsAt (at + length atom) (trial s block.function block.flags (atom ++ 32 ∷ []) at)
+    → plain_outcome block.next (trial s block.function block.flags (atom ++ 32 ∷ []) at) ≡ Whole bytes next
     → TakesWhole s block atom bytes more at next
-plain_takes s block atom bytes more at next ends is = by (trial s block.function (atom ++ 32 ∷ []) at) refl ends is
+plain_takes s block atom bytes more at next ends is = by (trial s block.function block.flags (atom ++ 32 ∷ []) at) refl ends is
   where
-    by : (answer : Try) → trial s block.function (atom ++ 32 ∷ []) at ≡ answer → EndsAt (at + length atom) answer
+    by : (answer : Try) → trial s block.function block.flags (atom ++ 32 ∷ []) at ≡ answer → EndsAt (at + length atom) answer
         → plain_outcome block.next answer ≡ Whole bytes next → TakesWhole s block atom bytes more at next
     by (Refuse code looked) tried ends is = cc
     by More tried ends is = cc
     by (Accept value looked end) tried ends is =
         let none : [] ≡ bytes = cc in
         let same : block.next ≡ next = cc in
-        let stays : trial s block.function ((atom ++ 32 ∷ []) ++ more) at ≡ Accept value looked end =
-        subst (λ (answer : Try). Stays answer (trial s block.function ((atom ++ 32 ∷ []) ++ more) at)) tried
-        ((trial_is_local s block.function).stays (atom ++ 32 ∷ []) more at) in
+        let stays : trial s block.function block.flags ((atom ++ 32 ∷ []) ++ more) at ≡ Accept value looked end =
+        subst (λ (answer : Try). Stays answer (trial s block.function block.flags ((atom ++ 32 ∷ []) ++ more) at)) tried
+        ((trial_is_local s block.function block.flags).stays (atom ++ 32 ∷ []) more at) in
         let text : (atom ++ 32 ∷ []) ++ more ≡ atom ++ 32 ∷ more = append_assoc atom (32 ∷ []) more in
         let place : end ≡ at + length (atom ++ []) = ends.0 ∙ ap (λ (text : List ℕ). at + length text) (sym (append-nil atom)) in
         let plain : TakesWhole s block atom [] more at block.next = record {
           value = value;
           seen = looked;
-          accepts = ap (λ (text : List ℕ). trial s block.function text at) (sym text) ∙ stays ∙ ap (Accept value looked) place;
+          accepts = ap (λ (text : List ℕ). trial s block.function block.flags text at) (sym text) ∙ stays ∙ ap (Accept value looked) place;
           field = own_field value ends.1;
           leads = own_leads s.graph block value ends.1;
         } in
@@ -126,8 +129,9 @@ not_true false is = refl
 
 pub function_takes : (s : Setting) (block : Block) (function : Function) (atom bytes more : List ℕ) (at next : ℕ)
     → AreTables s.graph.tables → IsLawful s.meanings → has_phrase function ≡ true → length atom ≤ LINE_LIMIT
-    → trial s function atom at ≡ More
-    → by_function s function block.next atom (plain_outcome block.next (trial s function (atom ++ 32 ∷ []) at)) ≡ Whole bytes next
+    → trial s function block.flags atom at ≡ More
+    → by_function s function block.next atom (plain_outcome block.next (trial s function block.flags (atom ++ 32 ∷ []) at))
+    ≡ Whole bytes next
     → TakesWhole s (record block { function = function }) atom bytes more at next
 unfolding trial
 function_takes s block (Key table) atom bytes more at next tables lawful has short wants is =
@@ -171,7 +175,7 @@ function_takes s block (Hook id) atom bytes more at next tables lawful has short
     by (s.meanings.completion id atom) (lawful.completes id atom short) typed.0 typed.1
   where
     by : (tail : Tail) → Completes (s.meanings.verdict id) atom tail → (length atom == 0) ≡ false
-        → hook_outcome block.next (plain_outcome block.next (trial s (Hook id) (atom ++ 32 ∷ []) at)) tail ≡ Whole bytes next
+        → hook_outcome block.next (plain_outcome block.next (trial s (Hook id) block.flags (atom ++ 32 ∷ []) at)) tail ≡ Whole bytes next
         → TakesWhole s (record block { function = Hook id }) atom bytes more at next
     by tails.None completes some is =
         plain_takes s (record block { function = Hook id }) atom bytes more at next (hook_ends s.meanings.verdict id atom at wants) is
@@ -188,6 +192,12 @@ function_takes s block Word atom bytes more at next tables lawful has short want
     plain_takes s (record block { function = Word }) atom bytes more at next (word_ends atom at wants) is
 function_takes s block Quoted atom bytes more at next tables lawful has short wants is =
     plain_takes s (record block { function = Quoted }) atom bytes more at next (quoted_closes atom at wants) is
+function_takes s block User atom bytes more at next tables lawful has short wants is = cc
+function_takes s block Directory atom bytes more at next tables lawful has short wants is = cc
+function_takes s block InFile atom bytes more at next tables lawful has short wants is = cc
+function_takes s block AnyFile atom bytes more at next tables lawful has short wants is = cc
+function_takes s block OutFile atom bytes more at next tables lawful has short wants is =
+    plain_takes s (record block { function = OutFile }) atom bytes more at next (file_ends s.catalogue Out block.flags atom at wants) is
 function_takes s block Text atom bytes more at next tables lawful has short wants is =
     plain_takes s (record block { function = Text }) atom bytes more at next (text_ends atom at wants) is
 function_takes s block Comma atom bytes more at next tables lawful has short wants is =
@@ -196,26 +206,31 @@ function_takes s block Confirm atom bytes more at next tables lawful has short w
     plain_takes s (record block { function = Confirm }) atom bytes more at next (confirm_ends atom at wants) is
 
 -- where nothing is typed, what completes a field whole begins with nothing that is skipped
-pub function_begins : (s : Setting) (function : Function) (follows : ℕ) (bytes more : List ℕ) (at next : ℕ) (raw : Bool)
+pub function_begins : (s : Setting) (function : Function) (flags : Flags) (follows : ℕ) (bytes more : List ℕ) (at next : ℕ) (raw : Bool)
     → AreTables s.graph.tables
-    → by_function s function follows [] (plain_outcome follows (trial s function (32 ∷ []) at)) ≡ Whole bytes next
+    → by_function s function follows [] (plain_outcome follows (trial s function flags (32 ∷ []) at)) ≡ Whole bytes next
     → BeginsOther raw (bytes ++ more)
-unfolding trial is_word is_blank number_of word_of
-function_begins s (Key table) follows bytes more at next raw tables is =
+unfolding trial is_name is_word is_blank number_of word_of file_of
+function_begins s (Key table) flags follows bytes more at next raw tables is =
     key_begins raw (table_of s.graph table) bytes more next (table_none s.graph table tables) is
-function_begins s (Switch table) follows bytes more at next raw tables is = cc
-function_begins s (Noise text) follows bytes more at next raw tables is =
+function_begins s (Switch table) flags follows bytes more at next raw tables is = cc
+function_begins s (Noise text) flags follows bytes more at next raw tables is =
     let c = phrase_completes (guide text) follows [] bytes next is in
     subst (λ (text : List ℕ). BeginsOther raw (text ++ more)) c.0.bytes_is
     (refl, λ plain. (λ (same : 40 ≡ 33). absurd (omega arith), λ (same : 40 ≡ 59). absurd (omega arith)))
-function_begins s (Token text) follows bytes more at next raw tables is = cc
-function_begins s (Hook id) follows bytes more at next raw tables is = cc
-function_begins s Number follows bytes more at next raw tables is = cc
-function_begins s Word follows bytes more at next raw tables is = cc
-function_begins s Quoted follows bytes more at next raw tables is = cc
-function_begins s Text follows bytes more at next raw tables is = cc
-function_begins s Comma follows bytes more at next raw tables is = cc
-function_begins s Confirm follows bytes more at next raw tables is = cc
+function_begins s (Token text) flags follows bytes more at next raw tables is = cc
+function_begins s (Hook id) flags follows bytes more at next raw tables is = cc
+function_begins s Number flags follows bytes more at next raw tables is = cc
+function_begins s Word flags follows bytes more at next raw tables is = cc
+function_begins s Quoted flags follows bytes more at next raw tables is = cc
+function_begins s User flags follows bytes more at next raw tables is = cc
+function_begins s Directory flags follows bytes more at next raw tables is = cc
+function_begins s InFile flags follows bytes more at next raw tables is = cc
+function_begins s OutFile flags follows bytes more at next raw tables is = cc
+function_begins s AnyFile flags follows bytes more at next raw tables is = cc
+function_begins s Text flags follows bytes more at next raw tables is = cc
+function_begins s Comma flags follows bytes more at next raw tables is = cc
+function_begins s Confirm flags follows bytes more at next raw tables is = cc
 
 -- the phrase of the block that a line waits at is one that it may read
 waiting_phrase : (s : Setting) (number b : ℕ) (block : Block) (line : List ℕ) (at start : ℕ) → grammar_fault s.graph ≡ None
@@ -247,7 +262,7 @@ whole_is_taken s none tables lawful line is_line number b at start block waits b
     let begins : (raw : Bool) → start ≡ length line → BeginsOther raw (bytes ++ more) =
     λ raw ends.
     let nothing : drop start line ≡ [] = drop_all start line (omega arith) in
-    function_begins s block.function block.next bytes more start next raw tables
+    function_begins s block.function block.flags block.next bytes more start next raw tables
     (subst (λ (atom : List ℕ). outcome s block atom start ≡ Whole bytes next) nothing is) in
     let end : start + length (drop start line ++ bytes) ≡ length line + length bytes =
     (let both = length-append (drop start line) bytes in omega arith) in

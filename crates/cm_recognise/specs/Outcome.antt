@@ -12,7 +12,7 @@ use Rattle.cm_fields.specs.declared.trial.Try.TheVariants.{Accept, Refuse, More}
 use Rattle.cm_hooks.specs.declared.answer.Tail.{Tail}
 use Rattle.cm_hooks.specs.declared.answer.Tail.TheVariants as tails
 use Rattle.cm_blocks.specs.declared.function.Function.{Function}
-use Rattle.cm_blocks.specs.declared.function.Function.TheVariants.{Key, Switch, Noise, Token, Hook}
+use Rattle.cm_blocks.specs.declared.function.Function.TheVariants.{Key, Switch, Noise, Token, User, Directory, InFile, AnyFile, Hook}
 use Rattle.cm_blocks.specs.declared.node.Block.{Block}
 use Rattle.cm_blocks.specs.Keyword.{has_colon}
 use Rattle.cm_blocks.specs.Setting.{Setting}
@@ -71,7 +71,8 @@ hook_outcome next plain tails.None = plain
 hook_outcome next plain (tails.Part text) = Part text
 hook_outcome next plain (tails.Whole text) = Whole text next
 
--- by what the block reads; `plain` is the outcome of its own trial
+-- by what the block reads; `plain` is the outcome of its own trial. Users, directories and files that are there go on
+-- in no certain way yet
 abbrev pub by_function : Setting → Function → ℕ → List ℕ → Outcome → Outcome
 by_function s (Key table) next atom plain =
     keyword_outcome false (table_of s.graph table) atom (look (table_of s.graph table) atom)
@@ -80,6 +81,10 @@ by_function s (Noise text) next atom plain = phrase_outcome (guide text) next at
 by_function s (Token text) next atom plain = if length atom == 0 then Nothing else phrase_outcome text next atom
 by_function s (Hook id) next atom plain =
     if length atom == 0 then Nothing else hook_outcome next plain (s.meanings.completion id atom)
+by_function s User next atom plain = Nothing
+by_function s Directory next atom plain = Nothing
+by_function s InFile next atom plain = Nothing
+by_function s AnyFile next atom plain = Nothing
 by_function s function next atom plain = plain
 
 -- an outcome has at most so many bytes
@@ -93,4 +98,4 @@ IsShort most (Whole bytes next) = length bytes ≤ most
 unfoldable pub outcome : Setting → Block → List ℕ → ℕ → Outcome
 outcome s block atom at =
     by_function s block.function block.next atom
-    (plain_outcome block.next (trial s block.function (atom ++ 32 ∷ []) at))
+    (plain_outcome block.next (trial s block.function block.flags (atom ++ 32 ∷ []) at))

@@ -163,13 +163,13 @@ fn plain_outcome<N: Names, R: Rules>(
     requires place { at ≤ length line.now }
     ensures value { result ≡ plain_outcome block.now.next
         (trial (setting grammar.now (N.catalogue names.now) R.meanings) block.now.function
-        (drop at line.now ++ 32 ∷ []) at) }
+        block.now.flags (drop at line.now ++ 32 ∷ []) at) }
     ensures short { IsShort TAIL_LIMIT result }
 {
     let mut text: ArrayVec<u8, TEXT_LIMIT> = ArrayVec::new();
     let _ = text.try_extend_from_slice(line);
     text.push(b' ');
-    match try_function(grammar, &block.function, text.as_slice(), at, names, hooks) {
+    match try_function(grammar, block, text.as_slice(), at, names, hooks) {
         Try::Accept { .. } => Outcome::Whole {
             bytes: Bytes::new(),
             next: block.next,
@@ -250,6 +250,9 @@ pub(crate) fn outcome_of<N: Names, R: Rules>(
         Function::Hook(id) => {
             let plain = plain_outcome(grammar, block, line, at, names, hooks);
             hook_outcome(hooks, *id, next, atom, plain)
+        }
+        Function::User | Function::Directory | Function::InFile | Function::AnyFile => {
+            Outcome::Nothing
         }
         _ => plain_outcome(grammar, block, line, at, names, hooks),
     }

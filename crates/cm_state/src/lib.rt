@@ -16,6 +16,4 @@ pub use session::Session;
 pub use turn::Turn;
 
 #[cfg(test)]
-mod embedding;
-#[cfg(test)]
 mod tests;

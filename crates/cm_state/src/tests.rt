@@ -4,5 +4,3 @@ mod rows;
 mod run;
 mod setting;
 mod values;
-
-pub(crate) use setting::{Logical, Shelf};

@@ -5,7 +5,7 @@ use Rattle.cm_tables.specs.declared.entry.Flag.{Flag}
 use Rattle.cm_tables.specs.declared.entry.Flag.TheVariants.{Invisible, NoRecognise}
 use Rattle.cm_tables.specs.Words.{entry}
 use Rattle.ex_grammar.specs.declared.node.TheConstants.{LINE_END}
-use Rattle.ex_grammar.specs.declared.code.TheConstants.{DEFINE, INFORMATION, LOGOUT, NO_KEYWORD, REMARK, VERSION}
+use Rattle.ex_grammar.specs.declared.code.TheConstants.{CONNECT, DEFINE, INFORMATION, LOGOUT, NO_KEYWORD, REMARK, VERSION}
 
 -- the same keyword, which takes part in the look-up in this way
 abbrev pub flagged : Entry → Flag → Entry
@@ -13,7 +13,8 @@ flagged keyword flag = record keyword { flag = flag }
 
 unfoldable pub command_entries : List Entry
 command_entries =
-    entry (codes "DEFINE") DEFINE 28
+    entry (codes "CONNECT") CONNECT 17
+    ∷ entry (codes "DEFINE") DEFINE 28
     ∷ entry (codes "INFORMATION") INFORMATION 26
     ∷ flagged (entry (codes "KJOB") LOGOUT LINE_END) Invisible
     ∷ flagged (entry (codes "L") NO_KEYWORD LINE_END) NoRecognise

@@ -1,6 +1,6 @@
 -- The small words in which nodes are written.
-use Rattle.std.specs.Prelude.{ℕ, true, List, [], ◌∷◌}
-use Rattle.cm_blocks.specs.declared.function.Function.TheVariants.{Key, Noise, Token, Text, Confirm, Hook}
+use Rattle.std.specs.Prelude.{ℕ, true, List, [], ◌∷◌, Some}
+use Rattle.cm_blocks.specs.declared.function.Function.TheVariants.{Key, Noise, Token, User, Directory, Text, Confirm, Hook}
 use Rattle.cm_blocks.specs.declared.function.Role.{Role}
 use Rattle.cm_blocks.specs.declared.function.Role.TheVariants as roles
 use Rattle.cm_blocks.specs.declared.node.Block.{Block}
@@ -31,6 +31,14 @@ token sign next = block (Token sign) roles.None next
 abbrev pub hook : ℕ → ℕ → Block
 hook id next = block (Hook id) roles.Value next
 
+-- a user that a command works on
+abbrev pub user : Block
+user = block User roles.Files LINE_END
+
+-- a directory that is there
+abbrev pub directory : Block
+directory = block Directory roles.Files LINE_END
+
 abbrev pub rest_of_line : Block
 rest_of_line = block Text roles.None LINE_END
 
@@ -41,6 +49,10 @@ only it = node (it ∷ [])
 -- a node of two blocks, tried in this order
 abbrev pub either : Block → Block → Node
 either first second = node (first ∷ second ∷ [])
+
+-- a node of two blocks, for which this text stands where the line ends
+abbrev pub either_or : Block → Block → List ℕ → Node
+either_or first second text = record (either first second) { default = Some text }
 
 -- the node of a remark, where no comment begins
 abbrev pub remark : Node

@@ -1,6 +1,6 @@
 // The small words in which nodes are written, and the nodes that are named.
 ghost use Rattle.std.specs.Prelude.{◌≡◌, ◌≤◌, IfOk, length};
-ghost use Rattle.ex_grammar.specs.Words.{confirm, either, guide, hook, keyword, later, remark, rest_of_line, token};
+ghost use Rattle.ex_grammar.specs.Words.{confirm, directory, either, either_or, guide, hook, keyword, later, remark, rest_of_line, token, user};
 
 use cm_blocks::{Block, Function, Node, Role};
 use cm_io::NoMemory;
@@ -55,6 +55,20 @@ pub(crate) fn hook(id: u8, next: u16) -> Block
     Block::new(Function::Hook(id), Role::Value, next)
 }
 
+// A user that a command works on.
+pub(crate) fn user() -> Block
+    ensures { result ≡ user }
+{
+    Block::new(Function::User, Role::Files, LINE_END)
+}
+
+// A directory that is there.
+pub(crate) fn directory() -> Block
+    ensures { result ≡ directory }
+{
+    Block::new(Function::Directory, Role::Files, LINE_END)
+}
+
 fn rest_of_line() -> Block
     ensures { result ≡ rest_of_line }
 {
@@ -66,6 +80,23 @@ pub(crate) fn either(alloc: Global, first: Block, second: Block) -> Result<Node,
     ensures { IfOk result (λ node. node ≡ either first second) }
 {
     Ok(Node::new(vec![in alloc; first, second]?))
+}
+
+// A node of two blocks, for which this text stands where the line ends.
+pub(crate) fn either_or(
+    alloc: Global,
+    first: Block,
+    second: Block,
+    text: &str,
+) -> Result<Node, NoMemory>
+    requires { length text.now ≤ NAME_LIMIT }
+    ensures { IfOk result (λ node. node ≡ either_or first second text.now) }
+{
+    let node = either(alloc, first, second)?;
+    Ok(Node {
+        default: Some(Name::new(text)),
+        ..node
+    })
 }
 
 // The node of a remark, where no comment begins.

@@ -2,7 +2,7 @@
 ghost use Rattle.std.specs.Prelude.{◌≡◌, IfOk};
 ghost use Rattle.ex_grammar.specs.Tables.{command_entries, exec_tables, flagged, topic_entries};
 
-use crate::code::{DEFINE, INFORMATION, LOGOUT, NO_KEYWORD, REMARK, VERSION};
+use crate::code::{CONNECT, DEFINE, INFORMATION, LOGOUT, NO_KEYWORD, REMARK, VERSION};
 use crate::node::LINE_END;
 use cm_io::NoMemory;
 use cm_tables::{Entry, Flag, Table};
@@ -40,6 +40,7 @@ fn command_entries(alloc: Global) -> Result<Vec<Entry>, NoMemory>
     ensures { IfOk result (λ entries. entries.items ≡ command_entries) }
 {
     Ok(vec![in alloc;
+        Entry::new("CONNECT", CONNECT, 17),
         Entry::new("DEFINE", DEFINE, 28),
         Entry::new("INFORMATION", INFORMATION, 26),
         flagged(Entry::new("KJOB", LOGOUT, LINE_END), Flag::Invisible),

@@ -1,8 +1,8 @@
 // A catalogue of many files, of which each look at one is counted.
 ghost use Rattle.std.specs.Prelude.{◌≤◌};
-ghost use Rattle.cm_files.specs.Many.{many_catalogue};
+ghost use Rattle.cm_files.specs.declared.generation.TheConstants.{GENERATION_LIMIT};
 
-use crate::{GENERATION_LIMIT, Names, Row};
+use crate::{Names, Row};
 use std::cell::Cell;
 
 // The directory OPERATOR, with so many generations of A.TXT, of which all but one are marked deleted.

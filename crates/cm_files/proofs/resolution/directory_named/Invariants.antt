@@ -1,7 +1,7 @@
 use Rattle.std.proofs.Common.{◌≡◌, drop}
 use Rattle.std.specs.List.{position_from}
 use Rattle.cm_files.specs.Resolve.{directory_named, is_named}
-use Rattle.cm_files.proofs.resolve.directory_named.Given as goal
+use Rattle.cm_files.proofs.resolution.directory_named.Given as goal
 
 -- the first of the rest is the first of all
 abbrev pub invariant-loop-i : goal.invariant-loop-i

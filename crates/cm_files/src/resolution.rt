@@ -8,8 +8,8 @@ ghost use Rattle.cm_files.specs.Selection.{selects, wanted};
 ghost use Rattle.cm_files.specs.Passing.{passes_at};
 ghost use Rattle.cm_files.specs.Spec.{IsPartOf, IsSpecOf};
 
-use crate::{FileKind, Flags, Names, Sought, part, selects};
-use cm_fields::{Code, Gen, Span, Spec};
+use crate::{Flags, Names, Sought, part, selects};
+use cm_fields::{Code, FileKind, Gen, Span, Spec};
 use cm_text::equals;
 
 // Whether a text has a wildcard.
@@ -129,7 +129,7 @@ fn is_named_at<N: Names>(names: &N, i: u16, name: &[u8]) -> bool
 }
 
 // The number of the directory with this name.
-#[tactic(auto, using(crate::proofs::Walking::found_here, crate::proofs::Walking::not_here, crate::proofs::Walking::nowhere))]
+#[tactic(auto, using(crate::proofs::Walking::first_walk))]
 fn directory_named<N: Names>(names: &N, name: &[u8]) -> Option<u16>
     ensures value { result ≡ directory_named (N.catalogue names.now) name.now }
     ensures within { IfSome result (λ directory. directory < length (N.catalogue names.now).directories) }
@@ -212,7 +212,8 @@ fn has_no_file<N: Names>(
 ) -> bool
     requires parts { IsSpecOf (length atom.now) spec }
     requires directory { directory < length (N.catalogue names.now).directories }
-    ensures { result ≡ (is_in kind && not (selects (wanted_by flags atom.now spec) (rows_of (N.catalogue names.now) directory))) }
+    ensures { let rows = rows_of (N.catalogue names.now) directory in
+        result ≡ (is_in kind && not (selects (wanted_by flags atom.now spec) rows)) }
 {
     match kind {
         FileKind::In => !selects(names, directory, &sought(flags, atom, spec)),
