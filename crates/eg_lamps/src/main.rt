@@ -18,7 +18,7 @@ use cm_text::Name;
 pub use command::command_of;
 pub use grammar::grammar;
 pub use lamps::{Change, Command, Lamp, dark_lamps, obey};
-pub use program::{Parser, Program, Status};
+pub use program::{Parser, Program, Status, house};
 pub use rooms::RoomRules;
 use std::marker::Brand;
 use std::process::ExitCode;
@@ -43,6 +43,7 @@ fn main(rt: HostRuntime) -> ExitCode {
 }
 
 // Boxes the hook, makes the grammar and the counter of trials, and runs the program.
+#[tactic(auto, using(crate::proofs::LampSetting::is_lamp, crate::proofs::LampSetting::enough_hooks))]
 fn run_with_hook<K: Source, S: Sink, L: Ledger>(
     rt: &HostRuntime,
     blank: Blank,

@@ -17,7 +17,7 @@ ghost use Rattle.eg_lamps.specs.End.{EndCause, Ends, Took, number_of};
 ghost use Rattle.eg_lamps.specs.Lamps.{dark_lamps};
 ghost use Rattle.eg_lamps.specs.Rooms.{room_meanings};
 ghost use Rattle.eg_lamps.specs.Run.{after_command, after_turn, command_bytes, is_quit, next_line, turn_bytes, with_key};
-ghost use Rattle.eg_lamps.specs.Setting.{lamp_setting};
+ghost use Rattle.eg_lamps.specs.Setting.{house, lamp_setting};
 
 use crate::grammar::COMMANDS;
 use crate::{Command, Lamp, RoomRules, command_of, dark_lamps, obey};
@@ -40,6 +40,14 @@ pub struct Parser<'a> {
     pub names: OneDirectory,
     /// The hook that reads a room.
     pub hooks: &'a Hooks<RoomRules>,
+}
+
+/// The names that a line may mean: none, since no field of the grammar asks for a file.
+#[tactic(auto, unfolding(crate::specs::Setting::house, cm_text::specs::Bytes::is_name, cm_text::specs::Bytes::is_word))]
+pub fn house() -> OneDirectory
+    ensures { result ≡ house }
+{
+    OneDirectory::new("HOUSE")
 }
 
 /// How a run of the program ended.
