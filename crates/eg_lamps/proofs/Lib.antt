@@ -2,7 +2,6 @@ pub mod Faultless
 pub mod Pieces
 pub mod Lines
 pub mod LampSetting
-pub mod Joining
 pub mod Running
 pub mod Steps
 pub mod Acting

@@ -7,7 +7,7 @@ ghost use Rattle.cm_io.specs.Fault.{PutCause};
 ghost use Rattle.cm_text.specs.declared.name.TheConstants.{NAME_LIMIT};
 ghost use Rattle.eg_lamps.specs.Lamps.{changed, dark, dark_lamps, lamp_line, lamp_lines, level_shown, note_shown, obeyed, refusal, reply, too_bright};
 
-use crate::rooms::{HALL, KITCHEN, STAIRS, STUDY};
+use crate::rooms::ROOMS;
 use cm_io::{Put, Sink, put_decimal, put_line};
 use cm_text::{NAME_LIMIT, Name, end_of_line};
 
@@ -53,7 +53,7 @@ pub enum Command {
 pub fn dark_lamps() -> [Lamp; 4]
     ensures { result ≡ dark_lamps }
 {
-    [dark(HALL), dark(KITCHEN), dark(STAIRS), dark(STUDY)]
+    ROOMS.map(dark)
 }
 
 fn dark(room: &str) -> Lamp

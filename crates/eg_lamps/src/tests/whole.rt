@@ -135,6 +135,28 @@ fn completes_what_was_begun(rt: HostRuntime) -> Result<(), Fail> {
 }
 
 #[test]
+fn explains_what_may_come(rt: HostRuntime) -> Result<(), Fail> {
+    let cases = [
+        case(
+            b"?",
+            b"@? confirm with carriage return\r\n or one of the following:\r\n  DIM\r\n  LIST\r\n  NAME\r\n  QUIT\r\n  SET\r\n@",
+            [0, 0, 0, 0],
+        ),
+        case(
+            b"S ?",
+            b"@S ? guide word (LAMP IN)\r\n or room\r\n@S ",
+            [0, 0, 0, 0],
+        ),
+        case(
+            b"D K ?",
+            b"@D K ? confirm with carriage return\r\n or one of the following:\r\n  /BY:\r\n@D K ",
+            [0, 0, 0, 0],
+        ),
+    ];
+    try_cases(&rt, &rt, &cases)
+}
+
+#[test]
 fn takes_no_key_behind_quit(rt: HostRuntime) -> Result<(), Fail> {
     let mut outcome = outcome_of(&rt, b"Q\rLIST\r", None, 4096)?;
     assert_eq!(rt; outcome.status, Status::Done);
