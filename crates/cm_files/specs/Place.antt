@@ -15,3 +15,8 @@ place_from part at (byte ∷ more) = if fits part (byte ∷ more) then Some at e
 -- it stands for the last bytes of a name
 abbrev pub ends_like : List ℕ → List ℕ → Bool
 ends_like part name = nat_le (length part) (length name) && fits part (drop (length name - length part) name)
+
+-- how many places of a name of this size are tried for a part that is found there
+abbrev pub tries : ℕ → Option ℕ → ℕ
+tries size None = size + 1
+tries size (Some place) = place + 1

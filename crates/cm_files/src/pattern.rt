@@ -1,9 +1,9 @@
 // Patterns of names.
-ghost use Rattle.std.specs.Prelude.{◌≡◌, ◌+◌, ◌≤◌, IfSome, length};
+ghost use Rattle.std.specs.Prelude.{◌≡◌, ◌+◌, ◌*◌, ◌≤◌, IfSome, length};
 ghost use Rattle.std.specs.Bool.{OnTrue};
 ghost use Rattle.std.specs.List.{common_prefix_len, prefix_len};
 ghost use Rattle.cm_files.specs.Pattern.{is_plain, matches, some_end, stands_for};
-ghost use Rattle.cm_files.specs.Place.{ends_like, fits, place_from};
+ghost use Rattle.cm_files.specs.Place.{ends_like, fits, place_from, tries};
 
 // How many bytes of a pattern stand before its first `*`.
 fn plain_run(pattern: &[u8]) -> usize
@@ -29,6 +29,7 @@ fn alike(part: &[u8], name: &[u8]) -> usize
 fn fits(part: &[u8], name: &[u8], looked: &mut u64) -> bool
     ensures value { result ≡ fits part.now name.now }
     ensures within { OnTrue result (length part.now ≤ length name.now) }
+    ensures few { looked.new ≤ looked.old + (length part.now + 1) }
 {
     let size = alike(part, name);
     *looked = looked.saturating_add(size as u64 + 1);
@@ -36,10 +37,11 @@ fn fits(part: &[u8], name: &[u8], looked: &mut u64) -> bool
 }
 
 // The first place of a name where such a part stands for the bytes.
-#[tactic(auto, using(crate::proofs::Stars::part_walk))]
+#[tactic(auto, using(crate::proofs::Stars::part_walk, crate::proofs::Spending::tried_more))]
 fn place_of(part: &[u8], name: &[u8], looked: &mut u64) -> Option<usize>
     ensures value { result ≡ place_from part.now 0 name.now }
     ensures within { IfSome result (λ place. place + length part.now ≤ length name.now) }
+    ensures few { looked.new ≤ looked.old + tries (length name.now) result * (length part.now + 1) }
 {
     for place in 0..name.len() {
         if fits(part, name.split_at(place).1, looked) {
@@ -55,16 +57,18 @@ fn place_of(part: &[u8], name: &[u8], looked: &mut u64) -> Option<usize>
 
 // Whether such a part stands for the last bytes of a name.
 fn ends_like(part: &[u8], name: &[u8], looked: &mut u64) -> bool
-    ensures { result ≡ ends_like part.now name.now }
+    ensures value { result ≡ ends_like part.now name.now }
+    ensures few { looked.new ≤ looked.old + (length part.now + 1) }
 {
     part.len() <= name.len() && fits(part, name.split_at(name.len() - part.len()).1, looked)
 }
 
 // Whether a pattern means some end of a name: each part between two `*` at its first place behind the part
 // before, and the last part at the end of the name.
-#[tactic(auto, using(crate::proofs::Stars::star_walk))]
+#[tactic(auto, using(crate::proofs::Stars::star_walk, crate::proofs::Spending::spent_walk))]
 fn means_an_end(pattern: &[u8], name: &[u8], looked: &mut u64) -> bool
-    ensures { result ≡ some_end (matches pattern.now) name.now }
+    ensures value { result ≡ some_end (matches pattern.now) name.now }
+    ensures few { looked.new ≤ looked.old + (length pattern.now + 1) * (length name.now + 1) }
 {
     let mut parts = pattern;
     let mut rest = name;
@@ -81,10 +85,12 @@ fn means_an_end(pattern: &[u8], name: &[u8], looked: &mut u64) -> bool
     ends_like(parts, rest, looked)
 }
 
-/// Whether a pattern means a name. The bytes compared are added to `looked`.
-#[tactic(auto, using(crate::proofs::Stars::first_parts))]
+/// Whether a pattern means a name. The bytes compared are added to `looked`; they are at most the product of the
+/// two lengths, with one more each.
+#[tactic(auto, using(crate::proofs::Stars::first_parts, crate::proofs::Spending::spent_first))]
 pub(crate) fn means(pattern: &[u8], name: &[u8], looked: &mut u64) -> bool
-    ensures { result ≡ matches pattern.now name.now }
+    ensures value { result ≡ matches pattern.now name.now }
+    ensures few { looked.new ≤ looked.old + (length pattern.now + 1) * (length name.now + 1) }
 {
     let size = plain_run(pattern);
     if !fits(pattern.split_at(size).0, name, looked) {

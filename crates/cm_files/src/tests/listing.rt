@@ -16,20 +16,17 @@ fn sought(generation: Gen, deleted: bool) -> Sought<'static> {
     }
 }
 
-// How many files of the first directory are selected, one found after the other.
+// How many files of the connected directory are selected, one found after the other.
 fn listed<N: Names>(names: &N, sought: &Sought<'_>) -> u32 {
+    let directory = names.connected();
     let mut from = 0;
-    let mut found = 0;
-    for _ in 0..=names.rows(0) {
-        match select(names, 0, sought, from) {
-            Some(i) => {
-                found += 1;
-                from = i + 1;
-            }
+    for found in 0..=names.rows(directory) {
+        match select(names, directory, sought, from) {
+            Some(i) => from = i.saturating_add(1),
             None => return found,
         }
     }
-    found
+    names.rows(directory)
 }
 
 // How many files are listed of so many generations, and how many looks that takes.

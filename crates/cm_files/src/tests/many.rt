@@ -19,7 +19,6 @@ impl Names for Many {
 
     ghost catalogue = { λ many. many_catalogue many.unmarked many.count };
 
-    #[tactic(auto, using(crate::proofs::Multitude::many_is_catalogue))]
     fn directories(&self) -> u16 {
         let _ = self.count;
         1
@@ -37,7 +36,7 @@ impl Names for Many {
         None
     }
 
-    #[tactic(auto, using(crate::proofs::Multitude::many_is_catalogue, crate::proofs::Multitude::many_counted))]
+    #[tactic(auto, using(crate::proofs::Multitude::many_counted))]
     fn rows(&self, _directory: u16) -> u32 {
         self.count
     }
