@@ -6,10 +6,9 @@ use Rattle.cm_text.specs.Bytes.{is_name}
 use Rattle.cm_text.specs.Case.{begins_with}
 use Rattle.cm_text.specs.BeginLaws.{begins_longer, begins_whole, length-whole}
 use Rattle.cm_text.specs.declared.name.TheConstants.{NAME_LIMIT}
-use Rattle.cm_hooks.specs.Among.{are_names, completion_among, goes_on, is_name_text, only, rests, shared, under, verdict_among}
-use Rattle.cm_hooks.specs.declared.answer.Answer.TheVariants.{Yes}
+use Rattle.cm_hooks.specs.Among.{are_names, completion_among, goes_on, is_name_text, rests, shared, under, verdict_among}
 use Rattle.cm_hooks.specs.declared.answer.Tail.TheVariants as tails
-use Rattle.cm_hooks.specs.Meanings.{Completes, IsTaken, IsYes}
+use Rattle.cm_hooks.specs.Meanings.{Completes, IsYes}
 
 -- what all pass those behind some pass, and the first of them
 list_all-drop : (p : ℕ → Bool) (n : ℕ) (xs : List ℕ) → list_all p xs ≡ true → list_all p (drop n xs) ≡ true
