@@ -5,3 +5,6 @@ mod listing;
 mod phrase;
 
 pub use listing::help;
+
+#[cfg(test)]
+mod tests;
