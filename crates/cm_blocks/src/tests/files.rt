@@ -125,13 +125,19 @@ const WILD: Flags = Flags {
 type Trial<'a> = (Function, Flags, &'a [u8], Try);
 
 fn try_trials(rt: &impl Abort, alloc: Global, cases: &[Trial<'_>]) -> Result<(), Fail> {
-    let nodes = vec![in alloc; node(vec![in alloc; block(Function::Confirm, Role::None, 0)]?, None, false)]?;
+    let nodes = vec![in alloc;
+        node(
+            vec![in alloc; block(Function::Confirm, Role::None, 0)]?,
+            None,
+            false
+        ),
+    ]?;
     let grammar = Grammar::new(nodes, Vec::new(alloc))?;
     let hooks = hooks(alloc)?;
     for (function, flags, text, wanted) in cases {
         let block = Block {
             flags: *flags,
-            ..block(function.clone(), Role::Files, 0)
+            ..block(function.clone()?, Role::Files, 0)
         };
         assert!(rt; text.len() <= TEXT_LIMIT);
         assert!(rt;
@@ -154,21 +160,61 @@ fn try_trials(rt: &impl Abort, alloc: Global, cases: &[Trial<'_>]) -> Result<(),
 fn reads_users_and_directories(rt: HostRuntime) -> Result<(), Fail> {
     let new = Flags { new: true, ..PLAIN };
     let cases: [Trial<'_>; 14] = [
-        (Function::User, PLAIN, b"smith\r", accept(Value::User(1), 6, 5)),
+        (
+            Function::User,
+            PLAIN,
+            b"smith\r",
+            accept(Value::User(1), 6, 5),
+        ),
         (Function::User, PLAIN, b"SMITH", Try::More),
         (Function::User, PLAIN, b"SMITH:", refuse(Code::NoUser, 6)),
         (Function::User, PLAIN, b"SMI ", refuse(Code::NoUser, 4)),
         (Function::User, PLAIN, b"<SMITH>", refuse(Code::NoUser, 1)),
-        (Function::Directory, PLAIN, b"<SMITH>\r", accept(Value::Directory(1), 8, 7)),
-        (Function::Directory, PLAIN, b"ps: ", accept(Value::Directory(0), 4, 3)),
+        (
+            Function::Directory,
+            PLAIN,
+            b"<SMITH>\r",
+            accept(Value::Directory(1), 8, 7),
+        ),
+        (
+            Function::Directory,
+            PLAIN,
+            b"ps: ",
+            accept(Value::Directory(0), 4, 3),
+        ),
         (Function::Directory, PLAIN, b"<SMITH>", Try::More),
         // A bare name is that of a user alone.
-        (Function::Directory, PLAIN, b"SMITH ", refuse(Code::NoDirectory, 6)),
-        (Function::Directory, PLAIN, b"<X> ", refuse(Code::NoDirectory, 4)),
-        (Function::Directory, PLAIN, b"SRC: ", refuse(Code::NoLogical, 5)),
-        (Function::Directory, PLAIN, b"\r", refuse(Code::SpecShape, 1)),
+        (
+            Function::Directory,
+            PLAIN,
+            b"SMITH ",
+            refuse(Code::NoDirectory, 6),
+        ),
+        (
+            Function::Directory,
+            PLAIN,
+            b"<X> ",
+            refuse(Code::NoDirectory, 4),
+        ),
+        (
+            Function::Directory,
+            PLAIN,
+            b"SRC: ",
+            refuse(Code::NoLogical, 5),
+        ),
+        (
+            Function::Directory,
+            PLAIN,
+            b"\r",
+            refuse(Code::SpecShape, 1),
+        ),
         // A new one is named, and is no bare name either.
-        (Function::Directory, new, b"<X> ", accept(Value::NewDirectory(span(1, 2)), 4, 3)),
+        (
+            Function::Directory,
+            new,
+            b"<X> ",
+            accept(Value::NewDirectory(span(1, 2)), 4, 3),
+        ),
         (Function::Directory, new, b"X ", refuse(Code::SpecShape, 2)),
     ];
     try_trials(&rt, rt.alloc(), &cases)
@@ -198,7 +244,12 @@ fn reads_files_by_their_flags(rt: HostRuntime) -> Result<(), Fail> {
         (Function::InFile, PLAIN, b"A.OLD ", refuse(Code::NoFile, 6)),
         (Function::OutFile, PLAIN, b"A.OLD ", a_for(FileKind::Out)),
         (Function::AnyFile, PLAIN, b"A.OLD ", a_for(FileKind::Any)),
-        (Function::InFile, deleted, b"A.FOR ", refuse(Code::NoFile, 6)),
+        (
+            Function::InFile,
+            deleted,
+            b"A.FOR ",
+            refuse(Code::NoFile, 6),
+        ),
         // Wildcards.
         (Function::InFile, PLAIN, b"A.*\r", refuse(Code::WildHere, 4)),
         (
@@ -222,12 +273,37 @@ fn reads_files_by_their_flags(rt: HostRuntime) -> Result<(), Fail> {
             b"A ",
             accept(file(FileKind::In, span(0, 1), None), 2, 1),
         ),
-        (Function::OutFile, PLAIN, b"TTY: ", refuse(Code::SpecShape, 5)),
-        (Function::OutFile, from_source, b"TTY: ", refuse(Code::Device, 5)),
+        (
+            Function::OutFile,
+            PLAIN,
+            b"TTY: ",
+            refuse(Code::SpecShape, 5),
+        ),
+        (
+            Function::OutFile,
+            from_source,
+            b"TTY: ",
+            refuse(Code::Device, 5),
+        ),
         // Generations.
-        (Function::InFile, PLAIN, b"A.FOR.3 ", refuse(Code::NoFile, 8)),
-        (Function::InFile, PLAIN, b"A.FOR.-1 ", refuse(Code::GenRange, 9)),
-        (Function::OutFile, PLAIN, b"A.FOR.0 ", refuse(Code::GenRange, 8)),
+        (
+            Function::InFile,
+            PLAIN,
+            b"A.FOR.3 ",
+            refuse(Code::NoFile, 8),
+        ),
+        (
+            Function::InFile,
+            PLAIN,
+            b"A.FOR.-1 ",
+            refuse(Code::GenRange, 9),
+        ),
+        (
+            Function::OutFile,
+            PLAIN,
+            b"A.FOR.0 ",
+            refuse(Code::GenRange, 8),
+        ),
     ];
     try_trials(&rt, rt.alloc(), &cases)
 }
@@ -272,7 +348,11 @@ fn answer_files<L: Ledger, A: Abort>(
         assert!(rt; *node < grammar.nodes() && grammar.hooks() <= u16::from(hooks.len()));
         assert!(rt; text.len() <= TEXT_LIMIT && *at <= text.len());
         let chain = try_chain(&grammar, *node, text, *at, &Shelves, &hooks, &mut steps);
-        assert_eq!(rt; answer_of(chain), *wanted, "node {node} on {text:?} from {at}");
+        assert_eq!(rt;
+            answer_of(chain),
+            *wanted,
+            "node {node} on {text:?} from {at}"
+        );
     }
     Ok(())
 }
@@ -284,7 +364,12 @@ fn takes_users_directories_and_files(rt: HostRuntime) -> Result<(), Fail> {
     let ab_txt = file(FileKind::In, span(0, 2), Some(span(3, 6)));
     let operator = Value::Directory(0);
     let cases: [Case<'_>; 12] = [
-        (0, b" A.* ;x\r", 0, typed((0, 0), a_all, (1, 4, 5), Role::Source, 1)),
+        (
+            0,
+            b" A.* ;x\r",
+            0,
+            typed((0, 0), a_all, (1, 4, 5), Role::Source, 1),
+        ),
         (1, b"A.FOR\r", 5, Answered::Done(5)),
         (0, b"A.FOR", 0, open(0, Some(0), 0)),
         (0, b" B\r", 0, fault(Code::NoFile, 0, 1)),
@@ -294,9 +379,24 @@ fn takes_users_directories_and_files(rt: HostRuntime) -> Result<(), Fail> {
         (2, b"SMITH", 0, open(2, Some(0), 0)),
         (2, b"<SMITH>", 0, open(2, Some(1), 0)),
         // The default is read by the same functions; its spans are places in it.
-        (2, b" \r", 0, defaulted((2, 1), operator, (1, 2), Role::Files, 1)),
-        (3, b"\r", 0, defaulted((3, 0), ab_txt, (0, 1), Role::Source, 1)),
-        (3, b"A.FOR\r", 5, defaulted((3, 0), ab_txt, (5, 6), Role::Source, 1)),
+        (
+            2,
+            b" \r",
+            0,
+            defaulted((2, 1), operator, (1, 2), Role::Files, 1),
+        ),
+        (
+            3,
+            b"\r",
+            0,
+            defaulted((3, 0), ab_txt, (0, 1), Role::Source, 1),
+        ),
+        (
+            3,
+            b"A.FOR\r",
+            5,
+            defaulted((3, 0), ab_txt, (5, 6), Role::Source, 1),
+        ),
     ];
     answer_files::<Brand, _>(&rt, &rt, Blank::new(1), &cases)
 }

@@ -1,8 +1,8 @@
 // Files by example.
 
 use super::Sample;
-use crate::{FileKind, Flags, Names, file};
-use cm_fields::{Code, Gen, Span, Spec, Try, Value};
+use crate::{Flags, Names, file};
+use cm_fields::{Code, FileKind, Gen, Span, Spec, Try, Value};
 use cm_text::TEXT_LIMIT;
 use std::process::Abort;
 
@@ -198,7 +198,11 @@ fn parts_are_places_of_the_text(rt: HostRuntime) {
     assert_eq!(rt;
         file(FileKind::In, Flags::default(), &Sample, text, 5),
         Try::Accept {
-            value: Value::File { spec, directory: 1 },
+            value: Value::File {
+                kind: FileKind::In,
+                spec,
+                directory: 1
+            },
             looked: 20,
             end: 24
         }
