@@ -41,31 +41,35 @@ fn looks(rt: &impl Abort, count: u32, is_last: bool, sought: &Sought<'_>) -> (u3
     (listed(&many, sought), many.looked.get())
 }
 
+// Four times as many files take four times as many looks, at most five for each file.
+fn keeps_proportion(rt: &impl Abort, is_last: bool, sought: &Sought<'_>, wanted: (u32, u32)) {
+    let (few, short) = looks(rt, 1024, is_last, sought);
+    let (more, long) = looks(rt, 4096, is_last, sought);
+    assert_eq!(rt; (few, more), wanted);
+    assert!(rt;
+        u64::from(long) <= 4 * u64::from(short) + 16,
+        "{long} and {short} looks"
+    );
+    assert!(rt; long <= 5 * 4096, "{long} looks");
+}
+
 // All but one of the files are seen, or one alone, which is the first or the last.
 #[test]
 fn a_listing_takes_time_in_proportion(rt: HostRuntime) {
-    for (generation, deleted, of_1024, of_4096) in [
-        (Gen::All, true, 1023, 4095),
-        (Gen::Missing, true, 1, 1),
-        (Gen::Highest, true, 1, 1),
-        (Gen::Lowest, true, 1, 1),
-        (Gen::Number(2), true, 1, 1),
-        (Gen::Next, true, 0, 0),
-        (Gen::Highest, false, 1, 1),
-        (Gen::Lowest, false, 1, 1),
-        (Gen::All, false, 1, 1),
+    for (generation, deleted, wanted) in [
+        (Gen::All, true, (1023, 4095)),
+        (Gen::Missing, true, (1, 1)),
+        (Gen::Highest, true, (1, 1)),
+        (Gen::Lowest, true, (1, 1)),
+        (Gen::Number(2), true, (1, 1)),
+        (Gen::Next, true, (0, 0)),
+        (Gen::Highest, false, (1, 1)),
+        (Gen::Lowest, false, (1, 1)),
+        (Gen::All, false, (1, 1)),
     ] {
-        for is_last in [false, true] {
-            let sought = sought(generation, deleted);
-            let (few, short) = looks(&rt, 1024, is_last, &sought);
-            let (more, long) = looks(&rt, 4096, is_last, &sought);
-            assert_eq!(rt; (few, more), (of_1024, of_4096), "{generation:?}");
-            assert!(rt;
-                long <= 4 * short + 16,
-                "{long} and {short} looks, {generation:?}"
-            );
-            assert!(rt; long <= 5 * 4096, "{long} looks, {generation:?}");
-        }
+        let sought = sought(generation, deleted);
+        keeps_proportion(&rt, false, &sought, wanted);
+        keeps_proportion(&rt, true, &sought, wanted);
     }
 }
 
