@@ -8,8 +8,7 @@ use Rattle.ex_grammar.specs.ExecRules.{exec_meanings}
 use Rattle.ex_grammar.specs.Graph.{exec_graph}
 use Rattle.ex_grammar.specs.declared.node.TheConstants.{COMMANDS}
 use Rattle.ex_grammar.proofs.Faultless.{graph_has_no_fault, graph_hooks, graph_nodes}
-use Rattle.ex_program.specs.Catalogue.{operator_catalogue}
-use Rattle.ex_program.specs.Setting.{exec_setting}
+use Rattle.ex_program.specs.Setting.{exec_setting, operator}
 
 pub exec_has_no_fault : grammar_fault exec_setting.graph ≡ None
 unfolding exec_setting
@@ -22,7 +21,7 @@ pub exec_has_commands : COMMANDS < length exec_setting.graph.nodes
 unfolding exec_setting
 exec_has_commands = has_commands exec_graph refl
 
-pub is_exec : (graph : Graph) (catalogue : Catalogue) → graph ≡ exec_graph → catalogue ≡ operator_catalogue
+pub is_exec : (graph : Graph) (catalogue : Catalogue) → graph ≡ exec_graph → catalogue ≡ operator
     → setting graph catalogue exec_meanings ≡ exec_setting
 unfolding exec_setting
 is_exec graph catalogue of_exec of_operator =

@@ -1,6 +1,5 @@
 pub mod Parts
 pub mod ExecSetting
-pub mod Commands
 pub mod Steps
 pub mod Folds
 pub mod Running

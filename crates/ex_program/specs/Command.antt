@@ -1,35 +1,17 @@
 -- What a confirmed line commands, and the reply to it.
-use Rattle.std.specs.Prelude.{ℕ, ◌==◌, List, [], ◌++◌, find, codes, Bool, if◌then◌else◌, Option, Some, None}
+use Rattle.std.specs.Prelude.{ℕ, ◌==◌, List, [], ◌++◌, codes, if◌then◌else◌, Option, Some, None}
 use Rattle.std.specs.Option.{option_map_or}
 use Rattle.cm_text.specs.Shown.{end_of_line}
 use Rattle.cm_fields.specs.declared.code.Code.TheVariants.{NoDefinition}
 use Rattle.cm_fields.specs.declared.value.Value.{Value}
 use Rattle.cm_fields.specs.declared.value.Value.TheVariants.{Key}
-use Rattle.cm_blocks.specs.declared.function.Role.{Role}
 use Rattle.cm_blocks.specs.declared.function.Role.TheVariants as roles
 use Rattle.cm_blocks.specs.Taken.{Taken}
 use Rattle.cm_state.specs.Echo.{refusal}
+use Rattle.cm_state.specs.Roles.{field_of}
 use Rattle.ex_grammar.specs.declared.code.TheConstants.{INFORMATION, LOGOUT, REMARK, VERSION}
 use Rattle.ex_program.specs.declared.command.Command.{Command}
 use Rattle.ex_program.specs.declared.command.Command.TheVariants.{Empty, Define, Information, Logout, Remark}
-
--- the number of a role, by which two are compared
-abbrev pub role_number : Role → ℕ
-role_number roles.None = 0
-role_number roles.Verb = 1
-role_number roles.What = 2
-role_number roles.Source = 3
-role_number roles.Target = 4
-role_number roles.Files = 5
-role_number roles.Sub = 6
-role_number roles.Value = 7
-
-abbrev pub is_role : Role → Role → Bool
-is_role wanted role = role_number role == role_number wanted
-
--- the first field of a role
-abbrev pub field_of : Role → List Taken → Option Taken
-field_of wanted fields = find (λ field. is_role wanted field.role) fields
 
 -- the code of a keyword
 abbrev pub keyword_code : Value → ℕ

@@ -1,4 +1,3 @@
-pub mod Catalogue
 pub mod Cause
 pub mod Command
 pub mod Cut

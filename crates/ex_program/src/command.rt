@@ -6,7 +6,7 @@ ghost use Rattle.std.specs.Option.{option_copied};
 ghost use Rattle.cm_io.specs.Told.{Adds};
 ghost use Rattle.cm_io.specs.Fault.{PutCause};
 ghost use Rattle.cm_state.specs.Echo.{refusal};
-ghost use Rattle.ex_program.specs.Command.{code_of, command_of, farewell, field_of, is_role, keyword_code, named, reply, told, version};
+ghost use Rattle.ex_program.specs.Command.{code_of, command_of, farewell, keyword_code, named, reply, told, version};
 
 use cm_blocks::{Field, Role};
 use cm_fields::{Code, Value};
@@ -37,32 +37,13 @@ pub enum Command {
 pub(crate) fn command_of(session: &Session<ExecRules>) -> Command
     ensures { result ≡ command_of session.now.fields }
 {
-    match field_of(session, Role::Verb) {
+    match session.field_of(Role::Verb) {
         Some(verb) => named(
             keyword_code(verb.value()),
-            code_of(field_of(session, Role::What)),
+            code_of(session.field_of(Role::What)),
         ),
         None => Command::Empty,
     }
-}
-
-// The first field of a role.
-fn field_of(session: &Session<ExecRules>, wanted: Role) -> Option<&Field>
-    ensures { option_copied result ≡ field_of wanted session.now.fields }
-{
-    for number in 0..session.held() {
-        let field = session.field(number);
-        if is_role(wanted, field.role()) {
-            return Some(field);
-        }
-    }
-    None
-}
-
-fn is_role(wanted: Role, role: Role) -> bool
-    ensures { result ≡ is_role wanted role }
-{
-    role == wanted
 }
 
 // The code of a keyword, or 0.

@@ -17,10 +17,9 @@ ghost use Rattle.ex_program.specs.Setting.{exec_setting};
 ghost use Rattle.ex_program.specs.Stop.{IsRun};
 ghost use Rattle.ex_program.specs.declared.run.TheConstants.{KEY_LIMIT};
 
-use crate::catalogue::Operator;
 use crate::end::{close, show_message};
 use crate::run::run;
-use crate::setting::Setting;
+use crate::setting::{Setting, operator};
 use crate::{Status, Words, words};
 use cm_blocks::Steps;
 use cm_hooks::Hooks;
@@ -189,7 +188,7 @@ pub fn exec20<H: Host, K: Source, S: Sink, W: Sink, C: Clock, L: Ledger>(
     };
     let under = Setting {
         grammar,
-        names: Operator::new(),
+        names: operator(),
         hooks,
     };
     run_all(form, &under, host, keys, screen, log, clock, steps)

@@ -278,14 +278,14 @@ fn tells_its_fields(rt: HostRuntime) -> Result<(), Fail> {
     Ok(())
 }
 
-// A field is found by its role.
+// A field is found by its role: INF and the guide word, which is left out; VER is no field before the line goes on.
 #[test]
 fn finds_a_field_by_its_role(rt: HostRuntime) -> Result<(), Fail> {
     let run = run_of_two_fields::<Brand, _>(&rt, &rt, Blank::new(1))?;
     for (role, node) in [
         (Role::Verb, Some(0)),
-        (Role::What, Some(27)),
-        (Role::Value, None),
+        (Role::None, Some(26)),
+        (Role::What, None),
     ] {
         assert_eq!(rt; run.session.field_of(role).map(|field| field.node()), node);
     }
