@@ -204,9 +204,9 @@ fn confirms(nodes: &[Node]) -> bool
     nodes.iter().any(chain_confirms)
 }
 
-/// The first fault of all.
+// The first fault of all.
 #[tactic(auto, unfolding(crate::specs::Fault::grammar_fault))]
-pub fn grammar_fault(nodes: &[Node], tables: &[Table]) -> Option<GrammarFault>
+pub(crate) fn grammar_fault(nodes: &[Node], tables: &[Table]) -> Option<GrammarFault>
     ensures { result ≡ grammar_fault (record { nodes = nodes.now; tables = tables.now }) }
 {
     if !has_size(nodes, tables) {

@@ -1,3 +1,4 @@
+pub mod Ends
 pub mod Finishing
 pub mod Holding
 pub mod Runs

@@ -1,5 +1,7 @@
 // Blanks and comments before a field.
 ghost use Rattle.std.specs.Prelude.{◌≡◌, ◌≤◌, length, IfSome};
+ghost use Rattle.std.specs.List.{prefix_len};
+ghost use Rattle.cm_text.specs.Bytes.{is_blank};
 ghost use Rattle.cm_fields.specs.Skip.{ended, passed, skip};
 
 use cm_text::is_blank;
@@ -29,6 +31,14 @@ fn passed(raw: bool, comment: Comment, byte: u8) -> Option<Comment>
     }
 }
 
+// How many blanks stand in front.
+fn blank_run(rest: &[u8]) -> usize
+    ensures value { result ≡ prefix_len is_blank rest.now }
+    ensures within { result ≤ length rest.now }
+{
+    rest.iter().take_while(|byte| is_blank(**byte)).count()
+}
+
 /// The first place at or behind `at` that is past blanks and, unless the text is raw, comments. A comment goes
 /// from `!` to the next `!`, or from `;` or an unclosed `!` to the carriage return. None exactly where a comment
 /// is not ended in a text that is not finished.
@@ -37,11 +47,12 @@ pub fn skip(raw: bool, text: &[u8], at: usize) -> Option<usize>
     ensures value { result ≡ skip raw text.now at }
     ensures within { IfSome result (λ place. (at ≤ place) × (place ≤ length text.now)) }
 {
+    let start = at + blank_run(&text[at..]);
     let mut comment = Comment::Outside;
-    for (size, byte) in text[at..].iter().enumerate() {
+    for (size, byte) in text[start..].iter().enumerate() {
         match passed(raw, comment, *byte) {
             Some(next) => comment = next,
-            None => return Some(at + size),
+            None => return Some(start + size),
         }
     }
     match comment {

@@ -1,11 +1,18 @@
 // The rest of the line.
-ghost use Rattle.std.specs.Prelude.{◌≡◌, ◌+◌, ◌<◌, ◌≤◌, ◌^◌, drop, length};
-ghost use Rattle.std.specs.List.{prefix_len};
+ghost use Rattle.std.specs.Prelude.{◌≡◌, ◌+◌, ◌<◌, ◌≤◌, ◌==◌, ◌^◌, drop, length};
+ghost use Rattle.std.specs.List.{list_any, prefix_len};
 ghost use Rattle.cm_fields.specs.Text.{is_inside, text_field, text_of};
 
 use crate::trial::{said, span_of};
 use crate::{Code, Try, Value};
 use cm_text::TEXT_LIMIT;
+
+// Whether the line ends here. A slice's `contains` looks at several bytes at once.
+fn has_end(rest: &[u8]) -> bool
+    ensures { result ≡ list_any (λ byte. byte == 13) rest.now }
+{
+    rest.contains(&b'\r')
+}
 
 // How many bytes stand before the end of the line.
 fn inside_run(rest: &[u8]) -> usize
@@ -30,9 +37,9 @@ pub fn text_field(text: &[u8], at: usize) -> Try
     ensures { result ≡ text_field (drop at text.now) at }
 {
     let rest = &text[at..];
-    let size = inside_run(rest);
-    if size == rest.len() {
+    if !has_end(rest) {
         return Try::More;
     }
+    let size = inside_run(rest);
     said(at, size, size + 1, text_of(at, &rest[..size]))
 }

@@ -55,7 +55,8 @@ first_put s atom at (block ∷ more) = or_put (put_in s.graph (outcome s block a
 -- where nothing is typed the default of the node, and a space
 abbrev pub default_put : List ℕ → Option (List ℕ) → Option Insertion
 default_put atom None = None
-default_put atom (Some text) = if length atom == 0 then Some (record { bytes = text ++ 32 ∷ []; bell = false }) else None
+default_put atom (Some text) =
+    if length atom == 0 then Some (record { bytes = text ++ 32 ∷ []; bell = false }) else None
 
 -- ESC takes the default, and else asks the blocks from this one on; control-F asks those that read file names and
 -- directories alone, and there are none yet

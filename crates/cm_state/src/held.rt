@@ -1,7 +1,6 @@
 // What a session holds of lines and texts.
 ghost use Rattle.std.specs.Prelude.{◌≡◌, ◌≤◌, None, length, take, if◌then◌else◌};
 ghost use Rattle.cm_text.specs.Text.{finished};
-ghost use Rattle.cm_blocks.specs.Kept.{common};
 ghost use Rattle.cm_blocks.specs.Parse.{open_at};
 ghost use Rattle.cm_state.specs.Edit.{before_fault};
 
@@ -19,16 +18,6 @@ pub(crate) fn text_of(line: &Line, is_finished: bool) -> &[u8]
     } else {
         line.bytes()
     }
-}
-
-// How many bytes two lines begin with alike.
-pub(crate) fn common(line: &[u8], other: &[u8]) -> usize
-    ensures { result ≡ common line.now other.now }
-{
-    line.iter()
-        .zip(other)
-        .take_while(|pair| pair.0 == pair.1)
-        .count()
 }
 
 // Of a refused line, the bytes before its faulty field.

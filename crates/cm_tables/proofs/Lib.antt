@@ -1,5 +1,6 @@
 pub mod CommonLemmas
 pub mod FoundLemmas
+pub mod Listing
 mod SearchLemmas
 pub mod SharingLemmas
 pub mod WithinLemmas

@@ -1,31 +1,18 @@
 // How the entries go on alike that an atom may abbreviate.
-ghost use Rattle.std.specs.Prelude.{◌≡◌, ◌≤◌, drop, length, nat_eq};
-ghost use Rattle.std.specs.List.{common_prefix_len};
+ghost use Rattle.std.specs.Prelude.{◌≡◌, ◌≤◌, drop, length};
 ghost use Rattle.std.specs.Option.{option_copied, option_map_or};
 ghost use Rattle.cm_tables.specs.Common.{common, shared};
 
 use crate::Entry;
 use crate::search::may_abbreviate;
-use cm_text::NAME_LIMIT;
-
-// How many bytes two texts begin with alike.
-fn same_bytes(text: &[u8], other: &[u8]) -> usize
-    ensures value { result ≡ common_prefix_len nat_eq text.now other.now }
-    ensures within_text { result ≤ length text.now }
-    ensures within_other { result ≤ length other.now }
-{
-    text.iter()
-        .zip(other)
-        .take_while(|(byte, other)| byte == other)
-        .count()
-}
+use cm_text::{NAME_LIMIT, common_len};
 
 // The longest text that both begin with.
 fn shared<'a>(text: &'a [u8], other: &[u8]) -> &'a [u8]
     ensures value { result.now ≡ shared text.now other.now }
     ensures within { length result.now ≤ length other.now }
 {
-    &text[..same_bytes(text, other)]
+    &text[..common_len(text, other)]
 }
 
 // What stands behind an atom in an entry that is no shorter.

@@ -5,6 +5,7 @@ mod common;
 mod entry;
 mod fault;
 pub mod laws;
+mod listed;
 mod search;
 mod table;
 

@@ -1,11 +1,12 @@
 // Keyword tables.
-ghost use Rattle.std.specs.Prelude.{◌≡◌, ◌<◌, ◌≤◌, List, length, Some, None, MatchResult, slice_get, vec_len};
+ghost use Rattle.std.specs.Prelude.{◌≡◌, ◌<◌, ◌≤◌, List, length, Some, None, IfSome, MatchResult, slice_get, vec_len};
 ghost use Rattle.cm_tables.specs.Common.{common};
+ghost use Rattle.cm_tables.specs.Listed.{next_listed};
 ghost use Rattle.cm_tables.specs.Look.{IsWithin, has_text, look};
 ghost use Rattle.cm_tables.specs.Order.{table_fault};
 
 use crate::fault::{ENTRY_LIMIT, table_fault};
-use crate::{Entry, common, search};
+use crate::{Entry, common, listed, search};
 use cm_text::NAME_LIMIT;
 use std::marker::Model;
 use thiserror::Error;
@@ -131,6 +132,17 @@ impl Table {
         ensures within { length result.now ≤ NAME_LIMIT }
     {
         common::common(&self.entries, atom)
+    }
+
+    /// The position of the first entry at or behind a position that a list shows where the atom was typed, as `?` wants
+    /// it (TBLUK): a Plain entry that begins with the atom, with no regard to the case of letters. None where there is
+    /// no more such entry, as from a position past the end.
+    pub fn next_listed(&self, from: u16, atom: &[u8]) -> Option<u16>
+        ensures value { result ≡ next_listed self.now from atom.now }
+        // It is a position of the table, and not before the one that was given.
+        ensures within { IfSome result (λ position. (from ≤ position) × (position < length self.now)) }
+    {
+        listed::next_listed(&self.entries, from, atom)
     }
 }
 

@@ -1,12 +1,14 @@
 //! The words that every crate shares: classes of bytes, letters without case, names, and fixed texts.
 #![tactic(auto)]
 
+mod alike;
 mod bytes;
 mod case;
 mod name;
 mod shown;
 mod text;
 
+pub use alike::common_len;
 pub use bytes::{is_blank, is_name, is_text, is_word};
 pub use case::{begins_with, equals};
 pub use name::{NAME_LIMIT, Name};

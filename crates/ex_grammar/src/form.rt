@@ -1,12 +1,11 @@
 // The names of forms.
 ghost use Rattle.std.specs.Prelude.{◌≡◌, ◌<◌, ◌≤◌, ◌==◌, drop, length, if◌then◌else◌};
-ghost use Rattle.std.specs.List.{common_prefix_len};
 ghost use Rattle.std.specs.Str.{IsAscii};
 ghost use Rattle.cm_text.specs.Case.{begins_with};
 ghost use Rattle.ex_grammar.specs.FormName.{form_completion, form_verdict, joined, shared};
 
 use cm_hooks::{Answer, Tail};
-use cm_text::{Name, begins_with};
+use cm_text::{Name, begins_with, common_len};
 
 // The forms, in the order of their numbers.
 const NARROW: &str = "NARROW";
@@ -31,23 +30,12 @@ pub(crate) fn form_verdict(atom: &[u8]) -> Answer
     }
 }
 
-// How many bytes two texts begin with alike.
-fn shared_len(text: &[u8], other: &[u8]) -> usize
-    ensures value { result ≡ common_prefix_len ◌==◌ text.now other.now }
-    ensures within { result ≤ length text.now }
-{
-    text.iter()
-        .zip(other)
-        .take_while(|(byte, next)| byte == next)
-        .count()
-}
-
 // What a text begins with as another does.
 fn shared<'a>(other: &[u8], text: &'a str) -> &'a str
     requires { IsAscii text.now }
     ensures { result.now ≡ shared other.now text.now }
 {
-    &text[..shared_len(text.as_bytes(), other)]
+    &text[..common_len(text.as_bytes(), other)]
 }
 
 // A completion, with what is left of one form more where that begins with the atom.

@@ -12,12 +12,13 @@ ghost use Rattle.cm_state.specs.Front.{front};
 ghost use Rattle.cm_state.specs.Held.{met_line, text_of};
 
 use crate::Session;
-use crate::held::{common, open_at};
+use crate::held::open_at;
 use cm_blocks::Grammar;
 use cm_files::Names;
 use cm_hooks::{Hooks, Rules};
 use cm_line::KeyClass;
 use cm_recognise::{Mode, complete};
+use cm_text::common_len;
 
 // What a key has made of a line.
 #[derive(Clone, Copy)]
@@ -133,7 +134,7 @@ impl<R: Rules> Session<R> {
         ensures { result ≡ front class self.now.line self.now.kept }
     {
         match (class, &self.kept) {
-            (KeyClass::Back, Some(kept)) => common(self.line.bytes(), kept.bytes()),
+            (KeyClass::Back, Some(kept)) => common_len(self.line.bytes(), kept.bytes()),
             _ => self.line.bytes().len(),
         }
     }

@@ -228,3 +228,43 @@ fn gives_its_entries(rt: HostRuntime) -> Result<(), Fail> {
     assert_eq!(rt; baker.flag, Flag::Invisible);
     Ok(())
 }
+
+#[test]
+fn lists_plain_entries_alone(rt: HostRuntime) -> Result<(), Fail> {
+    let keywords = [
+        ("D", Flag::Short(2)),
+        ("DEASSIGN", Flag::Invisible),
+        plain("DEFINE"),
+        plain("DIRECTORY"),
+        ("DISMOUNT", Flag::NoRecognise),
+        plain("EXIT"),
+    ];
+    let table = Table::new(entries(&rt, rt.alloc(), &keywords)?)?;
+    for (from, atom, found) in [
+        (0, "", Some(2)),
+        (2, "", Some(2)),
+        (3, "", Some(3)),
+        (4, "", Some(5)),
+        (5, "", Some(5)),
+        (6, "", None),
+        (7, "", None),
+        (u16::MAX, "", None),
+        (0, "D", Some(2)),
+        (0, "DI", Some(3)),
+        (0, "di", Some(3)),
+        (0, "directory", Some(3)),
+        (4, "D", None),
+        (0, "DEA", None),
+        (0, "DIS", None),
+        (0, "E", Some(5)),
+        (0, "EXITS", None),
+        (0, "X", None),
+    ] {
+        assert_eq!(rt;
+            table.next_listed(from, atom.as_bytes()),
+            found,
+            "{atom} from {from}"
+        );
+    }
+    Ok(())
+}

@@ -4,4 +4,5 @@ use Rattle.cm_fields.proofs.skipped.skip.Given as goal
 
 -- from here on the text is passed over as from the place on
 abbrev pub invariant-loop-size : goal.invariant-loop-size
-invariant-loop-size l = skip_from l.raw l.comment (l.at + l.size) (drop l.size (drop l.at l.text)) ≡ skip l.raw l.text l.at
+invariant-loop-size l =
+    skip_from l.raw l.comment (l.start + l.size) (drop l.size (drop l.start l.text)) ≡ skip l.raw l.text l.at
