@@ -1,3 +1,4 @@
+pub mod Gathering
 pub mod Going
 pub mod Guides
 pub mod Keywords
@@ -7,3 +8,9 @@ pub mod Putting
 pub mod Spans
 pub mod Taking
 pub mod Texts
+pub mod Coming
+pub mod Lowered
+pub mod Sections
+pub mod Typed
+pub mod Completing
+pub mod Directories

@@ -20,8 +20,8 @@ use cm_hooks::{Hooks, Rules, Tail};
 use cm_tables::{Look, Table};
 use cm_text::{LINE_LIMIT, Name, TEXT_LIMIT, begins_with};
 
-// The most bytes with which a field goes on: a guide word of 39 bytes in parentheses.
-pub(crate) const TAIL_LIMIT: usize = 41;
+// The most bytes with which a field goes on: a name and a type of 39 bytes, each with its point, and a generation of 10.
+pub(crate) const TAIL_LIMIT: usize = 90;
 
 /// How a field goes on of which the beginning is typed (COMND's recognition).
 #[derive(Debug, Drop)]
@@ -42,7 +42,7 @@ pub enum Outcome {
 }
 
 // What is missing behind an atom of a text that begins with it.
-fn missing(text: &[u8], atom: &[u8]) -> Bytes
+pub(crate) fn missing(text: &[u8], atom: &[u8]) -> Bytes
     requires { length text.now ≤ TAIL_LIMIT }
     ensures value { result ≡ missing text.now atom.now }
     ensures short { length result ≤ length text.now }
@@ -85,15 +85,13 @@ fn entry_outcome(switch: bool, table: &Table, atom: &[u8], position: u16) -> Out
     }
 }
 
-// A copy of at most 41 bytes.
+// A copy of at most 90 bytes.
 fn copied(text: &[u8]) -> Bytes
     requires { length text.now ≤ TAIL_LIMIT }
     ensures value { result ≡ text.now }
     ensures short { length result ≤ TAIL_LIMIT }
 {
-    let mut bytes = Bytes::new();
-    bytes.append(text);
-    bytes
+    Bytes::of(text)
 }
 
 // What several entries share, unless one of them has the atom for its text.
