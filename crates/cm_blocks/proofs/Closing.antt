@@ -11,6 +11,7 @@ use Rattle.cm_fields.specs.declared.code.Code.{Code}
 use Rattle.cm_fields.specs.declared.code.Code.TheVariants.{NotConfirmed}
 use Rattle.cm_fields.specs.declared.trial.Try.{Try}
 use Rattle.cm_fields.specs.declared.trial.Try.TheVariants.{Accept, Refuse, More}
+use Rattle.cm_fields.specs.declared.value.FileKind.TheVariants.{In, Out, Any}
 use Rattle.cm_fields.specs.Finish.{Decides, DecidesFinished, has_no_end}
 use Rattle.cm_fields.specs.Phrase.{same_letter}
 use Rattle.cm_fields.specs.Run.{number_of, word_of}
@@ -18,13 +19,15 @@ use Rattle.cm_fields.specs.Text.{is_inside, text_of}
 use Rattle.cm_fields.proofs.Finishing.{comma_decides, confirm_decides, mark_inside, noise_decides, not_all, quoted_decides, run_decides, run_finishes, token_decides}
 use Rattle.cm_fields.proofs.Holding.{holds_of_choice, of_choice}
 use Rattle.cm_fields.proofs.Skipping.{skip_finds}
+use Rattle.cm_files.specs.declared.flags.Flags.{Flags}
+use Rattle.cm_files.proofs.Fielding.{directory_decides, file_decides, user_decides}
 use Rattle.cm_hooks.specs.Field.{hook_of}
 use Rattle.cm_blocks.specs.declared.chain.Walk.{Walk}
 use Rattle.cm_blocks.specs.declared.chain.Walk.TheVariants.{Takes, Wants, Fails}
 use Rattle.cm_blocks.specs.declared.field.Chain.{Chain}
 use Rattle.cm_blocks.specs.declared.field.Chain.TheVariants as chain
 use Rattle.cm_blocks.specs.declared.function.Function.{Function}
-use Rattle.cm_blocks.specs.declared.function.Function.TheVariants.{Key, Switch, Noise, Number, Word, Quoted, Token, Text, Comma, Confirm, Hook}
+use Rattle.cm_blocks.specs.declared.function.Function.TheVariants.{Key, Switch, Noise, Number, Word, Quoted, Token, User, Directory, InFile, OutFile, AnyFile, Text, Comma, Confirm, Hook}
 use Rattle.cm_blocks.specs.declared.node.Block.{Block}
 use Rattle.cm_blocks.specs.declared.node.Node.{Node}
 use Rattle.cm_blocks.specs.Chain.{Counted, at_node, by_default, chain_at, default_place, default_rest, defaulted, is_confirm, is_line_end, on_default, on_text, or_later, past_skip, typed, walk}
@@ -78,20 +81,26 @@ shown_has_no_end (byte ∷ phrase) shown =
     let both = and_parts (is_shown_byte byte) _ shown in
     rw (shown_differs byte both.0) (shown_has_no_end phrase both.1)
 
-trial_decides : (s : Setting) (function : Function) → has_phrase function ≡ true → DecidesFinished (trial s function)
+trial_decides : (s : Setting) (function : Function) (flags : Flags) → has_phrase function ≡ true
+    → DecidesFinished (trial s function flags)
 unfolding trial is_word is_name
-trial_decides s (Key table) phrase =
+trial_decides s (Key table) flags phrase =
     run_decides is_word (λ at run. key_value (table_of s.graph table) (entry_position (table_of s.graph table) run)) refl
-trial_decides s (Switch table) phrase = switch_decides (table_of s.graph table)
-trial_decides s (Noise text) phrase = noise_decides text
-trial_decides s Number phrase = run_decides is_word (λ at. number_of) refl
-trial_decides s Word phrase = run_decides is_word word_of refl
-trial_decides s Quoted phrase = quoted_decides
-trial_decides s (Token text) phrase = token_decides text (shown_has_no_end text (and_parts _ (is_shown text) phrase).1)
-trial_decides s Text phrase = run_decides is_inside text_of refl
-trial_decides s Comma phrase = comma_decides
-trial_decides s Confirm phrase = confirm_decides
-trial_decides s (Hook id) phrase = run_decides is_name (λ at. hook_of s.meanings.verdict id) refl
+trial_decides s (Switch table) flags phrase = switch_decides (table_of s.graph table)
+trial_decides s (Noise text) flags phrase = noise_decides text
+trial_decides s Number flags phrase = run_decides is_word (λ at. number_of) refl
+trial_decides s Word flags phrase = run_decides is_word word_of refl
+trial_decides s Quoted flags phrase = quoted_decides
+trial_decides s (Token text) flags phrase = token_decides text (shown_has_no_end text (and_parts _ (is_shown text) phrase).1)
+trial_decides s User flags phrase = user_decides s.catalogue
+trial_decides s Directory flags phrase = directory_decides flags.new s.catalogue
+trial_decides s InFile flags phrase = file_decides s.catalogue In flags
+trial_decides s OutFile flags phrase = file_decides s.catalogue Out flags
+trial_decides s AnyFile flags phrase = file_decides s.catalogue Any flags
+trial_decides s Text flags phrase = run_decides is_inside text_of refl
+trial_decides s Comma flags phrase = comma_decides
+trial_decides s Confirm flags phrase = confirm_decides
+trial_decides s (Hook id) flags phrase = run_decides is_name (λ at. hook_of s.meanings.verdict id) refl
 
 -- a walk over a finished text wants no more
 abbrev WalkDecides : ℕ → ℕ → Walk → Type 0
@@ -109,8 +118,8 @@ walk_decides : (s : Setting) (line : List ℕ) (at number looked : ℕ) (code : 
     → All (IsWellBlock s.graph) blocks → WalkDecides at (length line) (walk s (finished line) at number looked code blocks)
 walk_decides s line at number looked code [] well = tt
 walk_decides s line at number looked code (block ∷ more) well =
-    or_later_decides s.graph at (length line) number _ block (trial s block.function (finished line) at) _
-    (trial_decides s block.function (well 0 block (omega arith)).phrase line at)
+    or_later_decides s.graph at (length line) number _ block (trial s block.function block.flags (finished line) at) _
+    (trial_decides s block.function block.flags (well 0 block (omega arith)).phrase line at)
     (walk_decides s line at (number + 1) _ _ more (λ k d below. well (suc k) d (omega arith)))
 
 -- the chain of a node decides on a finished text, and its field does not pass the line

@@ -28,7 +28,7 @@ use Rattle.cm_blocks.proofs.Wells.{well_node}
 
 -- the walk by the answer of its first block
 pub walk_step : (s : Setting) (rest : List ℕ) (at number looked : ℕ) (code : Code) (block : Block) (blocks : List Block) (answer : Try)
-    → trial s block.function rest at ≡ answer
+    → trial s block.function block.flags rest at ≡ answer
     → walk s rest at number looked code (block ∷ blocks)
     ≡ or_later s.graph number (max looked (looked_of (length rest) answer)) block answer
     (walk s rest at (number + 1) (max looked (looked_of (length rest) answer)) (code_of code answer) blocks)
@@ -51,7 +51,7 @@ walk_least : (s : Setting) (rest : List ℕ) (at number looked : ℕ) (code : Co
     → TakesLeast looked (walk s rest at number looked code blocks)
 walk_least s rest at number looked code [] = tt
 walk_least s rest at number looked code (block ∷ blocks) =
-    by (trial s block.function rest at) (λ seen later. walk_least s rest at (number + 1) seen later blocks)
+    by (trial s block.function block.flags rest at) (λ seen later. walk_least s rest at (number + 1) seen later blocks)
   where
     by : (answer : Try) → ((seen : ℕ) (later : Code) → TakesLeast seen (walk s rest at (number + 1) seen later blocks))
         → TakesLeast looked (or_later s.graph number (max looked (looked_of (length rest) answer)) block answer
@@ -78,13 +78,13 @@ walk_keeps : (s : Setting) (front more other : List ℕ) (at number looked : ℕ
     → walk s (front ++ other) at number looked code blocks ≡ Takes taken_block role next value seen end
 walk_keeps s front more other at number looked code [] taken_block role next value seen end within is = cc
 walk_keeps s front more other at number looked code (block ∷ blocks) taken_block role next value seen end within is =
-    by (trial s block.function (front ++ more) at) refl
+    by (trial s block.function block.flags (front ++ more) at) refl
     (λ first later. walk_keeps s front more other at (number + 1) first later blocks taken_block role next value seen end within)
   where
-    local : Holds (length front) (trial s block.function (front ++ more) at) (trial s block.function (front ++ other) at)
-    local = (trial_is_local s block.function).decided front more other at
+    local : Holds (length front) (trial s block.function block.flags (front ++ more) at) (trial s block.function block.flags (front ++ other) at)
+    local = (trial_is_local s block.function block.flags).decided front more other at
 
-    by : (answer : Try) → trial s block.function (front ++ more) at ≡ answer
+    by : (answer : Try) → trial s block.function block.flags (front ++ more) at ≡ answer
         → ((first : ℕ) (later : Code) → walk s (front ++ more) at (number + 1) first later blocks ≡ Takes taken_block role next value seen end
         → walk s (front ++ other) at (number + 1) first later blocks ≡ Takes taken_block role next value seen end)
         → walk s (front ++ other) at number looked code (block ∷ blocks) ≡ Takes taken_block role next value seen end
@@ -93,14 +93,14 @@ walk_keeps s front more other at number looked code (block ∷ blocks) taken_blo
         let all : Takes number block.role (next_of s.graph block found) found (max looked bytes) place
         ≡ Takes taken_block role next value seen end = sym first ∙ is in
         let most : max looked bytes ≡ seen = cc in
-        let same = same_accepted (length front) _ (trial s block.function (front ++ other) at) found bytes place local t (omega arith) in
+        let same = same_accepted (length front) _ (trial s block.function block.flags (front ++ other) at) found bytes place local t (omega arith) in
         walk_step s (front ++ other) at number looked code block blocks (Accept found bytes place) same ∙ all
     by (Refuse refusal bytes) t after =
         let first = walk_step s (front ++ more) at number looked code block blocks (Refuse refusal bytes) t in
         let rest : walk s (front ++ more) at (number + 1) (max looked bytes) refusal blocks
         ≡ Takes taken_block role next value seen end = sym first ∙ is in
         let least = subst (TakesLeast (max looked bytes)) rest (walk_least s (front ++ more) at (number + 1) (max looked bytes) refusal blocks) in
-        let same = same_refused (length front) _ (trial s block.function (front ++ other) at) refusal bytes local t (omega arith) in
+        let same = same_refused (length front) _ (trial s block.function block.flags (front ++ other) at) refusal bytes local t (omega arith) in
         walk_step s (front ++ other) at number looked code block blocks (Refuse refusal bytes) same
         ∙ after (max looked bytes) refusal rest
     by More t after =

@@ -5,12 +5,13 @@ use Rattle.cm_fields.specs.declared.code.Code.{Code}
 use Rattle.cm_fields.specs.declared.code.Code.TheVariants.{NotConfirmed}
 use Rattle.cm_fields.specs.declared.trial.Try.TheVariants.{More}
 use Rattle.cm_fields.specs.Phrase.{token}
+use Rattle.cm_files.specs.declared.flags.Flags.{Flags}
 use Rattle.cm_blocks.specs.declared.chain.Walk.TheVariants.{Wants}
 use Rattle.cm_blocks.specs.declared.field.Chain.{Chain}
 use Rattle.cm_blocks.specs.declared.field.Chain.TheVariants as chain
 use Rattle.cm_blocks.specs.declared.field.Ending.{Ending}
 use Rattle.cm_blocks.specs.declared.function.Function.{Function}
-use Rattle.cm_blocks.specs.declared.function.Function.TheVariants.{Key, Switch, Noise, Number, Word, Quoted, Token, Text, Comma, Confirm, Hook}
+use Rattle.cm_blocks.specs.declared.function.Function.TheVariants.{Key, Switch, Noise, Number, Word, Quoted, Token, User, Directory, InFile, OutFile, AnyFile, Text, Comma, Confirm, Hook}
 use Rattle.cm_blocks.specs.declared.node.Block.{Block}
 use Rattle.cm_blocks.specs.declared.node.Node.{Node}
 use Rattle.cm_blocks.specs.Chain.{at_node, by_default, chain_at, typed, walk}
@@ -89,19 +90,25 @@ token_wants [] at phrase = cc
 token_wants (letter ∷ phrase) at is =
     let some : (0 == length (letter ∷ phrase)) ≡ false = grind (arith, nat_tests) in rw some refl
 
-trial_wants : (s : Setting) (function : Function) (at : ℕ) → has_phrase function ≡ true → trial s function [] at ≡ More
+trial_wants : (s : Setting) (function : Function) (flags : Flags) (at : ℕ) → has_phrase function ≡ true
+    → trial s function flags [] at ≡ More
 unfolding trial
-trial_wants s (Token text) at phrase = token_wants text at phrase
-trial_wants s (Noise text) at phrase = refl
-trial_wants s (Key table) at phrase = refl
-trial_wants s (Switch table) at phrase = refl
-trial_wants s Number at phrase = refl
-trial_wants s Word at phrase = refl
-trial_wants s Quoted at phrase = refl
-trial_wants s Text at phrase = refl
-trial_wants s Comma at phrase = refl
-trial_wants s Confirm at phrase = refl
-trial_wants s (Hook id) at phrase = refl
+trial_wants s (Token text) flags at phrase = token_wants text at phrase
+trial_wants s (Noise text) flags at phrase = refl
+trial_wants s (Key table) flags at phrase = refl
+trial_wants s (Switch table) flags at phrase = refl
+trial_wants s Number flags at phrase = refl
+trial_wants s Word flags at phrase = refl
+trial_wants s Quoted flags at phrase = refl
+trial_wants s User flags at phrase = refl
+trial_wants s Directory flags at phrase = refl
+trial_wants s InFile flags at phrase = refl
+trial_wants s OutFile flags at phrase = refl
+trial_wants s AnyFile flags at phrase = refl
+trial_wants s Text flags at phrase = refl
+trial_wants s Comma flags at phrase = refl
+trial_wants s Confirm flags at phrase = refl
+trial_wants s (Hook id) flags at phrase = refl
 
 walk_wants : (s : Setting) (graph_node : Node) (at looked : ℕ) (code : Code) → IsWell s.graph graph_node
     → walk s [] at 0 looked code graph_node.chain ≡ Wants 0
@@ -111,7 +118,7 @@ walk_wants s graph_node at looked code well = by graph_node.chain well.some (λ 
         → walk s [] at 0 looked code blocks ≡ Wants 0
     by [] some phrases = absurd (omega arith)
     by (block ∷ blocks) some phrases =
-        let wants = trial_wants s block.function at (phrases 0 block (omega arith)) in
+        let wants = trial_wants s block.function block.flags at (phrases 0 block (omega arith)) in
         rw wants refl
 
 some_at : (nodes : List Node) (number : ℕ) → number < length nodes → (node : Node) × (slice_get nodes number ≡ Some node)

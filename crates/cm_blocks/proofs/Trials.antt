@@ -2,6 +2,7 @@
 use Rattle.std.proofs.Common.{◌≡◌, ℕ, ◌-◌, List, length, drop, subst, length-drop}
 use Rattle.cm_text.specs.Bytes.{is_name, is_word}
 use Rattle.cm_fields.specs.declared.trial.Try.{Try}
+use Rattle.cm_fields.specs.declared.value.FileKind.TheVariants.{In, Out, Any}
 use Rattle.cm_fields.specs.Local.{IsLocal, IsSeen}
 use Rattle.cm_fields.specs.Run.{number_of, word_of}
 use Rattle.cm_fields.specs.Text.{is_inside, text_of}
@@ -9,33 +10,40 @@ use Rattle.cm_fields.proofs.Marks.{comma_is_local, confirm_is_local}
 use Rattle.cm_fields.proofs.Phrases.{noise_is_local, token_is_local}
 use Rattle.cm_fields.proofs.Quoting.{quoted_is_local}
 use Rattle.cm_fields.proofs.Runs.{run_is_local}
+use Rattle.cm_files.specs.declared.flags.Flags.{Flags}
+use Rattle.cm_files.proofs.Fielding.{directory_is_local, file_is_local, user_is_local}
 use Rattle.cm_hooks.specs.Field.{hook_of}
 use Rattle.cm_blocks.specs.declared.function.Function.{Function}
-use Rattle.cm_blocks.specs.declared.function.Function.TheVariants.{Key, Switch, Noise, Number, Word, Quoted, Token, Text, Comma, Confirm, Hook}
+use Rattle.cm_blocks.specs.declared.function.Function.TheVariants.{Key, Switch, Noise, Number, Word, Quoted, Token, User, Directory, InFile, OutFile, AnyFile, Text, Comma, Confirm, Hook}
 use Rattle.cm_blocks.specs.Keyword.{entry_position, key_value}
 use Rattle.cm_blocks.specs.Setting.{Setting}
 use Rattle.cm_blocks.specs.Trial.{table_of, trial}
 use Rattle.cm_blocks.proofs.Switches.{switch_is_local}
 
-pub trial_is_local : (s : Setting) (function : Function) → IsLocal (trial s function)
+pub trial_is_local : (s : Setting) (function : Function) (flags : Flags) → IsLocal (trial s function flags)
 unfolding trial
-trial_is_local s (Key table) =
+trial_is_local s (Key table) flags =
     run_is_local is_word (λ at run. key_value (table_of s.graph table) (entry_position (table_of s.graph table) run))
-trial_is_local s (Switch table) = switch_is_local (table_of s.graph table)
-trial_is_local s (Noise text) = noise_is_local text
-trial_is_local s Number = run_is_local is_word (λ at. number_of)
-trial_is_local s Word = run_is_local is_word word_of
-trial_is_local s Quoted = quoted_is_local
-trial_is_local s (Token text) = token_is_local text
-trial_is_local s Text = run_is_local is_inside text_of
-trial_is_local s Comma = comma_is_local
-trial_is_local s Confirm = confirm_is_local
-trial_is_local s (Hook id) = run_is_local is_name (λ at. hook_of s.meanings.verdict id)
+trial_is_local s (Switch table) flags = switch_is_local (table_of s.graph table)
+trial_is_local s (Noise text) flags = noise_is_local text
+trial_is_local s Number flags = run_is_local is_word (λ at. number_of)
+trial_is_local s Word flags = run_is_local is_word word_of
+trial_is_local s Quoted flags = quoted_is_local
+trial_is_local s (Token text) flags = token_is_local text
+trial_is_local s User flags = user_is_local s.catalogue
+trial_is_local s Directory flags = directory_is_local flags.new s.catalogue
+trial_is_local s InFile flags = file_is_local s.catalogue In flags
+trial_is_local s OutFile flags = file_is_local s.catalogue Out flags
+trial_is_local s AnyFile flags = file_is_local s.catalogue Any flags
+trial_is_local s Text flags = run_is_local is_inside text_of
+trial_is_local s Comma flags = comma_is_local
+trial_is_local s Confirm flags = confirm_is_local
+trial_is_local s (Hook id) flags = run_is_local is_name (λ at. hook_of s.meanings.verdict id)
 
 -- no decision looks further than the text
-pub trial_seen : (s : Setting) (function : Function) (rest : List ℕ) (at : ℕ)
-    → IsSeen (length rest) (trial s function rest at)
-trial_seen s function rest at = (trial_is_local s function).seen rest at
+pub trial_seen : (s : Setting) (function : Function) (flags : Flags) (rest : List ℕ) (at : ℕ)
+    → IsSeen (length rest) (trial s function flags rest at)
+trial_seen s function flags rest at = (trial_is_local s function flags).seen rest at
 
 -- the same of an answer to what stands in a text from a place on
 pub seen_from : (trial : List ℕ → ℕ → Try) → IsLocal trial → (text : List ℕ) (at : ℕ) (answer : Try)

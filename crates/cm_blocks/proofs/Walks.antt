@@ -8,6 +8,7 @@ use Rattle.cm_tables.specs.declared.entry.Entry.{Entry}
 use Rattle.cm_fields.specs.declared.code.Code.{Code}
 use Rattle.cm_fields.specs.declared.trial.Try.{Try}
 use Rattle.cm_fields.specs.declared.trial.Try.TheVariants.{Accept, Refuse, More}
+use Rattle.cm_fields.specs.declared.value.FileKind.TheVariants.{In, Out, Any}
 use Rattle.cm_fields.specs.declared.value.Value.{Value}
 use Rattle.cm_fields.specs.declared.value.Value.TheVariants as values
 use Rattle.cm_fields.specs.Run.{number_of, word_of}
@@ -19,11 +20,13 @@ use Rattle.cm_fields.proofs.Phrases.{noise_reaches, token_reaches}
 use Rattle.cm_fields.proofs.Quoting.{quoted_reaches}
 use Rattle.cm_fields.proofs.Runs.{run_reaches}
 use Rattle.cm_fields.proofs.Skipping.{skip_within}
+use Rattle.cm_files.specs.declared.flags.Flags.{Flags}
+use Rattle.cm_files.proofs.Fielding.{directory_reaches, file_reaches, user_reaches}
 use Rattle.cm_hooks.specs.Field.{hook_of}
 use Rattle.cm_blocks.specs.declared.chain.Walk.{Walk}
 use Rattle.cm_blocks.specs.declared.chain.Walk.TheVariants.{Takes, Wants, Fails}
 use Rattle.cm_blocks.specs.declared.function.Function.{Function}
-use Rattle.cm_blocks.specs.declared.function.Function.TheVariants.{Key, Switch, Noise, Number, Word, Quoted, Token, Text, Comma, Confirm, Hook}
+use Rattle.cm_blocks.specs.declared.function.Function.TheVariants.{Key, Switch, Noise, Number, Word, Quoted, Token, User, Directory, InFile, OutFile, AnyFile, Text, Comma, Confirm, Hook}
 use Rattle.cm_blocks.specs.declared.node.Block.{Block}
 use Rattle.cm_blocks.specs.declared.node.Node.{Node}
 use Rattle.cm_blocks.specs.Chain.{ChainLeads, Counted, at_node, by_default, chain_at, default_place, default_rest, defaulted, is_confirm, is_line_end, or_later, past_skip, typed, walk}
@@ -38,24 +41,29 @@ use Rattle.cm_blocks.proofs.Wells.{well_node}
 
 -- what is true of both ways of a choice is true of it
 -- where an accepted field of any function ends
-pub trial_reaches : (s : Setting) (function : Function) (rest : List ℕ) (at : ℕ) (value : Value) (looked end : ℕ)
-    → has_phrase function ≡ true → trial s function rest at ≡ Accept value looked end
+pub trial_reaches : (s : Setting) (function : Function) (flags : Flags) (rest : List ℕ) (at : ℕ) (value : Value) (looked end : ℕ)
+    → has_phrase function ≡ true → trial s function flags rest at ≡ Accept value looked end
     → Reaches at (length rest) looked end
 unfolding trial
-trial_reaches s (Key table) rest at value looked end phrase is =
+trial_reaches s (Key table) flags rest at value looked end phrase is =
     run_reaches is_word (λ run. key_value (table_of s.graph table) (entry_position (table_of s.graph table) run)) rest at value looked end is
-trial_reaches s (Switch table) rest at value looked end phrase is = switch_reaches (table_of s.graph table) rest at value looked end is
-trial_reaches s (Noise text) rest at value looked end phrase is = noise_reaches text rest at value looked end is
-trial_reaches s Number rest at value looked end phrase is = run_reaches is_word number_of rest at value looked end is
-trial_reaches s Word rest at value looked end phrase is = run_reaches is_word (word_of at) rest at value looked end is
-trial_reaches s Quoted rest at value looked end phrase is = quoted_reaches rest at value looked end is
-trial_reaches s (Token text) rest at value looked end phrase is =
+trial_reaches s (Switch table) flags rest at value looked end phrase is = switch_reaches (table_of s.graph table) rest at value looked end is
+trial_reaches s (Noise text) flags rest at value looked end phrase is = noise_reaches text rest at value looked end is
+trial_reaches s Number flags rest at value looked end phrase is = run_reaches is_word number_of rest at value looked end is
+trial_reaches s Word flags rest at value looked end phrase is = run_reaches is_word (word_of at) rest at value looked end is
+trial_reaches s Quoted flags rest at value looked end phrase is = quoted_reaches rest at value looked end is
+trial_reaches s (Token text) flags rest at value looked end phrase is =
     let some = and_parts (nat_lt 0 (length text)) _ phrase in
     token_reaches text rest at value looked end (let test = some.0 in grind (arith, nat_tests)) is
-trial_reaches s Text rest at value looked end phrase is = run_reaches is_inside (text_of at) rest at value looked end is
-trial_reaches s Comma rest at value looked end phrase is = comma_reaches rest at value looked end is
-trial_reaches s Confirm rest at value looked end phrase is = confirm_reaches rest at value looked end is
-trial_reaches s (Hook id) rest at value looked end phrase is =
+trial_reaches s User flags rest at value looked end phrase is = user_reaches s.catalogue rest at value looked end is
+trial_reaches s Directory flags rest at value looked end phrase is = directory_reaches flags.new s.catalogue rest at value looked end is
+trial_reaches s InFile flags rest at value looked end phrase is = file_reaches s.catalogue In flags rest at value looked end is
+trial_reaches s OutFile flags rest at value looked end phrase is = file_reaches s.catalogue Out flags rest at value looked end is
+trial_reaches s AnyFile flags rest at value looked end phrase is = file_reaches s.catalogue Any flags rest at value looked end is
+trial_reaches s Text flags rest at value looked end phrase is = run_reaches is_inside (text_of at) rest at value looked end is
+trial_reaches s Comma flags rest at value looked end phrase is = comma_reaches rest at value looked end is
+trial_reaches s Confirm flags rest at value looked end phrase is = confirm_reaches rest at value looked end is
+trial_reaches s (Hook id) flags rest at value looked end phrase is =
     run_reaches is_name (hook_of s.meanings.verdict id) rest at value looked end is
 
 -- the node that follows an entry is there
@@ -101,14 +109,14 @@ AcceptLeads graph nodes at most looked block More = Unit {0}
 
 accept_leads : (s : Setting) (block : Block) (rest : List ℕ) (at looked : ℕ) → IsWellBlock s.graph block
     → 0 < length s.graph.nodes
-    → AcceptLeads s.graph (length s.graph.nodes) at (length rest) (max looked (looked_of (length rest) (trial s block.function rest at)))
-    block (trial s block.function rest at)
-accept_leads s block rest at looked well some = by (trial s block.function rest at) refl
+    → AcceptLeads s.graph (length s.graph.nodes) at (length rest) (max looked (looked_of (length rest) (trial s block.function block.flags rest at)))
+    block (trial s block.function block.flags rest at)
+accept_leads s block rest at looked well some = by (trial s block.function block.flags rest at) refl
   where
-    by : (answer : Try) → trial s block.function rest at ≡ answer
+    by : (answer : Try) → trial s block.function block.flags rest at ≡ answer
         → AcceptLeads s.graph (length s.graph.nodes) at (length rest) (max looked (looked_of (length rest) answer)) block answer
     by (Accept value seen end) is =
-        let reached = trial_reaches s block.function rest at value seen end well.phrase is in (
+        let reached = trial_reaches s block.function block.flags rest at value seen end well.phrase is in (
           next_below s.graph (length s.graph.nodes) block value some well.leads,
           record { some = omega arith; begins = reached.begins; seen = omega arith; within = reached.within },
         )
@@ -127,7 +135,7 @@ pub walk_leads : (s : Setting) (rest : List ℕ) (at number looked : ℕ) (code 
     → WalkLeads (length s.graph.nodes) at (length rest) (walk s rest at number looked code blocks)
 walk_leads s rest at number looked code [] well some = tt
 walk_leads s rest at number looked code (block ∷ more) well some =
-    or_later_leads s.graph _ at (length rest) number _ block (trial s block.function rest at) _
+    or_later_leads s.graph _ at (length rest) number _ block (trial s block.function block.flags rest at) _
     (accept_leads s block rest at looked (well 0 block (omega arith)) some)
     (walk_leads s rest at (number + 1) _ _ more (λ k d below. well (suc k) d (omega arith)) some)
 

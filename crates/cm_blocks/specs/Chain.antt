@@ -38,7 +38,7 @@ or_later graph number looked block More later = Wants number
 abbrev pub walk : Setting → List ℕ → ℕ → ℕ → ℕ → Code → List Block → Walk
 walk s rest at number looked code [] = Fails code
 walk s rest at number looked code (block ∷ more) =
-    let answer = trial s block.function rest at in
+    let answer = trial s block.function block.flags rest at in
     let seen = max looked (looked_of (length rest) answer) in
     or_later s.graph number seen block answer (walk s rest at (number + 1) seen (code_of code answer) more)
 
@@ -58,8 +58,8 @@ or_stop More later = 0
 abbrev pub spent : Setting → List ℕ → ℕ → List Block → ℕ
 spent s rest at [] = 0
 spent s rest at (block ∷ more) =
-    price (length rest) (trial s block.function rest at)
-    + or_stop (trial s block.function rest at) (spent s rest at more)
+    price (length rest) (trial s block.function block.flags rest at)
+    + or_stop (trial s block.function block.flags rest at) (spent s rest at more)
 
 abbrev pub is_confirm : Value → Bool
 is_confirm Confirm = true

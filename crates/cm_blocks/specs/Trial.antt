@@ -3,6 +3,7 @@ use Rattle.std.specs.Prelude.{ℕ, ◌+◌, List, [], slice_get}
 use Rattle.std.specs.Option.{option_map_or}
 use Rattle.cm_tables.specs.declared.entry.Entry.{Entry}
 use Rattle.cm_fields.specs.declared.trial.Try.{Try}
+use Rattle.cm_fields.specs.declared.value.FileKind.TheVariants.{In, Out, Any}
 use Rattle.cm_fields.specs.declared.trial.Try.TheVariants.{Accept, Refuse, More}
 use Rattle.cm_fields.specs.declared.value.Value.{Value}
 use Rattle.cm_fields.specs.declared.value.Value.TheVariants as values
@@ -11,9 +12,11 @@ use Rattle.cm_fields.specs.Phrase.{noise, token}
 use Rattle.cm_fields.specs.Quoted.{quoted}
 use Rattle.cm_fields.specs.Run.{number, word}
 use Rattle.cm_fields.specs.Text.{text_field}
+use Rattle.cm_files.specs.declared.flags.Flags.{Flags}
+use Rattle.cm_files.specs.Fields.{directory, file, user}
 use Rattle.cm_hooks.specs.Field.{hook}
 use Rattle.cm_blocks.specs.declared.function.Function.{Function}
-use Rattle.cm_blocks.specs.declared.function.Function.TheVariants.{Key, Switch, Noise, Number, Word, Quoted, Token, Text, Comma, Confirm, Hook}
+use Rattle.cm_blocks.specs.declared.function.Function.TheVariants.{Key, Switch, Noise, Number, Word, Quoted, Token, User, Directory, InFile, OutFile, AnyFile, Text, Comma, Confirm, Hook}
 use Rattle.cm_blocks.specs.declared.node.Block.{Block}
 use Rattle.cm_blocks.specs.Grammar.{Graph}
 use Rattle.cm_blocks.specs.Keyword.{key, switch}
@@ -23,19 +26,25 @@ use Rattle.cm_blocks.specs.Setting.{Setting}
 abbrev pub table_of : Graph → ℕ → List Entry
 table_of graph number = option_map_or (λ (table : List Entry). table) (slice_get graph.tables number) []
 
--- what a function makes of the rest of a text, which begins at this place
-unfoldable pub trial : Setting → Function → List ℕ → ℕ → Try
-trial s (Key table) rest at = key (table_of s.graph table) rest at
-trial s (Switch table) rest at = switch (table_of s.graph table) rest at
-trial s (Noise text) rest at = noise text rest at
-trial s Number rest at = number rest at
-trial s Word rest at = word rest at
-trial s Quoted rest at = quoted rest at
-trial s (Token text) rest at = token text rest at
-trial s Text rest at = text_field rest at
-trial s Comma rest at = comma rest at
-trial s Confirm rest at = confirm rest at
-trial s (Hook id) rest at = hook s.meanings.verdict id rest at
+-- what a function makes of the rest of a text, which begins at this place; the flags say how files and directories
+-- are read
+unfoldable pub trial : Setting → Function → Flags → List ℕ → ℕ → Try
+trial s (Key table) flags rest at = key (table_of s.graph table) rest at
+trial s (Switch table) flags rest at = switch (table_of s.graph table) rest at
+trial s (Noise text) flags rest at = noise text rest at
+trial s Number flags rest at = number rest at
+trial s Word flags rest at = word rest at
+trial s Quoted flags rest at = quoted rest at
+trial s (Token text) flags rest at = token text rest at
+trial s User flags rest at = user s.catalogue rest at
+trial s Directory flags rest at = directory flags.new s.catalogue rest at
+trial s InFile flags rest at = file s.catalogue In flags rest at
+trial s OutFile flags rest at = file s.catalogue Out flags rest at
+trial s AnyFile flags rest at = file s.catalogue Any flags rest at
+trial s Text flags rest at = text_field rest at
+trial s Comma flags rest at = comma rest at
+trial s Confirm flags rest at = confirm rest at
+trial s (Hook id) flags rest at = hook s.meanings.verdict id rest at
 
 -- how many bytes it looked at, of so many
 abbrev pub looked_of : ℕ → Try → ℕ

@@ -69,7 +69,7 @@ fn walk_blocks<N: Names, R: Rules, L: Ledger>(
     let mut looked = 0;
     let mut code = Code::NotConfirmed;
     for (number, block) in blocks.iter().enumerate() {
-        let answer = try_function(grammar, &block.function, text, at, names, hooks);
+        let answer = try_function(grammar, block, text, at, names, hooks);
         let seen = looked_of(size, answer);
         steps.add(seen as u64 + 1);
         looked = seen.max(looked);

@@ -18,6 +18,16 @@ pub enum Function {
     Quoted,
     /// This text (.CMTOK).
     Token(Name),
+    /// A user (.CMUSR).
+    User,
+    /// A directory, where the flag `new` says so one that may not be there yet (.CMDIR).
+    Directory,
+    /// A file that is read (.CMIFI).
+    InFile,
+    /// A file that is written (.CMOFI).
+    OutFile,
+    /// A file of either kind (.CMFIL).
+    AnyFile,
     /// The rest of the line (.CMTXT).
     Text,
     /// A comma (.CMCMA).

@@ -2,6 +2,7 @@
 ghost use Rattle.std.specs.Prelude.{◌≡◌, ◌<◌, ◌≤◌, ◌++◌, ℕ, List, [], None, length};
 ghost use Rattle.cm_text.specs.Text.{finished};
 ghost use Rattle.cm_fields.specs.Local.{IsLocal};
+ghost use Rattle.cm_files.specs.declared.flags.Flags.{Flags};
 ghost use Rattle.cm_blocks.specs.declared.field.Chain.TheVariants as chain;
 ghost use Rattle.cm_blocks.specs.declared.field.Ending.{Ending};
 ghost use Rattle.cm_blocks.specs.declared.function.Function.{Function};
@@ -13,9 +14,11 @@ ghost use Rattle.cm_blocks.specs.Setting.{Setting};
 ghost use Rattle.cm_blocks.specs.Taken.{Taken};
 ghost use Rattle.cm_blocks.specs.Trial.{trial};
 
-/// What a function decides on the first bytes of a text it decides on every text that begins with them.
+/// What a function decides, with any flags, on the first bytes of a text it decides on every text that begins with
+/// them.
 pub fn trials_are_local()
-    ensures { (s : Setting) → (function : Function) → IsLocal (trial s function) }
+    ensures { (s : Setting) → (function : Function) → (flags : Flags)
+        → IsLocal (trial s function flags) }
 {}
 
 /// A field is the same on every text that begins with as many bytes as the field needs.

@@ -8,32 +8,34 @@ ghost use Rattle.cm_blocks.specs.Setting.{setting};
 ghost use Rattle.cm_blocks.specs.Trial.{entry_next, keyword_next, looked_of, next_of, table_of, trial};
 
 use crate::{Block, Function, Grammar, key, switch};
-use cm_fields::{Try, Value, comma, confirm, noise, number, quoted, text_field, token, word};
-use cm_files::Names;
+use cm_fields::{
+    FileKind, Try, Value, comma, confirm, noise, number, quoted, text_field, token, word,
+};
+use cm_files::{Names, directory, file, user};
 use cm_hooks::{Hooks, Rules, hook_field};
 use cm_text::TEXT_LIMIT;
 
-/// What the function of a block makes of a text from a place on. No counter rises, and no field comes of it: that is
-/// `try_chain` alone.
+/// What the function of a block makes of a text from a place on, with the flags of the block where it reads files or
+/// directories. No counter rises, and no field comes of it: that is `try_chain` alone.
 #[tactic(auto, unfolding(crate::specs::Trial::trial))]
 pub fn try_function<N: Names, R: Rules>(
     grammar: &Grammar,
-    function: &Function,
+    block: &Block,
     text: &[u8],
     at: usize,
     names: &N,
     hooks: &Hooks<R>,
 ) -> Try
-    requires table { has_table grammar.now.tables function.now ≡ true }
+    requires table { has_table grammar.now.tables block.now.function ≡ true }
     requires ties { Ties R.meanings hooks.now }
-    requires hook { hook_limit function.now ≤ count hooks.now }
+    requires hook { hook_limit block.now.function ≤ count hooks.now }
     requires short { length text.now ≤ TEXT_LIMIT }
     requires place { at ≤ length text.now }
     ensures value { result ≡ trial (setting grammar.now (N.catalogue names.now) R.meanings)
-        function.now (drop at text.now) at }
+        block.now.function block.now.flags (drop at text.now) at }
     ensures seen { IsSeen (length text.now - at) result }
 {
-    match function {
+    match &block.function {
         Function::Key(table) => key(grammar.table(*table), text, at),
         Function::Switch(table) => switch(grammar.table(*table), text, at),
         Function::Noise(phrase) => noise(phrase.as_str(), text, at),
@@ -41,6 +43,11 @@ pub fn try_function<N: Names, R: Rules>(
         Function::Word => word(text, at),
         Function::Quoted => quoted(text, at),
         Function::Token(phrase) => token(phrase.as_str(), text, at),
+        Function::User => user(names, text, at),
+        Function::Directory => directory(block.flags.new, names, text, at),
+        Function::InFile => file(FileKind::In, block.flags, names, text, at),
+        Function::OutFile => file(FileKind::Out, block.flags, names, text, at),
+        Function::AnyFile => file(FileKind::Any, block.flags, names, text, at),
         Function::Text => text_field(text, at),
         Function::Comma => comma(text, at),
         Function::Confirm => confirm(text, at),

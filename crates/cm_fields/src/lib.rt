@@ -25,4 +25,4 @@ pub use run::{number, word, word_run};
 pub use skipped::skip;
 pub use text::text_field;
 pub use trial::{Try, said, span_of};
-pub use value::{Gen, Span, Spec, Value};
+pub use value::{FileKind, Gen, Span, Spec, Value};

@@ -42,6 +42,17 @@ pub struct Spec {
     pub generation: Gen,
 }
 
+/// What a file is wanted for.
+#[derive(Clone, Copy, Debug, PartialEq, Eq)]
+pub enum FileKind {
+    /// To be read: it is there already (.CMIFI).
+    In,
+    /// To be written: it may be a new one (.CMOFI).
+    Out,
+    /// Either (.CMFIL).
+    Any,
+}
+
 /// What a field stands for, by the function that took it (COMND). A span is a part of the text.
 #[derive(Clone, Copy, Debug, PartialEq, Eq)]
 pub enum Value {
@@ -67,8 +78,9 @@ pub enum Value {
     Directory(u16),
     /// The name of a directory that may be a new one (.CMDIR).
     NewDirectory(Span),
-    /// A file specification (.CMIFI, .CMOFI, .CMFIL), and the number of the directory that it means.
-    File { spec: Spec, directory: u16 },
+    /// A file specification (.CMIFI, .CMOFI, .CMFIL): what the file is wanted for, the parts that are given, and
+    /// the number of the directory that it means.
+    File { kind: FileKind, spec: Spec, directory: u16 },
     /// The rest of the line (.CMTXT).
     Text(Span),
     /// A comma (.CMCMA).

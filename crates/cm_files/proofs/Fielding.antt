@@ -16,7 +16,7 @@ use Rattle.cm_fields.proofs.Finishing.{run_decides}
 use Rattle.cm_fields.proofs.Holding.{LooksBeyond, Reaches, by_test, holds_beyond, holds_of_choice, is_local}
 use Rattle.cm_fields.proofs.Phrases.{slice_get-append}
 use Rattle.cm_fields.proofs.Runs.{run_beyond, run_decided, run_inside, run_is_local, run_reaches, run_seen}
-use Rattle.cm_files.specs.declared.flags.FileKind.{FileKind}
+use Rattle.cm_fields.specs.declared.value.FileKind.{FileKind}
 use Rattle.cm_files.specs.declared.flags.Flags.{Flags}
 use Rattle.cm_files.specs.Catalogue.{Catalogue}
 use Rattle.cm_files.specs.Fields.{directory, directory_of, file, file_of, has_colon_behind, is_file, is_plain_path, user, user_of}

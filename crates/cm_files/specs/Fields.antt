@@ -14,7 +14,7 @@ use Rattle.cm_fields.specs.declared.value.Spec.{Spec}
 use Rattle.cm_fields.specs.declared.value.Value.{Value}
 use Rattle.cm_fields.specs.declared.value.Value.TheVariants as values
 use Rattle.cm_fields.specs.Try.{by_run, said}
-use Rattle.cm_files.specs.declared.flags.FileKind.{FileKind}
+use Rattle.cm_fields.specs.declared.value.FileKind.{FileKind}
 use Rattle.cm_files.specs.declared.flags.Flags.{Flags}
 use Rattle.cm_files.specs.declared.spec.SpecFault.{SpecFault}
 use Rattle.cm_files.specs.declared.spec.SpecFault.TheVariants.{Shape, NameLong, GenRange}
@@ -56,13 +56,13 @@ moved_spec at spec =
     }
 
 -- the file of a specification in a directory
-abbrev pub file_in : ℕ → Spec → ℕ → Result Value Code
-file_in at spec directory = Ok (values.File (moved_spec at spec) directory)
+abbrev pub file_in : FileKind → ℕ → Spec → ℕ → Result Value Code
+file_in kind at spec directory = Ok (values.File kind (moved_spec at spec) directory)
 
 -- what a run that is read says as a file
 abbrev pub file_read : Catalogue → FileKind → Flags → ℕ → List ℕ → Result Spec SpecFault → Result Value Code
 file_read c kind flags at run (Err fault) = Err (refusal fault)
-file_read c kind flags at run (Ok spec) = then_in (resolve c kind flags run spec) (file_in at spec)
+file_read c kind flags at run (Ok spec) = then_in (resolve c kind flags run spec) (file_in kind at spec)
 
 -- what a run says as a file
 unfoldable pub file_of : Catalogue → FileKind → Flags → ℕ → List ℕ → Result Value Code

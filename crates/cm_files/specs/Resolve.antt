@@ -8,8 +8,8 @@ use Rattle.cm_fields.specs.declared.value.Gen.{Gen}
 use Rattle.cm_fields.specs.declared.value.Gen.TheVariants.{Missing, Highest, Next, Lowest, All, Number}
 use Rattle.cm_fields.specs.declared.value.Span.{Span}
 use Rattle.cm_fields.specs.declared.value.Spec.{Spec}
-use Rattle.cm_files.specs.declared.flags.FileKind.{FileKind}
-use Rattle.cm_files.specs.declared.flags.FileKind.TheVariants.{In, Out, Any}
+use Rattle.cm_fields.specs.declared.value.FileKind.{FileKind}
+use Rattle.cm_fields.specs.declared.value.FileKind.TheVariants.{In, Out, Any}
 use Rattle.cm_files.specs.declared.flags.Flags.{Flags}
 use Rattle.cm_files.specs.Catalogue.{Catalogue, logical_of, rows_of}
 use Rattle.cm_files.specs.Pattern.{is_wild}

@@ -8,8 +8,8 @@ ghost use Rattle.cm_files.specs.Spec.{IsPartOf, IsSpecOf};
 
 use crate::parts::{is_path, stands_at};
 use crate::resolve::{has_wild, resolve};
-use crate::{FileKind, Flags, Names, SpecFault, by_device, by_directory, read_spec};
-use cm_fields::{Code, Span, Spec, Try, Value, said};
+use crate::{Flags, Names, SpecFault, by_device, by_directory, read_spec};
+use cm_fields::{Code, FileKind, Span, Spec, Try, Value, said};
 use cm_text::{LINE_LIMIT, TEXT_LIMIT, equals, is_name};
 
 // Whether a byte may stand in a file specification.
@@ -85,10 +85,10 @@ fn moved_part(at: u16, size: usize, place: Option<Span>) -> Option<Span>
 }
 
 // The file of a specification in a directory.
-fn file_in(at: u16, size: usize, spec: Spec, directory: u16) -> Value
+fn file_in(kind: FileKind, at: u16, size: usize, spec: Spec, directory: u16) -> Value
     requires parts { IsSpecOf size spec }
     requires short { at + size ≤ TEXT_LIMIT }
-    ensures { result ≡ values.File (moved_spec at spec) directory }
+    ensures { result ≡ values.File kind (moved_spec at spec) directory }
 {
     let spec = Spec {
         device: moved_part(at, size, spec.device),
@@ -97,7 +97,11 @@ fn file_in(at: u16, size: usize, spec: Spec, directory: u16) -> Value
         kind: moved_part(at, size, spec.kind),
         generation: spec.generation,
     };
-    Value::File { spec, directory }
+    Value::File {
+        kind,
+        spec,
+        directory,
+    }
 }
 
 // What a run says as a file.
@@ -116,7 +120,7 @@ fn file_of<N: Names>(
     match read_spec(run) {
         Ok(spec) => {
             let directory = resolve(kind, flags, names, run, spec)?;
-            Ok(file_in(at, run.len(), spec, directory))
+            Ok(file_in(kind, at, run.len(), spec, directory))
         }
         Err(fault) => Err(refusal(fault)),
     }

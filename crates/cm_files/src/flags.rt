@@ -1,16 +1,5 @@
 // What a block of a grammar asks of a file specification (GTJFN).
 
-/// What a file is wanted for.
-#[derive(Clone, Copy, Debug, PartialEq, Eq)]
-pub enum FileKind {
-    /// To be read: it is there already (.CMIFI).
-    In,
-    /// To be written: it may be a new one (.CMOFI).
-    Out,
-    /// Either (.CMFIL).
-    Any,
-}
-
 /// What a file specification may say, and what is meant where it says nothing.
 #[derive(Clone, Copy, Debug, Default, PartialEq, Eq)]
 pub struct Flags {

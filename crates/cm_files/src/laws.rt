@@ -4,7 +4,7 @@ ghost use Rattle.cm_fields.specs.Finish.{DecidesFinished};
 ghost use Rattle.cm_fields.specs.Local.{IsLocal};
 ghost use Rattle.cm_files.specs.Catalogue.{Catalogue};
 ghost use Rattle.cm_files.specs.Fields.{directory, file, user};
-ghost use Rattle.cm_files.specs.declared.flags.FileKind.{FileKind};
+ghost use Rattle.cm_fields.specs.declared.value.FileKind.{FileKind};
 ghost use Rattle.cm_files.specs.declared.flags.Flags.{Flags};
 
 /// What a trial decides on the first bytes of a text it decides on every text that begins with them, with the

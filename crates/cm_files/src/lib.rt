@@ -19,7 +19,7 @@ mod spec;
 mod tests;
 
 pub use fields::{directory, directory_behind, file, file_behind, user};
-pub use flags::{FileKind, Flags};
+pub use flags::Flags;
 pub use generation::GENERATION_LIMIT;
 pub use logical::is_logical_name;
 pub use names::Names;

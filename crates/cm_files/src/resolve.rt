@@ -8,8 +8,8 @@ ghost use Rattle.cm_files.specs.Selection.{selects, wanted};
 ghost use Rattle.cm_files.specs.Passing.{passes_at};
 ghost use Rattle.cm_files.specs.Spec.{IsPartOf, IsSpecOf};
 
-use crate::{FileKind, Flags, Names, Sought, part, selects};
-use cm_fields::{Code, Gen, Span, Spec};
+use crate::{Flags, Names, Sought, part, selects};
+use cm_fields::{Code, FileKind, Gen, Span, Spec};
 use cm_text::equals;
 
 // Whether a text has a wildcard.

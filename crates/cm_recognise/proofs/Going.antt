@@ -39,7 +39,7 @@ wants_from : (s : Setting) (rest : List ℕ) (at number looked : ℕ) (code : Co
     → walk s rest at number looked code blocks ≡ Wants b → number ≤ b
 wants_from s rest at number looked code [] b is = cc
 wants_from s rest at number looked code (block ∷ blocks) b is =
-    by (trial s block.function rest at) (λ seen later. wants_from s rest at (number + 1) seen later blocks b) is
+    by (trial s block.function block.flags rest at) (λ seen later. wants_from s rest at (number + 1) seen later blocks b) is
   where
     by : (answer : Try) → ((seen : ℕ) (later : Code) → walk s rest at (number + 1) seen later blocks ≡ Wants b → number + 1 ≤ b)
         → or_later s.graph number (max looked (looked_of (length rest) answer)) block answer
@@ -52,8 +52,8 @@ wants_from s rest at number looked code (block ∷ blocks) b is =
 -- the function of the block at a place wants more, and where it takes a field of the longer text, so does the walk
 record Goes (s : Setting) (rest more : List ℕ) (at number looked : ℕ) (code : Code) (blocks : List Block) (place : ℕ)
     (block : Block) : Type 0 where
-  wants : trial s block.function rest at ≡ More
-  takes : (value : Value) (seen end : ℕ) → trial s block.function (rest ++ more) at ≡ Accept value seen end
+  wants : trial s block.function block.flags rest at ≡ More
+  takes : (value : Value) (seen end : ℕ) → trial s block.function block.flags (rest ++ more) at ≡ Accept value seen end
       → (last : ℕ) × (walk s (rest ++ more) at number looked code blocks
       ≡ Takes (number + place) block.role (next_of s.graph block value) value last end)
 
@@ -62,7 +62,7 @@ walk_goes : (s : Setting) (rest more : List ℕ) (at number looked : ℕ) (code 
     → Goes s rest more at number looked code blocks place block
 walk_goes s rest more at number looked code [] place block found is = cc
 walk_goes s rest more at number looked code (first ∷ blocks) zero block found is =
-    by (trial s block.function rest at) refl (subst At same is)
+    by (trial s block.function block.flags rest at) refl (subst At same is)
   where
     same : first ≡ block
     same = cc
@@ -73,7 +73,7 @@ walk_goes s rest more at number looked code (first ∷ blocks) zero block found 
     here : number ≡ number + 0
     here = omega arith
 
-    takes : (value : Value) (seen end : ℕ) → trial s block.function (rest ++ more) at ≡ Accept value seen end
+    takes : (value : Value) (seen end : ℕ) → trial s block.function block.flags (rest ++ more) at ≡ Accept value seen end
         → (last : ℕ) × (walk s (rest ++ more) at number looked code (first ∷ blocks)
         ≡ Takes (number + 0) block.role (next_of s.graph block value) value last end)
     takes value seen end accepts = (
@@ -83,7 +83,7 @@ walk_goes s rest more at number looked code (first ∷ blocks) zero block found 
           ∙ ap (λ (b : ℕ). Takes b block.role (next_of s.graph block value) value (max looked seen) end) here,
     )
 
-    by : (answer : Try) → trial s block.function rest at ≡ answer
+    by : (answer : Try) → trial s block.function block.flags rest at ≡ answer
         → walk s rest at number looked code (block ∷ blocks) ≡ Wants (number + 0)
         → Goes s rest more at number looked code (first ∷ blocks) 0 block
     by (Accept value seen end) t is =
@@ -94,13 +94,13 @@ walk_goes s rest more at number looked code (first ∷ blocks) zero block found 
         absurd (omega arith)
     by More t is = record { wants = t; takes = takes }
 walk_goes s rest more at number looked code (first ∷ blocks) (suc place) block found is =
-    by (trial s first.function rest at) refl
+    by (trial s first.function first.flags rest at) refl
     (λ seen later. walk_goes s rest more at (number + 1) seen later blocks place block found)
   where
     here : number + 1 + place ≡ number + suc place
     here = omega arith
 
-    by : (answer : Try) → trial s first.function rest at ≡ answer
+    by : (answer : Try) → trial s first.function first.flags rest at ≡ answer
         → ((seen : ℕ) (later : Code) → walk s rest at (number + 1) seen later blocks ≡ Wants (number + 1 + place)
         → Goes s rest more at (number + 1) seen later blocks place block)
         → Goes s rest more at number looked code (first ∷ blocks) (suc place) block
@@ -113,9 +113,9 @@ walk_goes s rest more at number looked code (first ∷ blocks) (suc place) block
     by (Refuse refusal seen) t after =
         let step = sym (walk_step s rest at number looked code first blocks (Refuse refusal seen) t) ∙ is in
         let goes = after (max looked seen) refusal (step ∙ ap Wants (sym here)) in
-        let stays : trial s first.function (rest ++ more) at ≡ Refuse refusal seen =
-        subst (λ (answer : Try). Stays answer (trial s first.function (rest ++ more) at)) t
-        ((trial_is_local s first.function).stays rest more at) in
+        let stays : trial s first.function first.flags (rest ++ more) at ≡ Refuse refusal seen =
+        subst (λ (answer : Try). Stays answer (trial s first.function first.flags (rest ++ more) at)) t
+        ((trial_is_local s first.function first.flags).stays rest more at) in
         record {
           wants = goes.wants;
           takes = λ value looked_at end accepts.
@@ -165,9 +165,9 @@ typed_takes s number b block start value last end field = record { need = start 
 -- the trial of the block on what is typed, and the chain on the line that goes on with what it takes
 pub record GoesOn (s : Setting) (number b : ℕ) (block : Block) (line more : List ℕ) (at start : ℕ) : Type 0 where
   pub within : start ≤ length line
-  pub wants : trial s block.function (drop start line) start ≡ More
+  pub wants : trial s block.function block.flags (drop start line) start ≡ More
   pub takes : (value : Value) (seen end next : ℕ)
-      → trial s block.function (drop start line ++ more) start ≡ Accept value seen end → is_confirm value ≡ false
+      → trial s block.function block.flags (drop start line ++ more) start ≡ Accept value seen end → is_confirm value ≡ false
       → next_of s.graph block value ≡ next
       → ((raw : Bool) → start ≡ length line → BeginsOther raw more)
       → TakesField number b start end next (chain_at s number (line ++ more) at).chain

@@ -123,7 +123,7 @@ pub outcome_text : (s : Setting) (block : Block) (atom : List ℕ) (at : ℕ) �
 unfolding outcome
 outcome_text s block atom at tables lawful has short =
     function_text s block.function block.next atom _ tables lawful has short
-    (plain_text block.next (trial s block.function (atom ++ 32 ∷ []) at))
+    (plain_text block.next (trial s block.function block.flags (atom ++ 32 ∷ []) at))
 
 -- what stands behind a field that is whole
 guide_behind_text : (function : Function) → has_phrase function ≡ true → AreText (guide_behind function)

@@ -53,7 +53,7 @@ use Rattle.cm_recognise.proofs.Texts.{table_none, text_append}
 pub record TakesWhole (s : Setting) (block : Block) (atom bytes more : List ℕ) (at next : ℕ) : Type 0 where
   pub value : Value
   pub seen : ℕ
-  pub accepts : trial s block.function (atom ++ (bytes ++ 32 ∷ more)) at ≡ Accept value seen (at + length (atom ++ bytes))
+  pub accepts : trial s block.function block.flags (atom ++ (bytes ++ 32 ∷ more)) at ≡ Accept value seen (at + length (atom ++ bytes))
   pub field : is_confirm value ≡ false
   pub leads : next_of s.graph block value ≡ next
 
@@ -68,27 +68,27 @@ own_leads graph block value own = refl
 
 -- what the function takes of what is typed and a space it takes however the text goes on
 plain_takes : (s : Setting) (block : Block) (atom bytes more : List ℕ) (at next : ℕ)
-    → EndsAt (at + length atom) (trial s block.function (atom ++ 32 ∷ []) at)
-    → plain_outcome block.next (trial s block.function (atom ++ 32 ∷ []) at) ≡ Whole bytes next
+    → EndsAt (at + length atom) (trial s block.function block.flags (atom ++ 32 ∷ []) at)
+    → plain_outcome block.next (trial s block.function block.flags (atom ++ 32 ∷ []) at) ≡ Whole bytes next
     → TakesWhole s block atom bytes more at next
-plain_takes s block atom bytes more at next ends is = by (trial s block.function (atom ++ 32 ∷ []) at) refl ends is
+plain_takes s block atom bytes more at next ends is = by (trial s block.function block.flags (atom ++ 32 ∷ []) at) refl ends is
   where
-    by : (answer : Try) → trial s block.function (atom ++ 32 ∷ []) at ≡ answer → EndsAt (at + length atom) answer
+    by : (answer : Try) → trial s block.function block.flags (atom ++ 32 ∷ []) at ≡ answer → EndsAt (at + length atom) answer
         → plain_outcome block.next answer ≡ Whole bytes next → TakesWhole s block atom bytes more at next
     by (Refuse code looked) tried ends is = cc
     by More tried ends is = cc
     by (Accept value looked end) tried ends is =
         let none : [] ≡ bytes = cc in
         let same : block.next ≡ next = cc in
-        let stays : trial s block.function ((atom ++ 32 ∷ []) ++ more) at ≡ Accept value looked end =
-        subst (λ (answer : Try). Stays answer (trial s block.function ((atom ++ 32 ∷ []) ++ more) at)) tried
-        ((trial_is_local s block.function).stays (atom ++ 32 ∷ []) more at) in
+        let stays : trial s block.function block.flags ((atom ++ 32 ∷ []) ++ more) at ≡ Accept value looked end =
+        subst (λ (answer : Try). Stays answer (trial s block.function block.flags ((atom ++ 32 ∷ []) ++ more) at)) tried
+        ((trial_is_local s block.function block.flags).stays (atom ++ 32 ∷ []) more at) in
         let text : (atom ++ 32 ∷ []) ++ more ≡ atom ++ 32 ∷ more = append_assoc atom (32 ∷ []) more in
         let place : end ≡ at + length (atom ++ []) = ends.0 ∙ ap (λ (text : List ℕ). at + length text) (sym (append-nil atom)) in
         let plain : TakesWhole s block atom [] more at block.next = record {
           value = value;
           seen = looked;
-          accepts = ap (λ (text : List ℕ). trial s block.function text at) (sym text) ∙ stays ∙ ap (Accept value looked) place;
+          accepts = ap (λ (text : List ℕ). trial s block.function block.flags text at) (sym text) ∙ stays ∙ ap (Accept value looked) place;
           field = own_field value ends.1;
           leads = own_leads s.graph block value ends.1;
         } in

@@ -93,4 +93,4 @@ IsShort most (Whole bytes next) = length bytes ≤ most
 unfoldable pub outcome : Setting → Block → List ℕ → ℕ → Outcome
 outcome s block atom at =
     by_function s block.function block.next atom
-    (plain_outcome block.next (trial s block.function (atom ++ 32 ∷ []) at))
+    (plain_outcome block.next (trial s block.function block.flags (atom ++ 32 ∷ []) at))

@@ -161,13 +161,13 @@ fn plain_outcome<N: Names, R: Rules>(
     requires place { at ≤ length line.now }
     ensures value { result ≡ plain_outcome block.now.next
         (trial (setting grammar.now (N.catalogue names.now) R.meanings) block.now.function
-        (drop at line.now ++ 32 ∷ []) at) }
+        block.now.flags (drop at line.now ++ 32 ∷ []) at) }
     ensures short { IsShort TAIL_LIMIT result }
 {
     let mut text: ArrayVec<u8, TEXT_LIMIT> = ArrayVec::new();
     let _ = text.try_extend_from_slice(line);
     text.push(b' ');
-    match try_function(grammar, &block.function, text.as_slice(), at, names, hooks) {
+    match try_function(grammar, block, text.as_slice(), at, names, hooks) {
         Try::Accept { .. } => Outcome::Whole {
             bytes: Bytes::new(),
             next: block.next,

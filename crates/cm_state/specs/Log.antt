@@ -3,6 +3,8 @@ use Rattle.std.specs.Prelude.{ℕ, ℤ, pos, int_lt, unsigned_abs, Bool, true, f
 use Rattle.std.specs.List.{flat_map}
 use Rattle.std.specs.Fmt.{decimal}
 use Rattle.cm_io.specs.Pieces.{hex}
+use Rattle.cm_fields.specs.declared.value.FileKind.{FileKind}
+use Rattle.cm_fields.specs.declared.value.FileKind.TheVariants.{In, Out, Any}
 use Rattle.cm_fields.specs.declared.value.Value.{Value}
 use Rattle.cm_fields.specs.declared.value.Value.TheVariants as values
 use Rattle.cm_fields.specs.Code.{code_number}
@@ -45,6 +47,12 @@ day_log day =
 unfoldable pub hook_log : ℕ → ℕ → List ℕ
 hook_log id value = marked (codes "h") id ++ marked (codes ":") value
 
+-- a letter for what a file is wanted for
+unfoldable pub file_log : FileKind → List ℕ
+file_log In = codes "i"
+file_log Out = codes "o"
+file_log Any = codes "f"
+
 -- what a field stands for: a letter or a sign for the function that took it, and where there is one a number
 unfoldable pub value_log : Value → List ℕ
 value_log (values.Key entry code) = marked (codes "k") code
@@ -59,7 +67,7 @@ value_log (values.Date day) = day_log day
 value_log (values.User directory) = codes "u"
 value_log (values.Directory directory) = codes "D"
 value_log (values.NewDirectory span) = codes "D"
-value_log (values.File spec directory) = codes "f"
+value_log (values.File kind spec directory) = file_log kind
 value_log (values.Text span) = codes "x"
 value_log values.Comma = codes ","
 value_log values.Confirm = codes "c"

@@ -4,11 +4,11 @@
 ghost use Rattle.std.specs.Prelude.{◌≡◌, ◌≤◌, ◌++◌, length};
 ghost use Rattle.cm_io.specs.Told.{Adds};
 ghost use Rattle.cm_io.specs.Fault.{PutCause};
-ghost use Rattle.cm_state.specs.Log.{block_log, day_log, default_log, ending_log, fault_log, field_log, fields_log, head_log, hook_log, line_feed, marked, place_log, value_log};
+ghost use Rattle.cm_state.specs.Log.{block_log, day_log, default_log, ending_log, fault_log, field_log, fields_log, file_log, head_log, hook_log, line_feed, marked, place_log, value_log};
 
 use crate::stack::Stack;
 use cm_blocks::{Ending, Fault, Field};
-use cm_fields::Value;
+use cm_fields::{FileKind, Value};
 use cm_io::{Put, Sink, put_decimal, put_hex};
 
 // A number behind a text.
@@ -132,6 +132,20 @@ fn put_hook<S: Sink>(id: u8, value: u64, sink: &mut S) -> Put
     put_marked(b":", value, sink)
 }
 
+// What a file is wanted for.
+#[tactic(auto, unfolding(crate::specs::Log::file_log))]
+fn put_kind<S: Sink>(kind: FileKind, sink: &mut S) -> Put
+    ensures bytes { Adds (S.told sink.old) (S.told sink.new) (file_log kind) result }
+    ensures later { S.faults sink.old ≤ S.faults sink.new }
+    ensures cause { PutCause (S.faults sink.old) (S.faults sink.new) result }
+{
+    match kind {
+        FileKind::In => sink.put(b"i"),
+        FileKind::Out => sink.put(b"o"),
+        FileKind::Any => sink.put(b"f"),
+    }
+}
+
 // What a field stands for.
 #[tactic(auto, unfolding(crate::specs::Log::value_log))]
 pub(crate) fn put_value<S: Sink>(value: Value, sink: &mut S) -> Put
@@ -152,7 +166,7 @@ pub(crate) fn put_value<S: Sink>(value: Value, sink: &mut S) -> Put
         Value::User(_) => sink.put(b"u"),
         Value::Directory(_) => sink.put(b"D"),
         Value::NewDirectory(_) => sink.put(b"D"),
-        Value::File { .. } => sink.put(b"f"),
+        Value::File { kind, .. } => put_kind(kind, sink),
         Value::Text(_) => sink.put(b"x"),
         Value::Comma => sink.put(b","),
         Value::Confirm => sink.put(b"c"),

@@ -1,6 +1,6 @@
 // Each kind of value in a line of the log.
 use crate::log::put_value;
-use cm_fields::{Gen, Span, Spec, Value};
+use cm_fields::{FileKind, Gen, Span, Spec, Value};
 use cm_io::{MemSink, Put};
 use std::test::Fail;
 
@@ -14,7 +14,12 @@ fn logs_each_kind_of_value(rt: HostRuntime) -> Result<(), Fail> {
         kind: None,
         generation: Gen::Missing,
     };
-    let cases: [(Value, &[u8]); 18] = [
+    let file = |kind| Value::File {
+        kind,
+        spec,
+        directory: 7,
+    };
+    let cases: [(Value, &[u8]); 20] = [
         (
             Value::Key {
                 entry: 2,
@@ -36,7 +41,9 @@ fn logs_each_kind_of_value(rt: HostRuntime) -> Result<(), Fail> {
         (Value::User(7), b"u"),
         (Value::Directory(7), b"D"),
         (Value::NewDirectory(span), b"D"),
-        (Value::File { spec, directory: 7 }, b"f"),
+        (file(FileKind::In), b"i"),
+        (file(FileKind::Out), b"o"),
+        (file(FileKind::Any), b"f"),
         (Value::Hook { id: 0, value: 2 }, b"h0:2"),
         (
             Value::Hook {
