@@ -1,5 +1,5 @@
 -- A user or a directory that is completed whole is taken.
-use Rattle.std.proofs.Common.{◌≡◌, ℕ, zero, suc, ◌+◌, ◌-◌, ◌<◌, ◌≤◌, Bool, true, false, not, ◌&&◌, ◌||◌, ◌==◌, nat_lt, nat_le, cond, if◌then◌else◌, List, [], ◌∷◌, ◌++◌, length, take, drop, codes, Option, Some, None, is_some, is_none, option_map, Result, Ok, Err, refl, ap, sym, subst, arith, ◌∙◌, append_assoc, append-nil, length-append, length-drop}
+use Rattle.std.proofs.Common.{◌≡◌, ℕ, zero, suc, ◌+◌, ◌-◌, ◌<◌, ◌≤◌, Bool, true, false, not, ◌&&◌, ◌||◌, ◌==◌, nat_lt, nat_le, cond, if◌then◌else◌, List, [], ◌∷◌, ◌++◌, length, take, drop, codes, Option, Some, None, is_some, is_none, option_map, Result, Ok, Err, refl, ap, sym, subst, arith, ◌∙◌, append_assoc, append-nil, length-append, length-drop, length-take}
 use Rattle.std.specs.List.{find, list_all, list_any, position_from, prefix_len}
 use Rattle.std.proofs.lemmas.Bool.{and_from, and_parts, or_cases, or_parts}
 use Rattle.std.proofs.lemmas.Bool.Decides.{nat_tests}
@@ -19,21 +19,23 @@ use Rattle.cm_fields.specs.declared.value.Value.{Value}
 use Rattle.cm_fields.specs.declared.value.Value.TheVariants as values
 use Rattle.cm_fields.specs.Try.{by_run, said, span}
 use Rattle.cm_files.specs.declared.row.LogicalName.{LogicalName}
+use Rattle.cm_files.specs.declared.spec.SpecFault.{SpecFault}
 use Rattle.cm_files.specs.declared.parts.Read.{Read}
 use Rattle.cm_files.specs.Catalogue.{Catalogue, IsCatalogue, is_directory_name, is_logical, is_upper_name, logical_of}
+use Rattle.cm_files.specs.Fields as fields
 use Rattle.cm_files.specs.Fields.{directory, directory_of, has_colon_behind, is_file, is_plain_path, is_user, is_user_named, user, user_named, user_of, user_or_refused}
 use Rattle.cm_files.specs.LogicalName.{begins_with_letter, is_logical_name}
 use Rattle.cm_files.specs.Pattern.{is_wild}
 use Rattle.cm_files.specs.Resolve.{by_device, by_directory, directory_named, has_wild, is_named, or_refused, refuse, then_in}
-use Rattle.cm_files.specs.Spec.{are_parts, device_read, is_long, is_path, is_pattern, nothing_read, part, part_read, parts_of, pointed_read, read_spec, stands_at}
+use Rattle.cm_files.specs.Spec.{are_parts, device_read, generation_of, is_long, is_path, is_pattern, nothing_read, part, part_read, parts_of, pointed_read, read_spec, stands_at}
 use Rattle.cm_files.proofs.Fielding.{directory_is_local}
 use Rattle.cm_recognise.specs.declared.found.Found.{Found}
 use Rattle.cm_recognise.specs.declared.found.Found.TheVariants.{Nobody, One, Several}
 use Rattle.cm_recognise.specs.declared.outcome.Outcome.{Outcome}
 use Rattle.cm_recognise.specs.declared.outcome.Outcome.TheVariants.{Nothing, Part, Whole}
 use Rattle.cm_recognise.specs.FileOutcome.{by_opened, completed, directory_outcome, opened, unclosed, user_outcome}
-use Rattle.cm_recognise.specs.Found.{directory_like, found_directories, found_users, user_like}
-use Rattle.cm_recognise.specs.Outcome.{missing, plain_outcome}
+use Rattle.cm_recognise.specs.Found.{directory_like, found_directories, found_users, missing, user_like}
+use Rattle.cm_recognise.specs.Outcome.{plain_outcome}
 use Rattle.cm_recognise.proofs.Coming.{Comes, found_comes}
 use Rattle.cm_recognise.proofs.Completing.{Listed, TakesNamed, listed_of, plain_named, run_named}
 use Rattle.cm_recognise.proofs.Lowered.{DirectoryName, all_implies, completed_lower, directory_name, equals_same, none_of_all, parts_same, paths_same, same_equals, same_length}
@@ -249,3 +251,236 @@ device_short c is_catalogue atom directory is = by (device_read atom).part refl 
 
         length-take-le : (size : ℕ) (text : List ℕ) → size ≤ length text → length (take size text) ≡ size
         length-take-le size text within = let known = length-take size text in omega arith
+
+-- what stands behind an opening angle bracket
+unclosed_of : (byte : ℕ) (more typed : List ℕ) → unclosed (byte ∷ more) ≡ Some typed → byte ∷ more ≡ 60 ∷ typed
+unclosed_of byte more typed is = by (byte == 60) refl (not (list_any (λ other. other == 62) more)) is
+  where
+    by : (mark : Bool) → (byte == 60) ≡ mark → (left : Bool) → (if mark && left then Some more else None) ≡ Some typed
+        → byte ∷ more ≡ 60 ∷ typed
+    by true mark true is =
+        let same : more ≡ typed = cc in
+        let first : byte ≡ 60 = grind (arith, nat_tests) in
+        ap (λ (byte : ℕ). byte ∷ more) first ∙ ap (λ (rest : List ℕ). 60 ∷ rest) same
+    by true mark false is = cc
+    by false mark left is = cc
+
+opened_of : (atom typed : List ℕ) → opened atom ≡ Some typed → drop (device_read atom).next atom ≡ 60 ∷ typed
+opened_of atom typed is = by (drop (device_read atom).next atom) is
+  where
+    by : (rest : List ℕ) → unclosed rest ≡ Some typed → rest ≡ 60 ∷ typed
+    by [] is = cc
+    by (byte ∷ more) is = unclosed_of byte more typed is
+
+-- a test along a list
+pub all_drop : (p : ℕ → Bool) (size : ℕ) (text : List ℕ) → list_all p text ≡ true → list_all p (drop size text) ≡ true
+all_drop p zero text all = all
+all_drop p (suc size) [] all = refl
+all_drop p (suc size) (byte ∷ text) all = all_drop p size text (and_parts (p byte) (list_all p text) all).1
+
+pub all_append : (p : ℕ → Bool) (text more : List ℕ) → list_all p text ≡ true → list_all p more ≡ true
+    → list_all p (text ++ more) ≡ true
+all_append p [] more first second = second
+all_append p (byte ∷ text) more first second =
+    let parts = and_parts (p byte) (list_all p text) first in
+    and_from (p byte) (list_all p (text ++ more)) parts.0 (all_append p text more parts.1 second)
+
+drop_within : (at : ℕ) (text : List ℕ) (first : ℕ) (rest : List ℕ) → drop at text ≡ first ∷ rest → at < length text
+drop_within zero [] first rest is = cc
+drop_within (suc at) [] first rest is = cc
+drop_within zero (byte ∷ text) first rest is = omega arith
+drop_within (suc at) (byte ∷ text) first rest is = let later = drop_within at text first rest is in omega arith
+
+-- a byte further on that fails a test
+not_all : (p : ℕ → Bool) (at : ℕ) (text : List ℕ) (first : ℕ) (rest : List ℕ) → drop at text ≡ first ∷ rest → p first ≡ false
+    → list_all p text ≡ false
+not_all p zero [] first rest is fails = cc
+not_all p (suc at) [] first rest is fails = cc
+not_all p zero (byte ∷ text) first rest is fails =
+    let same : byte ≡ first = cc in rw (same, fails) refl
+not_all p (suc at) (byte ∷ text) first rest is fails =
+    by (p byte) (not_all p at text first rest is fails)
+  where
+    by : (here : Bool) → list_all p text ≡ false → (here && list_all p text) ≡ false
+    by true later = later
+    by false later = refl
+
+path_of_plain : (byte : ℕ) → is_plain_path byte ≡ true → is_path byte ≡ true
+path_of_plain byte is = by (is_name byte) (is_wild byte) (byte == 46) is
+  where
+    by : (name wild point : Bool) → (name || point) ≡ true → ((name || wild) || point) ≡ true
+    by true wild point is = refl
+    by false true point is = refl
+    by false false point is = is
+
+pub file_of_path : (byte : ℕ) → is_path byte ≡ true → is_file byte ≡ true
+file_of_path byte is = rw is refl
+
+no_colon_byte : (byte : ℕ) → is_plain_path byte ≡ true → (byte == 58) ≡ false
+unfolding is_name is_word
+no_colon_byte byte is = grind (arith, nat_tests)
+
+no_wild_byte : (byte : ℕ) → is_plain_path byte ≡ true → is_wild byte ≡ false
+unfolding is_name is_word
+no_wild_byte byte is = grind (arith, nat_tests)
+
+bracket_no_path : is_plain_path 60 ≡ false
+unfolding is_name is_word
+bracket_no_path = refl
+
+bracket_file : list_all is_file (62 ∷ []) ≡ true
+unfolding is_name is_word
+bracket_file = refl
+
+pub space_no_file : is_file 32 ≡ false
+unfolding is_name is_word
+space_no_file = refl
+
+lacks_append : (mark : ℕ) (text more : List ℕ) → lacks mark text → lacks mark more → lacks mark (text ++ more)
+lacks_append mark [] more first second = second
+lacks_append mark (byte ∷ text) more first second =
+    let parts = or_parts (byte == mark) (list_any (λ other. other == mark) text) first in
+    let here = parts.0 in
+    rw here (lacks_append mark text more parts.1 second)
+
+-- how a directory reads that is closed
+abbrev closed_spec : Read → List ℕ → Spec
+closed_spec device body =
+    record {
+      device = device.part;
+      directory = Some (span (device.next + 1) (length body));
+      name = None;
+      kind = None;
+      generation = generations.Missing;
+    }
+
+closed_reads : (whole : List ℕ) (device : Read) (body : List ℕ) → device_read whole ≡ device
+    → drop device.next whole ≡ 60 ∷ (body ++ 62 ∷ []) → list_all is_path body ≡ true → are_parts body ≡ true
+    → is_long device.part ≡ false → length body ≤ NAME_LIMIT → read_spec whole ≡ Ok (closed_spec device body)
+unfolding generation_of
+closed_reads whole device body device_is text all parts device_fits body_fits =
+    let at = device.next in
+    let next = at + length body + 2 in
+    let directory_is = directory_whole whole at body text all parts in
+    let within = drop_within at whole 60 (body ++ 62 ∷ []) text in
+    let size = length-drop at whole in
+    let size_is : length (drop at whole) ≡ 1 + (length body + 1) = ap length text ∙ (let both = length-append body (62 ∷ []) in omega arith) in
+    let end : next ≡ length whole = omega arith in
+    let nothing : drop next whole ≡ [] = drop_all next whole (omega arith) in
+    let name_is = name_nowhere whole next nothing end in
+    let pointed_is = pointed_nowhere whole next nothing in
+    let some : (length whole == 0) ≡ false = grind (arith, nat_tests) in
+    let ends : (next == length whole) ≡ true = grind (arith, nat_tests) in
+    let fits : is_long (Some (span (at + 1) (length body))) ≡ false = grind (arith, nat_tests) in
+    rw (some, device_is, directory_is, name_is, pointed_is, ends, device_fits, fits) refl
+
+-- what it means
+closed_means : (c : Catalogue) (whole body : List ℕ) (at : ℕ) (device : Read) (meant place : ℕ) → read_spec whole ≡ Ok (closed_spec device body)
+    → drop device.next whole ≡ 60 ∷ (body ++ 62 ∷ []) → list_all is_plain_path body ≡ true → by_device c whole device.part ≡ Ok meant
+    → directory_named c body ≡ Some place → directory_of false c at whole ≡ Ok (values.Directory place)
+unfolding directory_of
+closed_means c whole body at device meant place read text plain device_is named =
+    let outside = not_all is_plain_path device.next whole 60 (body ++ 62 ∷ []) text bracket_no_path in
+    let within = drop_within device.next whole 60 (body ++ 62 ∷ []) text in
+    let some : nat_lt 0 (length whole) ≡ true = grind (arith, nat_tests) in
+    let rest = behind_first whole device.next 60 (body ++ 62 ∷ []) text in
+    let bytes : part whole (span (device.next + 1) (length body)) ≡ body = part_bytes whole (device.next + 1) body (62 ∷ []) rest in
+    let wild = none_of_all is_plain_path is_wild no_wild_byte body plain in
+    rw (some, outside, read, bytes, wild, device_is, named) refl
+
+directory_taken : (c : Catalogue) → IsCatalogue c → (atom typed text more : List ℕ) (at meant : ℕ) → drop (device_read atom).next atom ≡ 60 ∷ typed
+    → list_all is_file atom ≡ true → Named c typed text → list_any (is_named (typed ++ drop (length typed) text)) c.directories ≡ true
+    → by_device c atom (device_read atom).part ≡ Ok meant
+    → TakesNamed (directory false c) atom (drop (length typed) text ++ 62 ∷ []) more at
+directory_taken c is_catalogue atom typed text more at meant front all of named device =
+    let rest = drop (length typed) text in
+    let body = typed ++ rest in
+    let bytes = rest ++ 62 ∷ [] in
+    let whole = atom ++ bytes in
+    let read = device_read atom in
+    let same = completed_lower text typed of.begins in
+    let plain = paths_same body text same of.name.paths in
+    let paths = all_implies is_plain_path is_path path_of_plain body plain in
+    let parts = parts_same body text same of.name.parts in
+    let short = of.name.short in
+    let size = same_length body text same in
+    let fits : length body ≤ NAME_LIMIT = omega arith in
+    let rest_plain = all_drop is_plain_path (length typed) text of.name.paths in
+    let inside = drop_within read.next atom 60 typed front in
+    let text_is : drop read.next whole ≡ 60 ∷ (body ++ 62 ∷ []) =
+    drop-append-le read.next atom bytes (omega arith) ∙ ap (λ (front : List ℕ). front ++ bytes) front
+    ∙ ap (λ (text : List ℕ). 60 ∷ text) (sym (append_assoc typed rest (62 ∷ []))) in
+    let no_colons = lacks_append 58 rest (62 ∷ []) (none_of_all is_plain_path (λ (byte : ℕ). byte == 58) no_colon_byte rest rest_plain) refl in
+    let device_is = device_more atom bytes no_colons in
+    let spec_is = closed_reads whole read body device_is text_is paths parts (device_short c is_catalogue atom meant device) fits in
+    let meant_is : by_device c whole read.part ≡ Ok meant = by_device_more c atom bytes ∙ device in
+    let place = position_some (is_named body) c.directories 0 named in
+    let decided = closed_means c whole body at read meant place.0 spec_is text_is plain meant_is place.1 in
+    let files = all_append is_file atom bytes all
+    (all_append is_file rest (62 ∷ []) (all_implies is_path is_file file_of_path rest (all_implies is_plain_path is_path path_of_plain rest rest_plain)) bracket_file) in
+    let taken = run_named is_file (directory_of false c at) atom bytes more at (values.Directory place.0) files space_no_file decided tt in
+    record { value = taken.value; seen = taken.seen; accepts = taken.accepts; own = taken.own }
+
+refuse_own : (test : Bool) (code : Code) (next : Result Value Code) → IsOwnIfOk next → IsOwnIfOk (refuse test code next)
+refuse_own true code next own = tt
+refuse_own false code next own = own
+
+pub then_own : (answer : Result ℕ Code) (next : ℕ → Result Value Code) → ((directory : ℕ) → IsOwnIfOk (next directory))
+    → IsOwnIfOk (then_in answer next)
+then_own (Ok directory) next own = own directory
+then_own (Err code) next own = tt
+
+read_own : (new : Bool) (c : Catalogue) (at : ℕ) (run : List ℕ) (answer : Result Spec SpecFault) → IsOwnIfOk (fields.directory_read new c at run answer)
+read_own new c at run (Err fault) = tt
+read_own new c at run (Ok spec) =
+    refuse_own _ SpecShape _ (refuse_own (has_wild run spec.directory) WildHere _ (then_own (by_device c run spec.device) _ (either new)))
+  where
+    named : (place : Option Span) → IsOwnIfOk (fields.new_directory at place)
+    named None = tt
+    named (Some place) = tt
+
+    either : (new : Bool) (meant : ℕ)
+        → IsOwnIfOk (if new then fields.new_directory at spec.directory else then_in (by_directory c run spec.directory meant) fields.old_directory)
+    either true meant = named spec.directory
+    either false meant = then_own (by_directory c run spec.directory meant) fields.old_directory (λ directory. tt)
+
+directory_own : (new : Bool) (c : Catalogue) (at : ℕ) (run : List ℕ) → IsOwnIfOk (directory_of new c at run)
+unfolding directory_of
+directory_own new c at run = refuse_own _ NoDirectory _ (read_own new c at run (read_spec run))
+
+pub directory_sound : (c : Catalogue) → IsCatalogue c → (new : Bool) (atom bytes more : List ℕ) (at next after meant : ℕ)
+    → by_device c atom (device_read atom).part ≡ Ok meant → directory new c atom at ≡ More
+    → directory_outcome c new next atom (plain_outcome next (directory new c (atom ++ 32 ∷ []) at)) ≡ Whole bytes after
+    → TakesNamed (directory new c) atom bytes more at × (next ≡ after)
+unfolding directory_outcome
+directory_sound c is_catalogue new atom bytes more at next after meant device wants is = by_new new wants is
+  where
+    plain : (new : Bool) → directory new c atom at ≡ More → plain_outcome next (directory new c (atom ++ 32 ∷ []) at) ≡ Whole bytes after
+        → TakesNamed (directory new c) atom bytes more at × (next ≡ after)
+    plain new wants is =
+        plain_named (directory new c) (directory_is_local new c) atom bytes more at next after
+        (run_ends is_file (directory_of new c at) atom at space_no_file (directory_own new c at atom) wants) is
+
+    by_found : (typed : List ℕ) → opened atom ≡ Some typed → directory false c atom at ≡ More → (found : Found) → found_directories c typed ≡ found
+        → completed next typed (62 ∷ []) found ≡ Whole bytes after → TakesNamed (directory false c) atom bytes more at × (next ≡ after)
+    by_found typed opens wants Nobody found is = cc
+    by_found typed opens wants (Several front) found is = cc
+    by_found typed opens wants (One text) found is =
+        let rest : missing text typed ++ 62 ∷ [] ≡ bytes = cc in
+        let leads : next ≡ after = cc in
+        let of = directory_named_so c is_catalogue typed text found in
+        let all = all_of_run is_file atom (run_wants is_file (directory_of false c at) atom at wants) in
+        (subst (λ (bytes : List ℕ). TakesNamed (directory false c) atom bytes more at) rest
+        (directory_taken c is_catalogue atom typed text more at meant (opened_of atom typed opens) all of.0 of.1 device), leads)
+
+    by_typed : (found : Option (List ℕ)) → opened atom ≡ found → directory false c atom at ≡ More
+        → by_opened c next (plain_outcome next (directory false c (atom ++ 32 ∷ []) at)) found ≡ Whole bytes after
+        → TakesNamed (directory false c) atom bytes more at × (next ≡ after)
+    by_typed None found wants is = plain false wants is
+    by_typed (Some typed) found wants is = by_found typed found wants (found_directories c typed) refl is
+
+    by_new : (new : Bool) → directory new c atom at ≡ More
+        → (if new then plain_outcome next (directory new c (atom ++ 32 ∷ []) at) else by_opened c next (plain_outcome next (directory new c (atom ++ 32 ∷ []) at)) (opened atom)) ≡ Whole bytes after
+        → TakesNamed (directory new c) atom bytes more at × (next ≡ after)
+    by_new true wants is = plain true wants is
+    by_new false wants is = by_typed (opened atom) refl wants is

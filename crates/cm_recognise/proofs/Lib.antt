@@ -14,3 +14,6 @@ pub mod Sections
 pub mod Typed
 pub mod Completing
 pub mod Directories
+pub mod Numerals
+pub mod Rows
+pub mod Shown

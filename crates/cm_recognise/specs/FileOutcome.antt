@@ -19,8 +19,7 @@ use Rattle.cm_recognise.specs.declared.insertion.Mode.{Mode}
 use Rattle.cm_recognise.specs.declared.insertion.Mode.TheVariants as modes
 use Rattle.cm_recognise.specs.declared.outcome.Outcome.{Outcome}
 use Rattle.cm_recognise.specs.declared.outcome.Outcome.TheVariants.{Nothing, Part, Piece, Whole}
-use Rattle.cm_recognise.specs.Found.{found_directories, found_kinds, found_names, found_users, highest}
-use Rattle.cm_recognise.specs.Outcome.{missing}
+use Rattle.cm_recognise.specs.Found.{found_directories, found_kinds, found_names, found_users, highest, missing}
 
 -- one goes on to its end and what closes it, several as far as they go on alike
 abbrev pub completed : ℕ → List ℕ → List ℕ → Found → Outcome

@@ -1,5 +1,5 @@
 -- Users, directories, names, types and generations of a catalogue that what is typed may go on as.
-use Rattle.std.specs.Prelude.{ℕ, ◌≤◌, ◌&&◌, Bool, if◌then◌else◌, max, List, [], ◌∷◌, length, Option, Some, None}
+use Rattle.std.specs.Prelude.{ℕ, ◌≤◌, ◌&&◌, Bool, if◌then◌else◌, max, List, [], ◌∷◌, length, drop, Option, Some, None}
 use Rattle.std.specs.List.{filter_map}
 use Rattle.std.specs.Str.{bytes_eq}
 use Rattle.cm_text.specs.declared.name.TheConstants.{NAME_LIMIT}
@@ -11,6 +11,10 @@ use Rattle.cm_files.specs.Fields.{is_user}
 use Rattle.cm_files.specs.Selection.{agree}
 use Rattle.cm_recognise.specs.declared.found.Found.{Found}
 use Rattle.cm_recognise.specs.declared.found.Found.TheVariants.{Nobody, One, Several}
+
+-- what is missing behind an atom of a text that begins with it
+abbrev pub missing : List ℕ → List ℕ → List ℕ
+missing text atom = drop (length atom) text
 
 -- each of a list, one after the other
 abbrev pub gather : {S Y : Type 0} → (S → Y → S) → S → List Y → S

@@ -16,8 +16,8 @@ use crate::found::{
 };
 use crate::outcome::{Outcome, TAIL_LIMIT, missing};
 use crate::{Bytes, Mode};
-use cm_fields::{Code, Span, Spec};
-use cm_files::{FileKind, Flags, Names, by_device, by_directory, has_bad_wild, part, read_spec};
+use cm_fields::{Code, FileKind, Span, Spec};
+use cm_files::{Flags, Names, by_device, by_directory, has_bad_wild, part, read_spec};
 use cm_text::{LINE_LIMIT, NAME_LIMIT, is_name};
 use itoa::Buffer;
 
