@@ -13,6 +13,7 @@ use cm_text::{NAME_LIMIT, Name};
 mod chains;
 mod costs;
 mod faults;
+mod files;
 mod keywords;
 mod setting;
 

@@ -7,7 +7,7 @@ use Rattle.std.proofs.lemmas.List.{drop-append-le, drop_all, take-append-le}
 use Rattle.std.proofs.lemmas.List.Sums.{prefix_len-le-length}
 use Rattle.cm_text.specs.declared.name.TheConstants.{NAME_LIMIT}
 use Rattle.cm_text.specs.BeginLaws.{lower}
-use Rattle.cm_text.specs.Bytes.{is_name, is_word}
+use Rattle.cm_text.specs.Bytes.{is_blank, is_name, is_word}
 use Rattle.cm_text.specs.Case.{begins_with, equals}
 use Rattle.cm_fields.specs.declared.code.Code.{Code}
 use Rattle.cm_fields.specs.declared.code.Code.TheVariants.{Device, NoDirectory, NoLogical, NoUser, SpecShape, WildHere}
@@ -17,6 +17,7 @@ use Rattle.cm_fields.specs.declared.value.Span.{Span}
 use Rattle.cm_fields.specs.declared.value.Spec.{Spec}
 use Rattle.cm_fields.specs.declared.value.Value.{Value}
 use Rattle.cm_fields.specs.declared.value.Value.TheVariants as values
+use Rattle.cm_fields.specs.Passed.{BeginsOther}
 use Rattle.cm_fields.specs.Try.{by_run, said, span}
 use Rattle.cm_files.specs.declared.row.LogicalName.{LogicalName}
 use Rattle.cm_files.specs.declared.spec.SpecFault.{SpecFault}
@@ -484,3 +485,26 @@ directory_sound c is_catalogue new atom bytes more at next after meant device wa
         → TakesNamed (directory new c) atom bytes more at × (next ≡ after)
     by_new true wants is = plain true wants is
     by_new false wants is = by_typed (opened atom) refl wants is
+
+-- where nothing is typed, a user begins with nothing that is skipped
+name_begins : (raw : Bool) (text more : List ℕ) → DirectoryName text → BeginsOther raw (text ++ more)
+unfolding is_name is_word is_blank
+name_begins raw [] more name = let never = name.parts in cc
+name_begins raw (byte ∷ text) more name =
+    let first = (and_parts (is_plain_path byte) (list_all is_plain_path text) name.paths).0 in
+    let blank : is_blank byte ≡ false = grind (arith, nat_tests) in
+    (blank, λ plain. (λ (same : byte ≡ 33). absurd (grind (arith, nat_tests)), λ (same : byte ≡ 59). absurd (grind (arith, nat_tests))))
+
+pub user_begins : (c : Catalogue) → IsCatalogue c → (raw : Bool) (next : ℕ) (bytes more : List ℕ) (after : ℕ)
+    → user_outcome c next [] ≡ Whole bytes after → BeginsOther raw (bytes ++ more)
+unfolding user_outcome
+user_begins c is_catalogue raw next bytes more after is = by (found_users c []) refl is
+  where
+    by : (found : Found) → found_users c [] ≡ found → completed next [] [] found ≡ Whole bytes after → BeginsOther raw (bytes ++ more)
+    by Nobody found is = cc
+    by (Several front) found is = cc
+    by (One text) found is =
+        let rest : text ++ [] ≡ bytes = cc in
+        let of = user_name c is_catalogue [] text found in
+        subst (λ (bytes : List ℕ). BeginsOther raw (bytes ++ more)) (sym (append-nil text) ∙ rest)
+        (name_begins raw text more of.0.name)

@@ -13,6 +13,8 @@ use Rattle.cm_fields.specs.declared.code.Code.TheVariants.{BadNumber, NumberRang
 use Rattle.cm_fields.specs.declared.digits.TheConstants.{NUMBER_LIMIT}
 use Rattle.cm_fields.specs.declared.trial.Try.{Try}
 use Rattle.cm_fields.specs.declared.trial.Try.TheVariants.{Accept, Refuse, More}
+use Rattle.cm_fields.specs.declared.value.FileKind.{FileKind}
+use Rattle.cm_fields.specs.declared.value.Spec.{Spec}
 use Rattle.cm_fields.specs.declared.value.Value.{Value}
 use Rattle.cm_fields.specs.declared.value.Value.TheVariants as values
 use Rattle.cm_fields.specs.Mark.{comma, confirm}
@@ -22,6 +24,12 @@ use Rattle.cm_fields.specs.Text.{is_inside, text_field, text_of}
 use Rattle.cm_fields.specs.Try.{by_run, said, span}
 use Rattle.cm_fields.proofs.Holding.{by_test, of_choice}
 use Rattle.cm_fields.proofs.Quoting.{IsQuoted, QuotedAt, quoted_ends}
+use Rattle.cm_files.specs.declared.flags.Flags.{Flags}
+use Rattle.cm_files.specs.declared.spec.SpecFault.{SpecFault}
+use Rattle.cm_files.specs.Catalogue.{Catalogue}
+use Rattle.cm_files.specs.Fields.{file, file_in, file_of, file_read, is_file}
+use Rattle.cm_files.specs.Resolve.{resolve, then_in}
+use Rattle.cm_files.specs.Spec.{read_spec}
 use Rattle.cm_hooks.specs.declared.answer.Answer.{Answer}
 use Rattle.cm_hooks.specs.declared.answer.Answer.TheVariants.{Yes, No}
 use Rattle.cm_hooks.specs.Field.{hook, hook_of, judged}
@@ -138,6 +146,27 @@ comma_ends (byte ∷ rest) at is = by_test _ (byte == 44) (λ test. let never = 
 pub confirm_ends : (rest : List ℕ) (at : ℕ) → confirm rest at ≡ More → EndsAt (at + length rest) (confirm (rest ++ 32 ∷ []) at)
 confirm_ends [] at is = tt
 confirm_ends (byte ∷ rest) at is = by_test _ (byte == 13) (λ test. let never = rw test at is in cc) (λ test. let never = rw test at is in cc)
+
+file_in_own : (kind : FileKind) (at : ℕ) (spec : Spec) (found : Result ℕ Code) → IsOwnIfOk (then_in found (file_in kind at spec))
+file_in_own kind at spec (Ok directory) = tt
+file_in_own kind at spec (Err code) = tt
+
+file_read_own : (c : Catalogue) (kind : FileKind) (flags : Flags) (at : ℕ) (run : List ℕ) (read : Result Spec SpecFault)
+    → IsOwnIfOk (file_read c kind flags at run read)
+file_read_own c kind flags at run (Ok spec) = file_in_own kind at spec (resolve c kind flags run spec)
+file_read_own c kind flags at run (Err fault) = tt
+
+file_own : (c : Catalogue) (kind : FileKind) (flags : Flags) (at : ℕ) (run : List ℕ) → IsOwnIfOk (file_of c kind flags at run)
+unfolding file_of
+file_own c kind flags at run = file_read_own c kind flags at run (read_spec run)
+
+space_no_file : is_file 32 ≡ false
+unfolding is_name is_word
+space_no_file = refl
+
+pub file_ends : (c : Catalogue) (kind : FileKind) (flags : Flags) (rest : List ℕ) (at : ℕ) → file c kind flags rest at ≡ More
+    → EndsAt (at + length rest) (file c kind flags (rest ++ 32 ∷ []) at)
+file_ends c kind flags rest at is = run_ends is_file (file_of c kind flags at) rest at space_no_file (file_own c kind flags at rest) is
 
 quoted_own : (value : Value) → IsQuoted value → IsOwn value
 quoted_own (values.Quoted part) is = tt

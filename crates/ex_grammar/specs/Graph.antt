@@ -6,7 +6,7 @@ use Rattle.cm_blocks.specs.declared.node.Node.{Node}
 use Rattle.cm_blocks.specs.Grammar.{Graph}
 use Rattle.ex_grammar.specs.declared.tables.TheConstants.{COMMAND_TABLE, TOPIC_TABLE}
 use Rattle.ex_grammar.specs.Tables.{exec_tables}
-use Rattle.ex_grammar.specs.Words.{confirm, either, guide, hook, keyword, later, only, remark, token}
+use Rattle.ex_grammar.specs.Words.{confirm, directory, either, either_or, guide, hook, keyword, later, only, remark, token, user}
 
 -- 1 to 5: COPY, and the end of a line
 unfoldable pub copy_blocks : List Block
@@ -30,15 +30,14 @@ append_blocks =
     ∷ later
     ∷ []
 
--- 13 to 18: DELETE, UNDELETE and CONNECT
+-- 13 to 17: DELETE, UNDELETE, and the guide word of CONNECT
 unfoldable pub delete_blocks : List Block
 delete_blocks =
     later
     ∷ later
     ∷ later
     ∷ later
-    ∷ later
-    ∷ later
+    ∷ guide (codes "TO DIRECTORY") 18
     ∷ []
 
 -- 19 to 25: TYPE, TAKE and DIRECTORY
@@ -102,13 +101,15 @@ subcommand_blocks =
     ∷ later
     ∷ []
 
--- the nodes, from 0: where a command begins, the text of a remark at 45, and each other with its one block
+-- the nodes, from 0: where a command begins, the directory to connect to at 18, the text of a remark at 45, and each
+-- other with its one block
 unfoldable pub exec_nodes : List Node
 exec_nodes =
     either confirm (keyword COMMAND_TABLE Verb) ∷ []
     ++ map only copy_blocks
     ++ map only append_blocks
     ++ map only delete_blocks
+    ++ either_or user directory (codes "<OPERATOR>") ∷ []
     ++ map only type_blocks
     ++ map only information_blocks
     ++ map only define_blocks

@@ -4,7 +4,7 @@ use Rattle.cm_tables.specs.declared.entry.Entry.{Entry}
 use Rattle.cm_tables.specs.declared.entry.Flag.{Flag}
 use Rattle.cm_tables.specs.declared.entry.Flag.TheVariants.{Plain, Invisible, NoRecognise}
 use Rattle.ex_grammar.specs.declared.node.TheConstants.{LINE_END}
-use Rattle.ex_grammar.specs.declared.code.TheConstants.{DEFINE, INFORMATION, LOGOUT, NO_KEYWORD, REMARK, VERSION}
+use Rattle.ex_grammar.specs.declared.code.TheConstants.{CONNECT, DEFINE, INFORMATION, LOGOUT, NO_KEYWORD, REMARK, VERSION}
 
 -- a keyword, which no colon follows: its text, how it may be abbreviated, its code, and the node that follows it
 abbrev pub entry : List ℕ → Flag → ℕ → ℕ → Entry
@@ -12,7 +12,8 @@ entry text flag code next = record { text = text; flag = flag; colon = false; co
 
 unfoldable pub command_entries : List Entry
 command_entries =
-    entry (codes "DEFINE") Plain DEFINE 28
+    entry (codes "CONNECT") Plain CONNECT 17
+    ∷ entry (codes "DEFINE") Plain DEFINE 28
     ∷ entry (codes "INFORMATION") Plain INFORMATION 26
     ∷ entry (codes "KJOB") Invisible LOGOUT LINE_END
     ∷ entry (codes "L") NoRecognise NO_KEYWORD LINE_END

@@ -1,8 +1,8 @@
 -- The small words in which nodes are written.
-use Rattle.std.specs.Prelude.{ℕ, true, false, List, [], ◌∷◌, None}
+use Rattle.std.specs.Prelude.{ℕ, true, false, List, [], ◌∷◌, Some, None}
 use Rattle.cm_files.specs.declared.flags.Flags.{Flags}
 use Rattle.cm_blocks.specs.declared.function.Function.{Function}
-use Rattle.cm_blocks.specs.declared.function.Function.TheVariants.{Key, Noise, Token, Text, Confirm, Hook}
+use Rattle.cm_blocks.specs.declared.function.Function.TheVariants.{Key, Noise, Token, User, Directory, Text, Confirm, Hook}
 use Rattle.cm_blocks.specs.declared.function.Role.{Role}
 use Rattle.cm_blocks.specs.declared.function.Role.TheVariants as roles
 use Rattle.cm_blocks.specs.declared.node.Block.{Block}
@@ -47,6 +47,14 @@ token sign next = reads (Token sign) roles.None next
 abbrev pub hook : ℕ → ℕ → Block
 hook id next = reads (Hook id) roles.Value next
 
+-- a user that a command works on
+abbrev pub user : Block
+user = reads User roles.Files LINE_END
+
+-- a directory that is there
+abbrev pub directory : Block
+directory = reads Directory roles.Files LINE_END
+
 abbrev pub rest_of_line : Block
 rest_of_line = reads Text roles.None LINE_END
 
@@ -57,6 +65,10 @@ only block = record { chain = block ∷ []; default = None; raw = false }
 -- a node of two blocks, tried in this order
 abbrev pub either : Block → Block → Node
 either first second = record { chain = first ∷ second ∷ []; default = None; raw = false }
+
+-- a node of two blocks, for which this text stands where the line ends
+abbrev pub either_or : Block → Block → List ℕ → Node
+either_or first second text = record (either first second) { default = Some text }
 
 -- the node of a remark, where no comment begins
 abbrev pub remark : Node

@@ -1,5 +1,8 @@
 // The codes of the EXEC's keywords.
 
+/// The code of CONNECT.
+pub const CONNECT: u16 = 3;
+
 /// The code of DEFINE.
 pub const DEFINE: u16 = 5;
 

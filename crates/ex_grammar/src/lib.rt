@@ -11,7 +11,7 @@ mod retention;
 mod rules;
 mod tables;
 
-pub use code::{DEFINE, INFORMATION, LOGOUT, REMARK, VERSION};
+pub use code::{CONNECT, DEFINE, INFORMATION, LOGOUT, REMARK, VERSION};
 pub use graph::grammar;
 pub use node::COMMANDS;
 pub use rules::{ExecRules, rule_completion, rule_help, rule_verdict};

@@ -1,6 +1,6 @@
 // The small words in which nodes are written, and the nodes that are named.
 ghost use Rattle.std.specs.Prelude.{◌≡◌, ◌≤◌, IfOk, length};
-ghost use Rattle.ex_grammar.specs.Words.{confirm, either, guide, hook, keyword, later, only, reads, remark, rest_of_line, token};
+ghost use Rattle.ex_grammar.specs.Words.{confirm, directory, either, either_or, guide, hook, keyword, later, only, reads, remark, rest_of_line, token, user};
 
 use cm_blocks::{Block, Blocks, Function, Node, Role};
 use cm_files::Flags;
@@ -76,6 +76,20 @@ pub(crate) fn hook(id: u8, next: u16) -> Block
     reads(Function::Hook(id), Role::Value, next)
 }
 
+// A user that a command works on.
+pub(crate) fn user() -> Block
+    ensures { result ≡ user }
+{
+    reads(Function::User, Role::Files, LINE_END)
+}
+
+// A directory that is there.
+pub(crate) fn directory() -> Block
+    ensures { result ≡ directory }
+{
+    reads(Function::Directory, Role::Files, LINE_END)
+}
+
 fn rest_of_line() -> Block
     ensures { result ≡ rest_of_line }
 {
@@ -101,6 +115,23 @@ pub(crate) fn either(alloc: Global, first: Block, second: Block) -> Result<Node,
         chain: Blocks::new(vec![in alloc; first, second]?),
         default: None,
         raw: false,
+    })
+}
+
+// A node of two blocks, for which this text stands where the line ends.
+pub(crate) fn either_or(
+    alloc: Global,
+    first: Block,
+    second: Block,
+    text: &str,
+) -> Result<Node, NoMemory>
+    requires { length text.now ≤ NAME_LIMIT }
+    ensures { IfOk result (λ node. node ≡ either_or first second text.now) }
+{
+    let node = either(alloc, first, second)?;
+    Ok(Node {
+        default: Some(Name::new(text)),
+        ..node
     })
 }
 

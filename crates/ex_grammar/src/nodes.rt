@@ -3,7 +3,9 @@ ghost use Rattle.std.specs.Prelude.{◌≡◌, ◌++◌, IfOk, map};
 ghost use Rattle.ex_grammar.specs.Graph.{append_blocks, build_blocks, copy_blocks, define_blocks, delete_blocks, information_blocks, subcommand_blocks, switch_blocks, type_blocks, exec_nodes};
 ghost use Rattle.ex_grammar.specs.Words.{only};
 
-use crate::node::{confirm, either, guide, hook, keyword, later, only, remark, token};
+use crate::node::{
+    confirm, directory, either, either_or, guide, hook, keyword, later, only, remark, token, user,
+};
 use crate::tables::{COMMAND_TABLE, TOPIC_TABLE};
 use cm_blocks::{Block, Node, Role};
 use cm_io::NoMemory;
@@ -18,6 +20,7 @@ pub(crate) fn nodes(alloc: Global) -> Result<Vec<Node>, NoMemory>
     push_each(&mut nodes, alloc, copy_blocks(alloc)?)?;
     push_each(&mut nodes, alloc, append_blocks(alloc)?)?;
     push_each(&mut nodes, alloc, delete_blocks(alloc)?)?;
+    nodes.push(either_or(alloc, user(), directory(), "<OPERATOR>")?)?;
     push_each(&mut nodes, alloc, type_blocks(alloc)?)?;
     push_each(&mut nodes, alloc, information_blocks(alloc)?)?;
     push_each(&mut nodes, alloc, define_blocks(alloc)?)?;
@@ -62,12 +65,18 @@ fn append_blocks(alloc: Global) -> Result<Vec<Block>, NoMemory>
     ]?)
 }
 
-// 13 to 18: DELETE, UNDELETE and CONNECT.
+// 13 to 17: DELETE, UNDELETE, and the guide word of CONNECT.
 #[tactic(auto, unfolding(crate::specs::Graph::delete_blocks))]
 fn delete_blocks(alloc: Global) -> Result<Vec<Block>, NoMemory>
     ensures { IfOk result (λ blocks. blocks.items ≡ delete_blocks) }
 {
-    Ok(vec![in alloc; later(), later(), later(), later(), later(), later()]?)
+    Ok(vec![in alloc;
+        later(),
+        later(),
+        later(),
+        later(),
+        guide("TO DIRECTORY", 18),
+    ]?)
 }
 
 // 19 to 25: TYPE, TAKE and DIRECTORY.

@@ -3,7 +3,7 @@ ghost use Rattle.std.specs.Prelude.{◌≡◌, ◌≤◌, None, IfOk, length};
 ghost use Rattle.cm_tables.specs.Order.{table_fault};
 ghost use Rattle.ex_grammar.specs.Tables.{command_entries, entry, exec_tables, topic_entries};
 
-use crate::code::{DEFINE, INFORMATION, LOGOUT, NO_KEYWORD, REMARK, VERSION};
+use crate::code::{CONNECT, DEFINE, INFORMATION, LOGOUT, NO_KEYWORD, REMARK, VERSION};
 use crate::node::LINE_END;
 use cm_io::NoMemory;
 use cm_tables::{Entry, Flag, Table};
@@ -42,6 +42,7 @@ fn command_entries(alloc: Global) -> Result<Vec<Entry>, NoMemory>
     ensures { IfOk result (λ entries. entries.items ≡ command_entries) }
 {
     Ok(vec![in alloc;
+        entry("CONNECT", Flag::Plain, CONNECT, 17),
         entry("DEFINE", Flag::Plain, DEFINE, 28),
         entry("INFORMATION", Flag::Plain, INFORMATION, 26),
         entry("KJOB", Flag::Invisible, LOGOUT, LINE_END),

@@ -4,14 +4,14 @@ use Rattle.std.specs.Option.{option_map_or}
 use Rattle.cm_text.specs.Shown.{end_of_line}
 use Rattle.cm_fields.specs.declared.code.Code.TheVariants.{NoDefinition}
 use Rattle.cm_fields.specs.declared.value.Value.{Value}
-use Rattle.cm_fields.specs.declared.value.Value.TheVariants.{Key}
+use Rattle.cm_fields.specs.declared.value.Value.TheVariants.{Key, User, Directory}
 use Rattle.cm_blocks.specs.declared.function.Role.{Role}
 use Rattle.cm_blocks.specs.declared.function.Role.TheVariants as roles
 use Rattle.cm_blocks.specs.Taken.{Taken}
 use Rattle.cm_state.specs.Echo.{refusal}
-use Rattle.ex_grammar.specs.declared.code.TheConstants.{INFORMATION, LOGOUT, REMARK, VERSION}
+use Rattle.ex_grammar.specs.declared.code.TheConstants.{CONNECT, INFORMATION, LOGOUT, REMARK, VERSION}
 use Rattle.ex_program.specs.declared.command.Command.{Command}
-use Rattle.ex_program.specs.declared.command.Command.TheVariants.{Empty, Define, Information, Logout, Remark}
+use Rattle.ex_program.specs.declared.command.Command.TheVariants.{Empty, Connect, Define, Information, Logout, Remark}
 
 -- the number of a role, by which two are compared
 abbrev pub role_number : Role → ℕ
@@ -39,20 +39,31 @@ keyword_code value = 0
 abbrev pub code_of : Option Taken → ℕ
 code_of field = option_map_or (λ (it : Taken). keyword_code it.value) field 0
 
--- the command that this keyword names, with what INFORMATION is to tell about
-abbrev pub named : ℕ → ℕ → Command
-named verb what =
+-- the number of a directory, or of a user's own
+abbrev pub directory_number : Value → ℕ
+directory_number (User directory) = directory
+directory_number (Directory directory) = directory
+directory_number value = 0
+
+abbrev pub directory_of : Option Taken → ℕ
+directory_of field = option_map_or (λ (it : Taken). directory_number it.value) field 0
+
+-- the command that this keyword names, with what INFORMATION is to tell about and the directory to connect to
+abbrev pub named : ℕ → ℕ → ℕ → Command
+named verb what directory =
     if verb == LOGOUT then Logout
-    else (if verb == INFORMATION then Information what else (if verb == REMARK then Remark else Define))
+    else (if verb == INFORMATION then Information what
+    else (if verb == REMARK then Remark else (if verb == CONNECT then Connect directory else Define)))
 
-abbrev pub by_verb : Option Taken → ℕ → Command
-by_verb None what = Empty
-by_verb (Some verb) what = named (keyword_code verb.value) what
+abbrev pub by_verb : Option Taken → ℕ → ℕ → Command
+by_verb None what directory = Empty
+by_verb (Some verb) what directory = named (keyword_code verb.value) what directory
 
--- the field of role Verb names the command, that of role What tells what INFORMATION is asked about; a line
--- without fields is empty
+-- the field of role Verb names the command, that of role What tells what INFORMATION is asked about, that of role
+-- Files which directory CONNECT is to connect to; a line without fields is empty
 abbrev pub command_of : List Taken → Command
-command_of fields = by_verb (field_of roles.Verb fields) (code_of (field_of roles.What fields))
+command_of fields =
+    by_verb (field_of roles.Verb fields) (code_of (field_of roles.What fields)) (directory_of (field_of roles.Files fields))
 
 unfoldable pub version : List ℕ
 version = codes " EXEC20 1"
@@ -64,9 +75,10 @@ farewell = codes "Logged out"
 abbrev pub told : ℕ → List ℕ
 told what = if what == VERSION then version ++ end_of_line else []
 
--- no logical name is defined that DEFINE could take away
+-- the one directory is connected already, and no logical name is defined that DEFINE could take away
 abbrev pub reply : Command → List ℕ
 reply Empty = []
+reply (Connect directory) = []
 reply Define = refusal NoDefinition
 reply (Information what) = told what
 reply Logout = farewell ++ end_of_line

@@ -16,7 +16,7 @@ use Rattle.ex_grammar.specs.declared.node.TheConstants.{COMMANDS}
 use Rattle.ex_program.specs.Command.{command_of, reply}
 use Rattle.ex_program.specs.Setting.{exec_setting}
 use Rattle.ex_program.specs.declared.command.Command.{Command}
-use Rattle.ex_program.specs.declared.command.Command.TheVariants.{Empty, Define, Information, Logout, Remark}
+use Rattle.ex_program.specs.declared.command.Command.TheVariants.{Empty, Connect, Define, Information, Logout, Remark}
 
 -- what a run goes on from: the session, the moments to come, and whether LOGOUT has acted
 pub record World : Type 0 where
@@ -39,6 +39,7 @@ next_time world = record world { moments = later_moments world.moments }
 -- a command takes a moment; LOGOUT ends the run, and behind any other the next line begins
 abbrev pub world_after_command : World → Command → World
 world_after_command world Empty = next_line (next_time world)
+world_after_command world (Connect directory) = next_line (next_time world)
 world_after_command world Define = next_line (next_time world)
 world_after_command world (Information what) = next_line (next_time world)
 world_after_command world Logout = record (next_time world) { ended = true }
@@ -47,6 +48,7 @@ world_after_command world Remark = next_line (next_time world)
 -- the prompt of the next line, of which there is none after LOGOUT
 abbrev pub command_prompt : Command → List ℕ
 command_prompt Empty = prompt_text Main
+command_prompt (Connect directory) = prompt_text Main
 command_prompt Define = prompt_text Main
 command_prompt (Information what) = prompt_text Main
 command_prompt Logout = []

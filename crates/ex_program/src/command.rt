@@ -6,20 +6,25 @@ ghost use Rattle.std.specs.Option.{option_copied};
 ghost use Rattle.cm_io.specs.Told.{Adds};
 ghost use Rattle.cm_io.specs.Fault.{PutCause};
 ghost use Rattle.cm_state.specs.Echo.{refusal};
-ghost use Rattle.ex_program.specs.Command.{code_of, command_of, farewell, field_of, is_role, keyword_code, named, reply, told, version};
+ghost use Rattle.ex_program.specs.Command.{code_of, command_of, directory_number, directory_of, farewell, field_of, is_role, keyword_code, named, reply, told, version};
 
 use cm_blocks::{Field, Role};
 use cm_fields::{Code, Value};
 use cm_io::{Put, Sink, put_line};
 use cm_state::Session;
 use cm_text::question;
-use ex_grammar::{ExecRules, INFORMATION, LOGOUT, REMARK, VERSION};
+use ex_grammar::{CONNECT, ExecRules, INFORMATION, LOGOUT, REMARK, VERSION};
 
 /// What a confirmed line commands.
 #[derive(Clone, Copy, Debug, PartialEq, Eq)]
 pub enum Command {
     /// Nothing: the line has no field.
     Empty,
+    /// CONNECT: to connect to the directory with this number.
+    Connect {
+        /// The number of the directory in the catalogue.
+        directory: u16,
+    },
     /// DEFINE: to take away a logical name, of which there is none.
     Define,
     /// INFORMATION: to tell about the topic with this code.
@@ -41,6 +46,7 @@ pub(crate) fn command_of(session: &Session<ExecRules>) -> Command
         Some(verb) => named(
             keyword_code(verb.value()),
             code_of(field_of(session, Role::What)),
+            directory_of(field_of(session, Role::Files)),
         ),
         None => Command::Empty,
     }
@@ -84,14 +90,35 @@ fn code_of(field: Option<&Field>) -> u16
     }
 }
 
+// The number of a directory, or of a user's own; else 0.
+fn directory_number(value: &Value) -> u16
+    ensures { result ≡ directory_number value.now }
+{
+    match value {
+        Value::User(directory) => *directory,
+        Value::Directory(directory) => *directory,
+        _ => 0,
+    }
+}
+
+fn directory_of(field: Option<&Field>) -> u16
+    ensures { result ≡ directory_of (option_copied field.entry) }
+{
+    match field {
+        Some(field) => directory_number(field.value()),
+        None => 0,
+    }
+}
+
 // The command that a keyword with this code names.
-fn named(verb: u16, what: u16) -> Command
-    ensures { result ≡ named verb what }
+fn named(verb: u16, what: u16, directory: u16) -> Command
+    ensures { result ≡ named verb what directory }
 {
     match verb {
         LOGOUT => Command::Logout,
         INFORMATION => Command::Information { what },
         REMARK => Command::Remark,
+        CONNECT => Command::Connect { directory },
         _ => Command::Define,
     }
 }
@@ -104,6 +131,7 @@ pub(crate) fn put_reply<S: Sink>(command: Command, screen: &mut S) -> Put
 {
     match command {
         Command::Empty => Put::Done,
+        Command::Connect { .. } => Put::Done,
         Command::Define => put_refusal(Code::NoDefinition, screen),
         Command::Information { what } => put_told(what, screen),
         Command::Logout => put_line(farewell(), screen),

@@ -150,6 +150,7 @@ fn is_logout(command: Command) -> bool
 {
     match command {
         Command::Empty => false,
+        Command::Connect { .. } => false,
         Command::Define => false,
         Command::Information { .. } => false,
         Command::Logout => true,
@@ -219,6 +220,7 @@ fn go_on<S: Sink>(command: Command, session: &mut Session<ExecRules>, screen: &m
 {
     match command {
         Command::Empty => next_line(session, screen),
+        Command::Connect { .. } => next_line(session, screen),
         Command::Define => next_line(session, screen),
         Command::Information { .. } => next_line(session, screen),
         Command::Logout => Put::Done,

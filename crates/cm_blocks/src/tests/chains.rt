@@ -23,7 +23,7 @@ use std::test::Fail;
 
 // What a chain answers, as tests compare it.
 #[derive(Clone, Copy, Debug, PartialEq, Eq)]
-enum Answered {
+pub(super) enum Answered {
     Field(Parts),
     Done(u16),
     Fault(Fault),
@@ -32,7 +32,7 @@ enum Answered {
 
 // The parts of a field.
 #[derive(Clone, Copy, Debug, PartialEq, Eq)]
-struct Parts {
+pub(super) struct Parts {
     node: u16,
     block: u8,
     value: Value,
@@ -58,7 +58,7 @@ fn parts_of(field: &Field) -> Parts {
     }
 }
 
-fn answer_of(chain: Chain) -> Answered {
+pub(super) fn answer_of(chain: Chain) -> Answered {
     match chain {
         Chain::Field(field) => Answered::Field(parts_of(&field)),
         Chain::Done(place) => Answered::Done(place),
@@ -146,7 +146,7 @@ fn span(start: u16, end: u16) -> Span {
 }
 
 // A field of the text, by its start, end and need.
-fn typed(
+pub(super) fn typed(
     (node, block): (u16, u8),
     value: Value,
     (start, end, need): (u16, u16, u16),
@@ -167,7 +167,7 @@ fn typed(
 }
 
 // A field of the default, by its start, which is its end, and its need.
-fn defaulted(
+pub(super) fn defaulted(
     (node, block): (u16, u8),
     value: Value,
     (start, need): (u16, u16),
@@ -187,11 +187,11 @@ fn defaulted(
     })
 }
 
-fn fault(code: Code, node: u16, at: u16) -> Answered {
+pub(super) fn fault(code: Code, node: u16, at: u16) -> Answered {
     Answered::Fault(Fault { code, node, at })
 }
 
-fn open(node: u16, block: Option<u8>, at: u16) -> Answered {
+pub(super) fn open(node: u16, block: Option<u8>, at: u16) -> Answered {
     Answered::Open(Open { node, block, at })
 }
 

@@ -1,13 +1,13 @@
 // The grammar, node by node and entry by entry.
 use crate::tables::tables;
-use crate::{COMMANDS, DEFINE, INFORMATION, LOGOUT, REMARK, VERSION, grammar};
+use crate::{COMMANDS, CONNECT, DEFINE, INFORMATION, LOGOUT, REMARK, VERSION, grammar};
 use cm_blocks::{Block, Function, Role};
 use cm_tables::Flag;
 use std::test::Fail;
 
 // The nodes whose command is not built yet.
 fn is_later(number: u16) -> bool {
-    matches!(number, 1..=4 | 6..=25 | 33..=44 | 46..=50)
+    matches!(number, 1..=4 | 6..=16 | 19..=25 | 33..=44 | 46..=50)
 }
 
 // The name of what a block reads, the text of it, and the number of a table or a hook.
@@ -16,6 +16,8 @@ fn parts(function: &Function) -> (&'static str, &str, u16) {
         Function::Key(table) => ("Key", "", *table),
         Function::Noise(word) => ("Noise", word.as_str(), 0),
         Function::Token(sign) => ("Token", sign.as_str(), 0),
+        Function::User => ("User", "", 0),
+        Function::Directory => ("Directory", "", 0),
         Function::Text => ("Text", "", 0),
         Function::Confirm => ("Confirm", "", 0),
         Function::Hook(id) => ("Hook", "", u16::from(*id)),
@@ -43,11 +45,20 @@ fn each_node_has_its_shape(rt: HostRuntime) -> Result<(), Fail> {
         let blocks = node.chain.as_slice();
         assert_eq!(rt;
             blocks.len(),
-            if number == COMMANDS { 2 } else { 1 },
+            if matches!(number, COMMANDS | 18) {
+                2
+            } else {
+                1
+            },
             "{number}"
         );
         assert_eq!(rt; node.raw, number == 45, "{number}");
-        assert!(rt; node.default.is_none(), "{number}");
+        let default = node.default.map_or("", |text| text.as_str());
+        assert_eq!(rt;
+            default,
+            if number == 18 { "<OPERATOR>" } else { "" },
+            "{number}"
+        );
         for block in blocks {
             assert!(rt; has_plain_flags(block), "{number}");
             assert!(rt; block.help.is_none(), "{number}");
@@ -69,6 +80,9 @@ fn each_block_that_is_built_reads_its_field(rt: HostRuntime) -> Result<(), Fail>
         (0, 0, "Confirm", "", 0, Role::None, 5),
         (0, 1, "Key", "", 0, Role::Verb, 5),
         (5, 0, "Confirm", "", 0, Role::None, 5),
+        (17, 0, "Noise", "TO DIRECTORY", 0, Role::None, 18),
+        (18, 0, "User", "", 0, Role::Files, 5),
+        (18, 1, "Directory", "", 0, Role::Files, 5),
         (26, 0, "Noise", "ABOUT", 0, Role::None, 27),
         (27, 0, "Key", "", 1, Role::What, 5),
         (28, 0, "Noise", "LOGICAL NAME", 0, Role::None, 29),
@@ -97,20 +111,21 @@ fn each_entry_has_its_code(rt: HostRuntime) -> Result<(), Fail> {
     let tables = tables(rt.alloc())?;
     assert_eq!(rt; tables.len(), 2);
     for (table, position, text, flag, code, next) in [
-        (0, 0, b"DEFINE".as_slice(), Flag::Plain, 5, 28),
-        (0, 1, b"INFORMATION".as_slice(), Flag::Plain, 9, 26),
-        (0, 2, b"KJOB".as_slice(), Flag::Invisible, 10, 5),
-        (0, 3, b"L".as_slice(), Flag::NoRecognise, 0, 5),
-        (0, 4, b"LO".as_slice(), Flag::NoRecognise, 0, 5),
-        (0, 5, b"LOGOUT".as_slice(), Flag::Plain, 10, 5),
-        (0, 6, b"REMARK".as_slice(), Flag::Plain, 12, 45),
+        (0, 0, b"CONNECT".as_slice(), Flag::Plain, 3, 17),
+        (0, 1, b"DEFINE", Flag::Plain, 5, 28),
+        (0, 2, b"INFORMATION", Flag::Plain, 9, 26),
+        (0, 3, b"KJOB".as_slice(), Flag::Invisible, 10, 5),
+        (0, 4, b"L".as_slice(), Flag::NoRecognise, 0, 5),
+        (0, 5, b"LO".as_slice(), Flag::NoRecognise, 0, 5),
+        (0, 6, b"LOGOUT".as_slice(), Flag::Plain, 10, 5),
+        (0, 7, b"REMARK".as_slice(), Flag::Plain, 12, 45),
         (1, 0, b"VERSION".as_slice(), Flag::Plain, 4, 5),
     ] {
         assert!(rt; table < tables.len(), "{table} {position}");
         let entries = tables[table].entries();
         assert_eq!(rt;
             entries.len(),
-            if table == 0 { 7 } else { 1 },
+            if table == 0 { 8 } else { 1 },
             "{table} {position}"
         );
         assert!(rt; position < entries.len(), "{table} {position}");
@@ -128,7 +143,7 @@ fn each_entry_has_its_code(rt: HostRuntime) -> Result<(), Fail> {
 fn each_name_has_its_number(rt: HostRuntime) {
     assert_eq!(rt; COMMANDS, 0);
     assert_eq!(rt;
-        [VERSION, DEFINE, INFORMATION, LOGOUT, REMARK],
-        [4, 5, 9, 10, 12]
+        [VERSION, CONNECT, DEFINE, INFORMATION, LOGOUT, REMARK],
+        [4, 3, 5, 9, 10, 12]
     );
 }

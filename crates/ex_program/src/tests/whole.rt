@@ -99,6 +99,94 @@ fn runs_over_the_grammar_of_the_exec(rt: HostRuntime) -> Result<(), Fail> {
 }
 
 #[test]
+fn connects_to_what_is_there(rt: HostRuntime) -> Result<(), Fail> {
+    let cases = [
+        done(
+            b"CONNECT\r",
+            b"@CONNECT\r\n@\r\n",
+            Log::End(b"\n0d 7 D 0.1k3@0-7 17.0n0@7-7 18.1D@7-7=\n"),
+            2,
+        ),
+        // CONNECT is the one command that begins so.
+        done(
+            b"C\r",
+            b"@C\r\n@\r\n",
+            Log::Whole(b"43 1 O\n0d 1 D 0.1k3@0-1 17.0n0@1-1 18.1D@1-1=\n"),
+            2,
+        ),
+        done(
+            b"CO operator\r",
+            b"@CO operator\r\n@\r\n",
+            Log::End(b"\n0d 11 D 0.1k3@0-2 17.0n0@3-3 18.0u@3-11\n"),
+            2,
+        ),
+        done(
+            b"CONNECT (TO) <OPERATOR>\r",
+            b"@CONNECT (TO) <OPERATOR>\r\n@\r\n",
+            Log::End(b"\n0d 23 D 0.1k3@0-7 17.0n1@8-12 18.1D@13-23\n"),
+            2,
+        ),
+        done(
+            b"CONNECT PS:\r",
+            b"@CONNECT PS:\r\n@\r\n",
+            Log::End(b"\n0d 11 D 0.1k3@0-7 17.0n0@8-8 18.1D@8-11\n"),
+            2,
+        ),
+    ];
+    try_cases(&rt, &rt, &cases)
+}
+
+#[test]
+fn connects_to_nothing_else(rt: HostRuntime) -> Result<(), Fail> {
+    let cases = [
+        done(
+            b"CONNECT <X>\r",
+            b"@CONNECT <X>\r\n?No such directory\r\n@\r\n",
+            Log::End(b"\n0d 11 F21.18@8 0.1k3@0-7 17.0n0@8-8\n"),
+            1,
+        ),
+        // The refusal of the last block is told, also of a name that no user has.
+        done(
+            b"CONNECT X\r",
+            b"@CONNECT X\r\n?No such directory\r\n@\r\n",
+            Log::End(b"\n0d 9 F21.18@8 0.1k3@0-7 17.0n0@8-8\n"),
+            1,
+        ),
+        done(
+            b"CONNECT OPERATOR:\r",
+            b"@CONNECT OPERATOR:\r\n?No such logical name\r\n@\r\n",
+            Log::End(b"\n0d 17 F20.18@8 0.1k3@0-7 17.0n0@8-8\n"),
+            1,
+        ),
+        done(
+            b"CONNECT TTY:\r",
+            b"@CONNECT TTY:\r\n?Device not allowed\r\n@\r\n",
+            Log::End(b"\n0d 12 F19.18@8 0.1k3@0-7 17.0n0@8-8\n"),
+            1,
+        ),
+        done(
+            b"CONNECT <OPER*>\r",
+            b"@CONNECT <OPER*>\r\n?Wildcard not allowed\r\n@\r\n",
+            Log::End(b"\n0d 15 F18.18@8 0.1k3@0-7 17.0n0@8-8\n"),
+            1,
+        ),
+        done(
+            b"CONNECT <OPERATOR>A\r",
+            b"@CONNECT <OPERATOR>A\r\n?Invalid file specification\r\n@\r\n",
+            Log::End(b"\n0d 19 F15.18@8 0.1k3@0-7 17.0n0@8-8\n"),
+            1,
+        ),
+        done(
+            b"CONNECT OPERATOR X\r",
+            b"@CONNECT OPERATOR X\r\n?Not confirmed\r\n@\r\n",
+            Log::End(b"\n0d 18 F25.5@17 0.1k3@0-7 17.0n0@8-8 18.0u@8-16\n"),
+            1,
+        ),
+    ];
+    try_cases(&rt, &rt, &cases)
+}
+
+#[test]
 fn completes_what_was_begun(rt: HostRuntime) -> Result<(), Fail> {
     let cases = [
         done(
@@ -124,6 +212,13 @@ fn completes_what_was_begun(rt: HostRuntime) -> Result<(), Fail> {
             b"@DEFINE A1 \r\n",
             Log::End(b"\n1b 10 O 0.1k5@0-6 28.0n0@7-7 29.0h0:2@7-9\n"),
             1,
+        ),
+        // The guide word of CONNECT, and then its default.
+        done(
+            b"CON\x1b\x1b\r",
+            b"@CONNECT (TO DIRECTORY) <OPERATOR> \r\n@\r\n",
+            Log::End(b"\n1b 23 O 0.1k3@0-7 17.0n1@8-22\n1b 34 O 0.1k3@0-7 17.0n1@8-22 18.1D@23-33\n0d 34 D 0.1k3@0-7 17.0n1@8-22 18.1D@23-33\n"),
+            2,
         ),
         // What was completed is edited and confirmed as what was typed.
         done(
