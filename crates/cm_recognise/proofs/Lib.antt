@@ -17,3 +17,4 @@ pub mod Directories
 pub mod Numerals
 pub mod Rows
 pub mod Shown
+pub mod Files
