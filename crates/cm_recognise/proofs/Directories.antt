@@ -21,7 +21,6 @@ use Rattle.cm_fields.specs.Passed.{BeginsOther}
 use Rattle.cm_fields.specs.Try.{by_run, said, span}
 use Rattle.cm_files.specs.declared.row.LogicalName.{LogicalName}
 use Rattle.cm_files.specs.declared.spec.SpecFault.{SpecFault}
-use Rattle.cm_files.specs.declared.parts.Read.{Read}
 use Rattle.cm_files.specs.Catalogue.{Catalogue, IsCatalogue, is_directory_name, is_logical, is_upper_name, logical_of}
 use Rattle.cm_files.specs.Fields as fields
 use Rattle.cm_files.specs.Fields.{directory, directory_of, has_colon_behind, is_file, is_plain_path, is_user, is_user_named, user, user_named, user_of, user_or_refused}
@@ -30,6 +29,8 @@ use Rattle.cm_files.specs.Pattern.{is_wild}
 use Rattle.cm_files.specs.Resolve.{by_device, by_directory, directory_named, has_wild, is_named, or_refused, refuse, then_in}
 use Rattle.cm_files.specs.Spec.{are_parts, device_read, generation_of, is_long, is_path, is_pattern, nothing_read, part, part_read, parts_of, pointed_read, read_spec, stands_at}
 use Rattle.cm_files.proofs.Fielding.{directory_is_local}
+use Rattle.cm_files.proofs.Fronts.{DeviceAt, by_device_more, device_at}
+use Rattle.cm_files.proofs.Sections.{all_implies, behind_first, closed_reads, closed_spec, device_more, drop_within, lacks, part_bytes, run_stops, stands_first}
 use Rattle.cm_recognise.specs.declared.found.Found.{Found}
 use Rattle.cm_recognise.specs.declared.found.Found.TheVariants.{Nobody, One, Several}
 use Rattle.cm_recognise.specs.declared.outcome.Outcome.{Outcome}
@@ -39,9 +40,8 @@ use Rattle.cm_recognise.specs.Found.{directory_like, found_directories, found_us
 use Rattle.cm_recognise.specs.Outcome.{plain_outcome}
 use Rattle.cm_recognise.proofs.Coming.{Comes, found_comes}
 use Rattle.cm_recognise.proofs.Completing.{Listed, TakesNamed, listed_of, plain_named, run_named}
-use Rattle.cm_recognise.proofs.Lowered.{DirectoryName, all_implies, completed_lower, directory_name, equals_same, none_of_all, parts_same, paths_same, same_equals, same_length}
+use Rattle.cm_recognise.proofs.Lowered.{DirectoryName, completed_lower, directory_name, equals_same, none_of_all, parts_same, paths_same, same_equals, same_length}
 use Rattle.cm_recognise.proofs.Plains.{EndsAt, IsOwnIfOk, run_ends, run_wants}
-use Rattle.cm_recognise.proofs.Sections.{behind_first, device_more, directory_whole, lacks, name_nowhere, part_bytes, pointed_nowhere, run_stops, stands_first}
 use Rattle.cm_recognise.proofs.Spans.{all_of_run}
 
 -- where some element passes there is a first one
@@ -144,41 +144,6 @@ user_sound c is_catalogue atom bytes more at next after is = by (found_users c a
         let place = position_some (is_user_named whole) c.directories 0 of.1 in
         (subst (λ (bytes : List ℕ). TakesNamed (user c) atom bytes more at) same
         (user_taken c atom (missing text atom) more at place.0 all place.1), leads)
-
--- a part of the front of a text
-pub part_more : (atom more : List ℕ) (place : Span) → place.start ≤ place.end → place.end ≤ length atom
-    → part (atom ++ more) place ≡ part atom place
-part_more atom more place order within =
-    let size = length-drop place.start atom in
-    ap (take (place.end - place.start)) (drop-append-le place.start atom more (omega arith))
-    ∙ take-append-le (place.end - place.start) (drop place.start atom) more (omega arith)
-
--- where the device stands
-record DeviceAt (atom : List ℕ) (place : Span) : Type 0 where
-  is : place ≡ span 0 (prefix_len is_name atom)
-  within : prefix_len is_name atom ≤ length atom
-
-device_at : (atom : List ℕ) (place : Span) → (device_read atom).part ≡ Some place → DeviceAt atom place
-device_at atom place is = by (nat_lt 0 (prefix_len is_name atom) && stands_at atom (prefix_len is_name atom) 58) is
-  where
-    by : (test : Bool) → (if test then part_read 0 (prefix_len is_name atom) (prefix_len is_name atom + 1) else nothing_read 0).part ≡ Some place
-        → DeviceAt atom place
-    by true is =
-        let same : span 0 (prefix_len is_name atom) ≡ place = cc in
-        record { is = sym same; within = prefix_len-le-length is_name atom }
-    by false is = cc
-
-pub by_device_more : (c : Catalogue) (atom more : List ℕ)
-    → by_device c (atom ++ more) (device_read atom).part ≡ by_device c atom (device_read atom).part
-by_device_more c atom more = by (device_read atom).part refl
-  where
-    by : (place : Option Span) → (device_read atom).part ≡ place → by_device c (atom ++ more) place ≡ by_device c atom place
-    by None is = refl
-    by (Some place) is =
-        let of = device_at atom place is in
-        let order : place.start ≤ place.end = subst (λ (place : Span). place.start ≤ place.end) (sym of.is) (omega arith) in
-        let within : place.end ≤ length atom = subst (λ (place : Span). place.end ≤ length atom) (sym of.is) (let most = of.within in omega arith) in
-        rw (part_more atom more place order within) refl
 
 -- a device that means a directory is no longer than a name may be
 find_passes : (X : Type 0) (p q : X → Bool) (xs : List X) (x : X) → find p xs ≡ Some x → list_all q xs ≡ true
@@ -286,12 +251,6 @@ all_append p (byte ∷ text) more first second =
     let parts = and_parts (p byte) (list_all p text) first in
     and_from (p byte) (list_all p (text ++ more)) parts.0 (all_append p text more parts.1 second)
 
-drop_within : (at : ℕ) (text : List ℕ) (first : ℕ) (rest : List ℕ) → drop at text ≡ first ∷ rest → at < length text
-drop_within zero [] first rest is = cc
-drop_within (suc at) [] first rest is = cc
-drop_within zero (byte ∷ text) first rest is = omega arith
-drop_within (suc at) (byte ∷ text) first rest is = let later = drop_within at text first rest is in omega arith
-
 -- a byte further on that fails a test
 not_all : (p : ℕ → Bool) (at : ℕ) (text : List ℕ) (first : ℕ) (rest : List ℕ) → drop at text ≡ first ∷ rest → p first ≡ false
     → list_all p text ≡ false
@@ -344,43 +303,14 @@ lacks_append mark (byte ∷ text) more first second =
     let here = parts.0 in
     rw here (lacks_append mark text more parts.1 second)
 
--- how a directory reads that is closed
-abbrev closed_spec : Read → List ℕ → Spec
-closed_spec device body =
-    record {
-      device = device.part;
-      directory = Some (span (device.next + 1) (length body));
-      name = None;
-      kind = None;
-      generation = generations.Missing;
-    }
-
-closed_reads : (whole : List ℕ) (device : Read) (body : List ℕ) → device_read whole ≡ device
-    → drop device.next whole ≡ 60 ∷ (body ++ 62 ∷ []) → list_all is_path body ≡ true → are_parts body ≡ true
-    → is_long device.part ≡ false → length body ≤ NAME_LIMIT → read_spec whole ≡ Ok (closed_spec device body)
-unfolding generation_of
-closed_reads whole device body device_is text all parts device_fits body_fits =
-    let at = device.next in
-    let next = at + length body + 2 in
-    let directory_is = directory_whole whole at body text all parts in
-    let within = drop_within at whole 60 (body ++ 62 ∷ []) text in
-    let size = length-drop at whole in
-    let size_is : length (drop at whole) ≡ 1 + (length body + 1) = ap length text ∙ (let both = length-append body (62 ∷ []) in omega arith) in
-    let end : next ≡ length whole = omega arith in
-    let nothing : drop next whole ≡ [] = drop_all next whole (omega arith) in
-    let name_is = name_nowhere whole next nothing end in
-    let pointed_is = pointed_nowhere whole next nothing in
-    let some : (length whole == 0) ≡ false = grind (arith, nat_tests) in
-    let ends : (next == length whole) ≡ true = grind (arith, nat_tests) in
-    let fits : is_long (Some (span (at + 1) (length body))) ≡ false = grind (arith, nat_tests) in
-    rw (some, device_is, directory_is, name_is, pointed_is, ends, device_fits, fits) refl
-
 -- what it means
-closed_means : (c : Catalogue) (whole body : List ℕ) (at : ℕ) (device : Read) (meant place : ℕ) → read_spec whole ≡ Ok (closed_spec device body)
-    → drop device.next whole ≡ 60 ∷ (body ++ 62 ∷ []) → list_all is_plain_path body ≡ true → by_device c whole device.part ≡ Ok meant
+closed_means : (c : Catalogue) (atom whole body : List ℕ) (at meant place : ℕ) → read_spec whole ≡ Ok (closed_spec (device_read atom) body)
+    → drop (device_read atom).next whole ≡ 60 ∷ (body ++ 62 ∷ []) → list_all is_plain_path body ≡ true
+    → by_device c whole (device_read atom).part ≡ Ok meant
     → directory_named c body ≡ Some place → directory_of false c at whole ≡ Ok (values.Directory place)
 unfolding directory_of
-closed_means c whole body at device meant place read text plain device_is named =
+closed_means c atom whole body at meant place read text plain device_is named =
+    let device = device_read atom in
     let outside = not_all is_plain_path device.next whole 60 (body ++ 62 ∷ []) text bracket_no_path in
     let within = drop_within device.next whole 60 (body ++ 62 ∷ []) text in
     let some : nat_lt 0 (length whole) ≡ true = grind (arith, nat_tests) in
@@ -416,7 +346,7 @@ directory_taken c is_catalogue atom typed text more at meant front all of named 
     let spec_is = closed_reads whole read body device_is text_is paths parts (device_short c is_catalogue atom meant device) fits in
     let meant_is : by_device c whole read.part ≡ Ok meant = by_device_more c atom bytes ∙ device in
     let place = position_some (is_named body) c.directories 0 named in
-    let decided = closed_means c whole body at read meant place.0 spec_is text_is plain meant_is place.1 in
+    let decided = closed_means c atom whole body at meant place.0 spec_is text_is plain meant_is place.1 in
     let files = all_append is_file atom bytes all
     (all_append is_file rest (62 ∷ []) (all_implies is_path is_file file_of_path rest (all_implies is_plain_path is_path path_of_plain rest rest_plain)) bracket_file) in
     let taken = run_named is_file (directory_of false c at) atom bytes more at (values.Directory place.0) files space_no_file decided tt in

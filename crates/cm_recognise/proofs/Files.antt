@@ -22,7 +22,6 @@ use Rattle.cm_fields.specs.declared.value.Value.{Value}
 use Rattle.cm_fields.specs.declared.value.Value.TheVariants as values
 use Rattle.cm_fields.specs.Try.{span}
 use Rattle.cm_files.specs.declared.flags.Flags.{Flags}
-use Rattle.cm_files.specs.declared.parts.Read.{Read}
 use Rattle.cm_files.specs.declared.row.FileRow.{FileRow}
 use Rattle.cm_files.specs.declared.spec.SpecFault.{SpecFault}
 use Rattle.cm_files.specs.Catalogue.{Catalogue, IsCatalogue, rows_of}
@@ -34,6 +33,7 @@ use Rattle.cm_files.specs.Selection.{Wanted, agree, is_seen, name_matches, selec
 use Rattle.cm_files.specs.Spec.{are_parts, device_read, directory_read, generation_of, is_path, is_pattern, nothing_read, part, part_or_nothing, part_read, read_spec, stands_at}
 use Rattle.cm_files.proofs.Choosing.{any_may_pass}
 use Rattle.cm_files.proofs.Fielding.{file_is_local}
+use Rattle.cm_files.proofs.Fronts.{Same, by_device_more, directory_same}
 use Rattle.cm_recognise.specs.declared.file_outcome.Request.{Request}
 use Rattle.cm_recognise.specs.declared.found.Found.{Found}
 use Rattle.cm_recognise.specs.declared.found.Found.TheVariants.{Nobody, One, Several}
@@ -46,14 +46,14 @@ use Rattle.cm_recognise.specs.Found.{found_directories, found_kinds, found_names
 use Rattle.cm_recognise.specs.Outcome.{plain_outcome}
 use Rattle.cm_recognise.proofs.Coming.{Comes, found_comes}
 use Rattle.cm_recognise.proofs.Completing.{Listed, TakesNamed, listed_of, plain_named, run_named}
-use Rattle.cm_recognise.proofs.Directories.{all_append, by_device_more, file_of_path, part_more, space_no_file}
-use Rattle.cm_recognise.proofs.Lowered.{all_implies, completed_lower, equals_same, matches_same, names_same, none_of_all, same_length}
+use Rattle.cm_recognise.proofs.Directories.{all_append, file_of_path, space_no_file}
+use Rattle.cm_recognise.proofs.Lowered.{completed_lower, equals_same, matches_same, names_same, none_of_all, same_length}
 use Rattle.cm_recognise.proofs.Numerals.{decimal_digits, decimal_means}
 use Rattle.cm_recognise.proofs.Plains.{file_ends, run_wants}
 use Rattle.cm_recognise.proofs.Rows.{Row, RowForm, highest_row}
-use Rattle.cm_recognise.proofs.Sections.{Full, behind_first, behind_part, device_more, directory_more, full, full_spec, lacks, part_bytes, read_full}
+use Rattle.cm_files.proofs.Sections.{Full, all_implies, behind_first, behind_part, device_more, directory_more, full, full_spec, lacks, part_bytes, read_full}
 use Rattle.cm_recognise.proofs.Spans.{all_of_run}
-use Rattle.cm_recognise.proofs.Typed.{ReadAs, cut_kind, cut_name, cut_point, name_of, read_of}
+use Rattle.cm_files.proofs.Typed.{ReadAs, cut_kind, cut_name, cut_point, name_of, read_of}
 
 -- what stands for the generation, and what it means
 abbrev number_of : Bool → ℕ → List ℕ
@@ -116,62 +116,6 @@ full_path name kind number f =
 all_behind : (p : ℕ → Bool) (front rest : List ℕ) → list_all p (front ++ rest) ≡ true → list_all p rest ≡ true
 all_behind p [] rest all = all
 all_behind p (byte ∷ front) rest all = all_behind p front rest (and_parts (p byte) (list_all p (front ++ rest)) all).1
-
--- where a directory stands
-record Within (atom : List ℕ) (place : Span) : Type 0 where
-  order : place.start ≤ place.end
-  end : place.end ≤ length atom
-
-stands_within : (atom : List ℕ) (at mark : ℕ) → stands_at atom at mark ≡ true → at < length atom
-stands_within [] at mark stands = cc
-stands_within (byte ∷ atom) zero mark stands = omega arith
-stands_within (byte ∷ atom) (suc at) mark stands = let rest = stands_within atom at mark stands in omega arith
-
-directory_within : (atom : List ℕ) (at : ℕ) (read : Read) (place : Span) → directory_read atom at ≡ Some read → read.part ≡ Some place
-    → Within atom place
-directory_within atom at read place is given = by (stands_at atom at 60) is
-  where
-    size : ℕ
-    size = prefix_len is_path (drop (at + 1) atom)
-
-    closed : (ends : Bool) → stands_at atom (at + 1 + size) 62 ≡ ends
-        → (if ends && are_parts (take size (drop (at + 1) atom)) then Some (part_read (at + 1) size (at + size + 2)) else None) ≡ Some read
-        → Within atom place
-    closed false ends is = cc
-    closed true ends is = parts (are_parts (take size (drop (at + 1) atom))) is
-      where
-        parts : (named : Bool) → (if named then Some (part_read (at + 1) size (at + size + 2)) else None) ≡ Some read → Within atom place
-        parts false is = cc
-        parts true is =
-            let same : part_read (at + 1) size (at + size + 2) ≡ read = cc in
-            let places : ◌≡◌ {A = Option Span} (Some (span (at + 1) size)) (Some place) = ap (λ (read : Read). read.part) same ∙ given in
-            let equal : span (at + 1) size ≡ place = cc in
-            let last = stands_within atom (at + 1 + size) 62 ends in
-            let whole : Within atom (span (at + 1) size) = record { order = omega arith; end = omega arith } in
-            subst (Within atom) equal whole
-
-    by : (opens : Bool) → (if opens then (if stands_at atom (at + 1 + size) 62 && are_parts (take size (drop (at + 1) atom)) then Some (part_read (at + 1) size (at + size + 2)) else None) else Some (nothing_read at)) ≡ Some read
-        → Within atom place
-    by true is = closed (stands_at atom (at + 1 + size) 62) refl is
-    by false is =
-        let same : nothing_read at ≡ read = cc in
-        let places : ◌≡◌ {A = Option Span} None (Some place) = ap (λ (read : Read). read.part) same ∙ given in
-        cc
-
--- what is said of the directory stays as it is
-record Same (c : Catalogue) (atom more : List ℕ) (place : Option Span) : Type 0 where
-  wild : has_wild (atom ++ more) place ≡ has_wild atom place
-  named : (meant : ℕ) → by_directory c (atom ++ more) place meant ≡ by_directory c atom place meant
-
-directory_same : (c : Catalogue) (atom more : List ℕ) (at : ℕ) (read : Read) → directory_read atom at ≡ Some read → Same c atom more read.part
-directory_same c atom more at read is = by read.part refl
-  where
-    by : (place : Option Span) → read.part ≡ place → Same c atom more place
-    by None given = record { wild = refl; named = λ meant. refl }
-    by (Some place) given =
-        let within = directory_within atom at read place is given in
-        let bytes = part_more atom more place within.order within.end in
-        record { wild = ap (list_any is_wild) bytes; named = λ meant. rw bytes refl }
 
 -- the directory that is meant
 record Means (c : Catalogue) (request : Request) (atom : List ℕ) (spec : Spec) (directory : ℕ) : Type 0 where

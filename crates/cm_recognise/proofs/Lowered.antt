@@ -16,6 +16,7 @@ use Rattle.cm_files.specs.Catalogue.{is_directory_name, is_upper_name}
 use Rattle.cm_files.specs.Fields.{is_plain_path}
 use Rattle.cm_files.specs.Pattern.{matches}
 use Rattle.cm_files.specs.Spec.{are_parts}
+use Rattle.cm_files.proofs.Sections.{all_implies}
 
 pub equals_same : (text other : List ℕ) → equals text other ≡ true → lower text ≡ lower other
 unfolding equals
@@ -37,14 +38,6 @@ completed_lower text typed begins =
 pub same_length : (text other : List ℕ) → lower text ≡ lower other → length text ≡ length other
 same_length text other same =
     sym (length-map text to_ascii_lowercase) ∙ ap length same ∙ length-map other to_ascii_lowercase
-
--- a weaker test is passed too
-pub all_implies : {X : Type 0} (p q : X → Bool) → ((x : X) → p x ≡ true → q x ≡ true) → (xs : List X) → list_all p xs ≡ true
-    → list_all q xs ≡ true
-all_implies p q one [] all = refl
-all_implies p q one (x ∷ xs) all =
-    let parts = and_parts (p x) (list_all p xs) all in
-    and_from (q x) (list_all q xs) (one x parts.0) (all_implies p q one xs parts.1)
 
 -- a test that does not hold of any byte of a class
 pub none_of_all : (p q : ℕ → Bool) → ((byte : ℕ) → p byte ≡ true → q byte ≡ false) → (text : List ℕ) → list_all p text ≡ true

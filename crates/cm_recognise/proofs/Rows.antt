@@ -49,12 +49,13 @@ row_form directories row is =
 
 all_filter : (test keep : FileRow → Bool) (rows : List FileRow) → list_all test rows ≡ true → list_all test (filter keep rows) ≡ true
 all_filter test keep [] all = refl
-all_filter test keep (row ∷ rows) all = by (keep row) (and_parts (test row) (list_all test rows) all)
+all_filter test keep (row ∷ rows) all =
+    let both = and_parts (test row) (list_all test rows) all in by (keep row) both.0 (all_filter test keep rows both.1)
   where
-    by : (kept : Bool) → (test row ≡ true) × (list_all test rows ≡ true)
+    by : (kept : Bool) → test row ≡ true → list_all test (filter keep rows) ≡ true
         → list_all test (cond kept (row ∷ filter keep rows) (filter keep rows)) ≡ true
-    by true both = and_from (test row) (list_all test (filter keep rows)) both.0 (all_filter test keep rows both.1)
-    by false both = all_filter test keep rows both.1
+    by true here rest = and_from (test row) (list_all test (filter keep rows)) here rest
+    by false here rest = rest
 
 pub rows_form : (c : Catalogue) → IsCatalogue c → (directory : ℕ) → list_all (is_row (length c.directories)) (rows_of c directory) ≡ true
 rows_form c is_catalogue directory =

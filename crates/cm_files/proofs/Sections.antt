@@ -1,17 +1,17 @@
 -- How a file specification is read that goes on.
-use Rattle.std.proofs.Common.{◌≡◌, ℕ, zero, suc, ◌+◌, ◌-◌, ◌<◌, ◌≤◌, Bool, true, false, ◌&&◌, ◌||◌, ◌==◌, nat_lt, cond, if◌then◌else◌, List, [], ◌∷◌, ◌++◌, length, take, drop, slice_get, Option, Some, None, option_and_then, Result, Ok, Err, refl, ap, sym, subst, arith, ◌∙◌, length-append, length-drop, append_assoc}
+use Rattle.std.proofs.Common.{◌≡◌, ℕ, zero, suc, ◌+◌, ◌-◌, ◌<◌, ◌≤◌, Bool, true, false, ◌&&◌, ◌==◌, nat_lt, if◌then◌else◌, List, [], ◌∷◌, ◌++◌, length, take, drop, Option, Some, None, Ok, refl, ap, sym, arith, ◌∙◌, length-append, length-drop}
 use Rattle.std.specs.List.{list_all, list_any, prefix_len}
 use Rattle.std.specs.Option.{option_map_or}
-use Rattle.std.proofs.lemmas.Bool.{and_parts, or_parts}
+use Rattle.std.proofs.lemmas.Bool.{and_from, and_parts, or_parts}
 use Rattle.std.proofs.lemmas.Bool.Decides.{nat_tests}
 use Rattle.std.proofs.lemmas.List.{drop-append-le, drop-drop, drop_all, take-append-le}
-use Rattle.std.proofs.lemmas.List.Folds.{prefix_len-append}
 use Rattle.std.proofs.lemmas.List.Sums.{prefix_len-le-length}
 use Rattle.std.proofs.lemmas.Option.{slice_get_past}
 use Rattle.std.proofs.Math.Seq.{take-append_seam}
 use Rattle.cm_text.specs.declared.name.TheConstants.{NAME_LIMIT}
 use Rattle.cm_text.specs.Bytes.{is_name, is_word}
 use Rattle.cm_fields.specs.declared.value.Gen.{Gen}
+use Rattle.cm_fields.specs.declared.value.Gen.TheVariants as generations
 use Rattle.cm_fields.specs.declared.value.Span.{Span}
 use Rattle.cm_fields.specs.declared.value.Spec.{Spec}
 use Rattle.cm_fields.specs.Try.{span}
@@ -20,11 +20,15 @@ use Rattle.cm_fields.proofs.Phrases.{slice_get-append}
 use Rattle.cm_fields.proofs.Runs.{run_beyond, run_inside}
 use Rattle.cm_files.specs.declared.parts.Parts.{Parts}
 use Rattle.cm_files.specs.declared.parts.Read.{Read}
-use Rattle.cm_files.specs.declared.spec.SpecFault.{SpecFault}
-use Rattle.cm_files.specs.declared.spec.SpecFault.TheVariants.{Shape, NameLong, GenRange}
-use Rattle.cm_files.specs.Spec.{are_parts, by_parts, device_read, directory_read, generation_of, is_long, is_path, is_pattern, name_read, nothing_read, part, part_or_nothing, part_read, parts_behind, parts_of, pointed_read, read_spec, stands_at, with_generation}
-use Rattle.cm_recognise.proofs.Lowered.{all_implies}
-use Rattle.cm_recognise.proofs.Spans.{all_of_run, run_of_all}
+use Rattle.cm_files.specs.Spec.{are_parts, device_read, directory_read, generation_of, is_long, is_path, is_pattern, name_read, nothing_read, part, part_read, parts_behind, parts_of, pointed_read, read_spec, stands_at}
+
+-- a weaker test is passed too
+pub all_implies : {X : Type 0} (p q : X → Bool) → ((x : X) → p x ≡ true → q x ≡ true) → (xs : List X) → list_all p xs ≡ true
+    → list_all q xs ≡ true
+all_implies p q one [] all = refl
+all_implies p q one (x ∷ xs) all =
+    let parts = and_parts (p x) (list_all p xs) all in
+    and_from (q x) (list_all q xs) (one x parts.0) (all_implies p q one xs parts.1)
 
 -- a mark that does not stand in a text
 abbrev pub lacks : ℕ → List ℕ → Type 0
@@ -340,3 +344,61 @@ read_full whole device directory name kind number generation device_is directory
     none : (text : List ℕ) → text ++ [] ≡ text
     none [] = refl
     none (byte ∷ text) = ap (λ (text : List ℕ). byte ∷ text) (none text)
+
+-- what a text begins with at a place stands within it
+pub drop_within : (at : ℕ) (text : List ℕ) (first : ℕ) (rest : List ℕ) → drop at text ≡ first ∷ rest → at < length text
+drop_within zero [] first rest is = cc
+drop_within (suc at) [] first rest is = cc
+drop_within zero (byte ∷ text) first rest is = omega arith
+drop_within (suc at) (byte ∷ text) first rest is = let later = drop_within at text first rest is in omega arith
+
+-- behind a directory with which the text ends nothing is read
+abbrev behind_by : Option Span → Option Span → Read → Read → Read → ℕ → Option Parts
+behind_by device directory name kind generation size =
+    if generation.next == size
+    then Some (record { device = device; directory = directory; name = name.part; kind = kind.part; generation = generation.part })
+    else None
+
+abbrev no_file : Option Span → Option Span → Parts
+no_file device directory = record { device = device; directory = directory; name = None; kind = None; generation = None }
+
+nothing_behind : (whole : List ℕ) (device directory : Option Span) (next : ℕ) → pointed_read whole next ≡ nothing_read next
+    → (next == length whole) ≡ true → parts_behind whole device directory (nothing_read next) ≡ Some (no_file device directory)
+nothing_behind whole device directory next pointed ends =
+    ap (λ (kind : Read). behind_by device directory (nothing_read next) kind (pointed_read whole kind.next) (length whole)) pointed
+    ∙ ap (λ (generation : Read). behind_by device directory (nothing_read next) (nothing_read next) generation (length whole)) pointed
+    ∙ ap (λ (test : Bool). if test then Some (no_file device directory) else None) ends
+
+-- how a directory reads that is closed
+abbrev pub closed_spec : Read → List ℕ → Spec
+closed_spec device body =
+    record {
+      device = device.part;
+      directory = Some (span (device.next + 1) (length body));
+      name = None;
+      kind = None;
+      generation = generations.Missing;
+    }
+
+pub closed_reads : (whole : List ℕ) (device : Read) (body : List ℕ) → device_read whole ≡ device
+    → drop device.next whole ≡ 60 ∷ (body ++ 62 ∷ []) → list_all is_path body ≡ true → are_parts body ≡ true
+    → is_long device.part ≡ false → length body ≤ NAME_LIMIT → read_spec whole ≡ Ok (closed_spec device body)
+unfolding generation_of
+closed_reads whole device body device_is text all parts device_fits body_fits =
+    let at = device.next in
+    let next = at + length body + 2 in
+    let directory_is = directory_whole whole at body text all parts in
+    let within = drop_within at whole 60 (body ++ 62 ∷ []) text in
+    let size = length-drop at whole in
+    let size_is : length (drop at whole) ≡ 1 + (length body + 1) = ap length text ∙ (let both = length-append body (62 ∷ []) in omega arith) in
+    let end : next ≡ length whole = omega arith in
+    let nothing : drop next whole ≡ [] = drop_all next whole (omega arith) in
+    let name_is = name_nowhere whole next nothing end in
+    let pointed_is = pointed_nowhere whole next nothing in
+    let some : (length whole == 0) ≡ false = grind (arith, nat_tests) in
+    let ends : (next == length whole) ≡ true = grind (arith, nat_tests) in
+    let fits : is_long (Some (span (at + 1) (length body))) ≡ false = grind (arith, nat_tests) in
+    let behind = nothing_behind whole device.part (Some (span (at + 1) (length body))) next pointed_is ends in
+    let parts_are : parts_of whole ≡ Some (no_file device.part (Some (span (at + 1) (length body)))) =
+    rw (some, device_is, directory_is, name_is) behind in
+    rw (parts_are, device_fits, fits) refl

@@ -1,5 +1,5 @@
 -- What is typed of a file, cut at its points.
-use Rattle.std.proofs.Common.{◌≡◌, ℕ, zero, suc, ◌+◌, ◌-◌, ◌<◌, ◌≤◌, Bool, true, false, ◌&&◌, ◌||◌, ◌==◌, nat_lt, cond, if◌then◌else◌, List, [], ◌∷◌, ◌++◌, length, take, drop, Option, Some, None, option_and_then, Result, Ok, Err, refl, ap, sym, subst, arith, ◌∙◌, length-drop}
+use Rattle.std.proofs.Common.{◌≡◌, ℕ, zero, suc, ◌+◌, ◌-◌, ◌<◌, ◌≤◌, Bool, true, false, ◌||◌, ◌==◌, nat_lt, if◌then◌else◌, List, [], ◌∷◌, ◌++◌, length, take, drop, Option, Some, None, option_and_then, Ok, Err, refl, ap, sym, subst, arith, ◌∙◌, length-drop}
 use Rattle.std.specs.List.{prefix_len}
 use Rattle.std.proofs.lemmas.Bool.{or_parts}
 use Rattle.std.proofs.lemmas.Bool.Decides.{nat_tests}
@@ -11,9 +11,8 @@ use Rattle.cm_fields.specs.declared.value.Spec.{Spec}
 use Rattle.cm_fields.specs.Try.{span}
 use Rattle.cm_files.specs.declared.parts.Parts.{Parts}
 use Rattle.cm_files.specs.declared.parts.Read.{Read}
-use Rattle.cm_files.specs.declared.spec.SpecFault.{SpecFault}
-use Rattle.cm_files.specs.declared.spec.SpecFault.TheVariants.{Shape, NameLong, GenRange}
-use Rattle.cm_files.specs.Spec.{by_parts, device_read, directory_read, generation_of, is_long, is_path, is_pattern, name_read, nothing_read, part, part_or_nothing, part_read, parts_behind, parts_of, pointed_read, read_spec, stands_at, with_generation}
+use Rattle.cm_files.specs.declared.spec.SpecFault.TheVariants.{NameLong}
+use Rattle.cm_files.specs.Spec.{by_parts, device_read, directory_read, generation_of, is_long, is_pattern, name_read, nothing_read, part, part_or_nothing, part_read, parts_behind, parts_of, pointed_read, read_spec, stands_at, with_generation}
 
 -- how a specification was read
 pub record ReadAs (atom : List ℕ) (spec : Spec) : Type 0 where
@@ -141,20 +140,20 @@ read_of atom spec is = by (parts_of atom) refl is
     by : (parts : Option Parts) → parts_of atom ≡ parts → by_parts atom parts ≡ Ok spec → ReadAs atom spec
     by None found is = cc
     by (Some parts) found is =
-        let as = parts_as atom parts found in
+        let read = parts_as atom parts found in
         let of = kept atom parts spec is in
         record {
-          directory = as.directory;
-          name = as.name;
-          directory_is = as.directory_is;
-          name_is = as.name_is;
-          ends = as.ends;
-          device_short = ap is_long (sym as.device_part) ∙ of.device_short;
-          directory_short = ap is_long (sym as.directory_part) ∙ of.directory_short;
-          spec_device = of.device ∙ as.device_part;
-          spec_directory = of.directory ∙ as.directory_part;
-          spec_name = of.name ∙ as.name_part;
-          spec_kind = of.kind ∙ as.kind_part;
+          directory = read.directory;
+          name = read.name;
+          directory_is = read.directory_is;
+          name_is = read.name_is;
+          ends = read.ends;
+          device_short = ap is_long (sym read.device_part) ∙ of.device_short;
+          directory_short = ap is_long (sym read.directory_part) ∙ of.directory_short;
+          spec_device = of.device ∙ read.device_part;
+          spec_directory = of.directory ∙ read.directory_part;
+          spec_name = of.name ∙ read.name_part;
+          spec_kind = of.kind ∙ read.kind_part;
         }
 
 -- a part of the text, and what is behind it
