@@ -1,24 +1,22 @@
 -- A user or a directory that is completed whole is taken.
-use Rattle.std.proofs.Common.{◌≡◌, ℕ, zero, suc, ◌+◌, ◌-◌, ◌<◌, ◌≤◌, Bool, true, false, not, ◌&&◌, ◌||◌, ◌==◌, nat_lt, nat_le, cond, if◌then◌else◌, List, [], ◌∷◌, ◌++◌, length, take, drop, codes, Option, Some, None, is_some, is_none, option_map, Result, Ok, Err, refl, ap, sym, subst, arith, ◌∙◌, append_assoc, append-nil, length-append, length-drop, length-take}
+use Rattle.std.proofs.Common.{◌≡◌, ℕ, zero, suc, ◌+◌, ◌-◌, ◌≤◌, Bool, true, false, not, ◌&&◌, ◌||◌, ◌==◌, nat_lt, nat_le, cond, if◌then◌else◌, List, [], ◌∷◌, ◌++◌, length, take, drop, codes, Option, Some, None, option_map, Result, Ok, Err, refl, ap, sym, subst, arith, ◌∙◌, append_assoc, append-nil, length-take}
 use Rattle.std.specs.List.{find, list_all, list_any, position_from, prefix_len}
-use Rattle.std.proofs.lemmas.Bool.{and_from, and_parts, or_cases, or_parts}
+use Rattle.std.proofs.lemmas.Bool.{and_from, and_parts, or_parts}
 use Rattle.std.proofs.lemmas.Bool.Decides.{nat_tests}
-use Rattle.std.proofs.lemmas.List.{drop-append-le, drop_all, take-append-le}
-use Rattle.std.proofs.lemmas.List.Sums.{prefix_len-le-length}
+use Rattle.std.proofs.lemmas.List.{drop-append-le}
 use Rattle.cm_text.specs.declared.name.TheConstants.{NAME_LIMIT}
 use Rattle.cm_text.specs.BeginLaws.{lower}
 use Rattle.cm_text.specs.Bytes.{is_blank, is_name, is_word}
 use Rattle.cm_text.specs.Case.{begins_with, equals}
 use Rattle.cm_fields.specs.declared.code.Code.{Code}
-use Rattle.cm_fields.specs.declared.code.Code.TheVariants.{Device, NoDirectory, NoLogical, NoUser, SpecShape, WildHere}
-use Rattle.cm_fields.specs.declared.value.Gen.TheVariants as generations
+use Rattle.cm_fields.specs.declared.code.Code.TheVariants.{Device, NoDirectory, NoLogical, SpecShape, WildHere}
 use Rattle.cm_fields.specs.declared.trial.Try.TheVariants.{More}
 use Rattle.cm_fields.specs.declared.value.Span.{Span}
 use Rattle.cm_fields.specs.declared.value.Spec.{Spec}
 use Rattle.cm_fields.specs.declared.value.Value.{Value}
 use Rattle.cm_fields.specs.declared.value.Value.TheVariants as values
 use Rattle.cm_fields.specs.Passed.{BeginsOther}
-use Rattle.cm_fields.specs.Try.{by_run, said, span}
+use Rattle.cm_fields.specs.Try.{by_run, span}
 use Rattle.cm_files.specs.declared.row.LogicalName.{LogicalName}
 use Rattle.cm_files.specs.declared.spec.SpecFault.{SpecFault}
 use Rattle.cm_files.specs.Catalogue.{Catalogue, IsCatalogue, is_directory_name, is_logical, is_upper_name, logical_of}
@@ -27,21 +25,20 @@ use Rattle.cm_files.specs.Fields.{directory, directory_of, has_colon_behind, is_
 use Rattle.cm_files.specs.LogicalName.{begins_with_letter, is_logical_name}
 use Rattle.cm_files.specs.Pattern.{is_wild}
 use Rattle.cm_files.specs.Resolve.{by_device, by_directory, directory_named, has_wild, is_named, or_refused, refuse, then_in}
-use Rattle.cm_files.specs.Spec.{are_parts, device_read, generation_of, is_long, is_path, is_pattern, nothing_read, part, part_read, parts_of, pointed_read, read_spec, stands_at}
+use Rattle.cm_files.specs.Spec.{device_read, is_long, is_path, part, read_spec, stands_at}
 use Rattle.cm_files.proofs.Fielding.{directory_is_local}
-use Rattle.cm_files.proofs.Fronts.{DeviceAt, by_device_more, device_at}
+use Rattle.cm_files.proofs.Fronts.{by_device_more, device_at}
 use Rattle.cm_files.proofs.Sections.{all_implies, behind_first, closed_reads, closed_spec, device_more, drop_within, lacks, part_bytes, run_stops, stands_first}
 use Rattle.cm_recognise.specs.declared.found.Found.{Found}
 use Rattle.cm_recognise.specs.declared.found.Found.TheVariants.{Nobody, One, Several}
-use Rattle.cm_recognise.specs.declared.outcome.Outcome.{Outcome}
-use Rattle.cm_recognise.specs.declared.outcome.Outcome.TheVariants.{Nothing, Part, Whole}
+use Rattle.cm_recognise.specs.declared.outcome.Outcome.TheVariants.{Whole}
 use Rattle.cm_recognise.specs.FileOutcome.{by_opened, completed, directory_outcome, opened, unclosed, user_outcome}
 use Rattle.cm_recognise.specs.Found.{directory_like, found_directories, found_users, missing, user_like}
 use Rattle.cm_recognise.specs.Outcome.{plain_outcome}
-use Rattle.cm_recognise.proofs.Coming.{Comes, found_comes}
-use Rattle.cm_recognise.proofs.Completing.{Listed, TakesNamed, listed_of, plain_named, run_named}
+use Rattle.cm_recognise.proofs.Coming.{found_comes}
+use Rattle.cm_recognise.proofs.Completing.{TakesNamed, listed_of, plain_named, run_named}
 use Rattle.cm_recognise.proofs.Lowered.{DirectoryName, completed_lower, directory_name, equals_same, none_of_all, parts_same, paths_same, same_equals, same_length}
-use Rattle.cm_recognise.proofs.Plains.{EndsAt, IsOwnIfOk, run_ends, run_wants}
+use Rattle.cm_recognise.proofs.Plains.{IsOwnIfOk, run_ends, run_wants, space_no_file}
 use Rattle.cm_recognise.proofs.Spans.{all_of_run}
 
 -- where some element passes there is a first one
@@ -194,29 +191,27 @@ device_bytes c is_catalogue name directory is =
     by false false is_ps true is_dsk is = let size = same_length name (codes "DSK") (equals_same name (codes "DSK") is_dsk) in omega arith
     by false false is_ps false is_dsk is = logical_short c is_catalogue name directory is
 
-pub device_short : (c : Catalogue) → IsCatalogue c → (atom : List ℕ) (directory : ℕ)
-    → by_device c atom (device_read atom).part ≡ Ok directory → is_long (device_read atom).part ≡ false
-device_short c is_catalogue atom directory is = by (device_read atom).part refl is
+first_size : (size : ℕ) (text : List ℕ) → size ≤ length text → length (part text (span 0 size)) ≡ size
+first_size size text within =
+    let same : 0 + size - 0 ≡ size = omega arith in
+    let known = length-take size text in
+    ap (λ (n : ℕ). length (take n text)) same ∙ omega arith
+
+pub device_short : (c : Catalogue) → IsCatalogue c → (atom : List ℕ) (meant : ℕ)
+    → by_device c atom (device_read atom).part ≡ Ok meant → is_long (device_read atom).part ≡ false
+device_short c is_catalogue atom meant is = by (device_read atom).part refl is
   where
-    by : (place : Option Span) → (device_read atom).part ≡ place → by_device c atom place ≡ Ok directory → is_long place ≡ false
+    by : (place : Option Span) → (device_read atom).part ≡ place → by_device c atom place ≡ Ok meant → is_long place ≡ false
     by None found is = refl
     by (Some place) found is =
         let of = device_at atom place found in
         let most = of.within in
-        let short = device_bytes c is_catalogue (part atom place) directory is in
+        let short = device_bytes c is_catalogue (part atom place) meant is in
         let bytes : length (part atom (span 0 (prefix_len is_name atom))) ≡ prefix_len is_name atom =
-        taken (prefix_len is_name atom) atom most in
+        first_size (prefix_len is_name atom) atom most in
         let size : prefix_len is_name atom ≤ NAME_LIMIT =
         (let small = subst (λ (place : Span). length (part atom place) ≤ NAME_LIMIT) of.is short in omega arith) in
         subst (λ (place : Span). is_long (Some place) ≡ false) (sym of.is) (grind (arith, nat_tests))
-      where
-        taken : (size : ℕ) (text : List ℕ) → size ≤ length text → length (part text (span 0 size)) ≡ size
-        taken size text within =
-            let same : 0 + size - 0 ≡ size = omega arith in
-            ap (λ (n : ℕ). length (take n text)) same ∙ length-take-le size text within
-
-        length-take-le : (size : ℕ) (text : List ℕ) → size ≤ length text → length (take size text) ≡ size
-        length-take-le size text within = let known = length-take size text in omega arith
 
 -- what stands behind an opening angle bracket
 unclosed_of : (byte : ℕ) (more typed : List ℕ) → unclosed (byte ∷ more) ≡ Some typed → byte ∷ more ≡ 60 ∷ typed
@@ -291,10 +286,6 @@ bracket_no_path = refl
 bracket_file : list_all is_file (62 ∷ []) ≡ true
 unfolding is_name is_word
 bracket_file = refl
-
-pub space_no_file : is_file 32 ≡ false
-unfolding is_name is_word
-space_no_file = refl
 
 lacks_append : (mark : ℕ) (text more : List ℕ) → lacks mark text → lacks mark more → lacks mark (text ++ more)
 lacks_append mark [] more first second = second

@@ -1,16 +1,15 @@
 -- A file that is completed whole is taken.
-use Rattle.std.proofs.Common.{◌≡◌, ◌⊎◌, inl, inr, ℕ, zero, suc, ◌+◌, ◌-◌, ◌<◌, ◌≤◌, Bool, true, false, not, ◌&&◌, ◌||◌, ◌==◌, nat_lt, nat_le, cond, if◌then◌else◌, List, [], ◌∷◌, ◌++◌, length, take, drop, codes, decimal, Option, Some, None, is_none, Result, Ok, Err, refl, ap, sym, subst, arith, ◌∙◌, append_assoc, append-nil, length-append, length-drop}
-use Rattle.std.specs.List.{list_all, list_any, prefix_len}
-use Rattle.std.proofs.lemmas.Bool.{and_from, and_parts, or_parts}
+use Rattle.std.proofs.Common.{◌≡◌, ◌⊎◌, inl, inr, ℕ, ◌+◌, ◌<◌, ◌≤◌, Bool, true, false, not, ◌&&◌, ◌||◌, ◌==◌, if◌then◌else◌, List, [], ◌∷◌, ◌++◌, length, drop, decimal, Option, Some, None, Result, Ok, Err, refl, ap, sym, subst, arith, ◌∙◌, append_assoc, append-nil, length-append}
+use Rattle.std.specs.List.{list_all, list_any}
+use Rattle.std.proofs.lemmas.Bool.{and_parts, or_parts}
 use Rattle.std.proofs.lemmas.Bool.Decides.{nat_tests}
 use Rattle.std.proofs.lemmas.List.{drop-append-le, drop_all}
 use Rattle.std.specs.Char.{is_ascii_digit}
-use Rattle.cm_text.specs.declared.name.TheConstants.{NAME_LIMIT}
 use Rattle.cm_text.specs.BeginLaws.{lower}
 use Rattle.cm_text.specs.Bytes.{is_name, is_word}
 use Rattle.cm_text.specs.Case.{equals}
 use Rattle.cm_fields.specs.declared.code.Code.{Code}
-use Rattle.cm_fields.specs.declared.code.Code.TheVariants.{GenRange, NoFile, SpecShape, WildHere}
+use Rattle.cm_fields.specs.declared.code.Code.TheVariants.{WildHere}
 use Rattle.cm_fields.specs.declared.trial.Try.TheVariants.{More}
 use Rattle.cm_fields.specs.declared.value.FileKind.{FileKind}
 use Rattle.cm_fields.specs.declared.value.FileKind.TheVariants.{In, Out, Any}
@@ -18,22 +17,20 @@ use Rattle.cm_fields.specs.declared.value.Gen.{Gen}
 use Rattle.cm_fields.specs.declared.value.Gen.TheVariants as generations
 use Rattle.cm_fields.specs.declared.value.Span.{Span}
 use Rattle.cm_fields.specs.declared.value.Spec.{Spec}
-use Rattle.cm_fields.specs.declared.value.Value.{Value}
 use Rattle.cm_fields.specs.declared.value.Value.TheVariants as values
-use Rattle.cm_fields.specs.Try.{span}
 use Rattle.cm_files.specs.declared.flags.Flags.{Flags}
 use Rattle.cm_files.specs.declared.row.FileRow.{FileRow}
 use Rattle.cm_files.specs.declared.spec.SpecFault.{SpecFault}
 use Rattle.cm_files.specs.Catalogue.{Catalogue, IsCatalogue, rows_of}
 use Rattle.cm_files.specs.Fields.{file, file_of, is_file, moved_spec}
 use Rattle.cm_files.specs.Passing.{may_pass, may_take}
-use Rattle.cm_files.specs.Pattern.{is_wild, matches}
-use Rattle.cm_files.specs.Resolve.{by_device, by_directory, has_bad_copy, has_bad_wild, has_wild, is_all, is_bad_generation, is_in, refuse, resolve, then_in, wanted_by}
-use Rattle.cm_files.specs.Selection.{Wanted, agree, is_seen, name_matches, selects}
-use Rattle.cm_files.specs.Spec.{are_parts, device_read, directory_read, generation_of, is_path, is_pattern, nothing_read, part, part_or_nothing, part_read, read_spec, stands_at}
+use Rattle.cm_files.specs.Pattern.{is_wild}
+use Rattle.cm_files.specs.Resolve.{by_device, by_directory, has_bad_copy, has_bad_wild, has_wild, is_all, is_bad_generation, is_in, refuse, resolve, then_in}
+use Rattle.cm_files.specs.Selection.{Wanted, agree, is_seen, selects}
+use Rattle.cm_files.specs.Spec.{device_read, generation_of, is_path, is_pattern, part, part_or_nothing, read_spec}
 use Rattle.cm_files.proofs.Choosing.{any_may_pass}
 use Rattle.cm_files.proofs.Fielding.{file_is_local}
-use Rattle.cm_files.proofs.Fronts.{Same, by_device_more, directory_same}
+use Rattle.cm_files.proofs.Fronts.{by_device_more, directory_same}
 use Rattle.cm_recognise.specs.declared.file_outcome.Request.{Request}
 use Rattle.cm_recognise.specs.declared.found.Found.{Found}
 use Rattle.cm_recognise.specs.declared.found.Found.TheVariants.{Nobody, One, Several}
@@ -41,17 +38,17 @@ use Rattle.cm_recognise.specs.declared.insertion.Mode.{Mode}
 use Rattle.cm_recognise.specs.declared.insertion.Mode.TheVariants as modes
 use Rattle.cm_recognise.specs.declared.outcome.Outcome.{Outcome}
 use Rattle.cm_recognise.specs.declared.outcome.Outcome.TheVariants.{Nothing, Part, Piece, Whole}
-use Rattle.cm_recognise.specs.FileOutcome.{as_piece, behind_kind, behind_name, by_front, by_kind, by_meant, by_spec, completed, file_outcome, generation_outcome, generation_step, kind_step, meant, name_step, named_directory, opened}
-use Rattle.cm_recognise.specs.Found.{found_directories, found_kinds, found_names, highest, kind_like, missing, name_like}
+use Rattle.cm_recognise.specs.FileOutcome.{as_piece, behind_kind, behind_name, by_front, by_kind, by_meant, by_spec, file_outcome, generation_step, kind_step, meant, name_step, named_directory, opened}
+use Rattle.cm_recognise.specs.Found.{found_kinds, found_names, highest, kind_like, missing, name_like}
 use Rattle.cm_recognise.specs.Outcome.{plain_outcome}
-use Rattle.cm_recognise.proofs.Coming.{Comes, found_comes}
-use Rattle.cm_recognise.proofs.Completing.{Listed, TakesNamed, listed_of, plain_named, run_named}
-use Rattle.cm_recognise.proofs.Directories.{all_append, file_of_path, space_no_file}
-use Rattle.cm_recognise.proofs.Lowered.{completed_lower, equals_same, matches_same, names_same, none_of_all, same_length}
+use Rattle.cm_recognise.proofs.Coming.{found_comes}
+use Rattle.cm_recognise.proofs.Completing.{TakesNamed, listed_of, plain_named, run_named}
+use Rattle.cm_recognise.proofs.Directories.{all_append, file_of_path}
+use Rattle.cm_recognise.proofs.Lowered.{completed_lower, matches_same, names_same, none_of_all, same_length}
 use Rattle.cm_recognise.proofs.Numerals.{decimal_digits, decimal_means}
-use Rattle.cm_recognise.proofs.Plains.{file_ends, run_wants}
-use Rattle.cm_recognise.proofs.Rows.{Row, RowForm, highest_row}
-use Rattle.cm_files.proofs.Sections.{Full, all_implies, behind_first, behind_part, device_more, directory_more, full, full_spec, lacks, part_bytes, read_full}
+use Rattle.cm_recognise.proofs.Plains.{file_ends, run_wants, space_no_file}
+use Rattle.cm_recognise.proofs.Rows.{Row, highest_row}
+use Rattle.cm_files.proofs.Sections.{Full, all_implies, behind_first, behind_part, device_more, directory_more, full, full_spec, part_bytes, read_full}
 use Rattle.cm_recognise.proofs.Spans.{all_of_run}
 use Rattle.cm_files.proofs.Typed.{ReadAs, cut_kind, cut_name, cut_point, name_of, read_of}
 
@@ -64,7 +61,7 @@ meant_by all generation = if all then generations.All else generations.Number ge
 
 number_means : (all : Bool) (generation : ℕ) → 0 < generation → generation ≤ 131071
     → generation_of (number_of all generation) ≡ Some (meant_by all generation)
-unfolding generation_of
+unfolding generation_of equals
 number_means true generation low most = refl
 number_means false generation low most = decimal_means generation low most
 

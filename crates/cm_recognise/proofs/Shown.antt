@@ -1,5 +1,5 @@
 -- What completes a user, a directory or a file is bytes that a line may have.
-use Rattle.std.proofs.Common.{◌≡◌, ℕ, ◌+◌, ◌^◌, ◌<◌, ◌≤◌, Bool, true, false, ◌&&◌, ◌==◌, cond, if◌then◌else◌, List, [], ◌∷◌, ◌++◌, length, drop, decimal, Option, Some, None, Result, Ok, Err, refl, sym, subst, arith}
+use Rattle.std.proofs.Common.{◌≡◌, ℕ, ◌+◌, Bool, true, false, ◌&&◌, ◌==◌, if◌then◌else◌, List, [], ◌∷◌, ◌++◌, length, decimal, Option, Some, None, Result, Ok, Err, refl, subst, arith}
 use Rattle.std.specs.Char.{is_ascii_digit}
 use Rattle.std.specs.List.{AllByRecursion, cons_option, filter_map, list_all, list_any}
 use Rattle.std.specs.Str.{bytes_eq}
@@ -28,7 +28,7 @@ use Rattle.cm_recognise.specs.declared.outcome.Outcome.{Outcome}
 use Rattle.cm_recognise.specs.declared.outcome.Outcome.TheVariants.{Nothing, Part, Piece, Whole}
 use Rattle.cm_recognise.specs.FileOutcome.{as_piece, behind_kind, behind_name, by_front, by_kind, by_meant, by_opened, by_spec, completed, directory_outcome, file_outcome, generation_step, kind_step, meant, name_step, named_directory, opened, user_outcome}
 use Rattle.cm_recognise.specs.Found.{directory_like, found_directories, found_kinds, found_names, found_users, gather, highest, kind_like, missing, name_like, user_like, with_text}
-use Rattle.cm_recognise.proofs.Completing.{Listed, listed_of}
+use Rattle.cm_recognise.proofs.Completing.{listed_of}
 use Rattle.cm_recognise.proofs.Lowered.{directory_name}
 use Rattle.cm_recognise.proofs.Numerals.{decimal_digits}
 use Rattle.cm_recognise.proofs.Rows.{highest_row, row_form, rows_form}
