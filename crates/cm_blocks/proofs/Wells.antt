@@ -10,7 +10,7 @@ use Rattle.cm_tables.specs.declared.entry.Entry.{Entry}
 use Rattle.cm_blocks.specs.declared.grammar.GrammarFault.{GrammarFault}
 use Rattle.cm_blocks.specs.declared.node.Block.{Block}
 use Rattle.cm_blocks.specs.declared.node.Node.{Node}
-use Rattle.cm_blocks.specs.Fault.{grammar_fault, has_phrase, has_size, has_table, has_texts, is_shown, leads_within, node_fault, nodes_fault, or_fault}
+use Rattle.cm_blocks.specs.Fault.{grammar_fault, has_flags, has_phrase, has_size, has_table, has_texts, is_shown, leads_within, node_fault, nodes_fault, or_fault}
 use Rattle.cm_blocks.specs.Grammar.{Graph, blocks_limit, hook_limit, nodes_limit}
 use Rattle.cm_blocks.specs.Well.{IsWell}
 
@@ -91,6 +91,7 @@ record Tests (tables : List (List Entry)) (count : ℕ) (node : Node) : Type 0 w
   have_tables : list_all (λ (block : Block). has_table tables block.function) node.chain ≡ true
   lead : list_all (leads_within tables count) node.chain ≡ true
   texts : (option_map_or is_shown node.default true && list_all has_texts node.chain) ≡ true
+  flags : list_all has_flags node.chain ≡ true
 
 tests : (tables : List (List Entry)) (count number : ℕ) (node : Node) → node_fault tables count number node ≡ None
     → Tests tables count node
@@ -100,7 +101,15 @@ tests tables count number node none =
     let third = passes (list_all (λ (block : Block). has_table tables block.function) node.chain) _ _ second.none in
     let fourth = passes (list_all (leads_within tables count) node.chain) _ _ third.none in
     let fifth = passes (option_map_or is_shown node.default true && list_all has_texts node.chain) _ _ fourth.none in
-    record { some = first.failed; few = second.failed; have_tables = third.passed; lead = fourth.passed; texts = fifth.passed }
+    let sixth = passes (list_all has_flags node.chain) _ _ fifth.none in
+    record {
+      some = first.failed;
+      few = second.failed;
+      have_tables = third.passed;
+      lead = fourth.passed;
+      texts = fifth.passed;
+      flags = sixth.passed;
+    }
 
 -- each node of an accepted grammar is well
 pub well_node : (graph : Graph) (place : ℕ) (node : Node) → grammar_fault graph ≡ None
@@ -137,3 +146,10 @@ default_shown graph place node none found =
     let at = node_none graph.tables (length graph.nodes) 0 graph.nodes place node (all_none graph none) found in
     let passed = tests graph.tables (length graph.nodes) at.0 node at.1 in
     (and_parts (option_map_or is_shown node.default true) _ passed.texts).0
+
+-- all generations come with wildcards alone in each of its blocks
+pub flags_agree : (graph : Graph) (place : ℕ) (node : Node) → grammar_fault graph ≡ None
+    → slice_get graph.nodes place ≡ Some node → list_all has_flags node.chain ≡ true
+flags_agree graph place node none found =
+    let at = node_none graph.tables (length graph.nodes) 0 graph.nodes place node (all_none graph none) found in
+    (tests graph.tables (length graph.nodes) at.0 node at.1).flags

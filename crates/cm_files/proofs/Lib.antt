@@ -1,8 +1,11 @@
 pub mod Beside
 pub mod Choosing
 pub mod Fielding
+pub mod Fronts
 pub mod Multitude
 pub mod Ordered
+pub mod Sections
 pub mod Spending
 pub mod Stars
+pub mod Typed
 pub mod Walking

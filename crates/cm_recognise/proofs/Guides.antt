@@ -19,7 +19,8 @@ use Rattle.cm_fields.proofs.Holding.{by_test}
 use Rattle.cm_fields.proofs.Phrases.{token_whole}
 use Rattle.cm_blocks.specs.Fault.{is_parenthesis, is_shown_byte}
 use Rattle.cm_recognise.specs.declared.outcome.Outcome.TheVariants.{Nothing, Whole}
-use Rattle.cm_recognise.specs.Outcome.{guide, missing, phrase_outcome}
+use Rattle.cm_recognise.specs.Found.{missing}
+use Rattle.cm_recognise.specs.Outcome.{guide, phrase_outcome}
 use Rattle.cm_recognise.proofs.Spans.{all_of_run, run_append, run_of_all, slice_get_seam}
 
 -- what a phrase that begins with the atom is completed by

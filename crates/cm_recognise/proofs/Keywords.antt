@@ -24,7 +24,8 @@ use Rattle.cm_fields.specs.Passed.{BeginsOther}
 use Rattle.cm_blocks.specs.Keyword.{behind_slash, code_at, entry_position, has_colon, key, key_value, named_switch, switch}
 use Rattle.cm_blocks.specs.Trial.{entry_next}
 use Rattle.cm_recognise.specs.declared.outcome.Outcome.TheVariants.{Nothing, Part, Whole}
-use Rattle.cm_recognise.specs.Outcome.{entry_outcome, keyword_outcome, missing, switch_outcome, text_at}
+use Rattle.cm_recognise.specs.Found.{missing}
+use Rattle.cm_recognise.specs.Outcome.{entry_outcome, keyword_outcome, switch_outcome, text_at}
 use Rattle.cm_recognise.proofs.Plains.{run_wants, run_whole, space_no_word}
 use Rattle.cm_recognise.proofs.Spans.{run_append, run_of_all}
 use Rattle.cm_recognise.proofs.Texts.{AreKeywords, keywords_of}

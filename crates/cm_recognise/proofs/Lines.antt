@@ -17,6 +17,8 @@ use Rattle.cm_tables.specs.Look.{has_text, look}
 use Rattle.cm_fields.specs.declared.trial.Try.{Try}
 use Rattle.cm_fields.specs.declared.trial.Try.TheVariants.{Accept, Refuse, More}
 use Rattle.cm_fields.proofs.Holding.{holds_of_choice, of_choice}
+use Rattle.cm_files.specs.declared.flags.Flags.{Flags}
+use Rattle.cm_files.specs.Catalogue.{IsCatalogue}
 use Rattle.cm_hooks.specs.declared.answer.Answer.{Answer}
 use Rattle.cm_hooks.specs.declared.answer.Tail.{Tail}
 use Rattle.cm_hooks.specs.declared.answer.Tail.TheVariants as tails
@@ -38,16 +40,11 @@ use Rattle.cm_recognise.specs.declared.insertion.Mode.{Mode}
 use Rattle.cm_recognise.specs.declared.insertion.Mode.TheVariants as modes
 use Rattle.cm_recognise.specs.declared.outcome.Outcome.{Outcome}
 use Rattle.cm_recognise.specs.declared.outcome.Outcome.TheVariants.{Nothing, Part, Piece, Whole}
-use Rattle.cm_recognise.specs.Insertion.{asked, at_block, behind, default_put, first_put, fitted, guide_behind, guide_of, insertion, or_put, put_in, rung}
-use Rattle.cm_recognise.specs.Outcome.{by_function, entry_outcome, guide, hook_outcome, keyword_outcome, missing, outcome, phrase_outcome, plain_outcome, switch_outcome}
+use Rattle.cm_recognise.specs.Insertion.{asked, at_block, behind, block_put, default_put, first_put, fitted, guide_behind, guide_of, insertion, is_asked, or_put, put_in, rung}
+use Rattle.cm_recognise.specs.Found.{missing}
+use Rattle.cm_recognise.specs.Outcome.{by_function, entry_outcome, guide, hook_outcome, keyword_outcome, outcome, phrase_outcome, plain_outcome, switch_outcome}
+use Rattle.cm_recognise.proofs.Shown.{IsText, directory_outcome_text, file_text, user_text}
 use Rattle.cm_recognise.proofs.Texts.{AreKeywords, AreText, common_text, keywords_of, name_text, shown_text, table_none, text_append, text_at_text, text_drop}
-
--- the bytes of an outcome are
-abbrev pub IsText : Outcome → Type 0
-IsText Nothing = Unit {0}
-IsText (Part bytes) = AreText bytes
-IsText (Piece bytes) = AreText bytes
-IsText (Whole bytes next) = AreText bytes
 
 entry_text : (colon : Bool) (table : List Entry) (atom : List ℕ) (position : ℕ) → AreKeywords table
     → IsText (entry_outcome colon table atom position)
@@ -97,37 +94,41 @@ noise_text text has =
 token_text : (text : List ℕ) → has_phrase (Token text) ≡ true → AreText text
 token_text text has = shown_text text (and_parts (nat_lt 0 (length text)) (is_shown text) has).1
 
-function_text : (s : Setting) (function : Function) (next : ℕ) (atom : List ℕ) (plain : Outcome) → AreTables s.graph.tables
-    → IsLawful s.meanings → has_phrase function ≡ true → length atom ≤ LINE_LIMIT → IsText plain
-    → IsText (by_function s function next atom plain)
-function_text s (Key table) next atom plain tables lawful has short own =
+function_text : (s : Setting) (mode : Mode) (function : Function) (flags : Flags) (next : ℕ) (atom : List ℕ) (plain : Outcome)
+    → IsCatalogue s.catalogue → AreTables s.graph.tables → IsLawful s.meanings → has_phrase function ≡ true
+    → length atom ≤ LINE_LIMIT → IsText plain → IsText (by_function s mode function flags next atom plain)
+function_text s mode (Key table) flags next atom plain named tables lawful has short own =
     keyword_text false _ atom _ (keywords_of _ (table_none s.graph table tables))
-function_text s (Switch table) next atom plain tables lawful has short own =
+function_text s mode (Switch table) flags next atom plain named tables lawful has short own =
     switch_text _ atom (keywords_of _ (table_none s.graph table tables))
-function_text s (Noise text) next atom plain tables lawful has short own =
+function_text s mode (Noise text) flags next atom plain named tables lawful has short own =
     phrase_text (guide text) next atom (guide_text text (noise_text text has))
-function_text s (Token text) next atom plain tables lawful has short own =
+function_text s mode (Token text) flags next atom plain named tables lawful has short own =
     of_choice IsText (length atom == 0) Nothing _ tt (phrase_text text next atom (token_text text has))
-function_text s (Hook id) next atom plain tables lawful has short own =
+function_text s mode User flags next atom plain named tables lawful has short own = user_text s.catalogue named next atom
+function_text s mode Directory flags next atom plain named tables lawful has short own =
+    directory_outcome_text s.catalogue named flags.new next atom plain own
+function_text s mode InFile flags next atom plain named tables lawful has short own =
+    file_text s.catalogue named _ atom plain own
+function_text s mode AnyFile flags next atom plain named tables lawful has short own =
+    file_text s.catalogue named _ atom plain own
+function_text s mode (Hook id) flags next atom plain named tables lawful has short own =
     of_choice IsText (length atom == 0) Nothing _ tt
     (hook_text next plain (s.meanings.verdict id) atom (s.meanings.completion id atom) own (lawful.completes id atom short))
-function_text s Number next atom plain tables lawful has short own = own
-function_text s Word next atom plain tables lawful has short own = own
-function_text s Quoted next atom plain tables lawful has short own = own
-function_text s User next atom plain tables lawful has short own = tt
-function_text s Directory next atom plain tables lawful has short own = tt
-function_text s InFile next atom plain tables lawful has short own = tt
-function_text s AnyFile next atom plain tables lawful has short own = tt
-function_text s OutFile next atom plain tables lawful has short own = own
-function_text s Text next atom plain tables lawful has short own = own
-function_text s Comma next atom plain tables lawful has short own = own
-function_text s Confirm next atom plain tables lawful has short own = own
+function_text s mode Number flags next atom plain named tables lawful has short own = own
+function_text s mode Word flags next atom plain named tables lawful has short own = own
+function_text s mode Quoted flags next atom plain named tables lawful has short own = own
+function_text s mode OutFile flags next atom plain named tables lawful has short own = own
+function_text s mode Text flags next atom plain named tables lawful has short own = own
+function_text s mode Comma flags next atom plain named tables lawful has short own = own
+function_text s mode Confirm flags next atom plain named tables lawful has short own = own
 
-pub outcome_text : (s : Setting) (block : Block) (atom : List ℕ) (at : ℕ) → AreTables s.graph.tables → IsLawful s.meanings
-    → has_phrase block.function ≡ true → length atom ≤ LINE_LIMIT → IsText (outcome s block atom at)
+pub outcome_text : (s : Setting) (mode : Mode) (block : Block) (atom : List ℕ) (at : ℕ) → IsCatalogue s.catalogue
+    → AreTables s.graph.tables → IsLawful s.meanings → has_phrase block.function ≡ true → length atom ≤ LINE_LIMIT
+    → IsText (outcome s mode block atom at)
 unfolding outcome
-outcome_text s block atom at tables lawful has short =
-    function_text s block.function block.next atom _ tables lawful has short
+outcome_text s mode block atom at named tables lawful has short =
+    function_text s mode block.function block.flags block.next atom _ named tables lawful has short
     (plain_text block.next (trial s block.function block.flags (atom ++ 32 ∷ []) at))
 
 -- what stands behind a field that is whole
@@ -164,14 +165,21 @@ or_put_text : (first later : Option Insertion) → PutText first → PutText lat
 or_put_text None later here there = there
 or_put_text (Some insertion) later here there = here
 
-first_put_text : (s : Setting) (atom : List ℕ) (at : ℕ) (blocks : List Block) → grammar_fault s.graph ≡ None
-    → AreTables s.graph.tables → IsLawful s.meanings → length atom ≤ LINE_LIMIT → All (IsWellBlock s.graph) blocks
-    → PutText (first_put s atom at blocks)
-first_put_text s atom at [] none tables lawful short well = tt
-first_put_text s atom at (block ∷ more) none tables lawful short well =
-    or_put_text (put_in s.graph (outcome s block atom at)) _
-    (put_in_text s.graph _ none (outcome_text s block atom at tables lawful (well 0 block (omega arith)).phrase short))
-    (first_put_text s atom at more none tables lawful short (λ k d below. well (suc k) d (omega arith)))
+block_put_text : (s : Setting) (mode : Mode) (atom : List ℕ) (at : ℕ) (block : Block) → grammar_fault s.graph ≡ None
+    → IsCatalogue s.catalogue → AreTables s.graph.tables → IsLawful s.meanings → length atom ≤ LINE_LIMIT
+    → IsWellBlock s.graph block → PutText (block_put s mode atom at block)
+block_put_text s mode atom at block none named tables lawful short well =
+    of_choice PutText (is_asked mode block.function) (put_in s.graph (outcome s mode block atom at)) None
+    (put_in_text s.graph _ none (outcome_text s mode block atom at named tables lawful well.phrase short)) tt
+
+first_put_text : (s : Setting) (mode : Mode) (atom : List ℕ) (at : ℕ) (blocks : List Block) → grammar_fault s.graph ≡ None
+    → IsCatalogue s.catalogue → AreTables s.graph.tables → IsLawful s.meanings → length atom ≤ LINE_LIMIT
+    → All (IsWellBlock s.graph) blocks → PutText (first_put s mode atom at blocks)
+first_put_text s mode atom at [] none named tables lawful short well = tt
+first_put_text s mode atom at (block ∷ more) none named tables lawful short well =
+    or_put_text (block_put s mode atom at block) _
+    (block_put_text s mode atom at block none named tables lawful short (well 0 block (omega arith)))
+    (first_put_text s mode atom at more none named tables lawful short (λ k d below. well (suc k) d (omega arith)))
 
 default_put_text : (atom : List ℕ) (default : Option (List ℕ)) → option_map_or is_shown default true ≡ true
     → PutText (default_put atom default)
@@ -181,25 +189,27 @@ default_put_text atom (Some text) shown =
     of_choice PutText (length atom == 0) _ None (text_append text (32 ∷ []) (shown_text text shown) (refl, tt)) tt
 
 asked_text : (s : Setting) (mode : Mode) (node : Node) (block : ℕ) (atom : List ℕ) (at : ℕ) → grammar_fault s.graph ≡ None
-    → AreTables s.graph.tables → IsLawful s.meanings → length atom ≤ LINE_LIMIT → IsWell s.graph node
-    → option_map_or is_shown node.default true ≡ true → PutText (asked s mode node block atom at)
-asked_text s modes.Escape node block atom at none tables lawful short well shown =
+    → IsCatalogue s.catalogue → AreTables s.graph.tables → IsLawful s.meanings → length atom ≤ LINE_LIMIT
+    → IsWell s.graph node → option_map_or is_shown node.default true ≡ true → PutText (asked s mode node block atom at)
+asked_text s modes.Escape node block atom at none named tables lawful short well shown =
     or_put_text (default_put atom node.default) _ (default_put_text atom node.default shown)
-    (first_put_text s atom at (drop block node.chain) none tables lawful short
+    (first_put_text s modes.Escape atom at (drop block node.chain) none named tables lawful short
     (All-drop (IsWellBlock s.graph) block node.chain well.blocks))
-asked_text s modes.Part node block atom at none tables lawful short well shown = tt
+asked_text s modes.Part node block atom at none named tables lawful short well shown =
+    first_put_text s modes.Part atom at (drop block node.chain) none named tables lawful short
+    (All-drop (IsWellBlock s.graph) block node.chain well.blocks)
 
 at_block_text : (s : Setting) (mode : Mode) (line : List ℕ) (at : ℕ) (block : Option ℕ) (number : ℕ) → grammar_fault s.graph ≡ None
-    → AreTables s.graph.tables → IsLawful s.meanings → length (drop at line) ≤ LINE_LIMIT
+    → IsCatalogue s.catalogue → AreTables s.graph.tables → IsLawful s.meanings → length (drop at line) ≤ LINE_LIMIT
     → PutText (at_block s mode line at block (slice_get s.graph.nodes number))
-at_block_text s mode line at block number none tables lawful short = by block (slice_get s.graph.nodes number) refl
+at_block_text s mode line at block number none named tables lawful short = by block (slice_get s.graph.nodes number) refl
   where
     by : (block : Option ℕ) (found : Option Node) → slice_get s.graph.nodes number ≡ found
         → PutText (at_block s mode line at block found)
     by None found is = tt
     by (Some block) None is = tt
     by (Some block) (Some node) is =
-        asked_text s mode node block (drop at line) at none tables lawful short (well_node s.graph number node none is)
+        asked_text s mode node block (drop at line) at none named tables lawful short (well_node s.graph number node none is)
         (default_shown s.graph number node none is)
 
 -- what is put in fits, and is bytes of a line
@@ -217,20 +227,22 @@ fitted_fits size (Some insertion) within all =
     (λ fits. record { short = grind (arith, nat_tests); text = all }) (λ full. rung_fits size within)
 
 insertion_fits : (s : Setting) (ends : Ending) (line : List ℕ) (mode : Mode) → grammar_fault s.graph ≡ None
-    → AreTables s.graph.tables → IsLawful s.meanings → length line ≤ LINE_LIMIT → Fits (length line) (insertion s ends line mode)
+    → IsCatalogue s.catalogue → AreTables s.graph.tables → IsLawful s.meanings → length line ≤ LINE_LIMIT
+    → Fits (length line) (insertion s ends line mode)
 unfolding insertion
-insertion_fits s (ending.Open place) line mode none tables lawful within =
+insertion_fits s (ending.Open place) line mode none named tables lawful within =
     of_choice (Fits (length line)) (nat_lt (length line) LINE_LIMIT && nat_le place.at (length line)) _ rung
     (fitted_fits (length line) _ within
-    (at_block_text s mode line place.at place.block place.node none tables lawful (let size = length-drop place.at line in omega arith)))
+    (at_block_text s mode line place.at place.block place.node none named tables lawful (let size = length-drop place.at line in omega arith)))
     (rung_fits (length line) within)
-insertion_fits s ending.Done line mode none tables lawful within = rung_fits (length line) within
-insertion_fits s (ending.Fault fault) line mode none tables lawful within = rung_fits (length line) within
+insertion_fits s ending.Done line mode none named tables lawful within = rung_fits (length line) within
+insertion_fits s (ending.Fault fault) line mode none named tables lawful within = rung_fits (length line) within
 
 pub line_goes_on : (s : Setting) (ends : Ending) (line : List ℕ) (mode : Mode) → grammar_fault s.graph ≡ None
-    → AreTables s.graph.tables → IsLawful s.meanings → IsLine line → IsLine (line ++ (insertion s ends line mode).bytes)
-line_goes_on s ends line mode none tables lawful is =
-    let fits = insertion_fits s ends line mode none tables lawful is.short in
+    → IsCatalogue s.catalogue → AreTables s.graph.tables → IsLawful s.meanings → IsLine line
+    → IsLine (line ++ (insertion s ends line mode).bytes)
+line_goes_on s ends line mode none named tables lawful is =
+    let fits = insertion_fits s ends line mode none named tables lawful is.short in
     let size = length-append line (insertion s ends line mode).bytes in
     let most = fits.short in
     record { short = omega arith; plain = text_append line _ is.plain fits.text }

@@ -83,7 +83,7 @@ run_whole is_part decide whole byte more at all outside =
     let same : take (length whole) (whole ++ byte ∷ more) ≡ whole = take-append_seam whole (byte ∷ more) in
     rw (run, other, same)
 
-run_ends : (is_part : ℕ → Bool) (decide : List ℕ → Result Value Code) (rest : List ℕ) (at : ℕ) → is_part 32 ≡ false
+pub run_ends : (is_part : ℕ → Bool) (decide : List ℕ → Result Value Code) (rest : List ℕ) (at : ℕ) → is_part 32 ≡ false
     → IsOwnIfOk (decide rest) → by_run is_part decide rest at ≡ More
     → EndsAt (at + length rest) (by_run is_part decide (rest ++ 32 ∷ []) at)
 run_ends is_part decide rest at outside own is =
@@ -160,7 +160,7 @@ file_own : (c : Catalogue) (kind : FileKind) (flags : Flags) (at : ℕ) (run : L
 unfolding file_of
 file_own c kind flags at run = file_read_own c kind flags at run (read_spec run)
 
-space_no_file : is_file 32 ≡ false
+pub space_no_file : is_file 32 ≡ false
 unfolding is_name is_word
 space_no_file = refl
 

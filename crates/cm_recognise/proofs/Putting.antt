@@ -24,7 +24,7 @@ drop_at (first ∷ more) (suc b) block is = drop_at more b block is
 
 pub whole_is_put_in : (s : Setting) (line : List ℕ) → IsLine line → (number b at start : ℕ) (block : Block)
     → (waits : Waits s number b block line at start) → default_put (drop start line) waits.node.default ≡ None
-    → (bytes : List ℕ) (next : ℕ) → outcome s block (drop start line) start ≡ Whole bytes next
+    → (bytes : List ℕ) (next : ℕ) → outcome s modes.Escape block (drop start line) start ≡ Whole bytes next
     → length line + length (bytes ++ behind s.graph next) ≤ LINE_LIMIT
     → insertion s (ending.Open (record { node = number; block = Some b; at = start })) line modes.Escape
     ≡ record { bytes = bytes ++ behind s.graph next; bell = false }
@@ -35,11 +35,11 @@ whole_is_put_in s line is_line number b at start block waits no_default bytes ne
     let room : (nat_lt (length line) LINE_LIMIT && nat_le start (length line)) ≡ true = grind (arith, nat_tests) in
     let most : nat_le (length line + length (bytes ++ behind s.graph next)) LINE_LIMIT ≡ true = grind (arith, nat_tests) in
     let asked_is : asked s modes.Escape waits.node b (drop start line) start
-    ≡ first_put s (drop start line) start (block ∷ drop (suc b) waits.node.chain) =
-    ap (λ (put : Option Insertion). or_put put (first_put s (drop start line) start (drop b waits.node.chain))) no_default
-    ∙ ap (first_put s (drop start line) start) (drop_at waits.node.chain b block waits.block_is) in
+    ≡ first_put s modes.Escape (drop start line) start (block ∷ drop (suc b) waits.node.chain) =
+    ap (λ (put : Option Insertion). or_put put (first_put s modes.Escape (drop start line) start (drop b waits.node.chain))) no_default
+    ∙ ap (first_put s modes.Escape (drop start line) start) (drop_at waits.node.chain b block waits.block_is) in
     let put : at_block s modes.Escape line start (Some b) (slice_get s.graph.nodes number)
     ≡ Some (record { bytes = bytes ++ behind s.graph next; bell = false }) =
     ap (at_block s modes.Escape line start (Some b)) waits.node_is ∙ asked_is
-    ∙ ap (λ (outcome : Outcome). or_put (put_in s.graph outcome) (first_put s (drop start line) start (drop (suc b) waits.node.chain))) is in
+    ∙ ap (λ (outcome : Outcome). or_put (put_in s.graph outcome) (first_put s modes.Escape (drop start line) start (drop (suc b) waits.node.chain))) is in
     rw room (ap (fitted (length line)) put ∙ rw most refl)

@@ -1,5 +1,5 @@
 -- What a function takes whose field is completed whole.
-use Rattle.std.proofs.Common.{◌≡◌, ℕ, ◌+◌, ◌≤◌, Bool, true, false, not, ◌==◌, nat_lt, if◌then◌else◌, List, [], ◌∷◌, ◌++◌, length, drop, None, slice_get, Ok, refl, ap, sym, subst, ◌∙◌, arith, length-append, length-drop, append_assoc, append-nil}
+use Rattle.std.proofs.Common.{◌≡◌, ℕ, zero, suc, ◌+◌, ◌≤◌, Bool, true, false, not, ◌==◌, nat_lt, if◌then◌else◌, List, [], ◌∷◌, ◌++◌, length, drop, None, Some, slice_get, Ok, refl, ap, sym, subst, ◌∙◌, arith, length-append, length-drop, append_assoc, append-nil}
 use Rattle.std.specs.List.{list_all, list_any}
 use Rattle.std.proofs.lemmas.Bool.{and_parts}
 use Rattle.std.proofs.lemmas.Bool.Decides.{nat_tests}
@@ -12,14 +12,15 @@ use Rattle.cm_tables.specs.Look.{look}
 use Rattle.cm_tables.proofs.WithinLemmas.{look-within}
 use Rattle.cm_fields.specs.declared.trial.Try.{Try}
 use Rattle.cm_fields.specs.declared.trial.Try.TheVariants.{Accept, Refuse, More}
-use Rattle.cm_fields.specs.declared.value.FileKind.TheVariants.{Out}
+use Rattle.cm_fields.specs.declared.value.FileKind.TheVariants.{In, Out, Any}
 use Rattle.cm_fields.specs.declared.value.Value.{Value}
 use Rattle.cm_fields.specs.declared.value.Value.TheVariants as values
 use Rattle.cm_fields.specs.Local.{Stays}
 use Rattle.cm_fields.specs.Passed.{BeginsOther}
 use Rattle.cm_fields.specs.Run.{number_of, word_of}
 use Rattle.cm_files.specs.declared.flags.Flags.{Flags}
-use Rattle.cm_files.specs.Fields.{file_of}
+use Rattle.cm_files.specs.Catalogue.{Catalogue, IsCatalogue}
+use Rattle.cm_files.specs.Fields.{directory, directory_of, file_of}
 use Rattle.cm_hooks.specs.declared.answer.Answer.{Answer}
 use Rattle.cm_hooks.specs.declared.answer.Answer.TheVariants.{Yes, No}
 use Rattle.cm_hooks.specs.declared.answer.Tail.{Tail}
@@ -30,24 +31,30 @@ use Rattle.cm_blocks.specs.declared.function.Function.{Function}
 use Rattle.cm_blocks.specs.declared.function.Function.TheVariants.{Key, Switch, Noise, Number, Word, Quoted, Token, User, Directory, InFile, OutFile, AnyFile, Text, Comma, Confirm, Hook}
 use Rattle.cm_blocks.specs.declared.node.Block.{Block}
 use Rattle.cm_blocks.specs.Chain.{chain_at, is_confirm}
-use Rattle.cm_blocks.specs.Fault.{grammar_fault, has_phrase, is_parenthesis, is_phrase, is_shown}
+use Rattle.cm_blocks.specs.Fault.{grammar_fault, has_flags, has_phrase, is_parenthesis, is_phrase, is_shown}
 use Rattle.cm_blocks.specs.Grammar.{Graph}
 use Rattle.cm_blocks.specs.Keyword.{code_at}
 use Rattle.cm_blocks.specs.Setting.{Setting}
 use Rattle.cm_blocks.specs.Trial.{next_of, table_of, trial}
 use Rattle.cm_blocks.specs.Well.{AreTables, IsWellBlock}
 use Rattle.cm_blocks.proofs.Trials.{trial_is_local}
-use Rattle.cm_blocks.proofs.Wells.{well_node}
+use Rattle.cm_blocks.proofs.Wells.{flags_agree, well_node}
+use Rattle.cm_recognise.specs.declared.file_outcome.Request.{Request}
+use Rattle.cm_recognise.specs.declared.insertion.Mode.{Mode}
 use Rattle.cm_recognise.specs.declared.outcome.Outcome.{Outcome}
 use Rattle.cm_recognise.specs.declared.outcome.Outcome.TheVariants.{Nothing, Whole}
+use Rattle.cm_recognise.specs.FileOutcome.{directory_outcome, file_outcome}
 use Rattle.cm_recognise.specs.Insertion.{behind, guide_of}
 use Rattle.cm_recognise.specs.Outcome.{by_function, guide, hook_outcome, outcome, plain_outcome}
-use Rattle.cm_recognise.specs.Sound.{TakesField, Waits}
+use Rattle.cm_recognise.specs.Sound.{HasDevice, TakesField, Waits}
+use Rattle.cm_recognise.proofs.Directories.{directory_sound, user_begins, user_sound}
+use Rattle.cm_recognise.proofs.Files.{file_sound}
 use Rattle.cm_recognise.proofs.Going.{chain_goes_on}
 use Rattle.cm_recognise.proofs.Guides.{noise_bytes, noise_takes, phrase_completes, token_takes}
 use Rattle.cm_recognise.proofs.Keywords.{key_begins, key_takes, keyword_completes, switch_takes}
-use Rattle.cm_recognise.proofs.Lines.{IsText, behind_text, outcome_text}
+use Rattle.cm_recognise.proofs.Lines.{behind_text, outcome_text}
 use Rattle.cm_recognise.proofs.Plains.{EndsAt, IsOwn, comma_ends, confirm_ends, file_ends, hook_ends, number_ends, quoted_closes, run_wants, run_whole, space_no_name, text_ends, word_ends}
+use Rattle.cm_recognise.proofs.Shown.{IsText}
 use Rattle.cm_recognise.proofs.Spans.{run_append, run_of_all}
 use Rattle.cm_recognise.proofs.Texts.{table_none, text_append}
 
@@ -127,14 +134,27 @@ not_true : (test : Bool) → not test ≡ true → test ≡ false
 not_true true is = cc
 not_true false is = refl
 
-pub function_takes : (s : Setting) (block : Block) (function : Function) (atom bytes more : List ℕ) (at next : ℕ)
-    → AreTables s.graph.tables → IsLawful s.meanings → has_phrase function ≡ true → length atom ≤ LINE_LIMIT
-    → trial s function block.flags atom at ≡ More
-    → by_function s function block.next atom (plain_outcome block.next (trial s function block.flags (atom ++ 32 ∷ []) at))
-    ≡ Whole bytes next
+-- a value of a user, a directory or a file leads where the block does
+named_takes : (s : Setting) (block : Block) (atom bytes more : List ℕ) (at next : ℕ) (value : Value) (seen : ℕ) → IsOwn value
+    → trial s block.function block.flags (atom ++ (bytes ++ 32 ∷ more)) at ≡ Accept value seen (at + length (atom ++ bytes))
+    → block.next ≡ next → TakesWhole s block atom bytes more at next
+named_takes s block atom bytes more at next value seen own accepts leads =
+    record {
+      value = value;
+      seen = seen;
+      accepts = accepts;
+      field = own_field value own;
+      leads = own_leads s.graph block value own ∙ leads;
+    }
+
+pub function_takes : (s : Setting) (mode : Mode) (block : Block) (function : Function) (atom bytes more : List ℕ) (at next : ℕ)
+    → IsCatalogue s.catalogue → HasDevice s function atom → has_flags block ≡ true → AreTables s.graph.tables
+    → IsLawful s.meanings → has_phrase function ≡ true → length atom ≤ LINE_LIMIT → trial s function block.flags atom at ≡ More
+    → by_function s mode function block.flags block.next atom
+    (plain_outcome block.next (trial s function block.flags (atom ++ 32 ∷ []) at)) ≡ Whole bytes next
     → TakesWhole s (record block { function = function }) atom bytes more at next
 unfolding trial
-function_takes s block (Key table) atom bytes more at next tables lawful has short wants is =
+function_takes s mode block (Key table) atom bytes more at next named device flags tables lawful has short wants is =
     let entries = table_of s.graph table in
     let none = table_none s.graph table tables in
     let c = keyword_completes false entries atom (look entries atom) bytes next (look-within entries atom none) is in
@@ -145,7 +165,7 @@ function_takes s block (Key table) atom bytes more at next tables lawful has sho
       field = refl;
       leads = c.next_is;
     }
-function_takes s block (Switch table) atom bytes more at next tables lawful has short wants is =
+function_takes s mode block (Switch table) atom bytes more at next named device flags tables lawful has short wants is =
     let entries = table_of s.graph table in
     let taken = switch_takes entries atom bytes more at next (table_none s.graph table tables) wants is in
     record {
@@ -155,7 +175,7 @@ function_takes s block (Switch table) atom bytes more at next tables lawful has 
       field = refl;
       leads = taken.1;
     }
-function_takes s block (Noise text) atom bytes more at next tables lawful has short wants is =
+function_takes s mode block (Noise text) atom bytes more at next named device flags tables lawful has short wants is =
     let phrase = and_parts (is_phrase text) (not (list_any is_parenthesis text)) has in
     let shown = (and_parts (nat_lt 0 (length text)) (is_shown text) phrase.0).1 in
     let c = phrase_completes (guide text) block.next atom bytes next is in
@@ -166,11 +186,11 @@ function_takes s block (Noise text) atom bytes more at next tables lawful has sh
       field = refl;
       leads = c.1;
     }
-function_takes s block (Token text) atom bytes more at next tables lawful has short wants is =
+function_takes s mode block (Token text) atom bytes more at next named device flags tables lawful has short wants is =
     let typed = some_typed (length atom == 0) _ bytes next is in
     let c = phrase_completes text block.next atom bytes next typed.1 in
     record { value = values.Token; seen = _; accepts = token_takes text atom bytes more at c.0; field = refl; leads = c.1 }
-function_takes s block (Hook id) atom bytes more at next tables lawful has short wants is =
+function_takes s mode block (Hook id) atom bytes more at next named device flags tables lawful has short wants is =
     let typed = some_typed (length atom == 0) _ bytes next is in
     by (s.meanings.completion id atom) (lawful.completes id atom short) typed.0 typed.1
   where
@@ -186,51 +206,70 @@ function_takes s block (Hook id) atom bytes more at next tables lawful has short
         let accepted = subst (λ (text : List ℕ). IsYes (s.meanings.verdict id (atom ++ text))) same completes.1.taken in
         let taken = hook_takes s.meanings.verdict id atom bytes more at some wants names accepted in
         record { value = values.Hook id taken.0; seen = _; accepts = taken.1; field = refl; leads = cc }
-function_takes s block Number atom bytes more at next tables lawful has short wants is =
+function_takes s mode block Number atom bytes more at next named device flags tables lawful has short wants is =
     plain_takes s (record block { function = Number }) atom bytes more at next (number_ends atom at wants) is
-function_takes s block Word atom bytes more at next tables lawful has short wants is =
+function_takes s mode block Word atom bytes more at next named device flags tables lawful has short wants is =
     plain_takes s (record block { function = Word }) atom bytes more at next (word_ends atom at wants) is
-function_takes s block Quoted atom bytes more at next tables lawful has short wants is =
+function_takes s mode block Quoted atom bytes more at next named device flags tables lawful has short wants is =
     plain_takes s (record block { function = Quoted }) atom bytes more at next (quoted_closes atom at wants) is
-function_takes s block User atom bytes more at next tables lawful has short wants is = cc
-function_takes s block Directory atom bytes more at next tables lawful has short wants is = cc
-function_takes s block InFile atom bytes more at next tables lawful has short wants is = cc
-function_takes s block AnyFile atom bytes more at next tables lawful has short wants is = cc
-function_takes s block OutFile atom bytes more at next tables lawful has short wants is =
+function_takes s mode block User atom bytes more at next named device flags tables lawful has short wants is =
+    let taken = user_sound s.catalogue named atom bytes more at block.next next is in
+    named_takes s (record block { function = User }) atom bytes more at next taken.0.value taken.0.seen taken.0.own taken.0.accepts taken.1
+function_takes s mode block Directory atom bytes more at next named device flags tables lawful has short wants is =
+    let taken = directory_sound s.catalogue named block.flags.new atom bytes more at block.next next device.0 device.1 wants is in
+    named_takes s (record block { function = Directory }) atom bytes more at next taken.0.value taken.0.seen taken.0.own taken.0.accepts taken.1
+function_takes s mode block InFile atom bytes more at next named device flags tables lawful has short wants is =
+    let request : Request = record { mode = mode; kind = In; flags = block.flags; next = block.next } in
+    let taken = file_sound s.catalogue named request atom bytes more at next tt flags wants is in
+    named_takes s (record block { function = InFile }) atom bytes more at next taken.0.value taken.0.seen taken.0.own taken.0.accepts taken.1
+function_takes s mode block AnyFile atom bytes more at next named device flags tables lawful has short wants is =
+    let request : Request = record { mode = mode; kind = Any; flags = block.flags; next = block.next } in
+    let taken = file_sound s.catalogue named request atom bytes more at next tt flags wants is in
+    named_takes s (record block { function = AnyFile }) atom bytes more at next taken.0.value taken.0.seen taken.0.own taken.0.accepts taken.1
+function_takes s mode block OutFile atom bytes more at next named device flags tables lawful has short wants is =
     plain_takes s (record block { function = OutFile }) atom bytes more at next (file_ends s.catalogue Out block.flags atom at wants) is
-function_takes s block Text atom bytes more at next tables lawful has short wants is =
+function_takes s mode block Text atom bytes more at next named device flags tables lawful has short wants is =
     plain_takes s (record block { function = Text }) atom bytes more at next (text_ends atom at wants) is
-function_takes s block Comma atom bytes more at next tables lawful has short wants is =
+function_takes s mode block Comma atom bytes more at next named device flags tables lawful has short wants is =
     plain_takes s (record block { function = Comma }) atom bytes more at next (comma_ends atom at wants) is
-function_takes s block Confirm atom bytes more at next tables lawful has short wants is =
+function_takes s mode block Confirm atom bytes more at next named device flags tables lawful has short wants is =
     plain_takes s (record block { function = Confirm }) atom bytes more at next (confirm_ends atom at wants) is
 
 -- where nothing is typed, what completes a field whole begins with nothing that is skipped
-pub function_begins : (s : Setting) (function : Function) (flags : Flags) (follows : ℕ) (bytes more : List ℕ) (at next : ℕ) (raw : Bool)
-    → AreTables s.graph.tables
-    → by_function s function follows [] (plain_outcome follows (trial s function flags (32 ∷ []) at)) ≡ Whole bytes next
+directory_begins : (c : Catalogue) (new raw : Bool) (follows : ℕ) (bytes more : List ℕ) (at next : ℕ)
+    → directory_outcome c new follows [] (plain_outcome follows (directory new c (32 ∷ []) at)) ≡ Whole bytes next
     → BeginsOther raw (bytes ++ more)
-unfolding trial is_name is_word is_blank number_of word_of file_of
-function_begins s (Key table) flags follows bytes more at next raw tables is =
+unfolding directory_outcome directory_of is_name is_word
+directory_begins c true raw follows bytes more at next is = cc
+directory_begins c false raw follows bytes more at next is = cc
+
+pub function_begins : (s : Setting) (mode : Mode) (function : Function) (flags : Flags) (follows : ℕ) (bytes more : List ℕ)
+    (at next : ℕ) (raw : Bool) → IsCatalogue s.catalogue → AreTables s.graph.tables
+    → by_function s mode function flags follows [] (plain_outcome follows (trial s function flags (32 ∷ []) at)) ≡ Whole bytes next
+    → BeginsOther raw (bytes ++ more)
+unfolding trial is_name is_word is_blank number_of word_of file_of file_outcome
+function_begins s mode (Key table) flags follows bytes more at next raw named tables is =
     key_begins raw (table_of s.graph table) bytes more next (table_none s.graph table tables) is
-function_begins s (Switch table) flags follows bytes more at next raw tables is = cc
-function_begins s (Noise text) flags follows bytes more at next raw tables is =
+function_begins s mode (Switch table) flags follows bytes more at next raw named tables is = cc
+function_begins s mode (Noise text) flags follows bytes more at next raw named tables is =
     let c = phrase_completes (guide text) follows [] bytes next is in
     subst (λ (text : List ℕ). BeginsOther raw (text ++ more)) c.0.bytes_is
     (refl, λ plain. (λ (same : 40 ≡ 33). absurd (omega arith), λ (same : 40 ≡ 59). absurd (omega arith)))
-function_begins s (Token text) flags follows bytes more at next raw tables is = cc
-function_begins s (Hook id) flags follows bytes more at next raw tables is = cc
-function_begins s Number flags follows bytes more at next raw tables is = cc
-function_begins s Word flags follows bytes more at next raw tables is = cc
-function_begins s Quoted flags follows bytes more at next raw tables is = cc
-function_begins s User flags follows bytes more at next raw tables is = cc
-function_begins s Directory flags follows bytes more at next raw tables is = cc
-function_begins s InFile flags follows bytes more at next raw tables is = cc
-function_begins s OutFile flags follows bytes more at next raw tables is = cc
-function_begins s AnyFile flags follows bytes more at next raw tables is = cc
-function_begins s Text flags follows bytes more at next raw tables is = cc
-function_begins s Comma flags follows bytes more at next raw tables is = cc
-function_begins s Confirm flags follows bytes more at next raw tables is = cc
+function_begins s mode (Token text) flags follows bytes more at next raw named tables is = cc
+function_begins s mode (Hook id) flags follows bytes more at next raw named tables is = cc
+function_begins s mode Number flags follows bytes more at next raw named tables is = cc
+function_begins s mode Word flags follows bytes more at next raw named tables is = cc
+function_begins s mode Quoted flags follows bytes more at next raw named tables is = cc
+function_begins s mode User flags follows bytes more at next raw named tables is =
+    user_begins s.catalogue named raw follows bytes more next is
+function_begins s mode Directory flags follows bytes more at next raw named tables is =
+    directory_begins s.catalogue flags.new raw follows bytes more at next is
+function_begins s mode InFile flags follows bytes more at next raw named tables is = cc
+function_begins s mode OutFile flags follows bytes more at next raw named tables is = cc
+function_begins s mode AnyFile flags follows bytes more at next raw named tables is = cc
+function_begins s mode Text flags follows bytes more at next raw named tables is = cc
+function_begins s mode Comma flags follows bytes more at next raw named tables is = cc
+function_begins s mode Confirm flags follows bytes more at next raw named tables is = cc
 
 -- the phrase of the block that a line waits at is one that it may read
 waiting_phrase : (s : Setting) (number b : ℕ) (block : Block) (line : List ℕ) (at start : ℕ) → grammar_fault s.graph ≡ None
@@ -241,29 +280,44 @@ waiting_phrase s number b block line at start none waits =
     let same = get_or_from_slice_get waits.node.chain b block block waits.block_is in
     (subst (IsWellBlock s.graph) same here).phrase
 
-pub whole_is_taken : (s : Setting) → grammar_fault s.graph ≡ None → AreTables s.graph.tables → IsLawful s.meanings
-    → (line : List ℕ) → IsLine line → (number b at start : ℕ) (block : Block) → Waits s number b block line at start
-    → (bytes : List ℕ) (next : ℕ) → outcome s block (drop start line) start ≡ Whole bytes next
+-- all generations come with wildcards in it
+waiting_flags : (s : Setting) (number b : ℕ) (block : Block) (line : List ℕ) (at start : ℕ) → grammar_fault s.graph ≡ None
+    → Waits s number b block line at start → has_flags block ≡ true
+waiting_flags s number b block line at start none waits =
+    one waits.node.chain b waits.block_is (flags_agree s.graph number waits.node none waits.node_is)
+  where
+    one : (blocks : List Block) (b : ℕ) → slice_get blocks b ≡ Some block → list_all has_flags blocks ≡ true → has_flags block ≡ true
+    one [] b found all = cc
+    one (first ∷ more) zero found all =
+        let same : first ≡ block = cc in
+        subst (λ (block : Block). has_flags block ≡ true) same (and_parts (has_flags first) (list_all has_flags more) all).0
+    one (first ∷ more) (suc b) found all = one more b found (and_parts (has_flags first) (list_all has_flags more) all).1
+
+pub whole_is_taken : (s : Setting) → grammar_fault s.graph ≡ None → IsCatalogue s.catalogue → AreTables s.graph.tables
+    → IsLawful s.meanings → (line : List ℕ) → IsLine line → (number b at start : ℕ) (block : Block)
+    → Waits s number b block line at start → HasDevice s block.function (drop start line) → (mode : Mode)
+    → (bytes : List ℕ) (next : ℕ) → outcome s mode block (drop start line) start ≡ Whole bytes next
     → TakesField number b start (length line + length bytes) next
     (chain_at s number (line ++ (bytes ++ behind s.graph next)) at).chain
 unfolding outcome
-whole_is_taken s none tables lawful line is_line number b at start block waits bytes next is =
+whole_is_taken s none named tables lawful line is_line number b at start block waits device mode bytes next is =
     let has = waiting_phrase s number b block line at start none waits in
+    let flags = waiting_flags s number b block line at start none waits in
     let most = is_line.short in
     let size = length-drop start line in
     let short : length (drop start line) ≤ LINE_LIMIT = omega arith in
-    let text = subst IsText is (outcome_text s block (drop start line) start tables lawful has short) in
+    let text = subst IsText is (outcome_text s mode block (drop start line) start named tables lawful has short) in
     let more = behind s.graph next in
     let goes = chain_goes_on s number b block line (bytes ++ more) at start is_line.plain
     (text_append bytes more text (behind_text s.graph next none)) waits in
     let within = goes.within in
-    let taken = function_takes s block block.function (drop start line) bytes (guide_of (slice_get s.graph.nodes next)) start next
-    tables lawful has short goes.wants is in
+    let taken = function_takes s mode block block.function (drop start line) bytes (guide_of (slice_get s.graph.nodes next)) start next
+    named device flags tables lawful has short goes.wants is in
     let begins : (raw : Bool) → start ≡ length line → BeginsOther raw (bytes ++ more) =
     λ raw ends.
     let nothing : drop start line ≡ [] = drop_all start line (omega arith) in
-    function_begins s block.function block.flags block.next bytes more start next raw tables
-    (subst (λ (atom : List ℕ). outcome s block atom start ≡ Whole bytes next) nothing is) in
+    function_begins s mode block.function block.flags block.next bytes more start next raw named tables
+    (subst (λ (atom : List ℕ). outcome s mode block atom start ≡ Whole bytes next) nothing is) in
     let end : start + length (drop start line ++ bytes) ≡ length line + length bytes =
     (let both = length-append (drop start line) bytes in omega arith) in
     subst (λ (end : ℕ). TakesField number b start end next (chain_at s number (line ++ (bytes ++ more)) at).chain) end

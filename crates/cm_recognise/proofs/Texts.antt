@@ -33,7 +33,7 @@ text_drop zero text all = all
 text_drop (suc size) [] all = tt
 text_drop (suc size) (byte ∷ text) all = text_drop size text all.1
 
-text_take : (size : ℕ) (text : List ℕ) → AreText text → AreText (take size text)
+pub text_take : (size : ℕ) (text : List ℕ) → AreText text → AreText (take size text)
 text_take zero text all = tt
 text_take (suc size) [] all = tt
 text_take (suc size) (byte ∷ text) all = (all.0, text_take size text all.1)

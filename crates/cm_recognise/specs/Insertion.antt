@@ -1,11 +1,11 @@
 -- What recognition puts into a line (COMND's recognition).
-use Rattle.std.specs.Prelude.{ℕ, ◌+◌, ◌==◌, ◌&&◌, true, false, if◌then◌else◌, nat_lt, nat_le, List, [], ◌∷◌, ◌++◌, length, drop, Option, Some, None, slice_get}
+use Rattle.std.specs.Prelude.{ℕ, ◌+◌, ◌==◌, ◌&&◌, Bool, true, false, if◌then◌else◌, nat_lt, nat_le, List, [], ◌∷◌, ◌++◌, length, drop, Option, Some, None, slice_get}
 use Rattle.std.specs.Option.{option_map_or}
 use Rattle.cm_text.specs.declared.text.TheConstants.{LINE_LIMIT}
 use Rattle.cm_blocks.specs.declared.field.Ending.{Ending}
 use Rattle.cm_blocks.specs.declared.field.Ending.TheVariants as ending
 use Rattle.cm_blocks.specs.declared.function.Function.{Function}
-use Rattle.cm_blocks.specs.declared.function.Function.TheVariants.{Noise}
+use Rattle.cm_blocks.specs.declared.function.Function.TheVariants.{Directory, InFile, AnyFile, Noise}
 use Rattle.cm_blocks.specs.declared.node.Block.{Block}
 use Rattle.cm_blocks.specs.declared.node.Node.{Node}
 use Rattle.cm_blocks.specs.Grammar.{Graph}
@@ -47,10 +47,23 @@ abbrev pub or_put : Option Insertion → Option Insertion → Option Insertion
 or_put None later = later
 or_put (Some insertion) later = Some insertion
 
+-- control-F asks those that read files that are there, or directories, alone
+abbrev pub is_asked : Mode → Function → Bool
+is_asked modes.Escape function = true
+is_asked modes.Part InFile = true
+is_asked modes.Part AnyFile = true
+is_asked modes.Part Directory = true
+is_asked modes.Part function = false
+
+-- what one block puts in
+abbrev pub block_put : Setting → Mode → List ℕ → ℕ → Block → Option Insertion
+block_put s mode atom at block =
+    if is_asked mode block.function then put_in s.graph (outcome s mode block atom at) else None
+
 -- the first of these blocks that puts anything in
-abbrev pub first_put : Setting → List ℕ → ℕ → List Block → Option Insertion
-first_put s atom at [] = None
-first_put s atom at (block ∷ more) = or_put (put_in s.graph (outcome s block atom at)) (first_put s atom at more)
+abbrev pub first_put : Setting → Mode → List ℕ → ℕ → List Block → Option Insertion
+first_put s mode atom at [] = None
+first_put s mode atom at (block ∷ more) = or_put (block_put s mode atom at block) (first_put s mode atom at more)
 
 -- where nothing is typed the default of the node, and a space
 abbrev pub default_put : List ℕ → Option (List ℕ) → Option Insertion
@@ -58,12 +71,11 @@ default_put atom None = None
 default_put atom (Some text) =
     if length atom == 0 then Some (record { bytes = text ++ 32 ∷ []; bell = false }) else None
 
--- ESC takes the default, and else asks the blocks from this one on; control-F asks those that read file names and
--- directories alone, and there are none yet
+-- ESC takes the default, and else asks the blocks from this one on, as control-F does
 abbrev pub asked : Setting → Mode → Node → ℕ → List ℕ → ℕ → Option Insertion
 asked s modes.Escape node block atom at =
-    or_put (default_put atom node.default) (first_put s atom at (drop block node.chain))
-asked s modes.Part node block atom at = None
+    or_put (default_put atom node.default) (first_put s modes.Escape atom at (drop block node.chain))
+asked s modes.Part node block atom at = first_put s modes.Part atom at (drop block node.chain)
 
 -- what does not fit into a line of so many bytes is not put in
 abbrev pub fitted : ℕ → Option Insertion → Insertion

@@ -1,3 +1,5 @@
+pub mod FileOutcome
+pub mod Found
 pub mod Insertion
 pub mod Outcome
 pub mod Sound

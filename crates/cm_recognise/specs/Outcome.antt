@@ -1,5 +1,5 @@
 -- How a field goes on that a block has begun to read (COMND's recognition).
-use Rattle.std.specs.Prelude.{ℕ, ◌≤◌, ◌==◌, ◌&&◌, Bool, true, false, if◌then◌else◌, List, [], ◌∷◌, ◌++◌, length, drop, slice_get}
+use Rattle.std.specs.Prelude.{ℕ, ◌≤◌, ◌==◌, ◌&&◌, Bool, true, false, if◌then◌else◌, List, [], ◌∷◌, ◌++◌, length, slice_get}
 use Rattle.std.specs.Option.{option_map_or}
 use Rattle.cm_text.specs.Case.{begins_with}
 use Rattle.cm_tables.specs.declared.entry.Entry.{Entry}
@@ -8,21 +8,22 @@ use Rattle.cm_tables.specs.declared.table.Look.TheVariants as looks
 use Rattle.cm_tables.specs.Common.{common}
 use Rattle.cm_tables.specs.Look.{has_text, look}
 use Rattle.cm_fields.specs.declared.trial.Try.{Try}
+use Rattle.cm_fields.specs.declared.value.FileKind.TheVariants.{In, Any}
 use Rattle.cm_fields.specs.declared.trial.Try.TheVariants.{Accept, Refuse, More}
 use Rattle.cm_hooks.specs.declared.answer.Tail.{Tail}
 use Rattle.cm_hooks.specs.declared.answer.Tail.TheVariants as tails
+use Rattle.cm_files.specs.declared.flags.Flags.{Flags}
 use Rattle.cm_blocks.specs.declared.function.Function.{Function}
 use Rattle.cm_blocks.specs.declared.function.Function.TheVariants.{Key, Switch, Noise, Token, User, Directory, InFile, AnyFile, Hook}
 use Rattle.cm_blocks.specs.declared.node.Block.{Block}
 use Rattle.cm_blocks.specs.Keyword.{has_colon}
 use Rattle.cm_blocks.specs.Setting.{Setting}
 use Rattle.cm_blocks.specs.Trial.{entry_next, table_of, trial}
+use Rattle.cm_recognise.specs.declared.insertion.Mode.{Mode}
 use Rattle.cm_recognise.specs.declared.outcome.Outcome.{Outcome}
 use Rattle.cm_recognise.specs.declared.outcome.Outcome.TheVariants.{Nothing, Part, Piece, Whole}
-
--- what is missing behind an atom of a text that begins with it
-abbrev pub missing : List ℕ → List ℕ → List ℕ
-missing text atom = drop (length atom) text
+use Rattle.cm_recognise.specs.FileOutcome.{directory_outcome, file_outcome, user_outcome}
+use Rattle.cm_recognise.specs.Found.{missing}
 
 -- the text of the entry at a position
 abbrev pub text_at : List Entry → ℕ → List ℕ
@@ -71,21 +72,24 @@ hook_outcome next plain tails.None = plain
 hook_outcome next plain (tails.Part text) = Part text
 hook_outcome next plain (tails.Whole text) = Whole text next
 
--- by what the block reads; `plain` is the outcome of its own trial. Users, directories and files that are there go on
--- in no certain way yet
-abbrev pub by_function : Setting → Function → ℕ → List ℕ → Outcome → Outcome
-by_function s (Key table) next atom plain =
+-- by what the block reads, and for a file and a directory by its flags and the key that completes; `plain` is the
+-- outcome of its own trial
+abbrev pub by_function : Setting → Mode → Function → Flags → ℕ → List ℕ → Outcome → Outcome
+by_function s mode (Key table) flags next atom plain =
     keyword_outcome false (table_of s.graph table) atom (look (table_of s.graph table) atom)
-by_function s (Switch table) next atom plain = switch_outcome (table_of s.graph table) atom
-by_function s (Noise text) next atom plain = phrase_outcome (guide text) next atom
-by_function s (Token text) next atom plain = if length atom == 0 then Nothing else phrase_outcome text next atom
-by_function s (Hook id) next atom plain =
+by_function s mode (Switch table) flags next atom plain = switch_outcome (table_of s.graph table) atom
+by_function s mode (Noise text) flags next atom plain = phrase_outcome (guide text) next atom
+by_function s mode (Token text) flags next atom plain =
+    if length atom == 0 then Nothing else phrase_outcome text next atom
+by_function s mode User flags next atom plain = user_outcome s.catalogue next atom
+by_function s mode Directory flags next atom plain = directory_outcome s.catalogue flags.new next atom plain
+by_function s mode InFile flags next atom plain =
+    file_outcome s.catalogue (record { mode = mode; kind = In; flags = flags; next = next }) atom plain
+by_function s mode AnyFile flags next atom plain =
+    file_outcome s.catalogue (record { mode = mode; kind = Any; flags = flags; next = next }) atom plain
+by_function s mode (Hook id) flags next atom plain =
     if length atom == 0 then Nothing else hook_outcome next plain (s.meanings.completion id atom)
-by_function s User next atom plain = Nothing
-by_function s Directory next atom plain = Nothing
-by_function s InFile next atom plain = Nothing
-by_function s AnyFile next atom plain = Nothing
-by_function s function next atom plain = plain
+by_function s mode function flags next atom plain = plain
 
 -- an outcome has at most so many bytes
 abbrev pub IsShort : ℕ → Outcome → Type 0
@@ -95,7 +99,7 @@ IsShort most (Piece bytes) = length bytes ≤ most
 IsShort most (Whole bytes next) = length bytes ≤ most
 
 -- how the field of a block goes on of which the atom is typed, from this place to the end of the line
-unfoldable pub outcome : Setting → Block → List ℕ → ℕ → Outcome
-outcome s block atom at =
-    by_function s block.function block.next atom
+unfoldable pub outcome : Setting → Mode → Block → List ℕ → ℕ → Outcome
+outcome s mode block atom at =
+    by_function s mode block.function block.flags block.next atom
     (plain_outcome block.next (trial s block.function block.flags (atom ++ 32 ∷ []) at))

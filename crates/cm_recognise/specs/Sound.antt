@@ -1,7 +1,11 @@
 -- A line that waits at a block, and the field that a completion makes of it.
-use Rattle.std.specs.Prelude.{ℕ, ◌≡◌, ◌≤◌, false, List, length, Some, slice_get}
+use Rattle.std.specs.Prelude.{ℕ, ◌≡◌, ◌≤◌, false, List, length, Some, Ok, slice_get}
+use Rattle.cm_files.specs.Resolve.{by_device}
+use Rattle.cm_files.specs.Spec.{device_read}
 use Rattle.cm_blocks.specs.declared.field.Chain.{Chain}
 use Rattle.cm_blocks.specs.declared.field.Chain.TheVariants as chain
+use Rattle.cm_blocks.specs.declared.function.Function.{Function}
+use Rattle.cm_blocks.specs.declared.function.Function.TheVariants.{Directory}
 use Rattle.cm_blocks.specs.declared.node.Block.{Block}
 use Rattle.cm_blocks.specs.declared.node.Node.{Node}
 use Rattle.cm_blocks.specs.Chain.{chain_at}
@@ -27,3 +31,8 @@ pub record TakesField (number b start end next : ℕ) (answer : Chain) : Type 0 
   pub ends : field.end ≡ end
   pub typed : field.defaulted ≡ false
   pub leads : field.next ≡ next
+
+-- the device that is typed before a directory, if any is, is one that there is
+abbrev pub HasDevice : Setting → Function → List ℕ → Type 0
+HasDevice s Directory atom = (meant : ℕ) × (by_device s.catalogue atom (device_read atom).part ≡ Ok meant)
+HasDevice s function atom = Unit {0}

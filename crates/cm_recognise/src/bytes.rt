@@ -29,6 +29,16 @@ impl Bytes {
         }
     }
 
+    // A copy of these bytes.
+    pub(crate) fn of(bytes: &[u8]) -> Bytes
+        requires { length bytes.now ≤ LINE_LIMIT }
+        ensures { result ≡ bytes.now }
+    {
+        let mut copy = Bytes::new();
+        copy.append(bytes);
+        copy
+    }
+
     /// The bytes as a slice.
     pub fn as_slice(&self) -> &[u8]
         ensures value { result.now ≡ self.now }

@@ -1,11 +1,12 @@
 // What goes into a line.
 ghost use Rattle.std.specs.Prelude.{◌≡◌, ◌+◌, ◌≤◌, ◌<◌, ◌++◌, All, drop, length, slice_get};
 ghost use Rattle.cm_text.specs.Text.{IsLine};
+ghost use Rattle.cm_files.specs.Catalogue.{IsCatalogue};
 ghost use Rattle.cm_hooks.specs.Ties.{Ties, count};
 ghost use Rattle.cm_blocks.specs.Grammar.{hook_count};
 ghost use Rattle.cm_blocks.specs.Setting.{setting};
 ghost use Rattle.cm_blocks.specs.Well.{IsWell, IsWellBlock};
-ghost use Rattle.cm_recognise.specs.Insertion.{asked, at_block, behind, default_put, first_put, fitted, guide_behind, insertion, put_in, rung};
+ghost use Rattle.cm_recognise.specs.Insertion.{asked, at_block, behind, block_put, default_put, first_put, fitted, guide_behind, insertion, is_asked, put_in, rung};
 ghost use Rattle.cm_recognise.specs.Outcome.{IsShort};
 
 use crate::Bytes;
@@ -106,6 +107,48 @@ fn put_in(grammar: &Grammar, outcome: Outcome) -> Option<Insertion>
     }
 }
 
+// Whether a key asks a block with this function: control-F asks those that read files that are there, or directories.
+fn is_asked(mode: Mode, function: &Function) -> bool
+    ensures { result ≡ is_asked mode function.now }
+{
+    match mode {
+        Mode::Escape => true,
+        Mode::Part => match function {
+            Function::InFile => true,
+            Function::AnyFile => true,
+            Function::Directory => true,
+            _ => false,
+        },
+    }
+}
+
+// What one block puts in.
+fn block_put<N: Names, R: Rules>(
+    grammar: &Grammar,
+    block: &Block,
+    line: &[u8],
+    at: usize,
+    names: &N,
+    hooks: &Hooks<R>,
+    mode: Mode,
+) -> Option<Insertion>
+    requires well { IsWellBlock grammar.now block.now }
+    requires ties { Ties R.meanings hooks.now }
+    requires hooks { hook_count grammar.now ≤ count hooks.now }
+    requires short { length line.now < LINE_LIMIT }
+    requires place { at ≤ length line.now }
+    ensures { result ≡ block_put (setting grammar.now (N.catalogue names.now) R.meanings) mode (drop at line.now) at
+        block.now }
+{
+    if !is_asked(mode, &block.function) {
+        return None;
+    }
+    put_in(
+        grammar,
+        outcome_of(grammar, block, line, at, names, hooks, mode),
+    )
+}
+
 // The first of these blocks that puts anything in.
 fn first_put<N: Names, R: Rules>(
     grammar: &Grammar,
@@ -114,17 +157,18 @@ fn first_put<N: Names, R: Rules>(
     at: usize,
     names: &N,
     hooks: &Hooks<R>,
+    mode: Mode,
 ) -> Option<Insertion>
     requires well { All (IsWellBlock grammar.now) blocks.now }
     requires ties { Ties R.meanings hooks.now }
     requires hooks { hook_count grammar.now ≤ count hooks.now }
     requires short { length line.now < LINE_LIMIT }
     requires place { at ≤ length line.now }
-    ensures { result ≡ first_put (setting grammar.now (N.catalogue names.now) R.meanings) (drop at line.now) at
+    ensures { result ≡ first_put (setting grammar.now (N.catalogue names.now) R.meanings) mode (drop at line.now) at
         blocks.now }
 {
     for block in blocks {
-        let put = put_in(grammar, outcome_of(grammar, block, line, at, names, hooks));
+        let put = block_put(grammar, block, line, at, names, hooks, mode);
         if put.is_some() {
             return put;
         }
@@ -169,16 +213,18 @@ fn asked<N: Names, R: Rules>(
     ensures { result ≡ asked (setting grammar.now (N.catalogue names.now) R.meanings) mode node.now block
         (drop at line.now) at }
 {
-    if mode == Mode::Part {
-        return None;
-    }
-    let put = default_put(&line[at..], node);
-    if put.is_some() {
-        return put;
-    }
     let chain = node.chain.as_slice();
-    let first = usize::from(block).min(chain.len());
-    first_put(grammar, &chain[first..], line, at, names, hooks)
+    let blocks = &chain[usize::from(block).min(chain.len())..];
+    match mode {
+        Mode::Part => first_put(grammar, blocks, line, at, names, hooks, Mode::Part),
+        Mode::Escape => {
+            let put = default_put(&line[at..], node);
+            if put.is_some() {
+                return put;
+            }
+            first_put(grammar, blocks, line, at, names, hooks, Mode::Escape)
+        }
+    }
 }
 
 // What is put in at a place of the line.
@@ -240,12 +286,20 @@ fn inserted<N: Names, R: Rules>(
     }
 }
 
+// A catalogue has its form.
+fn is_catalogue<N: Names>(names: &N)
+    ensures { IsCatalogue (N.catalogue names.now) }
+{
+    let _count = names.directories();
+}
+
 /// What ESC or control-F puts into a line whose parse ends so (COMND's recognition).
 ///
 /// Where the line is open at a field of which nothing is typed, ESC takes the default of its node. Else the blocks that
 /// wait are asked in order, and the first that can go on counts: with bytes that are whole, behind which a space
 /// follows and the guide word of the next node; with the beginning that several ways share, which rings; or with a
-/// piece, as a switch up to its colon. It rings, and nothing goes in, where no block can go on, where the line is not
+/// piece, as a switch up to its colon. Control-F asks the blocks that read files and directories alone, and completes a
+/// name or a type of a file up to its point. It rings, and nothing goes in, where no block can go on, where the line is not
 /// open at a block, and where the bytes do not fit.
 pub fn complete<N: Names, R: Rules>(
     grammar: &Grammar,
@@ -265,5 +319,6 @@ pub fn complete<N: Names, R: Rules>(
 {
     grammar.has_no_fault();
     grammar.has_tables();
+    is_catalogue(names);
     inserted(grammar, ending, line, names, hooks, mode)
 }

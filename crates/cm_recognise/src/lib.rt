@@ -2,6 +2,8 @@
 #![tactic(auto)]
 
 mod bytes;
+mod file_outcome;
+mod found;
 mod insertion;
 pub mod laws;
 mod outcome;

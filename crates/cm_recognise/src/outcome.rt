@@ -9,19 +9,21 @@ ghost use Rattle.cm_blocks.specs.Keyword.{has_colon};
 ghost use Rattle.cm_blocks.specs.Setting.{setting};
 ghost use Rattle.cm_blocks.specs.Trial.{trial};
 ghost use Rattle.cm_blocks.specs.Well.{IsWellBlock};
-ghost use Rattle.cm_recognise.specs.Outcome.{IsShort, entry_outcome, guide, hook_outcome, keyword_outcome, missing, outcome, phrase_outcome, plain_outcome, switch_outcome};
+ghost use Rattle.cm_recognise.specs.Found.{missing};
+ghost use Rattle.cm_recognise.specs.Outcome.{IsShort, entry_outcome, guide, hook_outcome, keyword_outcome, outcome, phrase_outcome, plain_outcome, switch_outcome};
 
-use crate::Bytes;
+use crate::file_outcome::{Request, directory_outcome, file_outcome, user_outcome};
+use crate::{Bytes, Mode};
 use arrayvec::ArrayVec;
 use cm_blocks::{Block, Function, Grammar, try_function};
-use cm_fields::Try;
+use cm_fields::{FileKind, Try};
 use cm_files::Names;
 use cm_hooks::{Hooks, Rules, Tail};
 use cm_tables::{Look, Table};
 use cm_text::{LINE_LIMIT, Name, TEXT_LIMIT, begins_with};
 
-// The most bytes with which a field goes on: a guide word of 39 bytes in parentheses.
-pub(crate) const TAIL_LIMIT: usize = 41;
+// The most bytes with which a field goes on: a name and a type of 39 bytes, each with its point, and a generation of 10.
+pub(crate) const TAIL_LIMIT: usize = 90;
 
 /// How a field goes on of which the beginning is typed (COMND's recognition).
 #[derive(Debug, Drop)]
@@ -42,7 +44,7 @@ pub enum Outcome {
 }
 
 // What is missing behind an atom of a text that begins with it.
-fn missing(text: &[u8], atom: &[u8]) -> Bytes
+pub(crate) fn missing(text: &[u8], atom: &[u8]) -> Bytes
     requires { length text.now ≤ TAIL_LIMIT }
     ensures value { result ≡ missing text.now atom.now }
     ensures short { length result ≤ length text.now }
@@ -85,15 +87,13 @@ fn entry_outcome(switch: bool, table: &Table, atom: &[u8], position: u16) -> Out
     }
 }
 
-// A copy of at most 41 bytes.
+// A copy of at most 90 bytes.
 fn copied(text: &[u8]) -> Bytes
     requires { length text.now ≤ TAIL_LIMIT }
     ensures value { result ≡ text.now }
     ensures short { length result ≤ TAIL_LIMIT }
 {
-    let mut bytes = Bytes::new();
-    bytes.append(text);
-    bytes
+    Bytes::of(text)
 }
 
 // What several entries share, unless one of them has the atom for its text.
@@ -221,6 +221,21 @@ fn hook_outcome<R: Rules>(
     }
 }
 
+// What a block asks of a file.
+fn request(mode: Mode, kind: FileKind, block: &Block) -> Request
+    ensures mode { result.mode ≡ mode }
+    ensures kind { result.kind ≡ kind }
+    ensures flags { result.flags ≡ block.now.flags }
+    ensures next { result.next ≡ block.now.next }
+{
+    Request {
+        mode,
+        kind,
+        flags: block.flags,
+        next: block.next,
+    }
+}
+
 // How the field of a block goes on of which the line from a place on is typed.
 #[tactic(auto, unfolding(crate::specs::Outcome::outcome))]
 pub(crate) fn outcome_of<N: Names, R: Rules>(
@@ -230,13 +245,14 @@ pub(crate) fn outcome_of<N: Names, R: Rules>(
     at: usize,
     names: &N,
     hooks: &Hooks<R>,
+    mode: Mode,
 ) -> Outcome
     requires well { IsWellBlock grammar.now block.now }
     requires ties { Ties R.meanings hooks.now }
     requires hooks { hook_count grammar.now ≤ count hooks.now }
     requires short { length line.now < LINE_LIMIT }
     requires place { at ≤ length line.now }
-    ensures value { result ≡ outcome (setting grammar.now (N.catalogue names.now) R.meanings) block.now
+    ensures value { result ≡ outcome (setting grammar.now (N.catalogue names.now) R.meanings) mode block.now
         (drop at line.now) at }
     ensures short { IsShort TAIL_LIMIT result }
 {
@@ -247,12 +263,22 @@ pub(crate) fn outcome_of<N: Names, R: Rules>(
         Function::Switch(table) => switch_outcome(grammar.table(*table), atom),
         Function::Noise(text) => phrase_outcome(guide(text).as_slice(), next, atom),
         Function::Token(text) => token_outcome(text.as_bytes(), next, atom),
+        Function::User => user_outcome(names, next, atom),
+        Function::Directory => {
+            let plain = plain_outcome(grammar, block, line, at, names, hooks);
+            directory_outcome(names, block.flags.new, next, atom, plain)
+        }
+        Function::InFile => {
+            let plain = plain_outcome(grammar, block, line, at, names, hooks);
+            file_outcome(request(mode, FileKind::In, block), names, atom, plain)
+        }
+        Function::AnyFile => {
+            let plain = plain_outcome(grammar, block, line, at, names, hooks);
+            file_outcome(request(mode, FileKind::Any, block), names, atom, plain)
+        }
         Function::Hook(id) => {
             let plain = plain_outcome(grammar, block, line, at, names, hooks);
             hook_outcome(hooks, *id, next, atom, plain)
-        }
-        Function::User | Function::Directory | Function::InFile | Function::AnyFile => {
-            Outcome::Nothing
         }
         _ => plain_outcome(grammar, block, line, at, names, hooks),
     }

@@ -16,6 +16,8 @@ use std::alloc::Global;
 use std::process::Abort;
 use std::test::Fail;
 
+mod cabinet;
+mod files;
 mod setting;
 
 use setting::{Shelf, hooks};
@@ -255,7 +257,7 @@ fn it_rings_where_no_block_waits(rt: HostRuntime) -> Result<(), Fail> {
 }
 
 #[test]
-fn a_part_is_asked_of_no_block_yet(rt: HostRuntime) -> Result<(), Fail> {
+fn a_part_is_asked_of_no_keyword(rt: HostRuntime) -> Result<(), Fail> {
     let cases: [Case<'_>; 2] = [
         (open(0, 0, 0), b"co", b"", true),
         (open(2, 0, 0), b"", b"", true),

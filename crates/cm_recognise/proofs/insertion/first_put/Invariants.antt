@@ -8,4 +8,4 @@ abbrev pub invariant-loop-block : goal.invariant-loop-block
 invariant-loop-block g l =
     let s = setting l.grammar (g.N.Names.catalogue l.names) g.R.Rules.meanings in
     let atom = drop l.at l.line in
-    first_put s atom l.at (drop l.block-index l.blocks) ≡ first_put s atom l.at l.blocks
+    first_put s l.mode atom l.at (drop l.block-index l.blocks) ≡ first_put s l.mode atom l.at l.blocks
