@@ -376,11 +376,12 @@ name_taken c is_catalogue request atom bytes more at after spec directory read f
     let number = number_of request.flags.all_generations numbered.generation in
     let w = (missing name typed ++ 46 ∷ []) ++ (kind ++ 46 ∷ []) ++ number in
     let cut : drop r.directory.next atom ++ w ≡ full (typed ++ missing name typed) kind number =
-    ap (λ (front : List ℕ). front ++ w) (cut_name atom spec r none) ∙ name_joins typed (missing name typed) kind number in
-    (subst (λ (bytes : List ℕ). TakesNamed (file c request.kind request.flags) atom bytes more at) numbered.bytes_is
-    (generation_taken c is_catalogue request atom w more at spec directory name kind (typed ++ missing name typed) kind numbered.generation
-    read flags r means numbered.found_is (name_lower (rows_of c directory) request.flags.deleted typed name called.found_is) refl files cut),
-    numbered.leads)
+    ap (λ (front : List ℕ). front ++ w) (cut_name atom spec r none) ∙ name_joins typed (missing name typed) kind number in (
+      subst (λ (bytes : List ℕ). TakesNamed (file c request.kind request.flags) atom bytes more at) numbered.bytes_is
+          (generation_taken c is_catalogue request atom w more at spec directory name kind (typed ++ missing name typed) kind numbered.generation
+          read flags r means numbered.found_is (name_lower (rows_of c directory) request.flags.deleted typed name called.found_is) refl files cut),
+      numbered.leads,
+    )
 
 -- a type that is begun
 kind_taken : (c : Catalogue) → IsCatalogue c → (request : Request) (atom bytes more : List ℕ) (at after : ℕ) (spec : Spec) (directory : ℕ)
@@ -401,11 +402,12 @@ kind_taken c is_catalogue request atom bytes more at after spec directory read f
     cut_kind atom spec r place some ∙ ap (λ (rest : List ℕ). name ++ 46 ∷ (typed ++ rest)) ends
     ∙ ap (λ (text : List ℕ). name ++ 46 ∷ text) (append-nil typed) in
     let cut : drop r.directory.next atom ++ w ≡ full name (typed ++ missing kind typed) number =
-    ap (λ (front : List ℕ). front ++ w) front ∙ kind_joins name typed (missing kind typed) number in
-    (subst (λ (bytes : List ℕ). TakesNamed (file c request.kind request.flags) atom bytes more at) numbered.bytes_is
-    (generation_taken c is_catalogue request atom w more at spec directory name kind name (typed ++ missing kind typed) numbered.generation
-    read flags r means numbered.found_is refl (kind_lower (rows_of c directory) request.flags.deleted name typed kind kinded.found_is) files cut),
-    numbered.leads)
+    ap (λ (front : List ℕ). front ++ w) front ∙ kind_joins name typed (missing kind typed) number in (
+      subst (λ (bytes : List ℕ). TakesNamed (file c request.kind request.flags) atom bytes more at) numbered.bytes_is
+          (generation_taken c is_catalogue request atom w more at spec directory name kind name (typed ++ missing kind typed) numbered.generation
+          read flags r means numbered.found_is refl (kind_lower (rows_of c directory) request.flags.deleted name typed kind kinded.found_is) files cut),
+      numbered.leads,
+    )
 
 -- a generation that is to come
 number_taken : (c : Catalogue) → IsCatalogue c → (request : Request) (atom bytes more : List ℕ) (at after : ℕ) (spec : Spec) (directory : ℕ)
@@ -422,11 +424,12 @@ number_taken c is_catalogue request atom bytes more at after spec directory read
     let front : drop r.directory.next atom ≡ name ++ 46 ∷ (kind ++ 46 ∷ []) =
     cut_kind atom spec r place some ∙ ap (λ (rest : List ℕ). name ++ 46 ∷ (kind ++ rest)) ends in
     let cut : drop r.directory.next atom ++ number ≡ full name kind number =
-    ap (λ (front : List ℕ). front ++ number) front ∙ number_joins name kind number in
-    (subst (λ (bytes : List ℕ). TakesNamed (file c request.kind request.flags) atom bytes more at) numbered.bytes_is
-    (generation_taken c is_catalogue request atom number more at spec directory name kind name kind numbered.generation
-    read flags r means numbered.found_is refl refl files cut),
-    numbered.leads)
+    ap (λ (front : List ℕ). front ++ number) front ∙ number_joins name kind number in (
+      subst (λ (bytes : List ℕ). TakesNamed (file c request.kind request.flags) atom bytes more at) numbered.bytes_is
+          (generation_taken c is_catalogue request atom number more at spec directory name kind name kind numbered.generation
+          read flags r means numbered.found_is refl refl files cut),
+      numbered.leads,
+    )
 
 pub file_sound : (c : Catalogue) → IsCatalogue c → (request : Request) (atom bytes more : List ℕ) (at after : ℕ) → IsRead request.kind
     → (request.flags.wild || not request.flags.all_generations) ≡ true → file c request.kind request.flags atom at ≡ More

@@ -11,9 +11,7 @@ ghost use Rattle.cm_recognise.specs.FileOutcome.{as_piece, behind_kind, behind_n
 ghost use Rattle.cm_recognise.specs.Found.{IsFound, found_kinds, found_names};
 ghost use Rattle.cm_recognise.specs.Outcome.{IsShort};
 
-use crate::found::{
-    Found, found_directories, found_kinds, found_names, found_users, highest,
-};
+use crate::found::{Found, found_directories, found_kinds, found_names, found_users, highest};
 use crate::outcome::{Outcome, TAIL_LIMIT, missing};
 use crate::{Bytes, Mode};
 use cm_fields::{Code, FileKind, Span, Spec};
