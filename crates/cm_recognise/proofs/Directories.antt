@@ -138,9 +138,11 @@ user_sound c is_catalogue atom bytes more at next after is = by (found_users c a
         let of = user_name c is_catalogue atom text found in
         let whole = atom ++ missing text atom in
         let all = paths_same whole text (completed_lower text atom of.0.begins) of.0.name.paths in
-        let place = position_some (is_user_named whole) c.directories 0 of.1 in
-        (subst (λ (bytes : List ℕ). TakesNamed (user c) atom bytes more at) same
-        (user_taken c atom (missing text atom) more at place.0 all place.1), leads)
+        let place = position_some (is_user_named whole) c.directories 0 of.1 in (
+          subst (λ (bytes : List ℕ). TakesNamed (user c) atom bytes more at) same
+              (user_taken c atom (missing text atom) more at place.0 all place.1),
+          leads,
+        )
 
 -- a device that means a directory is no longer than a name may be
 find_passes : (X : Type 0) (p q : X → Bool) (xs : List X) (x : X) → find p xs ≡ Some x → list_all q xs ≡ true
@@ -391,9 +393,11 @@ directory_sound c is_catalogue new atom bytes more at next after meant device wa
         let rest : missing text typed ++ 62 ∷ [] ≡ bytes = cc in
         let leads : next ≡ after = cc in
         let of = directory_named_so c is_catalogue typed text found in
-        let all = all_of_run is_file atom (run_wants is_file (directory_of false c at) atom at wants) in
-        (subst (λ (bytes : List ℕ). TakesNamed (directory false c) atom bytes more at) rest
-        (directory_taken c is_catalogue atom typed text more at meant (opened_of atom typed opens) all of.0 of.1 device), leads)
+        let all = all_of_run is_file atom (run_wants is_file (directory_of false c at) atom at wants) in (
+          subst (λ (bytes : List ℕ). TakesNamed (directory false c) atom bytes more at) rest
+              (directory_taken c is_catalogue atom typed text more at meant (opened_of atom typed opens) all of.0 of.1 device),
+          leads,
+        )
 
     by_typed : (found : Option (List ℕ)) → opened atom ≡ found → directory false c atom at ≡ More
         → by_opened c next (plain_outcome next (directory false c (atom ++ 32 ∷ []) at)) found ≡ Whole bytes after

@@ -19,43 +19,35 @@ use Rattle.cm_fields.specs.declared.value.Span.{Span}
 use Rattle.cm_fields.specs.declared.value.Spec.{Spec}
 use Rattle.cm_fields.specs.declared.value.Value.TheVariants as values
 use Rattle.cm_files.specs.declared.flags.Flags.{Flags}
-use Rattle.cm_files.specs.declared.row.FileRow.{FileRow}
 use Rattle.cm_files.specs.declared.spec.SpecFault.{SpecFault}
 use Rattle.cm_files.specs.Catalogue.{Catalogue, IsCatalogue, rows_of}
 use Rattle.cm_files.specs.Fields.{file, file_of, is_file, moved_spec}
 use Rattle.cm_files.specs.Passing.{may_pass, may_take}
 use Rattle.cm_files.specs.Pattern.{is_wild}
 use Rattle.cm_files.specs.Resolve.{by_device, by_directory, has_bad_copy, has_bad_wild, has_wild, is_all, is_bad_generation, is_in, refuse, resolve, then_in}
-use Rattle.cm_files.specs.Selection.{Wanted, agree, is_seen, selects}
+use Rattle.cm_files.specs.Selection.{Wanted, is_seen, selects}
 use Rattle.cm_files.specs.Spec.{device_read, generation_of, is_path, is_pattern, part, part_or_nothing, read_spec}
 use Rattle.cm_files.proofs.Choosing.{any_may_pass}
 use Rattle.cm_files.proofs.Fielding.{file_is_local}
 use Rattle.cm_files.proofs.Fronts.{by_device_more, directory_same}
 use Rattle.cm_recognise.specs.declared.file_outcome.Request.{Request}
-use Rattle.cm_recognise.specs.declared.found.Found.{Found}
-use Rattle.cm_recognise.specs.declared.found.Found.TheVariants.{Nobody, One, Several}
-use Rattle.cm_recognise.specs.declared.insertion.Mode.{Mode}
-use Rattle.cm_recognise.specs.declared.insertion.Mode.TheVariants as modes
 use Rattle.cm_recognise.specs.declared.outcome.Outcome.{Outcome}
-use Rattle.cm_recognise.specs.declared.outcome.Outcome.TheVariants.{Nothing, Part, Piece, Whole}
-use Rattle.cm_recognise.specs.FileOutcome.{as_piece, behind_kind, behind_name, by_front, by_kind, by_meant, by_spec, file_outcome, generation_step, kind_step, meant, name_step, named_directory, opened}
-use Rattle.cm_recognise.specs.Found.{found_kinds, found_names, highest, kind_like, missing, name_like}
+use Rattle.cm_recognise.specs.declared.outcome.Outcome.TheVariants.{Nothing, Whole}
+use Rattle.cm_recognise.specs.FileOutcome.{by_front, by_kind, by_meant, by_spec, file_outcome, generation_step, kind_step, meant, named_directory, opened}
+use Rattle.cm_recognise.specs.Found.{found_kinds, found_names, highest, missing}
 use Rattle.cm_recognise.specs.Outcome.{plain_outcome}
-use Rattle.cm_recognise.proofs.Coming.{found_comes}
-use Rattle.cm_recognise.proofs.Completing.{TakesNamed, listed_of, plain_named, run_named}
+use Rattle.cm_recognise.proofs.Completing.{TakesNamed, plain_named, run_named}
 use Rattle.cm_recognise.proofs.Directories.{all_append, file_of_path}
-use Rattle.cm_recognise.proofs.Lowered.{completed_lower, matches_same, names_same, none_of_all, same_length}
+use Rattle.cm_recognise.proofs.Lowered.{matches_same, names_same, none_of_all, same_length}
 use Rattle.cm_recognise.proofs.Numerals.{decimal_digits, decimal_means}
 use Rattle.cm_recognise.proofs.Plains.{file_ends, run_wants, space_no_file}
 use Rattle.cm_recognise.proofs.Rows.{Row, highest_row}
 use Rattle.cm_files.proofs.Sections.{Full, all_implies, behind_first, behind_part, device_more, directory_more, full, full_spec, part_bytes, read_full}
 use Rattle.cm_recognise.proofs.Spans.{all_of_run}
+use Rattle.cm_recognise.proofs.Steps.{Called, Kinded, Numbered, called_of, kind_lower, kinded_of, name_lower, number_of, numbered_of, piece_never}
 use Rattle.cm_files.proofs.Typed.{ReadAs, cut_kind, cut_name, cut_point, name_of, read_of}
 
--- what stands for the generation, and what it means
-abbrev number_of : Bool → ℕ → List ℕ
-number_of all generation = if all then 42 ∷ [] else decimal generation
-
+-- what it means
 abbrev meant_by : Bool → ℕ → Gen
 meant_by all generation = if all then generations.All else generations.Number generation
 
@@ -279,87 +271,6 @@ kind_joins name typed rest number = simp append_assoc
 number_joins : (name kind number : List ℕ) → (name ++ 46 ∷ (kind ++ 46 ∷ [])) ++ number ≡ name ++ 46 ∷ (kind ++ 46 ∷ number)
 number_joins name kind number = simp append_assoc
 
--- a whole outcome of a step names what was found
-record Numbered (request : Request) (gathered bytes : List ℕ) (after : ℕ) (found : Option ℕ) : Type 0 where
-  generation : ℕ
-  found_is : found ≡ Some generation
-  bytes_is : gathered ++ number_of request.flags.all_generations generation ≡ bytes
-  leads : request.next ≡ after
-
-numbered_of : (request : Request) (gathered bytes : List ℕ) (after : ℕ) (other : Outcome) (found : Option ℕ)
-    → generation_step request gathered other found ≡ Whole bytes after → (other ≡ Whole bytes after) ⊎ Numbered request gathered bytes after found
-numbered_of request gathered bytes after other None is = inl is
-numbered_of request gathered bytes after other (Some generation) is =
-    let bytes_is : gathered ++ number_of request.flags.all_generations generation ≡ bytes = cc in
-    let leads : request.next ≡ after = cc in
-    inr (record { generation = generation; found_is = refl; bytes_is = bytes_is; leads = leads })
-
-record Kinded (request : Request) (rows : List FileRow) (gathered name typed bytes : List ℕ) (after : ℕ) (found : Found) : Type 0 where
-  kind : List ℕ
-  found_is : found ≡ One kind
-  numbered : Numbered request (gathered ++ (missing kind typed ++ 46 ∷ [])) bytes after (highest rows request.flags.deleted name kind)
-
-kinded_of : (request : Request) (rows : List FileRow) (gathered name typed bytes : List ℕ) (after : ℕ) (found : Found)
-    → kind_step request rows gathered name typed found ≡ Whole bytes after → Kinded request rows gathered name typed bytes after found
-kinded_of request rows gathered name typed bytes after Nobody is = cc
-kinded_of request rows gathered name typed bytes after (Several front) is = cc
-kinded_of request rows gathered name typed bytes after (One kind) is = by request.mode is
-  where
-    whole : List ℕ
-    whole = gathered ++ (missing kind typed ++ 46 ∷ [])
-
-    either : (Part whole ≡ Whole bytes after) ⊎ Numbered request whole bytes after (highest rows request.flags.deleted name kind)
-        → Kinded request rows gathered name typed bytes after (One kind)
-    either (inl never) = cc
-    either (inr numbered) = record { kind = kind; found_is = refl; numbered = numbered }
-
-    by : (mode : Mode) → behind_kind mode request rows whole name kind ≡ Whole bytes after
-        → Kinded request rows gathered name typed bytes after (One kind)
-    by modes.Part is = cc
-    by modes.Escape is = either (numbered_of request whole bytes after (Part whole) (highest rows request.flags.deleted name kind) is)
-
-record Called (request : Request) (rows : List FileRow) (typed bytes : List ℕ) (after : ℕ) (found : Found) : Type 0 where
-  name : List ℕ
-  found_is : found ≡ One name
-  kinded : Kinded request rows (missing name typed ++ 46 ∷ []) name [] bytes after (found_kinds rows request.flags.deleted name [])
-
-called_of : (request : Request) (rows : List FileRow) (typed bytes : List ℕ) (after : ℕ) (found : Found)
-    → name_step request rows typed found ≡ Whole bytes after → Called request rows typed bytes after found
-called_of request rows typed bytes after Nobody is = cc
-called_of request rows typed bytes after (Several front) is = cc
-called_of request rows typed bytes after (One name) is = by request.mode is
-  where
-    by : (mode : Mode) → behind_name mode request rows (missing name typed ++ 46 ∷ []) name ≡ Whole bytes after
-        → Called request rows typed bytes after (One name)
-    by modes.Part is = cc
-    by modes.Escape is =
-        record {
-          name = name;
-          found_is = refl;
-          kinded = kinded_of request rows (missing name typed ++ 46 ∷ []) name [] bytes after (found_kinds rows request.flags.deleted name []) is;
-        }
-
--- what completes a name, and a type
-name_lower : (rows : List FileRow) (deleted : Bool) (typed name : List ℕ) → found_names rows deleted typed ≡ One name
-    → lower (typed ++ missing name typed) ≡ lower name
-name_lower rows deleted typed name found =
-    let comes = found_comes FileRow (name_like deleted typed) rows name found in
-    completed_lower name typed (listed_of typed (agree comes.x.deleted deleted) comes.x.name name comes.gives).begins
-
-kind_lower : (rows : List FileRow) (deleted : Bool) (name typed kind : List ℕ) → found_kinds rows deleted name typed ≡ One kind
-    → lower (typed ++ missing kind typed) ≡ lower kind
-kind_lower rows deleted name typed kind found =
-    let comes = found_comes FileRow (kind_like deleted name typed) rows kind found in
-    completed_lower kind typed
-    (listed_of typed (agree comes.x.deleted deleted && equals comes.x.name name) comes.x.kind kind comes.gives).begins
-
--- a piece is not whole
-piece_never : (outcome : Outcome) (bytes : List ℕ) (after : ℕ) → as_piece outcome ≡ Whole bytes after → ⊥
-piece_never Nothing bytes after is = cc
-piece_never (Part text) bytes after is = cc
-piece_never (Piece text) bytes after is = cc
-piece_never (Whole text next) bytes after is = cc
-
 -- a name that is begun
 name_taken : (c : Catalogue) → IsCatalogue c → (request : Request) (atom bytes more : List ℕ) (at after : ℕ) (spec : Spec) (directory : ℕ)
     → IsRead request.kind → (request.flags.wild || not request.flags.all_generations) ≡ true → (r : ReadAs atom spec)
@@ -376,11 +287,12 @@ name_taken c is_catalogue request atom bytes more at after spec directory read f
     let number = number_of request.flags.all_generations numbered.generation in
     let w = (missing name typed ++ 46 ∷ []) ++ (kind ++ 46 ∷ []) ++ number in
     let cut : drop r.directory.next atom ++ w ≡ full (typed ++ missing name typed) kind number =
-    ap (λ (front : List ℕ). front ++ w) (cut_name atom spec r none) ∙ name_joins typed (missing name typed) kind number in
-    (subst (λ (bytes : List ℕ). TakesNamed (file c request.kind request.flags) atom bytes more at) numbered.bytes_is
-    (generation_taken c is_catalogue request atom w more at spec directory name kind (typed ++ missing name typed) kind numbered.generation
-    read flags r means numbered.found_is (name_lower (rows_of c directory) request.flags.deleted typed name called.found_is) refl files cut),
-    numbered.leads)
+    ap (λ (front : List ℕ). front ++ w) (cut_name atom spec r none) ∙ name_joins typed (missing name typed) kind number in (
+      subst (λ (bytes : List ℕ). TakesNamed (file c request.kind request.flags) atom bytes more at) numbered.bytes_is
+          (generation_taken c is_catalogue request atom w more at spec directory name kind (typed ++ missing name typed) kind numbered.generation
+          read flags r means numbered.found_is (name_lower (rows_of c directory) request.flags.deleted typed name called.found_is) refl files cut),
+      numbered.leads,
+    )
 
 -- a type that is begun
 kind_taken : (c : Catalogue) → IsCatalogue c → (request : Request) (atom bytes more : List ℕ) (at after : ℕ) (spec : Spec) (directory : ℕ)
@@ -401,11 +313,12 @@ kind_taken c is_catalogue request atom bytes more at after spec directory read f
     cut_kind atom spec r place some ∙ ap (λ (rest : List ℕ). name ++ 46 ∷ (typed ++ rest)) ends
     ∙ ap (λ (text : List ℕ). name ++ 46 ∷ text) (append-nil typed) in
     let cut : drop r.directory.next atom ++ w ≡ full name (typed ++ missing kind typed) number =
-    ap (λ (front : List ℕ). front ++ w) front ∙ kind_joins name typed (missing kind typed) number in
-    (subst (λ (bytes : List ℕ). TakesNamed (file c request.kind request.flags) atom bytes more at) numbered.bytes_is
-    (generation_taken c is_catalogue request atom w more at spec directory name kind name (typed ++ missing kind typed) numbered.generation
-    read flags r means numbered.found_is refl (kind_lower (rows_of c directory) request.flags.deleted name typed kind kinded.found_is) files cut),
-    numbered.leads)
+    ap (λ (front : List ℕ). front ++ w) front ∙ kind_joins name typed (missing kind typed) number in (
+      subst (λ (bytes : List ℕ). TakesNamed (file c request.kind request.flags) atom bytes more at) numbered.bytes_is
+          (generation_taken c is_catalogue request atom w more at spec directory name kind name (typed ++ missing kind typed) numbered.generation
+          read flags r means numbered.found_is refl (kind_lower (rows_of c directory) request.flags.deleted name typed kind kinded.found_is) files cut),
+      numbered.leads,
+    )
 
 -- a generation that is to come
 number_taken : (c : Catalogue) → IsCatalogue c → (request : Request) (atom bytes more : List ℕ) (at after : ℕ) (spec : Spec) (directory : ℕ)
@@ -422,11 +335,12 @@ number_taken c is_catalogue request atom bytes more at after spec directory read
     let front : drop r.directory.next atom ≡ name ++ 46 ∷ (kind ++ 46 ∷ []) =
     cut_kind atom spec r place some ∙ ap (λ (rest : List ℕ). name ++ 46 ∷ (kind ++ rest)) ends in
     let cut : drop r.directory.next atom ++ number ≡ full name kind number =
-    ap (λ (front : List ℕ). front ++ number) front ∙ number_joins name kind number in
-    (subst (λ (bytes : List ℕ). TakesNamed (file c request.kind request.flags) atom bytes more at) numbered.bytes_is
-    (generation_taken c is_catalogue request atom number more at spec directory name kind name kind numbered.generation
-    read flags r means numbered.found_is refl refl files cut),
-    numbered.leads)
+    ap (λ (front : List ℕ). front ++ number) front ∙ number_joins name kind number in (
+      subst (λ (bytes : List ℕ). TakesNamed (file c request.kind request.flags) atom bytes more at) numbered.bytes_is
+          (generation_taken c is_catalogue request atom number more at spec directory name kind name kind numbered.generation
+          read flags r means numbered.found_is refl refl files cut),
+      numbered.leads,
+    )
 
 pub file_sound : (c : Catalogue) → IsCatalogue c → (request : Request) (atom bytes more : List ℕ) (at after : ℕ) → IsRead request.kind
     → (request.flags.wild || not request.flags.all_generations) ≡ true → file c request.kind request.flags atom at ≡ More

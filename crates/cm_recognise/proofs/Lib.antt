@@ -14,5 +14,6 @@ pub mod Putting
 pub mod Rows
 pub mod Shown
 pub mod Spans
+pub mod Steps
 pub mod Taking
 pub mod Texts

@@ -1,11 +1,11 @@
 -- The decimal digits of a generation mean it.
-use Rattle.std.proofs.Common.{◌≡◌, ℕ, ◌+◌, ◌%◌, ◌^◌, ◌<◌, ◌≤◌, true, false, ◌==◌, List, [], ◌∷◌, ◌++◌, length, decimal, Some, arith, ◌∙◌}
+use Rattle.std.proofs.Common.{◌≡◌, ℕ, ◌+◌, ◌%◌, ◌^◌, ◌<◌, ◌≤◌, true, false, ◌==◌, List, [], ◌∷◌, ◌++◌, length, decimal, Some, arith, ◌∙◌, ◌/◌, ap, length-append}
 use Rattle.std.specs.Char.{is_ascii_digit, to_ascii_lowercase}
 use Rattle.std.specs.List.{list_all}
 use Rattle.std.specs.Str.Parse.{digits_value}
 use Rattle.std.proofs.lemmas.Bool.{and_from, and_parts}
 use Rattle.std.proofs.lemmas.Bool.Decides.{nat_tests}
-use Rattle.std.proofs.lemmas.Fmt.{decimal_by_steps, decimal_is_IsNumeral}
+use Rattle.std.proofs.lemmas.Fmt.{decimal_by_steps, decimal_is_IsNumeral, decimal_step, length-decimal-le}
 use Rattle.std.proofs.lemmas.List.Folds.{list_all-append}
 use Rattle.cm_text.specs.Case.{equals}
 use Rattle.cm_fields.specs.declared.value.Gen.TheVariants as generations
@@ -60,3 +60,12 @@ pub decimal_means : (n : ℕ) → 0 < n → n ≤ GENERATION_LIMIT → generatio
 decimal_means n low most =
     let numeral = decimal_is_IsNumeral n (omega arith) in
     digits_mean (decimal n) n numeral.0.0 (decimal_digits n (omega arith)) numeral.1 low most
+
+-- a number of 32 bits has at most 10 digits
+pub decimal_fits : (n : ℕ) → n < 2 ^ 32 → length (decimal n) ≤ 10
+decimal_fits n small = length-decimal-le 10 n (omega arith) (omega arith) (omega arith)
+
+-- the last digit is one more
+pub length_decimal_step : (n : ℕ) → 10 ≤ n → n < 2 ^ 64 → length (decimal n) ≡ length (decimal (n / 10)) + 1
+length_decimal_step n large small =
+    ap length (decimal_step n large small) ∙ length-append (decimal (n / 10)) ((48 + n % 10) ∷ [])

@@ -1,5 +1,5 @@
 // How a user, a directory or a file goes on that is begun.
-ghost use Rattle.std.specs.Prelude.{◌≡◌, ◌≤◌, ◌<◌, ◌==◌, [], decimal, IfOk, drop, length};
+ghost use Rattle.std.specs.Prelude.{◌≡◌, ◌≤◌, ◌<◌, ◌==◌, [], IfOk, drop, length};
 ghost use Rattle.std.specs.Bool.{OnTrue};
 ghost use Rattle.std.specs.List.{list_any, prefix_len};
 ghost use Rattle.cm_text.specs.Bytes.{is_name};
@@ -11,15 +11,13 @@ ghost use Rattle.cm_recognise.specs.FileOutcome.{as_piece, behind_kind, behind_n
 ghost use Rattle.cm_recognise.specs.Found.{IsFound, found_kinds, found_names};
 ghost use Rattle.cm_recognise.specs.Outcome.{IsShort};
 
-use crate::found::{
-    Found, found_directories, found_kinds, found_names, found_users, highest,
-};
+use crate::digits::decimal;
+use crate::found::{Found, found_directories, found_kinds, found_names, found_users, highest};
 use crate::outcome::{Outcome, TAIL_LIMIT, missing};
 use crate::{Bytes, Mode};
 use cm_fields::{Code, FileKind, Span, Spec};
 use cm_files::{Flags, Names, by_device, by_directory, has_bad_wild, part, read_spec};
-use cm_text::{LINE_LIMIT, NAME_LIMIT, is_name};
-use itoa::Buffer;
+use cm_text::{LINE_LIMIT, is_name};
 
 /// What is asked of a file: by which key, by a block for which files, and where the block leads.
 #[derive(Clone, Copy)]
@@ -145,14 +143,6 @@ pub(crate) fn directory_outcome<N: Names>(
         Some(typed) => named_directory(names, next, typed),
         None => plain,
     }
-}
-
-// The decimal digits of a number.
-fn decimal(number: u32) -> Bytes
-    ensures value { result ≡ decimal number }
-    ensures short { length result ≤ 10 }
-{
-    Bytes::of(Buffer::new().format(number).as_bytes())
 }
 
 // All generations, where the block means all by none, or else this one.

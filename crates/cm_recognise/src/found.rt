@@ -142,12 +142,7 @@ fn with_name<N: Names>(
 /// What the names of the files of a directory say that begin with what is typed; of those that are marked deleted, or
 /// of the others.
 #[tactic(auto, using(crate::proofs::Gathering::gather_next, crate::proofs::Gathering::gather_past))]
-pub(crate) fn found_names<N: Names>(
-    names: &N,
-    directory: u16,
-    deleted: bool,
-    typed: &[u8],
-) -> Found
+pub(crate) fn found_names<N: Names>(names: &N, directory: u16, deleted: bool, typed: &[u8]) -> Found
     requires { directory < length (N.catalogue names.now).directories }
     ensures value { result ≡ found_names (rows_of (N.catalogue names.now) directory) deleted typed.now }
     ensures short { IsFound result }

@@ -298,9 +298,9 @@ fn is_catalogue<N: Names>(names: &N)
 /// Where the line is open at a field of which nothing is typed, ESC takes the default of its node. Else the blocks that
 /// wait are asked in order, and the first that can go on counts: with bytes that are whole, behind which a space
 /// follows and the guide word of the next node; with the beginning that several ways share, which rings; or with a
-/// piece, as a switch up to its colon. Control-F asks the blocks that read files and directories alone, and completes a
-/// name or a type of a file up to its point. It rings, and nothing goes in, where no block can go on, where the line is not
-/// open at a block, and where the bytes do not fit.
+/// piece, as a switch up to its colon. Control-F asks the blocks that read files and directories alone, and completes
+/// a name or a type of a file up to its point. It rings, and nothing goes in, where no block can go on, where the line
+/// is not open at a block, and where the bytes do not fit.
 pub fn complete<N: Names, R: Rules>(
     grammar: &Grammar,
     ending: Ending,

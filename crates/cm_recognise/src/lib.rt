@@ -2,6 +2,7 @@
 #![tactic(auto)]
 
 mod bytes;
+mod digits;
 mod file_outcome;
 mod found;
 mod insertion;

@@ -22,7 +22,8 @@ use cm_hooks::{Hooks, Rules, Tail};
 use cm_tables::{Look, Table};
 use cm_text::{LINE_LIMIT, Name, TEXT_LIMIT, begins_with};
 
-// The most bytes with which a field goes on: a name and a type of 39 bytes, each with its point, and a generation of 10.
+// The most bytes with which a field goes on: a name and a type of 39 bytes and a point behind each, and a generation
+// of 10.
 pub(crate) const TAIL_LIMIT: usize = 90;
 
 /// How a field goes on of which the beginning is typed (COMND's recognition).

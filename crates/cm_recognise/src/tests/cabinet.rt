@@ -7,8 +7,8 @@ use cm_files::{Flags, Names, Row};
 use std::alloc::Global;
 use std::test::Fail;
 
-// Directories OPERATOR, which is connected, SMITH and SMITH.SUB; SYS stands for SMITH. In OPERATOR are A.FOR.1, A.FOR.2,
-// AB.TXT.1, and marked deleted AB.TXT.2 and Q.R.5; in SMITH HELLO..7.
+// Directories OPERATOR, which is connected, SMITH and SMITH.SUB; SYS stands for SMITH. In OPERATOR are A.FOR.1,
+// A.FOR.2, AB.TXT.1, and marked deleted AB.TXT.2 and Q.R.5; in SMITH HELLO..7.
 pub(crate) struct Cabinet;
 
 impl Names for Cabinet {
