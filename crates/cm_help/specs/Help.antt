@@ -25,7 +25,8 @@ refuses More = false
 
 -- those of the blocks that do not refuse what is typed, from this place to the end of the line
 abbrev pub possible : Setting → List ℕ → ℕ → List Block → List Block
-possible s atom at blocks = filter (λ (block : Block). not (refuses (trial s block.function block.flags atom at))) blocks
+possible s atom at blocks =
+    filter (λ (block : Block). not (refuses (trial s block.function block.flags atom at))) blocks
 
 -- the phrases of all blocks of a node, of which nothing is typed
 abbrev pub node_phrases : Graph → Meanings → Option Node → List (List ℕ)

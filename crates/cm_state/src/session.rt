@@ -21,7 +21,9 @@ ghost use Rattle.cm_state.specs.Roles.{field_of, is_role};
 ghost use Rattle.cm_state.specs.Stack.{Starts};
 ghost use Rattle.cm_state.specs.Turn.{put_of, turn_of};
 
-use crate::echo::{put_again, put_end, put_help, put_inserted, put_screen_line, put_taken, screen_byte};
+use crate::echo::{
+    put_again, put_end, put_help, put_inserted, put_screen_line, put_taken, screen_byte,
+};
 use crate::held::{before_fault, open_at, text_of};
 use crate::log::{line_feed, put_fields, put_head};
 use crate::parse::go_on;

@@ -45,7 +45,8 @@ by_verb (Some verb) what directory = named (keyword_code verb.value) what direct
 -- Files which directory CONNECT is to connect to; a line without fields is empty
 abbrev pub command_of : List Taken → Command
 command_of fields =
-    by_verb (field_of roles.Verb fields) (code_of (field_of roles.What fields)) (directory_of (field_of roles.Files fields))
+    by_verb (field_of roles.Verb fields) (code_of (field_of roles.What fields))
+    (directory_of (field_of roles.Files fields))
 
 unfoldable pub version : List ℕ
 version = codes " EXEC20 1"

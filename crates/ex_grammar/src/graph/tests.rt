@@ -53,7 +53,7 @@ fn each_node_has_its_shape(rt: HostRuntime) -> Result<(), Fail> {
             "{number}"
         );
         assert_eq!(rt; node.raw, number == 45, "{number}");
-        let default = node.default.map_or("", |text| text.as_str());
+        let default = node.default.as_ref().map_or("", |text| text.as_str());
         assert_eq!(rt;
             default,
             if number == 18 { "<OPERATOR>" } else { "" },

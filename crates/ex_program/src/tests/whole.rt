@@ -217,7 +217,9 @@ fn completes_what_was_begun(rt: HostRuntime) -> Result<(), Fail> {
         done(
             b"CON\x1b\x1b\r",
             b"@CONNECT (TO DIRECTORY) <OPERATOR> \r\n@\r\n",
-            Log::End(b"\n1b 23 O 0.1k3@0-7 17.0n1@8-22\n1b 34 O 0.1k3@0-7 17.0n1@8-22 18.1D@23-33\n0d 34 D 0.1k3@0-7 17.0n1@8-22 18.1D@23-33\n"),
+            Log::End(
+                b"\n1b 23 O 0.1k3@0-7 17.0n1@8-22\n1b 34 O 0.1k3@0-7 17.0n1@8-22 18.1D@23-33\n0d 34 D 0.1k3@0-7 17.0n1@8-22 18.1D@23-33\n",
+            ),
             2,
         ),
         // What was completed is edited and confirmed as what was typed.
