@@ -1,5 +1,5 @@
 -- One pass tells whether a row is selected: where some row may be, one is.
-use Rattle.std.proofs.Common.{◌≡◌, ℕ, suc, ◌<◌, ◌≤◌, Bool, true, false, not, ◌&&◌, ◌||◌, nat_lt, nat_le, cond, ◌⊎◌, inl, inr, List, [], ◌∷◌, length, filter, refl, ap, arith, ◌∙◌, sym, subst}
+use Rattle.std.proofs.Common.{◌≡◌, ℕ, suc, ◌<◌, ◌≤◌, Bool, true, false, ◌&&◌, ◌||◌, nat_lt, nat_le, cond, ◌⊎◌, inl, inr, List, [], ◌∷◌, length, filter, refl, ap, arith, ◌∙◌, sym, subst}
 use Rattle.std.specs.List.{list_all, list_any}
 use Rattle.std.specs.Str.{bytes_eq}
 use Rattle.std.proofs.lemmas.Bool.{and_from, and_parts, cases_lt, le-leb, leb-true, lt-ltb, or_cases}
@@ -8,7 +8,7 @@ use Rattle.cm_fields.specs.declared.value.Gen.{Gen}
 use Rattle.cm_fields.specs.declared.value.Gen.TheVariants.{Missing, Highest, Next, Lowest, All, Number}
 use Rattle.cm_files.specs.declared.row.FileRow.{FileRow}
 use Rattle.cm_files.specs.Passing.{may_pass, may_take}
-use Rattle.cm_files.specs.Selection.{Wanted, is_highest, is_lowest, is_same_file, is_seen, is_selected, seen_with, selects, takes}
+use Rattle.cm_files.specs.Selection.{Wanted, is_same_file, is_seen, is_selected, seen_with, selects, takes}
 
 or_right : (a b : Bool) → b ≡ true → (a || b) ≡ true
 or_right true b is = refl

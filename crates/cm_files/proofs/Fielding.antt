@@ -1,6 +1,6 @@
 -- Trials of users, directories and files: each is local, the end of the line decides it, and an accepted field
 -- ends in the text.
-use Rattle.std.proofs.Common.{◌≡◌, ℕ, ◌+◌, ◌<◌, ◌≤◌, Bool, false, ◌==◌, slice_get, List, [], ◌∷◌, ◌++◌, length, take, Result, Ok, Err, refl, ap, arith, subst, sym, ◌∙◌}
+use Rattle.std.proofs.Common.{◌≡◌, ℕ, ◌<◌, Bool, false, ◌==◌, slice_get, List, [], ◌∷◌, ◌++◌, length, Result, Ok, Err, refl, ap, arith, subst, sym, ◌∙◌}
 use Rattle.std.specs.List.{prefix_len}
 use Rattle.std.specs.Option.{option_map_or}
 use Rattle.std.proofs.lemmas.Bool.Decides.{nat_tests}

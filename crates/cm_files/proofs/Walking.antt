@@ -1,5 +1,5 @@
 -- Walks over a list by position, an element at a time.
-use Rattle.std.proofs.Common.{◌≡◌, ℕ, zero, suc, ◌+◌, ◌<◌, ◌≤◌, Bool, true, false, ◌||◌, cond, List, [], ◌∷◌, Option, Some, None, length, drop, refl, ap, subst, arith, ◌∙◌, sym}
+use Rattle.std.proofs.Common.{◌≡◌, ℕ, zero, suc, ◌+◌, ◌<◌, ◌≤◌, Bool, true, false, List, [], ◌∷◌, Option, Some, None, length, drop, refl, ap, subst, arith, ◌∙◌, sym}
 use Rattle.std.specs.List.{list_any, position_from}
 use Rattle.cm_files.specs.Passing.{passes_at}
 

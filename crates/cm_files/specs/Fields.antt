@@ -1,25 +1,22 @@
 -- Users, directories and files, each a run of bytes (.CMUSR, .CMDIR, .CMIFI, .CMOFI, .CMFIL).
-use Rattle.std.specs.Prelude.{ℕ, ◌+◌, ◌==◌, Bool, false, not, ◌||◌, ◌&&◌, nat_lt, if◌then◌else◌, List, length, take, slice_get, is_some, is_none, Option, Some, None, option_map, Result, Ok, Err}
+use Rattle.std.specs.Prelude.{ℕ, ◌+◌, ◌==◌, Bool, not, ◌||◌, ◌&&◌, nat_lt, if◌then◌else◌, List, length, is_some, is_none, Option, Some, None, option_map, Result, Ok, Err}
 use Rattle.std.specs.List.{list_all, list_any, position_from, prefix_len}
-use Rattle.std.specs.Option.{option_map_or}
 use Rattle.cm_text.specs.Bytes.{is_name}
 use Rattle.cm_text.specs.Case.{equals}
 use Rattle.cm_fields.specs.declared.code.Code.{Code}
 use Rattle.cm_fields.specs.declared.code.Code.TheVariants.{SpecShape, WildHere, NoDirectory, NoUser}
 use Rattle.cm_fields.specs.declared.code.Code.TheVariants as codes
 use Rattle.cm_fields.specs.declared.trial.Try.{Try}
-use Rattle.cm_fields.specs.declared.trial.Try.TheVariants.{More}
 use Rattle.cm_fields.specs.declared.value.Span.{Span}
 use Rattle.cm_fields.specs.declared.value.Spec.{Spec}
 use Rattle.cm_fields.specs.declared.value.Value.{Value}
 use Rattle.cm_fields.specs.declared.value.Value.TheVariants as values
-use Rattle.cm_fields.specs.Try.{by_run, said}
+use Rattle.cm_fields.specs.Try.{by_run}
 use Rattle.cm_files.specs.declared.flags.FileKind.{FileKind}
 use Rattle.cm_files.specs.declared.flags.Flags.{Flags}
 use Rattle.cm_files.specs.declared.spec.SpecFault.{SpecFault}
 use Rattle.cm_files.specs.declared.spec.SpecFault.TheVariants.{Shape, NameLong, GenRange}
 use Rattle.cm_files.specs.Catalogue.{Catalogue}
-use Rattle.cm_files.specs.Pattern.{is_wild}
 use Rattle.cm_files.specs.Resolve.{by_device, by_directory, has_wild, refuse, resolve, then_in}
 use Rattle.cm_files.specs.Spec.{is_path, read_spec, stands_at}
 
