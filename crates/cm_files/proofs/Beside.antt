@@ -2,7 +2,6 @@
 use Rattle.std.proofs.Common.{◌≡◌, ℕ, zero, suc, ◌+◌, ◌<◌, ◌≤◌, Bool, true, false, ◌&&◌, nat_le, cond, ◌⊎◌, inl, inr, List, [], ◌∷◌, length, filter, slice_get, Option, Some, None, option_and_then, refl, ap, arith, ◌∙◌, sym, subst}
 use Rattle.std.specs.List.{list_all}
 use Rattle.std.specs.Option.{option_map_or}
-use Rattle.std.specs.Str.{bytes_eq}
 use Rattle.std.proofs.lemmas.Bool.{and_from, and_parts, and_left, and_right, cases_Bool, cases_lt, cases_order, le-leb, leb-true}
 use Rattle.std.proofs.lemmas.Option.{slice_get_within}
 use Rattle.std.proofs.lemmas.Slice.Eq.{bytes_eq-Decides}
@@ -12,7 +11,7 @@ use Rattle.cm_files.specs.Neighbours.{is_bottom, is_top, mark_of_same}
 use Rattle.cm_files.specs.Passing.{passes_at}
 use Rattle.cm_files.specs.Pattern.{matches}
 use Rattle.cm_files.specs.Selection.{Wanted, agree, is_same_file, is_seen, name_matches}
-use Rattle.cm_files.proofs.Ordered.{all_at, between, by_rest, lower_generation, rows_ascend}
+use Rattle.cm_files.proofs.Ordered.{between, lower_generation, rows_ascend}
 
 -- a row that is seen, and has the name and type of another
 abbrev is_with : Wanted → FileRow → FileRow → Bool

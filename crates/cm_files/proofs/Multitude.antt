@@ -1,11 +1,10 @@
 -- The catalogue of many files is one.
-use Rattle.std.proofs.Common.{◌≡◌, ℕ, zero, suc, ◌+◌, ◌<◌, ◌≤◌, Bool, true, ◌==◌, nat_le, List, [], ◌∷◌, Some, length, filter, slice_get, codes, refl, ap, arith, ◌∙◌, sym, subst}
+use Rattle.std.proofs.Common.{◌≡◌, ℕ, zero, suc, ◌+◌, ◌<◌, ◌≤◌, true, ◌==◌, ◌∷◌, Some, length, filter, slice_get, refl, ap, arith, ◌∙◌, sym}
 use Rattle.std.specs.List.{list_all}
 use Rattle.std.specs.Ordering.{is_lt, nat_cmp}
 use Rattle.std.specs.declared.cmp.Ordering.TheVariants.{Less}
 use Rattle.std.proofs.lemmas.Bool.{and_from, le-leb, lt-ltb}
 use Rattle.cm_text.specs.Bytes.{is_name, is_word}
-use Rattle.cm_files.specs.declared.row.FileRow.{FileRow}
 use Rattle.cm_files.specs.declared.generation.TheConstants.{GENERATION_LIMIT}
 use Rattle.cm_files.specs.Catalogue.{IsCatalogue, ascends, by_file, is_row, rows_of}
 use Rattle.cm_files.specs.Many.{many_catalogue, many_from, many_row}

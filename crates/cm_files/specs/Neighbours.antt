@@ -1,5 +1,5 @@
 -- Rows of one name and type stand side by side, by generation.
-use Rattle.std.specs.Prelude.{ℕ, Bool, if◌then◌else◌, List, Option, Some, None}
+use Rattle.std.specs.Prelude.{Bool, if◌then◌else◌, List, Option, Some, None}
 use Rattle.cm_files.specs.declared.row.FileRow.{FileRow}
 use Rattle.cm_files.specs.Selection.{Wanted, agree, is_highest, is_lowest, is_same_file, seen_with, takes}
 
