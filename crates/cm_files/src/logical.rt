@@ -1,5 +1,5 @@
 // Logical names.
-ghost use Rattle.std.specs.Prelude.{◌≡◌, ◌≤◌, length};
+ghost use Rattle.std.specs.Prelude.{◌≡◌};
 ghost use Rattle.std.specs.List.{list_all};
 ghost use Rattle.cm_text.specs.Bytes.{is_name};
 ghost use Rattle.cm_files.specs.LogicalName.{begins_with_letter, is_logical_name};

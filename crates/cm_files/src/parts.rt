@@ -1,5 +1,5 @@
 // Where the parts of a file specification stand in its text.
-ghost use Rattle.std.specs.Prelude.{◌≡◌, ◌+◌, ◌≤◌, IfSome, drop, length};
+ghost use Rattle.std.specs.Prelude.{◌≡◌, ◌+◌, ◌≤◌, IfSome, length};
 ghost use Rattle.std.specs.List.{prefix_len};
 ghost use Rattle.cm_text.specs.Bytes.{is_name};
 ghost use Rattle.cm_files.specs.Spec.{HasPartsOf, IsPartOf, IsReadOf, are_parts, device_read, directory_read, is_path, is_pattern, name_read, nothing_read, part_read, parts_behind, parts_of, pointed_read, stands_at};

@@ -1,5 +1,5 @@
 // What a file specification means in a catalogue.
-ghost use Rattle.std.specs.Prelude.{◌≡◌, ◌<◌, ◌≤◌, ◌&&◌, not, IfOk, IfSome, length, option_copied};
+ghost use Rattle.std.specs.Prelude.{◌≡◌, ◌<◌, ◌&&◌, not, IfOk, IfSome, length, option_copied};
 ghost use Rattle.std.specs.List.{list_any};
 ghost use Rattle.cm_files.specs.Catalogue.{rows_of};
 ghost use Rattle.cm_files.specs.Pattern.{is_wild};

@@ -1,7 +1,7 @@
 // What a block reads, in words.
 #![tactic(auto, using(crate::proofs::Pieces::pieces))]
 
-ghost use Rattle.std.specs.Prelude.{◌≡◌, ◌≤◌, ◌<◌, ◌++◌, ◌&&◌, true, drop, length, None};
+ghost use Rattle.std.specs.Prelude.{◌≡◌, ◌≤◌, ◌<◌, ◌++◌, ◌&&◌, true, drop, None};
 ghost use Rattle.cm_text.specs.Shown.{end_of_line};
 ghost use Rattle.cm_tables.specs.Listed.{listed_from};
 ghost use Rattle.cm_io.specs.Told.{Adds};

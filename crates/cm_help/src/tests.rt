@@ -1,6 +1,6 @@
 // Help by example.
-ghost use Rattle.std.specs.Prelude.{◌≡◌, [], ◌∷◌, codes, IfOk};
-ghost use Rattle.cm_hooks.specs.Ties.{IsTied, Ties, id_of};
+ghost use Rattle.std.specs.Prelude.{◌≡◌, codes, IfOk};
+ghost use Rattle.cm_hooks.specs.Ties.{Ties};
 
 use crate::help;
 use cm_blocks::{Block, Ending, Fault, Function, Grammar, Node, Open, Role};

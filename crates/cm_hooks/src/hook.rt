@@ -1,5 +1,5 @@
 // One hook.
-ghost use Rattle.std.specs.Prelude.{◌≡◌, ◌≤◌, List, ℕ, length};
+ghost use Rattle.std.specs.Prelude.{◌≡◌, ◌≤◌, length};
 ghost use Rattle.cm_text.specs.declared.text.TheConstants.{LINE_LIMIT};
 
 use crate::{Answer, Rules, Tail};

@@ -9,7 +9,7 @@ ghost use Rattle.cm_hooks.specs.Ties.{Ties, count};
 ghost use Rattle.cm_blocks.specs.Grammar.{hook_count};
 ghost use Rattle.cm_blocks.specs.Setting.{setting};
 ghost use Rattle.cm_help.specs.Help.{help_text};
-ghost use Rattle.cm_state.specs.Echo.{again, complaint, refusal, prompt_text, ring, screen_byte, screen_line, taken_away};
+ghost use Rattle.cm_state.specs.Echo.{again, complaint, refusal, ring, screen_byte, screen_line, taken_away};
 
 use crate::Prompt;
 use arrayvec::ArrayVec;

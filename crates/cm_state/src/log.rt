@@ -1,7 +1,7 @@
 // The line of the log that tells of one key.
 #![tactic(auto, using(crate::proofs::Putting::pieces))]
 
-ghost use Rattle.std.specs.Prelude.{◌≡◌, ◌≤◌, ◌++◌, length};
+ghost use Rattle.std.specs.Prelude.{◌≡◌, ◌≤◌, length};
 ghost use Rattle.cm_io.specs.Told.{Adds};
 ghost use Rattle.cm_io.specs.Fault.{PutCause};
 ghost use Rattle.cm_state.specs.Log.{block_log, day_log, default_log, ending_log, fault_log, field_log, fields_log, file_log, head_log, hook_log, line_feed, marked, place_log, value_log};

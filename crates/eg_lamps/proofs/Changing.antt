@@ -1,6 +1,5 @@
 -- The lamp of one room, changed.
-use Rattle.std.proofs.Common.{◌≡◌, ℕ, ◌<◌, ◌≤◌, List, get_or, length, set, Some, None, slice_get, refl, ap}
-use Rattle.std.specs.Option.{option_map_or}
+use Rattle.std.proofs.Common.{◌≡◌, ℕ, ◌<◌, ◌≤◌, List, get_or, length, set, refl}
 use Rattle.std.proofs.lemmas.Option.{slice_get_past, slice_get_read}
 use Rattle.eg_lamps.specs.declared.lamps.Change.{Change}
 use Rattle.eg_lamps.specs.declared.lamps.Command.TheVariants as commands

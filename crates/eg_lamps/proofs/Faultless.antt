@@ -1,7 +1,6 @@
 -- The tables and the grammar of the lamps have no fault.
 use Rattle.std.proofs.Common.{◌≡◌, length, None, refl}
 use Rattle.cm_tables.specs.Order.{table_fault}
-use Rattle.cm_text.specs.Case.{begins_with, equals}
 use Rattle.cm_blocks.specs.Fault.{grammar_fault}
 use Rattle.cm_blocks.specs.Grammar.{hook_count}
 use Rattle.eg_lamps.specs.Graph.{blocks, command_entries, lamp_graph, lamp_nodes, switch_entries}

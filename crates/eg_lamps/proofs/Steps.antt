@@ -1,5 +1,5 @@
 -- What the parts of a key come to.
-use Rattle.std.proofs.Common.{◌≡◌, ℕ, Bool, true, false, List, [], ◌++◌, if◌then◌else◌, refl, sym, ap, ◌∙◌, subst, inl, inr}
+use Rattle.std.proofs.Common.{◌≡◌, ℕ, Bool, false, [], ◌++◌, if◌then◌else◌, refl, sym, ap, ◌∙◌, subst, inl, inr}
 use Rattle.cm_io.specs.Told.{Told, add, Adds, AddsPart}
 use Rattle.cm_io.specs.declared.sink.Put.{Put}
 use Rattle.cm_io.specs.declared.sink.Put.TheVariants.{Done, Failed}
@@ -9,9 +9,8 @@ use Rattle.cm_state.specs.Echo.{echo}
 use Rattle.cm_state.specs.Turn.{put_of, turn_of}
 use Rattle.cm_state.specs.declared.turn.Turn.{Turn}
 use Rattle.cm_state.specs.declared.turn.Turn.TheVariants as turns
-use Rattle.eg_lamps.specs.declared.lamps.Lamp.{Lamp}
 use Rattle.eg_lamps.specs.declared.program.Program.{Program}
-use Rattle.eg_lamps.specs.End.{KeyCut, Took}
+use Rattle.eg_lamps.specs.End.{Took}
 use Rattle.eg_lamps.specs.Run.{after_turn, key_turn, shows, step, turn_bytes, with_key}
 use Rattle.eg_lamps.specs.Setting.{lamp_setting}
 

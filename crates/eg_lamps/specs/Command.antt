@@ -1,5 +1,5 @@
 -- What a confirmed line commands.
-use Rattle.std.specs.Prelude.{ℕ, ◌==◌, List, [], drop, take, if◌then◌else◌, Option, Some, None}
+use Rattle.std.specs.Prelude.{ℕ, ◌==◌, List, [], drop, take, if◌then◌else◌, Option, Some}
 use Rattle.std.specs.Option.{option_map}
 use Rattle.cm_text.specs.declared.name.TheConstants.{NAME_LIMIT}
 use Rattle.cm_fields.specs.Quoted.{unquoted}
@@ -15,7 +15,7 @@ use Rattle.eg_lamps.specs.declared.lamps.Change.TheVariants.{Set, Dim, Note}
 use Rattle.eg_lamps.specs.declared.lamps.Command.{Command}
 use Rattle.eg_lamps.specs.declared.lamps.Command.TheVariants as commands
 use Rattle.eg_lamps.specs.declared.command.TheConstants.{NO_ROOM, STEP}
-use Rattle.eg_lamps.specs.declared.grammar.TheConstants.{DIM, LIST, NAME, QUIT, SET}
+use Rattle.eg_lamps.specs.declared.grammar.TheConstants.{DIM, LIST, NAME, QUIT}
 
 -- what the first field of a role stands for
 abbrev pub value_of : Role → List Taken → Option Value

@@ -1,5 +1,5 @@
 -- The run of the program: a fold over the keys, each of which meets the whole line as it then stands.
-use Rattle.std.specs.Prelude.{ℕ, Bool, true, false, List, [], ◌∷◌, ◌++◌, None, if◌then◌else◌}
+use Rattle.std.specs.Prelude.{ℕ, Bool, true, false, List, [], ◌∷◌, ◌++◌, if◌then◌else◌}
 use Rattle.cm_line.specs.Keys.{class_of}
 use Rattle.cm_state.specs.declared.prompt.Prompt.TheVariants.{Main}
 use Rattle.cm_state.specs.declared.turn.Turn.{Turn}

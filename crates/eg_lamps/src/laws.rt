@@ -1,9 +1,6 @@
 // Laws of the program.
-ghost use Rattle.std.specs.Prelude.{◌≡◌, ◌≢◌, ◌<◌, None, length};
-ghost use Rattle.cm_blocks.specs.Fault.{grammar_fault};
-ghost use Rattle.cm_blocks.specs.Grammar.{hook_count};
+ghost use Rattle.std.specs.Prelude.{◌≡◌, ◌≢◌};
 ghost use Rattle.cm_state.specs.declared.turn.Turn.{Turn};
-ghost use Rattle.eg_lamps.specs.Graph.{lamp_graph};
 ghost use Rattle.eg_lamps.specs.Run.{after_turn};
 ghost use Rattle.eg_lamps.specs.declared.program.Program.{Program};
 

@@ -1,7 +1,7 @@
 //! The program `lamps`: keys in, the screen and a status out. It dims the lamps of named rooms.
 #![tactic(auto)]
 
-ghost use Rattle.std.specs.Prelude.{◌≡◌, ◌≤◌, ◌<◌, length};
+ghost use Rattle.std.specs.Prelude.{◌≡◌, ◌<◌};
 ghost use Rattle.eg_lamps.specs.Rooms.{room_completion, room_help, room_verdict};
 
 mod command;

@@ -1,5 +1,5 @@
 // Hooks over a small set of meanings.
-ghost use Rattle.std.specs.Prelude.{◌≡◌, ◌+◌, ◌==◌, ◌≤◌, [], ◌∷◌, if◌then◌else◌, length};
+ghost use Rattle.std.specs.Prelude.{◌≡◌, ◌+◌, ◌==◌, [], ◌∷◌, if◌then◌else◌, length};
 ghost use Rattle.cm_hooks.specs.Ties.{Ties, count};
 
 use super::*;

@@ -1,4 +1,4 @@
-use Rattle.std.proofs.Common.{◌≡◌, [], ◌∷◌, ◌++◌, map}
+use Rattle.std.proofs.Common.{◌≡◌, [], ◌∷◌, map}
 use Rattle.cm_blocks.specs.declared.function.Function.TheVariants.{Key, Switch}
 use Rattle.cm_blocks.specs.declared.function.Role.TheVariants.{None, Verb}
 use Rattle.cm_blocks.specs.declared.node.Block.{Block}
