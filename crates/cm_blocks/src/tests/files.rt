@@ -50,6 +50,7 @@ impl Names for Shelves {
         None
     }
 
+    #[tactic(auto, unfolding(cm_text::specs::Bytes::is_name, cm_text::specs::Bytes::is_word))]
     fn rows(&self, directory: u16) -> u32 {
         match directory {
             0 => 3,
@@ -57,11 +58,12 @@ impl Names for Shelves {
         }
     }
 
-    fn row(&self, _directory: u16, i: u32) -> Row<'_> {
-        match i {
-            0 => row("A", "FOR", 1),
-            1 => row("A", "FOR", 2),
-            _ => row("AB", "TXT", 1),
+    fn row(&self, directory: u16, i: u32) -> Row<'_> {
+        match (directory, i) {
+            (0, 0) => row("A", "FOR", 1),
+            (0, 1) => row("A", "FOR", 2),
+            (0, _) => row("AB", "TXT", 1),
+            _ => unreachable!(),
         }
     }
 }
