@@ -52,6 +52,7 @@ impl Names for Cabinet {
         }
     }
 
+    #[tactic(auto, unfolding(cm_files::specs::LogicalName::is_logical_name, cm_text::specs::Bytes::is_name, cm_text::specs::Bytes::is_word, cm_text::specs::Case::equals,))]
     fn rows(&self, directory: u16) -> u32 {
         match directory {
             0 => 5,

@@ -38,6 +38,7 @@ impl Names for Shelf {
         None
     }
 
+    #[tactic(auto, unfolding(cm_text::specs::Bytes::is_name, cm_text::specs::Bytes::is_word))]
     fn rows(&self, _directory: u16) -> u32 {
         1
     }
