@@ -137,6 +137,43 @@ fn connects_to_what_is_there(rt: HostRuntime) -> Result<(), Fail> {
 }
 
 #[test]
+fn completes_users_and_directories(rt: HostRuntime) -> Result<(), Fail> {
+    let cases = [
+        done(
+            b"CONNECT O\x1b",
+            b"@CONNECT OPERATOR \r\n",
+            Log::End(b"\n1b 17 O 0.1k3@0-7 17.0n0@8-8 18.0u@8-16\n"),
+            1,
+        ),
+        done(
+            b"CONNECT <o\x1b",
+            b"@CONNECT <oPERATOR> \r\n",
+            Log::End(b"\n1b 19 O 0.1k3@0-7 17.0n0@8-8 18.1D@8-18\n"),
+            1,
+        ),
+        done(
+            b"CONNECT <O\x06",
+            b"@CONNECT <OPERATOR> \r\n",
+            Log::End(b"\n06 19 O 0.1k3@0-7 17.0n0@8-8 18.1D@8-18\n"),
+            1,
+        ),
+        done(
+            b"CONNECT X\x1b",
+            b"@CONNECT X\x07\r\n",
+            Log::End(b"\n1b 9 O 0.1k3@0-7 17.0n0@8-8\n"),
+            1,
+        ),
+        done(
+            b"CONNECT O?",
+            b"@CONNECT O? user name\r\n or directory name\r\n@CONNECT O\r\n",
+            Log::End(b"\n3f 9 O 0.1k3@0-7 17.0n0@8-8\n"),
+            1,
+        ),
+    ];
+    try_cases(&rt, &rt, &cases)
+}
+
+#[test]
 fn connects_to_nothing_else(rt: HostRuntime) -> Result<(), Fail> {
     let cases = [
         done(
