@@ -101,15 +101,19 @@ subcommand_blocks =
     ∷ later
     ∷ []
 
--- the nodes, from 0: where a command begins, the directory to connect to at 18, the text of a remark at 45, and each
--- other with its one block
-unfoldable pub exec_nodes : List Node
-exec_nodes =
+-- nodes 0 to 18: where a command begins, and the directory to connect to at 18
+unfoldable pub first_nodes : List Node
+first_nodes =
     either confirm (keyword COMMAND_TABLE Verb) ∷ []
     ++ map only copy_blocks
     ++ map only append_blocks
     ++ map only delete_blocks
     ++ either_or user directory (codes "<OPERATOR>") ∷ []
+
+-- the nodes, from 0: the text of a remark at 45, and each other behind the first ones with its one block
+unfoldable pub exec_nodes : List Node
+exec_nodes =
+    first_nodes
     ++ map only type_blocks
     ++ map only information_blocks
     ++ map only define_blocks

@@ -1,6 +1,6 @@
 // The nodes of the EXEC's grammar, by the numbers that the log gives.
 ghost use Rattle.std.specs.Prelude.{◌≡◌, ◌++◌, IfOk, map};
-ghost use Rattle.ex_grammar.specs.Graph.{append_blocks, build_blocks, copy_blocks, define_blocks, delete_blocks, information_blocks, subcommand_blocks, switch_blocks, type_blocks, exec_nodes};
+ghost use Rattle.ex_grammar.specs.Graph.{append_blocks, build_blocks, copy_blocks, define_blocks, delete_blocks, information_blocks, subcommand_blocks, switch_blocks, type_blocks, exec_nodes, first_nodes};
 ghost use Rattle.ex_grammar.specs.Words.{only};
 
 use crate::node::{
@@ -15,12 +15,7 @@ use std::alloc::Global;
 pub(crate) fn nodes(alloc: Global) -> Result<Vec<Node>, NoMemory>
     ensures { IfOk result (λ nodes. nodes.items ≡ exec_nodes) }
 {
-    let mut nodes = Vec::new(alloc);
-    nodes.push(either(alloc, confirm(), keyword(COMMAND_TABLE, Role::Verb))?)?;
-    push_each(&mut nodes, alloc, copy_blocks(alloc)?)?;
-    push_each(&mut nodes, alloc, append_blocks(alloc)?)?;
-    push_each(&mut nodes, alloc, delete_blocks(alloc)?)?;
-    nodes.push(either_or(alloc, user(), directory(), "<OPERATOR>")?)?;
+    let mut nodes = first_nodes(alloc)?;
     push_each(&mut nodes, alloc, type_blocks(alloc)?)?;
     push_each(&mut nodes, alloc, information_blocks(alloc)?)?;
     push_each(&mut nodes, alloc, define_blocks(alloc)?)?;
@@ -28,6 +23,20 @@ pub(crate) fn nodes(alloc: Global) -> Result<Vec<Node>, NoMemory>
     push_each(&mut nodes, alloc, switch_blocks(alloc)?)?;
     nodes.push(remark(alloc)?)?;
     push_each(&mut nodes, alloc, subcommand_blocks(alloc)?)?;
+    Ok(nodes)
+}
+
+// Nodes 0 to 18: where a command begins, and the directory to connect to.
+#[tactic(auto, unfolding(crate::specs::Graph::first_nodes))]
+fn first_nodes(alloc: Global) -> Result<Vec<Node>, NoMemory>
+    ensures { IfOk result (λ nodes. nodes.items ≡ first_nodes) }
+{
+    let mut nodes = Vec::new(alloc);
+    nodes.push(either(alloc, confirm(), keyword(COMMAND_TABLE, Role::Verb))?)?;
+    push_each(&mut nodes, alloc, copy_blocks(alloc)?)?;
+    push_each(&mut nodes, alloc, append_blocks(alloc)?)?;
+    push_each(&mut nodes, alloc, delete_blocks(alloc)?)?;
+    nodes.push(either_or(alloc, user(), directory(), "<OPERATOR>")?)?;
     Ok(nodes)
 }
 
