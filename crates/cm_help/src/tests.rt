@@ -1,5 +1,5 @@
 // Help by example.
-ghost use Rattle.std.specs.Prelude.{◌≡◌, codes, IfOk};
+ghost use Rattle.std.specs.Prelude.{◌≡◌, ◌≤◌, codes, length, IfOk};
 ghost use Rattle.cm_hooks.specs.Ties.{Ties};
 
 use crate::help;
@@ -9,7 +9,7 @@ use cm_files::OneDirectory;
 use cm_hooks::{Answer, Hook, Hooks, Rules, Tail};
 use cm_io::{MemSink, Put};
 use cm_tables::{Entry, Flag, Table};
-use cm_text::{LINE_LIMIT, Name};
+use cm_text::{LINE_LIMIT, NAME_LIMIT, Name};
 use std::alloc::Global;
 use std::process::Abort;
 use std::test::Fail;
@@ -56,10 +56,6 @@ fn hooks(alloc: Global) -> Result<Hooks<Lamps>, Fail>
 
 // A plain entry, a hidden one, one that cannot be recognised, a short form, and two that go on alike.
 fn keywords(alloc: Global) -> Result<Table, Fail> {
-    let entry = |text: &str, flag: Flag| Entry {
-        flag,
-        ..Entry::new(text, 0, 4)
-    };
     Ok(Table::new(vec![in alloc;
         entry("COPY", Flag::Plain),
         entry("KJOB", Flag::Invisible),
@@ -69,6 +65,15 @@ fn keywords(alloc: Global) -> Result<Table, Fail> {
         entry("SET", Flag::Plain),
         entry("SETTLE", Flag::Plain),
     ]?)?)
+}
+
+fn entry(text: &str, flag: Flag) -> Entry
+    requires { length text.now ≤ NAME_LIMIT }
+{
+    Entry {
+        flag,
+        ..Entry::new(text, 0, 4)
+    }
 }
 
 fn switches(alloc: Global) -> Result<Table, Fail> {
@@ -115,6 +120,11 @@ fn nodes(alloc: Global) -> Result<Vec<Node>, Fail> {
     Ok(nodes)
 }
 
+#[tactic(auto, unfolding(cm_text::specs::Bytes::is_name, cm_text::specs::Bytes::is_word))]
+fn operator() -> OneDirectory {
+    OneDirectory::new("OPERATOR")
+}
+
 // A line that ends so, and what `?` shows of it.
 type Case<'a> = (Ending, &'a [u8], &'a [u8]);
 
@@ -124,7 +134,7 @@ fn help_cases<A: Abort>(rt: &A, alloc: Global, cases: &[Case<'_>]) -> Result<(),
         vec![in alloc; keywords(alloc)?, switches(alloc)?]?,
     )?;
     let hooks = hooks(alloc)?;
-    let names = OneDirectory::new("OPERATOR");
+    let names = operator();
     assert!(rt; grammar.hooks() <= u16::from(hooks.len()));
     for (ending, line, shown) in cases {
         assert!(rt; line.len() <= LINE_LIMIT);

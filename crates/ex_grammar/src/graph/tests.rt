@@ -53,12 +53,10 @@ fn each_node_has_its_shape(rt: HostRuntime) -> Result<(), Fail> {
             "{number}"
         );
         assert_eq!(rt; node.raw, number == 45, "{number}");
-        let default = node.default.as_ref().map_or("", |text| text.as_str());
-        assert_eq!(rt;
-            default,
-            if number == 18 { "<OPERATOR>" } else { "" },
-            "{number}"
-        );
+        match &node.default {
+            Some(text) => assert_eq!(rt; (number, text.as_str()), (18, "<OPERATOR>")),
+            None => assert!(rt; number != 18),
+        }
         for block in blocks {
             assert!(rt; has_plain_flags(block), "{number}");
             assert!(rt; block.help.is_none(), "{number}");
