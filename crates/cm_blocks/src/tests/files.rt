@@ -1,11 +1,11 @@
-// Users, directories and files, by function and flags, and in chains.
+// Users, directories and files in chains.
 ghost use Rattle.std.specs.Prelude.{◌≡◌, ◌<◌};
 
 use super::chains::{Answered, answer_of, defaulted, fault, open, typed};
 use super::setting::hooks;
 use super::{block, node};
-use crate::{Block, Function, Grammar, Node, Role, Steps, try_chain, try_function};
-use cm_fields::{Code, FileKind, Gen, Span, Spec, Try, Value};
+use crate::{Block, Function, Grammar, Node, Role, Steps, try_chain};
+use cm_fields::{Code, FileKind, Gen, Span, Spec, Value};
 use cm_files::{Flags, Names, Row};
 use cm_text::TEXT_LIMIT;
 use std::alloc::Global;
@@ -14,7 +14,8 @@ use std::process::Abort;
 use std::sync::ledger::{Blank, Ledger};
 use std::test::Fail;
 
-// The directories OPERATOR, which is connected and has the files A.FOR.1, A.FOR.2 and AB.TXT.1, and SMITH.
+// The directories OPERATOR, which is connected and has the files A.FOR.1, A.FOR.2 and AB.TXT.1, and SMITH, which has
+// HELLO..7.
 struct Shelves;
 
 impl Names for Shelves {
@@ -27,7 +28,8 @@ impl Names for Shelves {
       rows =
           record { directory = 0; name = codes "A"; kind = codes "FOR"; generation = 1; deleted = false }
           ∷ record { directory = 0; name = codes "A"; kind = codes "FOR"; generation = 2; deleted = false }
-          ∷ record { directory = 0; name = codes "AB"; kind = codes "TXT"; generation = 1; deleted = false } ∷ [];
+          ∷ record { directory = 0; name = codes "AB"; kind = codes "TXT"; generation = 1; deleted = false }
+          ∷ record { directory = 1; name = codes "HELLO"; kind = []; generation = 7; deleted = false } ∷ [];
     } };
 
     #[tactic(auto, unfolding(cm_text::specs::Bytes::is_name, cm_text::specs::Bytes::is_word))]
@@ -54,7 +56,7 @@ impl Names for Shelves {
     fn rows(&self, directory: u16) -> u32 {
         match directory {
             0 => 3,
-            _ => 0,
+            _ => 1,
         }
     }
 
@@ -63,7 +65,7 @@ impl Names for Shelves {
             (0, 0) => row("A", "FOR", 1),
             (0, 1) => row("A", "FOR", 2),
             (0, _) => row("AB", "TXT", 1),
-            _ => unreachable!(),
+            _ => row("HELLO", "", 7),
         }
     }
 }
@@ -101,214 +103,14 @@ fn file(kind: FileKind, name: Span, file_type: Option<Span>) -> Value {
     }
 }
 
-fn accept(value: Value, looked: u16, end: u16) -> Try {
-    Try::Accept { value, looked, end }
-}
-
-fn refuse(code: Code, looked: u16) -> Try {
-    Try::Refuse { code, looked }
-}
-
-const PLAIN: Flags = Flags {
-    wild: false,
+const WILD: Flags = Flags {
+    wild: true,
     all_generations: false,
     deleted: false,
     default_all: false,
     from_source: false,
     new: false,
 };
-
-const WILD: Flags = Flags {
-    wild: true,
-    ..PLAIN
-};
-
-// A function with flags, a text, and what the trial of it answers.
-type Trial<'a> = (Function, Flags, &'a [u8], Try);
-
-fn try_trials(rt: &impl Abort, alloc: Global, cases: &[Trial<'_>]) -> Result<(), Fail> {
-    let nodes = vec![in alloc;
-        node(
-            vec![in alloc; block(Function::Confirm, Role::None, 0)]?,
-            None,
-            false
-        ),
-    ]?;
-    let grammar = Grammar::new(nodes, Vec::new(alloc))?;
-    let hooks = hooks(alloc)?;
-    for (function, flags, text, wanted) in cases {
-        let block = Block {
-            flags: *flags,
-            ..block(function.clone()?, Role::Files, 0)
-        };
-        assert!(rt; text.len() <= TEXT_LIMIT);
-        assert!(rt;
-            matches!(
-                function,
-                Function::User
-                    | Function::Directory
-                    | Function::InFile
-                    | Function::OutFile
-                    | Function::AnyFile
-            )
-        );
-        let answer = try_function(&grammar, &block, text, 0, &Shelves, &hooks);
-        assert_eq!(rt; answer, *wanted, "{function:?} on {text:?}");
-    }
-    Ok(())
-}
-
-#[test]
-fn reads_users_and_directories(rt: HostRuntime) -> Result<(), Fail> {
-    let new = Flags { new: true, ..PLAIN };
-    let cases: [Trial<'_>; 14] = [
-        (
-            Function::User,
-            PLAIN,
-            b"smith\r",
-            accept(Value::User(1), 6, 5),
-        ),
-        (Function::User, PLAIN, b"SMITH", Try::More),
-        (Function::User, PLAIN, b"SMITH:", refuse(Code::NoUser, 6)),
-        (Function::User, PLAIN, b"SMI ", refuse(Code::NoUser, 4)),
-        (Function::User, PLAIN, b"<SMITH>", refuse(Code::NoUser, 1)),
-        (
-            Function::Directory,
-            PLAIN,
-            b"<SMITH>\r",
-            accept(Value::Directory(1), 8, 7),
-        ),
-        (
-            Function::Directory,
-            PLAIN,
-            b"ps: ",
-            accept(Value::Directory(0), 4, 3),
-        ),
-        (Function::Directory, PLAIN, b"<SMITH>", Try::More),
-        // A bare name is that of a user alone.
-        (
-            Function::Directory,
-            PLAIN,
-            b"SMITH ",
-            refuse(Code::NoDirectory, 6),
-        ),
-        (
-            Function::Directory,
-            PLAIN,
-            b"<X> ",
-            refuse(Code::NoDirectory, 4),
-        ),
-        (
-            Function::Directory,
-            PLAIN,
-            b"SRC: ",
-            refuse(Code::NoLogical, 5),
-        ),
-        (
-            Function::Directory,
-            PLAIN,
-            b"\r",
-            refuse(Code::SpecShape, 1),
-        ),
-        // A new one is named, and is no bare name either.
-        (
-            Function::Directory,
-            new,
-            b"<X> ",
-            accept(Value::NewDirectory(span(1, 2)), 4, 3),
-        ),
-        (Function::Directory, new, b"X ", refuse(Code::SpecShape, 2)),
-    ];
-    try_trials(&rt, rt.alloc(), &cases)
-}
-
-#[test]
-fn reads_files_by_their_flags(rt: HostRuntime) -> Result<(), Fail> {
-    let a_for = |kind| accept(file(kind, span(0, 1), Some(span(2, 5))), 6, 5);
-    let deleted = Flags {
-        deleted: true,
-        ..PLAIN
-    };
-    let default_all = Flags {
-        default_all: true,
-        ..PLAIN
-    };
-    let from_source = Flags {
-        from_source: true,
-        ..PLAIN
-    };
-    let cases: [Trial<'_>; 19] = [
-        (Function::InFile, PLAIN, b"A.FOR ", a_for(FileKind::In)),
-        (Function::OutFile, PLAIN, b"A.FOR ", a_for(FileKind::Out)),
-        (Function::AnyFile, PLAIN, b"A.FOR ", a_for(FileKind::Any)),
-        (Function::InFile, PLAIN, b"A.FOR", Try::More),
-        // What is read is there; what is written, or either, need not be.
-        (Function::InFile, PLAIN, b"A.OLD ", refuse(Code::NoFile, 6)),
-        (Function::OutFile, PLAIN, b"A.OLD ", a_for(FileKind::Out)),
-        (Function::AnyFile, PLAIN, b"A.OLD ", a_for(FileKind::Any)),
-        (
-            Function::InFile,
-            deleted,
-            b"A.FOR ",
-            refuse(Code::NoFile, 6),
-        ),
-        // Wildcards.
-        (Function::InFile, PLAIN, b"A.*\r", refuse(Code::WildHere, 4)),
-        (
-            Function::InFile,
-            WILD,
-            b"A.*\r",
-            accept(file(FileKind::In, span(0, 1), Some(span(2, 3))), 4, 3),
-        ),
-        (Function::OutFile, WILD, b"A.F* ", refuse(Code::WildHere, 5)),
-        (
-            Function::AnyFile,
-            WILD,
-            b"A.F* ",
-            accept(file(FileKind::Any, span(0, 1), Some(span(2, 4))), 5, 4),
-        ),
-        // What is not given.
-        (Function::InFile, PLAIN, b"A ", refuse(Code::NoFile, 2)),
-        (
-            Function::InFile,
-            default_all,
-            b"A ",
-            accept(file(FileKind::In, span(0, 1), None), 2, 1),
-        ),
-        (
-            Function::OutFile,
-            PLAIN,
-            b"TTY: ",
-            refuse(Code::SpecShape, 5),
-        ),
-        (
-            Function::OutFile,
-            from_source,
-            b"TTY: ",
-            refuse(Code::Device, 5),
-        ),
-        // Generations.
-        (
-            Function::InFile,
-            PLAIN,
-            b"A.FOR.3 ",
-            refuse(Code::NoFile, 8),
-        ),
-        (
-            Function::InFile,
-            PLAIN,
-            b"A.FOR.-1 ",
-            refuse(Code::GenRange, 9),
-        ),
-        (
-            Function::OutFile,
-            PLAIN,
-            b"A.FOR.0 ",
-            refuse(Code::GenRange, 8),
-        ),
-    ];
-    try_trials(&rt, rt.alloc(), &cases)
-}
 
 // Node 0 reads a file with wildcards, node 2 a user or a directory, by default OPERATOR, and node 3 a file, by default
 // AB.TXT; behind each node 1 confirms.
