@@ -1,5 +1,5 @@
 // Users, directories and files in chains.
-ghost use Rattle.std.specs.Prelude.{◌≡◌, ◌<◌};
+ghost use Rattle.std.specs.Prelude.{◌≡◌, ◌<◌, false};
 
 use super::chains::{Answered, answer_of, defaulted, fault, open, typed};
 use super::setting::hooks;
