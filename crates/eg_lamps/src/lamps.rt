@@ -53,7 +53,8 @@ pub enum Command {
 pub fn dark_lamps() -> [Lamp; 4]
     ensures { result ≡ dark_lamps }
 {
-    ROOMS.map(dark)
+    let [hall, kitchen, stairs, study] = ROOMS;
+    [dark(hall), dark(kitchen), dark(stairs), dark(study)]
 }
 
 fn dark(room: &str) -> Lamp
