@@ -49,6 +49,16 @@ pub(crate) fn leaves(keys: &mut MemSource, left: &[u8]) -> bool {
     keys.get() == Got::End
 }
 
+// Whether the lamps are as bright as this, one by one.
+pub(crate) fn are_at(program: &Program, levels: [u64; 4]) -> bool {
+    for (lamp, level) in program.lamps.iter().zip(levels) {
+        if lamp.brightness != level {
+            return false;
+        }
+    }
+    true
+}
+
 // A run that is Done, what it shows, and how bright the lamps are at its end.
 #[derive(Clone, Copy)]
 pub struct Case<'a> {
