@@ -1,6 +1,8 @@
 // The bytes of a file.
-ghost use Rattle.std.specs.Prelude.{◌≡◌, length};
+ghost use Rattle.std.specs.Prelude.{◌≡◌, IfOk, length};
 
+use cm_io::NoMemory;
+use std::alloc::Global;
 use std::marker::Model;
 
 /// The bytes of a file. Contracts see them as a list.
@@ -30,6 +32,15 @@ impl Bytes {
         ensures { result.items ≡ self }
     {
         self.bytes
+    }
+
+    /// The same bytes in memory of their own.
+    pub fn copy(&self, alloc: Global) -> Result<Bytes, NoMemory>
+        ensures { IfOk result (λ copy. copy ≡ self.now) }
+    {
+        Ok(Bytes {
+            bytes: Vec::from_slice(alloc, &self.bytes)?,
+        })
     }
 
     /// The bytes.

@@ -1,0 +1,14 @@
+pub mod Adding
+pub mod Appending
+pub mod Building
+pub mod Copying
+pub mod Forms
+pub mod Lent
+pub mod Plan
+pub mod Positions
+pub mod Ready
+pub mod Renaming
+pub mod Rows
+pub mod Selection
+pub mod State
+pub mod WellFormed

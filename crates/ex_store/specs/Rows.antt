@@ -1,0 +1,116 @@
+-- The files of a store: one flat list of rows, in ascending order of directory, name, type and generation.
+use Rattle.std.specs.Prelude.{ℕ, ◌==◌, ◌&&◌, nat_le, if◌then◌else◌, Bool, true, not, List, [], ◌∷◌, length, map, filter, find, sum_by, Option}
+use Rattle.std.specs.List.{prefix_len}
+use Rattle.std.specs.Ordering.{is_eq, is_le, is_lt, nat_cmp, on, then_cmp}
+use Rattle.std.specs.declared.cmp.Ordering.{Ordering}
+use Rattle.cm_files.specs.Catalogue.{by_bytes}
+use Rattle.ex_generations.specs.declared.file.File.{File}
+use Rattle.ex_generations.specs.declared.file.TheConstants.{FILE_LIMIT}
+use Rattle.ex_generations.specs.Generations.{marked_as, pages, rewritten}
+use Rattle.ex_generations.specs.Retention.{live}
+use Rattle.ex_store.specs.declared.key.FullName.{FullName}
+use Rattle.ex_store.specs.declared.key.Key.{Key}
+use Rattle.ex_store.specs.declared.row.Row.{Row}
+
+-- directories, names and types by their bytes
+abbrev pub by_key : Key → Key → Ordering
+by_key =
+    then_cmp (on (λ key. key.directory) by_bytes)
+    (then_cmp (on (λ key. key.name) by_bytes) (on (λ key. key.kind) by_bytes))
+
+-- generations of one name and type by their numbers
+abbrev pub by_full : FullName → FullName → Ordering
+by_full = then_cmp (on (λ full. full.key) by_key) (on (λ full. full.generation) nat_cmp)
+
+-- the full name of a row
+abbrev pub full_of : Row → FullName
+full_of row = record { key = row.key; generation = row.file.generation }
+
+abbrev pub by_row : Row → Row → Ordering
+by_row = on full_of by_full
+
+-- a row is of this directory, name and type
+abbrev pub is_of : Key → Row → Bool
+is_of key row = is_eq (by_key row.key key)
+
+-- the generations of a name and type in a directory
+abbrev pub files_of : Key → List Row → List File
+files_of key rows = map (λ row. row.file) (filter (is_of key) rows)
+
+-- a row has this full name
+abbrev pub is_full : FullName → Row → Bool
+is_full full row = is_eq (by_full (full_of row) full)
+
+-- the row of a full name
+abbrev pub row_at : FullName → List Row → Option Row
+row_at full rows = find (is_full full) rows
+
+-- the rows without the one of a full name
+abbrev pub without : FullName → List Row → List Row
+without full [] = []
+without full (row ∷ more) = if is_full full row then more else row ∷ without full more
+
+-- the row at its place: behind those that stand below it
+abbrev pub inserted : Row → List Row → List Row
+inserted row [] = row ∷ []
+inserted row (other ∷ more) = if is_lt (by_row other row) then other ∷ inserted row more else row ∷ other ∷ more
+
+-- the row, marked as deleted or not
+abbrev pub with_mark : Bool → Row → Row
+with_mark deleted row = record row { file = marked_as deleted row.file }
+
+-- each row of this directory, name and type is marked that has at least so many unmarked ones above it
+abbrev pub kept_newest : ℕ → Key → List Row → List Row
+kept_newest keep key [] = []
+kept_newest keep key (row ∷ more) =
+    (if is_of key row && nat_le keep (live (files_of key more)) then with_mark true row else row)
+    ∷ kept_newest keep key more
+
+-- so many unmarked generations are kept, and with 0 all are
+abbrev pub retained : ℕ → Key → List Row → List Row
+retained keep key rows = if keep == 0 then rows else kept_newest keep key rows
+
+-- the row at its place, and then all unmarked ones of its directory, name and type but so many are marked
+abbrev pub added : ℕ → Row → List Row → List Row
+added keep row rows = retained keep row.key (inserted row rows)
+
+-- the row of a full name is given a moment and bytes
+abbrev pub filled : FullName → ℕ → List ℕ → List Row → List Row
+filled full moment bytes [] = []
+filled full moment bytes (row ∷ more) =
+    if is_full full row then (record row { file = rewritten moment bytes row.file }) ∷ more
+    else row ∷ filled full moment bytes more
+
+-- the bytes of all rows together
+abbrev pub total : List Row → ℕ
+total rows = sum_by (λ row. length row.file.bytes) rows
+
+-- the rows of a directory
+abbrev pub is_in : List ℕ → Row → Bool
+is_in directory row = is_eq (by_bytes row.key.directory directory)
+
+abbrev pub rows_in : List ℕ → List Row → List Row
+rows_in directory rows = filter (is_in directory) rows
+
+-- how many rows stand before those of a directory, and before those behind it
+abbrev pub first_in : List ℕ → List Row → ℕ
+first_in directory rows = prefix_len (λ row. is_lt (by_bytes row.key.directory directory)) rows
+
+abbrev pub end_in : List ℕ → List Row → ℕ
+end_in directory rows = prefix_len (λ row. is_le (by_bytes row.key.directory directory)) rows
+
+-- a row without its bytes
+abbrev pub blank : Row → Row
+blank row = record row { file = record row.file { bytes = [] } }
+
+-- a file has no more bytes than one may have
+abbrev pub is_short : Row → Bool
+is_short row = nat_le (length row.file.bytes) FILE_LIMIT
+
+-- the rows without the marked ones of a directory, and the pages that those have
+abbrev pub expunged : List ℕ → List Row → List Row
+expunged directory rows = filter (λ row. not (is_in directory row && row.file.deleted)) rows
+
+abbrev pub pages_marked : List ℕ → List Row → ℕ
+pages_marked directory rows =
+    pages (map (λ row. row.file) (filter (λ row. is_in directory row && row.file.deleted) rows))

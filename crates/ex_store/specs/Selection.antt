@@ -1,0 +1,44 @@
+-- Which files a place means (GTJFN).
+use Rattle.std.specs.Prelude.{ℕ, Bool, ◌&&◌, if◌then◌else◌, List, [], map, filter, codes, Option, None, Some}
+use Rattle.cm_files.specs.Selection.{Wanted, is_selected}
+use Rattle.ex_store.specs.declared.place.Place.{Place}
+use Rattle.ex_store.specs.declared.row.Row.{Row}
+use Rattle.ex_store.specs.Rows.{is_in, rows_in, with_mark}
+use Rattle.ex_store.specs.State.{State, file_row}
+
+-- a name that is not given is any under the flag `default_all`, and else none
+abbrev pub wanted_name : Place → Option (List ℕ) → Option (List ℕ)
+wanted_name place None = if place.flags.default_all then Some (codes "*") else None
+wanted_name place (Some name) = Some name
+
+-- and a type is any, and else the empty one
+abbrev pub wanted_kind : Place → Option (List ℕ) → List ℕ
+wanted_kind place None = if place.flags.default_all then codes "*" else []
+wanted_kind place (Some kind) = kind
+
+-- what files of its directory a place looks for, with this mark
+abbrev pub wanted_of : Bool → Place → Wanted
+wanted_of deleted place =
+    record {
+      name = wanted_name place place.name;
+      kind = wanted_kind place place.kind;
+      generation = place.generation;
+      all_generations = place.flags.all_generations;
+      deleted = deleted;
+    }
+
+-- a row is one of those that a place means, with this mark
+unfoldable pub is_meant : Bool → Place → State → Row → Bool
+is_meant deleted place state row =
+    is_in place.directory row
+    && is_selected (wanted_of deleted place) (map (file_row state.directories) (rows_in place.directory state.rows))
+      (file_row state.directories row)
+
+-- the rows that a place means, with this mark
+abbrev pub meant : Bool → Place → State → List Row
+meant deleted place state = filter (is_meant deleted place state) state.rows
+
+-- the rows, where those that a place means are given a mark
+abbrev pub remarked : Bool → Place → State → List Row
+remarked deleted place state =
+    map (λ row. if is_meant place.flags.deleted place state row then with_mark deleted row else row) state.rows

@@ -1,0 +1,68 @@
+// Under which generation a file is added, or why it is refused.
+ghost use Rattle.std.specs.Prelude.{◌≡◌, ◌≤◌, length};
+ghost use Rattle.ex_generations.specs.declared.file.TheConstants.{FILE_LIMIT};
+ghost use Rattle.ex_store.specs.Adding.{and_then, limited, next_of, numbered};
+ghost use Rattle.ex_store.specs.Rows.{files_of};
+
+use crate::limits::{ROW_LIMIT, STORE_LIMIT};
+use crate::search::{has, top};
+use crate::{Key, Row};
+use cm_fields::{Code, Gen};
+use ex_generations::{FILE_LIMIT, GENERATION_LIMIT};
+
+// The generation behind the highest.
+fn next_of(rows: &[Row], key: &Key) -> Result<u32, Code>
+    ensures { result ≡ next_of (files_of key.now rows.now) }
+{
+    let top = top(rows, key);
+    if top < GENERATION_LIMIT {
+        Ok(top + 1)
+    } else {
+        Err(Code::GenFull)
+    }
+}
+
+// The generation that a new row takes: a number that is given, and else the next.
+pub(crate) fn numbered(rows: &[Row], key: &Key, generation: Gen) -> Result<u32, Code>
+    ensures { result ≡ numbered generation (files_of key.now rows.now) }
+{
+    match generation {
+        Gen::Number(number) if has(rows, key, number) => Err(Code::FileExists),
+        Gen::Number(number) => Ok(number),
+        _ => next_of(rows, key),
+    }
+}
+
+// One more file of this size, beside so many files of so many bytes: this generation, or the limit that is passed.
+pub(crate) fn limited(files: usize, bytes: usize, size: usize, generation: u32) -> Result<u32, Code>
+    requires { bytes ≤ STORE_LIMIT }
+    ensures { result ≡ limited files bytes size generation }
+{
+    if files >= ROW_LIMIT {
+        Err(Code::FileLimit)
+    } else if size > FILE_LIMIT {
+        Err(Code::FileSize)
+    } else if bytes + size > STORE_LIMIT {
+        Err(Code::StoreSize)
+    } else {
+        Ok(generation)
+    }
+}
+
+// The generation under which a row of this size is added to these, where all files have so many bytes; or the first
+// refusal.
+pub(crate) fn admitted(
+    rows: &[Row],
+    bytes: usize,
+    key: &Key,
+    generation: Gen,
+    size: usize,
+) -> Result<u32, Code>
+    requires { bytes ≤ STORE_LIMIT }
+    ensures { result ≡ and_then (limited (length rows.now) bytes size) (numbered generation (files_of key.now rows.now)) }
+{
+    match numbered(rows, key, generation) {
+        Ok(number) => limited(rows.len(), bytes, size, number),
+        Err(code) => Err(code),
+    }
+}

@@ -1,0 +1,216 @@
+// The bytes of files are put behind those of one file.
+ghost use Rattle.std.specs.Prelude.{◌≡◌, ◌≤◌, true, [], ◌∷◌, ◌++◌, length, nat_lt, IfOk, IfErr, OnOk, None, Some, Ok};
+ghost use Rattle.std.specs.List.{list_all};
+ghost use Rattle.ex_store.specs.declared.limits.TheConstants.{ROW_LIMIT, STORE_LIMIT};
+ghost use Rattle.ex_generations.specs.declared.file.TheConstants.{FILE_LIMIT};
+ghost use Rattle.ex_store.specs.declared.plan.Plan.TheVariants as plans;
+ghost use Rattle.ex_store.specs.declared.ready.Step.TheVariants as steps;
+ghost use Rattle.ex_store.specs.Appending.{appended, bytes_at, fitting, found, opened, pairs_to, poured, steps_of};
+ghost use Rattle.ex_store.specs.Copying.{moment_of};
+ghost use Rattle.ex_store.specs.Plan.{IsOneFile, IsRefused, MayPlan, planned};
+ghost use Rattle.ex_store.specs.Positions.{elements_at};
+ghost use Rattle.ex_store.specs.Ready.{all_stepped, applied, done_on, outcome_of};
+ghost use Rattle.ex_store.specs.Rows.{files_of, full_of, total};
+ghost use Rattle.ex_store.specs.State.{keep_of};
+ghost use Rattle.ex_store.specs.WellFormed.{AreRows, IsWellFormed};
+
+use crate::adding::admitted;
+use crate::copy::moment_of;
+use crate::directory::keep_of;
+use crate::limits::STORE_LIMIT;
+use crate::search::{bottom_live, has, has_live, position, top_live, total};
+use crate::{Directory, FullName, Key, NamePair, Place, Ready, Refusal, Row, Step, Store};
+use cm_fields::{Code, Gen};
+use cm_io::NoMemory;
+use ex_generations::{Bytes, FILE_LIMIT};
+use std::alloc::Global;
+
+// The generation that is put behind, or none, where a new one is added.
+fn found(rows: &[Row], key: &Key, generation: Gen) -> Result<Option<u32>, Code>
+    ensures { result ≡ found generation (files_of key.now rows.now) }
+{
+    match generation {
+        Gen::Next => Ok(None),
+        Gen::Lowest => Ok(bottom_live(rows, key)),
+        Gen::Missing | Gen::Highest | Gen::All => Ok(top_live(rows, key)),
+        Gen::Number(number) if has_live(rows, key, number) => Ok(Some(number)),
+        Gen::Number(number) if has(rows, key, number) => Err(Code::NoFile),
+        Gen::Number(_) => Ok(None),
+    }
+}
+
+// What a file holds; nothing where it is not there.
+fn bytes_at<'a>(rows: &'a [Row], full: &FullName) -> &'a [u8]
+    ensures { result.now ≡ bytes_at full.now rows.now }
+{
+    match position(rows, full) {
+        Some(at) => rows[at].file.bytes.as_slice(),
+        None => b"",
+    }
+}
+
+// These bytes more, behind so many of a file and beside so many in all: or the limit that is passed.
+fn fits(all: usize, size: usize, more: usize) -> Result<(), Code>
+    requires all { all ≤ STORE_LIMIT }
+    requires size { size ≤ FILE_LIMIT }
+    ensures { result ≡ fitting all size more }
+{
+    if more > FILE_LIMIT - size {
+        Err(Code::FileSize)
+    } else if more > STORE_LIMIT - all {
+        Err(Code::StoreSize)
+    } else {
+        Ok(())
+    }
+}
+
+// The bytes of the sources at these places, behind those.
+fn poured(rows: &[Row], positions: &[u16], bytes: Vec<u8>) -> Result<Bytes, Refusal>
+    requires within { list_all (λ at. nat_lt at (length rows.now)) positions.now ≡ true }
+    requires all { total rows.now ≤ STORE_LIMIT }
+    requires short { length bytes.items ≤ FILE_LIMIT }
+    ensures ok { IfOk result (λ out. poured (total rows.now) bytes.items (elements_at rows.now positions.now) ≡ Ok out) }
+    ensures refused { IfErr result (IsRefused (poured (total rows.now) bytes.items (elements_at rows.now positions.now))) }
+{
+    let mut bytes = bytes;
+    let mut all = total(rows);
+    for at in positions {
+        let more = rows[usize::from(*at)].file.bytes.as_slice();
+        match fits(all, bytes.len(), more.len()) {
+            Ok(()) => {}
+            Err(code) => return Err(Refusal::Code(code)),
+        }
+        match bytes.extend_from_slice(more) {
+            Ok(()) => all += more.len(),
+            Err(_) => return Err(Refusal::NoMemory),
+        }
+    }
+    Ok(Bytes::new(bytes))
+}
+
+// Each source goes to the target.
+fn pairs_to(alloc: Global, rows: &[Row], positions: &[u16], target: &FullName) -> Result<Vec<NamePair>, NoMemory>
+    requires { list_all (λ at. nat_lt at (length rows.now)) positions.now ≡ true }
+    ensures { IfOk result (λ pairs. pairs.items ≡ pairs_to target.now (elements_at rows.now positions.now)) }
+{
+    let mut pairs = Vec::new(alloc);
+    for at in positions {
+        pairs.push(NamePair {
+            source: rows[usize::from(*at)].full_name(),
+            target: target.copy(),
+        })?;
+    }
+    Ok(pairs)
+}
+
+// The file that is put behind: its full name, and the empty row that is added where it is a new one.
+#[derive(Debug, Drop)]
+struct Opening {
+    target: FullName,
+    new: Option<Row>,
+}
+
+// The file is there, or an empty one is added.
+fn opened(alloc: Global, rows: &[Row], key: Key, generation: Gen, moment: u64) -> Result<Opening, Code>
+    requires { total rows.now ≤ STORE_LIMIT }
+    ensures { result ≡ opened moment key generation rows.now }
+{
+    let number = match found(rows, &key, generation) {
+        Ok(Some(number)) => {
+            let target = FullName {
+                key,
+                generation: number,
+            };
+            return Ok(Opening { target, new: None });
+        }
+        Ok(None) => match admitted(rows, total(rows), &key, generation, 0) {
+            Ok(number) => number,
+            Err(code) => return Err(code),
+        },
+        Err(code) => return Err(code),
+    };
+    let new = Row::new(key, number, moment_of(moment), Bytes::new(Vec::new(alloc)));
+    Ok(Opening {
+        target: new.full_name(),
+        new: Some(new),
+    })
+}
+
+// What is to be done: an empty row is added where there is none yet, and then the bytes are filled in.
+fn steps_of(alloc: Global, opening: Opening, moment: u64, bytes: Bytes) -> Result<Vec<Step>, NoMemory>
+    ensures { IfOk result (λ steps. steps.items ≡ steps_of opening (moment_of moment) bytes) }
+{
+    let Opening { target, new } = opening;
+    let mut steps = Vec::new(alloc);
+    if let Some(row) = new {
+        steps.push(Step::Add(row))?;
+    }
+    steps.push(Step::Fill {
+        target,
+        moment: moment_of(moment),
+        bytes,
+    })?;
+    Ok(steps)
+}
+
+// The sources at these places are put behind one file.
+fn appends(
+    alloc: Global,
+    directories: &[Directory],
+    rows: &[Row],
+    positions: &[u16],
+    to: &Place,
+    moment: u64,
+) -> Result<Ready, Refusal>
+    requires rows { AreRows directories.now rows.now }
+    requires within { list_all (λ at. nat_lt at (length rows.now)) positions.now ≡ true }
+    requires few { length positions.now ≤ ROW_LIMIT }
+    requires target { IsOneFile to.now directories.now }
+    ensures ready { IfOk result (λ ready.
+      appended (keep_of to.now.directory directories.now) moment to.now (elements_at rows.now positions.now) rows.now
+      ≡ Ok (outcome_of rows.now ready)) }
+    ensures none { IfOk result (λ ready. ready.directory ≡ None) }
+    ensures sound { IfOk result (λ ready. AreRows directories.now (all_stepped ready.keep rows.now ready.steps)) }
+    ensures refused { IfErr result (IsRefused
+      (appended (keep_of to.now.directory directories.now) moment to.now (elements_at rows.now positions.now) rows.now)) }
+{
+    let opening = match opened(alloc, rows, to.own_key(), to.generation, moment) {
+        Ok(opening) => opening,
+        Err(code) => return Err(Refusal::Code(code)),
+    };
+    let old = match Vec::from_slice(alloc, bytes_at(rows, &opening.target)) {
+        Ok(old) => old,
+        Err(_) => return Err(Refusal::NoMemory),
+    };
+    let bytes = match poured(rows, positions, old) {
+        Ok(bytes) => bytes,
+        Err(refusal) => return Err(refusal),
+    };
+    let pairs = match pairs_to(alloc, rows, positions, &opening.target) {
+        Ok(pairs) => pairs,
+        Err(NoMemory) => return Err(Refusal::NoMemory),
+    };
+    match steps_of(alloc, opening, moment, bytes) {
+        Ok(steps) => Ok(Ready {
+            directory: None,
+            keep: keep_of(directories, to.directory.as_bytes()),
+            steps,
+            pairs,
+        }),
+        Err(NoMemory) => Err(Refusal::NoMemory),
+    }
+}
+
+impl Store {
+    // The bytes of files are put behind those of one file.
+    pub(crate) fn append(&self, from: &Place, to: &Place, moment: u64) -> Result<Ready, Refusal>
+        requires { MayPlan (plans.Append from.now to.now) self.now.state }
+        ensures ready { IfOk result (λ ready.
+          planned (plans.Append from.now to.now) moment self.now.state ≡ Ok (done_on self.now.state ready)) }
+        ensures sound { IfOk result (λ ready. IsWellFormed (applied ready self.now.state)) }
+        ensures refused { IfErr result (IsRefused (planned (plans.Append from.now to.now) moment self.now.state)) }
+    {
+        let positions = self.positions(from, from.flags.deleted);
+        appends(self.alloc, &self.directories, &self.rows, &positions, to, moment)
+    }
+}

@@ -1,0 +1,120 @@
+// Changes of the rows of a store.
+ghost use Rattle.std.specs.Prelude.{◌≡◌, ◌<◌, ◌≤◌, ◌+◌, length, insert, vec_capacity, vec_len, OnSome};
+ghost use Rattle.ex_store.specs.Ready.{put_back, stepped, under};
+ghost use Rattle.ex_generations.specs.Generations.{rewritten};
+ghost use Rattle.ex_store.specs.Rows.{added, filled, inserted, kept_newest, retained, row_at, without};
+
+use crate::search::{live, place, position};
+use crate::{FullName, Key, NamePair, Row};
+use ex_generations::Bytes;
+
+// Puts a row at a place of a vector that has room for it.
+fn put_at(rows: &mut Vec<Row>, at: usize, row: Row)
+    requires within { at ≤ vec_len rows.old }
+    requires room { vec_len rows.old < vec_capacity rows.old }
+    ensures items { rows.new.items ≡ insert rows.old.items at row }
+    ensures len { vec_len rows.new ≡ vec_len rows.old + 1 }
+    ensures capacity { vec_capacity rows.new ≡ vec_capacity rows.old }
+{
+    match rows.insert(at, row) {
+        Ok(()) => {}
+        Err(_) => unreachable!(),
+    }
+}
+
+// Puts a row at its place, in a vector that has room for it.
+fn insert(rows: &mut Vec<Row>, row: Row)
+    requires room { vec_len rows.old < vec_capacity rows.old }
+    ensures items { rows.new.items ≡ inserted row rows.old.items }
+    ensures len { vec_len rows.new ≡ vec_len rows.old + 1 }
+    ensures capacity { vec_capacity rows.new ≡ vec_capacity rows.old }
+{
+    let at = place(rows, &row);
+    put_at(rows, at, row);
+}
+
+// Marks each row of a directory, name and type that has at least so many unmarked ones above it.
+fn keep_newest(rows: &mut [Row], key: &Key, keep: usize)
+    ensures { rows.new ≡ kept_newest keep key.now rows.old }
+{
+    let mut above = live(rows, key);
+    for row in rows.iter_mut() {
+        if row.is_of(key) {
+            if !row.file.deleted {
+                above -= 1;
+            }
+            if above >= keep {
+                row.file.deleted = true;
+            }
+        }
+    }
+}
+
+// Keeps so many unmarked generations of a directory, name and type, or all where the number is 0.
+fn retain(rows: &mut [Row], key: &Key, keep: u8)
+    ensures { rows.new ≡ retained keep key.now rows.old }
+{
+    if keep > 0 {
+        keep_newest(rows, key, usize::from(keep));
+    }
+}
+
+// Adds a row to a vector that has room for it, and then keeps so many unmarked generations.
+pub(crate) fn add(rows: &mut Vec<Row>, row: Row, keep: u8)
+    requires room { vec_len rows.old < vec_capacity rows.old }
+    ensures items { rows.new.items ≡ added keep row rows.old.items }
+    ensures len { vec_len rows.new ≡ vec_len rows.old + 1 }
+    ensures capacity { vec_capacity rows.new ≡ vec_capacity rows.old }
+{
+    let key = row.key.copy();
+    insert(rows, row);
+    retain(rows, &key, keep);
+}
+
+// Takes the row of a full name out, where there is one.
+pub(crate) fn take_out(rows: &mut Vec<Row>, full: &FullName) -> Option<Row>
+    ensures row { result ≡ row_at full.now rows.old.items }
+    ensures items { rows.new.items ≡ without full.now rows.old.items }
+    ensures room { OnSome result (vec_len rows.new < vec_capacity rows.new) }
+    ensures capacity { vec_capacity rows.new ≡ vec_capacity rows.old }
+{
+    match position(rows, full) {
+        Some(at) => Some(rows.remove(at)),
+        None => None,
+    }
+}
+
+// The row under another name, unmarked.
+fn under(row: Row, target: &FullName) -> Row
+    ensures { result ≡ under target.now row }
+{
+    let Row { file, .. } = row;
+    Row::new(target.key.copy(), target.generation, file.moment, file.bytes)
+}
+
+// Puts a row that was taken out back under another name.
+pub(crate) fn put_back(rows: &mut Vec<Row>, target: &FullName, row: Option<Row>, keep: u8)
+    requires { OnSome row (vec_len rows.old < vec_capacity rows.old) }
+    ensures items { rows.new.items ≡ put_back keep target.now rows.old.items row }
+    ensures capacity { vec_capacity rows.new ≡ vec_capacity rows.old }
+{
+    if let Some(row) = row {
+        add(rows, under(row, target), keep);
+    }
+}
+
+fn overwrite(row: &mut Row, moment: u64, bytes: Bytes)
+    ensures { row.new ≡ record row.old { file = rewritten moment bytes row.old.file } }
+{
+    row.file.moment = moment;
+    row.file.bytes = bytes;
+}
+
+// Gives the row of a full name another moment and other bytes, where there is one.
+pub(crate) fn fill(rows: &mut [Row], target: &FullName, moment: u64, bytes: Bytes)
+    ensures { rows.new ≡ filled target.now moment bytes rows.old }
+{
+    if let Some(at) = position(rows, target) {
+        overwrite(&mut rows[at], moment, bytes);
+    }
+}

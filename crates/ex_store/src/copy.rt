@@ -1,0 +1,122 @@
+// Files are copied, or written anew.
+ghost use Rattle.std.specs.Prelude.{◌≡◌, ◌≤◌, true, [], ◌∷◌, ◌++◌, length, nat_lt, min, IfOk, IfErr, OnOk, None, Ok};
+ghost use Rattle.std.specs.List.{list_all};
+ghost use Rattle.ex_store.specs.declared.limits.TheConstants.{ROW_LIMIT};
+ghost use Rattle.ex_store.specs.declared.plan.Plan.TheVariants as plans;
+ghost use Rattle.ex_store.specs.declared.ready.Step.TheVariants as steps;
+ghost use Rattle.ex_store.specs.Adding.{each_in_turn, new_row};
+ghost use Rattle.ex_store.specs.Copying.{copied, moment_of, written};
+ghost use Rattle.ex_store.specs.Plan.{IsRefused, IsTarget, MayPlan, planned};
+ghost use Rattle.ex_store.specs.Positions.{elements_at};
+ghost use Rattle.ex_store.specs.Ready.{all_stepped, applied, done_on, outcome_of};
+ghost use Rattle.ex_store.specs.Rows.{added, blank, full_of};
+ghost use Rattle.ex_store.specs.State.{keep_of};
+ghost use Rattle.ex_store.specs.WellFormed.{AreRows, IsWellFormed};
+
+use crate::adding::admitted;
+use crate::change::add;
+use crate::course::Course;
+use crate::directory::keep_of;
+use crate::limits::MOMENT_LIMIT;
+use crate::search::total;
+use crate::{Directory, Key, NamePair, Place, Ready, Refusal, Row, Step, Store};
+use cm_fields::Code;
+use cm_io::NoMemory;
+use ex_generations::Bytes;
+use std::alloc::Global;
+
+pub(crate) fn moment_of(moment: u64) -> u64
+    ensures { result ≡ moment_of moment }
+{
+    moment.min(MOMENT_LIMIT)
+}
+
+impl Course {
+    // A source is copied under a name and a generation.
+    fn copy(&mut self, alloc: Global, source: &Row, key: Key, generation: u32, moment: u64, keep: u8) -> Result<(), NoMemory>
+        ensures steps { OnOk result (self.new.steps.items
+          ≡ self.old.steps.items ++ steps.Add (new_row key moment source.now.file.bytes generation) ∷ []) }
+        ensures pairs { OnOk result (self.new.pairs.items
+          ≡ self.old.pairs.items ++ (record {
+            source = full_of source.now;
+            target = record { key = key; generation = generation };
+          }) ∷ []) }
+        ensures played { OnOk result (self.new.played.items
+          ≡ added keep (blank (new_row key moment source.now.file.bytes generation)) self.old.played.items) }
+    {
+        let row = Row::new(key, generation, moment, source.file.bytes.copy(alloc)?);
+        self.played.reserve(1)?;
+        add(&mut self.played, row.blank(alloc), keep);
+        self.pairs.push(NamePair {
+            source: source.full_name(),
+            target: row.full_name(),
+        })?;
+        self.steps.push(Step::Add(row))?;
+        Ok(())
+    }
+}
+
+// The sources at these places are copied, one after the other.
+fn copies(
+    alloc: Global,
+    directories: &[Directory],
+    rows: &[Row],
+    positions: &[u16],
+    to: &Place,
+    moment: u64,
+) -> Result<Ready, Refusal>
+    requires rows { AreRows directories.now rows.now }
+    requires within { list_all (λ at. nat_lt at (length rows.now)) positions.now ≡ true }
+    requires few { length positions.now ≤ ROW_LIMIT }
+    requires target { IsTarget to.now directories.now }
+    ensures ready { IfOk result (λ ready.
+      each_in_turn (copied (keep_of to.now.directory directories.now) moment to.now) (elements_at rows.now positions.now)
+        (record { rows = rows.now; pairs = [] }) ≡ Ok (outcome_of rows.now ready)) }
+    ensures none { IfOk result (λ ready. ready.directory ≡ None) }
+    ensures sound { IfOk result (λ ready. AreRows directories.now (all_stepped ready.keep rows.now ready.steps)) }
+    ensures refused { IfErr result (IsRefused
+      (each_in_turn (copied (keep_of to.now.directory directories.now) moment to.now) (elements_at rows.now positions.now)
+        (record { rows = rows.now; pairs = [] }))) }
+{
+    let keep = keep_of(directories, to.directory.as_bytes());
+    let moment = moment_of(moment);
+    let mut course = match Course::new(alloc, rows) {
+        Ok(course) => course,
+        Err(NoMemory) => return Err(Refusal::NoMemory),
+    };
+    let mut bytes = total(rows);
+    for at in positions {
+        let source = &rows[usize::from(*at)];
+        let key = to.key_from(&source.key);
+        let size = source.file.bytes.len();
+        let generation = match admitted(&course.played, bytes, &key, to.generation, size) {
+            Ok(generation) => generation,
+            Err(code) => return Err(Refusal::Code(code)),
+        };
+        match course.copy(alloc, source, key, generation, moment, keep) {
+            Ok(()) => bytes += size,
+            Err(NoMemory) => return Err(Refusal::NoMemory),
+        }
+    }
+    let Course { steps, pairs, .. } = course;
+    Ok(Ready {
+        directory: None,
+        keep,
+        steps,
+        pairs,
+    })
+}
+
+impl Store {
+    // Files are copied.
+    pub(crate) fn copy(&self, from: &Place, to: &Place, moment: u64) -> Result<Ready, Refusal>
+        requires { MayPlan (plans.Copy from.now to.now) self.now.state }
+        ensures ready { IfOk result (λ ready.
+          planned (plans.Copy from.now to.now) moment self.now.state ≡ Ok (done_on self.now.state ready)) }
+        ensures sound { IfOk result (λ ready. IsWellFormed (applied ready self.now.state)) }
+        ensures refused { IfErr result (IsRefused (planned (plans.Copy from.now to.now) moment self.now.state)) }
+    {
+        let positions = self.positions(from, from.flags.deleted);
+        copies(self.alloc, &self.directories, &self.rows, &positions, to, moment)
+    }
+}

@@ -1,0 +1,46 @@
+// A plan over files, as far as it has come.
+ghost use Rattle.std.specs.Prelude.{◌≡◌, [], ◌∷◌, ◌++◌, map, IfOk, OnOk};
+ghost use Rattle.ex_store.specs.declared.key.NamePair.{NamePair};
+ghost use Rattle.ex_store.specs.declared.ready.Step.TheVariants as steps;
+ghost use Rattle.ex_store.specs.Adding.{new_row};
+ghost use Rattle.ex_store.specs.Rows.{added, blank, full_of};
+
+use crate::change::add;
+use crate::{Key, NamePair, Row, Step};
+use cm_io::NoMemory;
+use ex_generations::Bytes;
+use std::alloc::Global;
+
+// What is to be done, from which file to which one each goes, and the rows as they stand then, without their bytes.
+#[derive(Drop)]
+pub(crate) struct Course {
+    pub(crate) steps: Vec<Step>,
+    pub(crate) pairs: Vec<NamePair>,
+    pub(crate) played: Vec<Row>,
+}
+
+// The rows without their bytes.
+fn blanks(alloc: Global, rows: &[Row]) -> Result<Vec<Row>, NoMemory>
+    ensures { IfOk result (λ blanks. blanks.items ≡ map blank rows.now) }
+{
+    let mut blanks = Vec::new(alloc);
+    for row in rows {
+        blanks.push(row.blank(alloc))?;
+    }
+    Ok(blanks)
+}
+
+impl Course {
+    // Nothing is done yet.
+    pub(crate) fn new(alloc: Global, rows: &[Row]) -> Result<Course, NoMemory>
+        ensures steps { IfOk result (λ course. course.steps.items ≡ []) }
+        ensures pairs { IfOk result (λ course. course.pairs.items ≡ []) }
+        ensures played { IfOk result (λ course. course.played.items ≡ map blank rows.now) }
+    {
+        Ok(Course {
+            steps: Vec::new(alloc),
+            pairs: Vec::new(alloc),
+            played: blanks(alloc, rows)?,
+        })
+    }
+}

@@ -1,0 +1,41 @@
+//! The file machine: directories with retention, logical names, files with generations that are deleted, undeleted
+//! and expunged, and a print queue. A plan is prepared, with every growth that it needs, and then cannot fail: all
+//! of it is done, or nothing.
+#![tactic(auto)]
+
+mod adding;
+mod append;
+mod apply;
+mod build;
+mod change;
+mod copy;
+mod course;
+mod directory;
+mod key;
+mod limits;
+mod marks;
+mod names;
+mod place;
+mod plan;
+mod prepare;
+mod queue;
+mod ready;
+mod rename;
+mod row;
+mod search;
+mod selection;
+mod store;
+mod write;
+
+pub use directory::{Definition, Directory, Logical};
+pub use key::{Full, FullName, Key, NamePair, Pair};
+pub use limits::{
+    COPIES_LIMIT, DIRECTORY_LIMIT, FORMS, LOGICAL_LIMIT, MOMENT_LIMIT, QUEUE_LIMIT, RETENTION_LIMIT,
+    ROW_LIMIT, STORE_LIMIT,
+};
+pub use place::Place;
+pub use plan::{Plan, Refusal};
+pub use queue::{QueueEntry, Queued, form_text};
+pub use ready::{Ready, Step};
+pub use row::Row;
+pub use store::Store;

@@ -1,0 +1,88 @@
+// Files are deleted, undeleted and expunged.
+ghost use Rattle.std.specs.Prelude.{◌≡◌, ◌≤◌, true, false, length, nat_lt};
+ghost use Rattle.std.specs.List.{list_all};
+ghost use Rattle.ex_generations.specs.declared.file.TheConstants.{FILE_LIMIT};
+ghost use Rattle.ex_generations.specs.Generations.{page_count};
+ghost use Rattle.ex_store.specs.declared.limits.TheConstants.{ROW_LIMIT};
+ghost use Rattle.ex_store.specs.Positions.{all_changed_at};
+ghost use Rattle.ex_store.specs.Rows.{expunged, is_short, pages_marked, with_mark};
+ghost use Rattle.ex_store.specs.Selection.{meant, remarked};
+ghost use Rattle.ex_store.specs.State.{has_directory};
+use crate::{Place, Row, Store};
+use ex_generations::{Bytes, PAGE_BYTES};
+
+// The pages of a file, at most 26.
+fn page_count(bytes: &Bytes) -> u32
+    requires { length bytes.now ≤ FILE_LIMIT }
+    ensures count { result ≡ page_count (length bytes.now) }
+    ensures few { result ≤ 26 }
+{
+    bytes.len().div_ceil(PAGE_BYTES) as u32
+}
+
+// Gives the rows at these places a mark.
+fn set_marks(rows: &mut [Row], positions: &[u16], deleted: bool)
+    requires { list_all (λ at. nat_lt at (length rows.old)) positions.now ≡ true }
+    ensures { rows.new ≡ all_changed_at (with_mark deleted) rows.old positions.now }
+{
+    for at in positions {
+        rows[usize::from(*at)].file.deleted = deleted;
+    }
+}
+
+// The pages of a directory's rows that are marked.
+fn marked_pages(rows: &[Row], directory: &[u8]) -> u32
+    requires few { length rows.now ≤ ROW_LIMIT }
+    requires short { list_all is_short rows.now ≡ true }
+    ensures { result ≡ pages_marked directory.now rows.now }
+{
+    let mut pages = 0;
+    for row in rows {
+        if row.is_in(directory) && row.file.deleted {
+            pages += page_count(&row.file.bytes);
+        }
+    }
+    pages
+}
+
+impl Store {
+    /// Marks the files that a place means as deleted, and tells how many they are.
+    pub fn mark(&mut self, files: &Place) -> u32
+        requires { has_directory files.now.directory self.old.state.directories ≡ true }
+        ensures marked { self.new ≡ record self.old {
+          state = record self.old.state { rows = remarked true files.now self.old.state };
+        } }
+        ensures count { result ≡ length (meant files.now.flags.deleted files.now self.old.state) }
+    {
+        let positions = self.positions(files, files.flags.deleted);
+        set_marks(&mut self.rows, &positions, true);
+        positions.len() as u32
+    }
+
+    /// Clears the mark of the files that a place means, and tells how many they are.
+    pub fn unmark(&mut self, files: &Place) -> u32
+        requires { has_directory files.now.directory self.old.state.directories ≡ true }
+        ensures unmarked { self.new ≡ record self.old {
+          state = record self.old.state { rows = remarked false files.now self.old.state };
+        } }
+        ensures count { result ≡ length (meant files.now.flags.deleted files.now self.old.state) }
+    {
+        let positions = self.positions(files, files.flags.deleted);
+        set_marks(&mut self.rows, &positions, false);
+        positions.len() as u32
+    }
+
+    /// Removes the files of a directory that are marked as deleted, and tells how many pages they had.
+    pub fn expunge(&mut self, directory: &str) -> u32
+        requires { has_directory directory.now self.old.state.directories ≡ true }
+        ensures kept { self.new ≡ record self.old {
+          state = record self.old.state { rows = expunged directory.now self.old.state.rows };
+        } }
+        ensures pages { result ≡ pages_marked directory.now self.old.state.rows }
+    {
+        let pages = marked_pages(&self.rows, directory.as_bytes());
+        self.rows
+            .retain(|row| !(row.is_in(directory.as_bytes()) && row.file.deleted));
+        pages
+    }
+}

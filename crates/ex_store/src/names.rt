@@ -1,0 +1,114 @@
+// The store as the catalogue that file specifications are looked up in.
+ghost use Rattle.std.specs.Prelude.{◌≡◌, ◌<◌, true, length, option_map, slice_get, Some};
+ghost use Rattle.cm_files.specs.Catalogue.{ascends};
+ghost use Rattle.ex_store.specs.Rows.{by_row, end_in, first_in};
+ghost use Rattle.ex_store.specs.State.{defined, rows_numbered};
+
+use crate::directory::number_of;
+use crate::{Row, Store};
+use cm_files::Names;
+use cm_text::equals;
+use ex_generations::File;
+
+// How many rows stand before those of a directory.
+fn first_of(rows: &[Row], directory: &[u8]) -> usize
+    requires { ascends by_row rows.now ≡ true }
+    ensures { result ≡ first_in directory.now rows.now }
+{
+    rows.partition_point(|row| row.key.directory.as_bytes().cmp(directory).is_lt())
+}
+
+// How many rows stand before those behind a directory.
+fn end_of(rows: &[Row], directory: &[u8]) -> usize
+    requires { ascends by_row rows.now ≡ true }
+    ensures { result ≡ end_in directory.now rows.now }
+{
+    rows.partition_point(|row| row.key.directory.as_bytes().cmp(directory).is_le())
+}
+
+impl Store {
+    // The name of the directory with this number.
+    fn name_of(&self, directory: u16) -> &[u8]
+        requires { directory < length self.now.state.directories }
+        ensures { option_map (λ directory. directory.name) (slice_get self.now.state.directories directory)
+          ≡ Some result.now }
+    {
+        self.directories[usize::from(directory)].name.as_bytes()
+    }
+
+    // How many rows stand before those of a directory.
+    pub(crate) fn first_row(&self, directory: &[u8]) -> usize
+        ensures { result ≡ first_in directory.now self.now.state.rows }
+    {
+        first_of(&self.rows, directory)
+    }
+
+    // A row of the directory with this number.
+    fn row_at(&self, directory: u16, i: u32) -> &Row
+        requires directory { directory < length self.now.state.directories }
+        requires row { i < length (rows_numbered directory self.now.state) }
+        ensures { slice_get (rows_numbered directory self.now.state) i ≡ Some result.now }
+    {
+        &self.rows[self.first_row(self.name_of(directory)) + i as usize]
+    }
+
+    /// A file of the directory with this number, in ascending order of name, type and generation.
+    pub fn file(&self, directory: u16, i: u32) -> &File
+        requires directory { directory < length self.now.state.directories }
+        requires row { i < length (rows_numbered directory self.now.state) }
+        ensures { option_map (λ row. row.file) (slice_get (rows_numbered directory self.now.state) i) ≡ Some result.now }
+    {
+        &self.row_at(directory, i).file
+    }
+
+    // Whether a logical name stands for a directory.
+    pub(crate) fn is_defined(&self, name: &str) -> bool
+        ensures { result ≡ defined name.now self.now.state }
+    {
+        self.logical
+            .iter()
+            .any(|entry| equals(entry.name.as_bytes(), name.as_bytes()))
+    }
+}
+
+impl Names for Store {
+    ghost use Rattle.ex_store.specs.State.{catalogue_of};
+
+    ghost catalogue = { λ held. catalogue_of held.state };
+
+    fn directories(&self) -> u16 {
+        self.directories.len() as u16
+    }
+
+    fn directory(&self, i: u16) -> &str {
+        self.directories[usize::from(i)].name.as_str()
+    }
+
+    fn connected(&self) -> u16 {
+        number_of(&self.directories, self.connected.as_bytes()) as u16
+    }
+
+    fn logical(&self, name: &[u8]) -> Option<u16> {
+        for entry in &self.logical {
+            if equals(entry.name.as_bytes(), name) {
+                return Some(number_of(&self.directories, entry.directory.as_bytes()) as u16);
+            }
+        }
+        None
+    }
+
+    fn rows(&self, directory: u16) -> u32 {
+        let name = self.name_of(directory);
+        (end_of(&self.rows, name) - first_of(&self.rows, name)) as u32
+    }
+
+    fn row(&self, directory: u16, i: u32) -> cm_files::Row<'_> {
+        let row = self.row_at(directory, i);
+        cm_files::Row {
+            name: row.key.name.as_str(),
+            kind: row.key.kind.as_str(),
+            generation: row.file.generation,
+            deleted: row.file.deleted,
+        }
+    }
+}

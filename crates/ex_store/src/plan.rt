@@ -1,0 +1,45 @@
+// What a store is asked to do.
+use crate::Place;
+use cm_fields::Code;
+use cm_text::Name;
+use ex_generations::Bytes;
+
+/// What a store is asked to do: all of it, or nothing.
+#[derive(Debug, Drop)]
+pub enum Plan {
+    /// A directory is made that keeps so many generations of each name and type, one where nothing is said; or a
+    /// directory that is there keeps another number from now on.
+    Build {
+        directory: Name,
+        keep: Option<u8>,
+    },
+    /// Files are copied.
+    Copy {
+        from: Place,
+        to: Place,
+    },
+    /// Files are given other names.
+    Rename {
+        from: Place,
+        to: Place,
+    },
+    /// The bytes of files are put behind those of one file.
+    Append {
+        from: Place,
+        to: Place,
+    },
+    /// A file is written.
+    Write {
+        to: Place,
+        bytes: Bytes,
+    },
+}
+
+/// Why a plan is not done.
+#[derive(Clone, Copy, Debug, PartialEq, Eq)]
+pub enum Refusal {
+    /// It is refused.
+    Code(Code),
+    /// There is no memory for it.
+    NoMemory,
+}

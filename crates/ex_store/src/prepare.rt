@@ -1,0 +1,83 @@
+// Plans are prepared.
+ghost use Rattle.std.specs.Prelude.{ℕ, ◌≡◌, ◌≤◌, ◌+◌, length, IfOk, IfErr, OnOk, Ok};
+ghost use Rattle.ex_store.specs.declared.plan.Plan.TheVariants as plans;
+ghost use Rattle.ex_store.specs.Plan.{IsRefused, MayPlan, planned};
+ghost use Rattle.ex_store.specs.Ready.{IsFor, applied, count_made, done_on};
+ghost use Rattle.ex_store.specs.WellFormed.{IsWellFormed};
+
+use crate::build::built;
+use crate::{Plan, Ready, Refusal, Store};
+use cm_io::NoMemory;
+use cm_text::Name;
+
+impl Store {
+    // A directory is made, or keeps another number of generations.
+    fn build(&self, directory: Name, keep: Option<u8>) -> Result<Ready, Refusal>
+        requires { MayPlan (plans.Build directory keep) self.now.state }
+        ensures ready { IfOk result (λ ready.
+          (moment : ℕ) → planned (plans.Build directory keep) moment self.now.state ≡ Ok (done_on self.now.state ready)) }
+        ensures sound { IfOk result (λ ready. IsWellFormed (applied ready self.now.state)) }
+        ensures refused { (moment : ℕ)
+          → IfErr result (IsRefused (planned (plans.Build directory keep) moment self.now.state)) }
+    {
+        match built(&self.directories, directory, keep) {
+            Ok(directory) => Ok(Ready {
+                directory: Some(directory),
+                keep: 0,
+                steps: Vec::new(self.alloc),
+                pairs: Vec::new(self.alloc),
+            }),
+            Err(code) => Err(Refusal::Code(code)),
+        }
+    }
+
+    // What a plan comes to.
+    fn plan(&self, plan: Plan, moment: u64) -> Result<Ready, Refusal>
+        requires { MayPlan plan self.now.state }
+        ensures ready { IfOk result (λ ready. planned plan moment self.now.state ≡ Ok (done_on self.now.state ready)) }
+        ensures sound { IfOk result (λ ready. IsWellFormed (applied ready self.now.state)) }
+        ensures refused { IfErr result (IsRefused (planned plan moment self.now.state)) }
+    {
+        match plan {
+            Plan::Build { directory, keep } => self.build(directory, keep),
+            Plan::Copy { from, to } => self.copy(&from, &to, moment),
+            Plan::Rename { from, to } => self.rename(&from, &to, moment),
+            Plan::Append { from, to } => self.append(&from, &to, moment),
+            Plan::Write { to, bytes } => self.write(&to, bytes, moment),
+        }
+    }
+
+    // Makes room for all that is to be done.
+    fn make_room(&mut self, ready: &Ready) -> Result<(), NoMemory>
+        ensures state { self.new.state ≡ self.old.state }
+        ensures directories { OnOk result
+          (length self.old.state.directories + count_made ready.now.directory ≤ self.new.directory_room) }
+        ensures rows { OnOk result (length self.old.state.rows + length ready.now.steps ≤ self.new.row_room) }
+    {
+        if ready.directory.is_some() {
+            self.directories.reserve(1)?;
+        }
+        self.rows.reserve(ready.steps.len())?;
+        Ok(())
+    }
+
+    /// Prepares a plan: makes every growth that it needs, so that [`Store::apply`] cannot fail. What the store holds
+    /// stays. A plan is refused with the code with which it is first refused where its files are taken in ascending
+    /// order, each with its bytes as they are now. A moment past the last that a file has counts as that last one.
+    pub fn prepare(&mut self, plan: Plan, moment: u64) -> Result<Ready, Refusal>
+        requires { MayPlan plan self.old.state }
+        ensures state { self.new.state ≡ self.old.state }
+        ensures ready { IfOk result (λ ready. planned plan moment self.old.state ≡ Ok (done_on self.old.state ready)) }
+        ensures for_it { IfOk result (λ ready. IsFor ready self.new) }
+        ensures refused { IfErr result (IsRefused (planned plan moment self.old.state)) }
+    {
+        let ready = match self.plan(plan, moment) {
+            Ok(ready) => ready,
+            Err(refusal) => return Err(refusal),
+        };
+        match self.make_room(&ready) {
+            Ok(()) => Ok(ready),
+            Err(NoMemory) => Err(Refusal::NoMemory),
+        }
+    }
+}

@@ -1,0 +1,121 @@
+// Files are given other names.
+ghost use Rattle.std.specs.Prelude.{◌≡◌, ◌≤◌, true, [], ◌∷◌, ◌++◌, length, nat_lt, IfOk, IfErr, OnOk, None, Ok};
+ghost use Rattle.std.specs.List.{list_all};
+ghost use Rattle.ex_store.specs.declared.limits.TheConstants.{ROW_LIMIT};
+ghost use Rattle.ex_store.specs.declared.plan.Plan.TheVariants as plans;
+ghost use Rattle.ex_store.specs.declared.ready.Step.TheVariants as steps;
+ghost use Rattle.ex_store.specs.Adding.{and_then, each_in_turn, numbered};
+ghost use Rattle.ex_store.specs.Copying.{key_from};
+ghost use Rattle.ex_store.specs.Plan.{IsRefused, IsTarget, MayPlan, planned};
+ghost use Rattle.ex_store.specs.Positions.{elements_at};
+ghost use Rattle.ex_store.specs.Ready.{all_stepped, applied, done_on, outcome_of, put_back};
+ghost use Rattle.ex_store.specs.Renaming.{AreDistinct, renamed};
+ghost use Rattle.ex_store.specs.Rows.{files_of, full_of, row_at, without};
+ghost use Rattle.ex_store.specs.State.{keep_of};
+ghost use Rattle.ex_store.specs.WellFormed.{AreRows, IsWellFormed};
+
+use crate::adding::numbered;
+use crate::change::{put_back, take_out};
+use crate::course::Course;
+use crate::directory::keep_of;
+use crate::{Directory, FullName, NamePair, Place, Ready, Refusal, Row, Step, Store};
+use cm_fields::Code;
+use cm_io::NoMemory;
+use std::alloc::Global;
+
+// A source is played: taken out, and put back under the target's name. Which names it had and has.
+fn play(played: &mut Vec<Row>, source: &Row, to: &Place, keep: u8) -> Result<NamePair, Code>
+    ensures pair { result ≡ and_then (λ generation. Ok (record {
+        source = full_of source.now;
+        target = record { key = key_from to.now source.now.key; generation = generation };
+      })) (numbered to.now.generation (files_of (key_from to.now source.now.key) (without (full_of source.now) played.old.items))) }
+    ensures played { IfOk result (λ pair. played.new.items
+      ≡ put_back keep pair.target (without (full_of source.now) played.old.items) (row_at (full_of source.now) played.old.items)) }
+{
+    let full = source.full_name();
+    let taken = take_out(played, &full);
+    let key = to.key_from(&source.key);
+    let generation = match numbered(played, &key, to.generation) {
+        Ok(generation) => generation,
+        Err(code) => return Err(code),
+    };
+    let pair = NamePair {
+        source: full,
+        target: FullName { key, generation },
+    };
+    put_back(played, &pair.target, taken, keep);
+    Ok(pair)
+}
+
+impl Course {
+    // A file goes to another name.
+    fn rename(&mut self, pair: NamePair) -> Result<(), NoMemory>
+        ensures steps { OnOk result (self.new.steps.items ≡ self.old.steps.items ++ steps.Move pair ∷ []) }
+        ensures pairs { OnOk result (self.new.pairs.items ≡ self.old.pairs.items ++ pair ∷ []) }
+        ensures played { self.new.played ≡ self.old.played }
+    {
+        self.pairs.push(pair.copy())?;
+        self.steps.push(Step::Move(pair))?;
+        Ok(())
+    }
+}
+
+// The sources at these places are given other names, one after the other.
+fn renames(
+    alloc: Global,
+    directories: &[Directory],
+    rows: &[Row],
+    positions: &[u16],
+    to: &Place,
+) -> Result<Ready, Refusal>
+    requires rows { AreRows directories.now rows.now }
+    requires within { list_all (λ at. nat_lt at (length rows.now)) positions.now ≡ true }
+    requires few { length positions.now ≤ ROW_LIMIT }
+    requires distinct { AreDistinct (elements_at rows.now positions.now) }
+    requires target { IsTarget to.now directories.now }
+    ensures ready { IfOk result (λ ready.
+      each_in_turn (renamed (keep_of to.now.directory directories.now) to.now) (elements_at rows.now positions.now)
+        (record { rows = rows.now; pairs = [] }) ≡ Ok (outcome_of rows.now ready)) }
+    ensures none { IfOk result (λ ready. ready.directory ≡ None) }
+    ensures sound { IfOk result (λ ready. AreRows directories.now (all_stepped ready.keep rows.now ready.steps)) }
+    ensures refused { IfErr result (IsRefused
+      (each_in_turn (renamed (keep_of to.now.directory directories.now) to.now) (elements_at rows.now positions.now)
+        (record { rows = rows.now; pairs = [] }))) }
+{
+    let keep = keep_of(directories, to.directory.as_bytes());
+    let mut course = match Course::new(alloc, rows) {
+        Ok(course) => course,
+        Err(NoMemory) => return Err(Refusal::NoMemory),
+    };
+    for at in positions {
+        let pair = match play(&mut course.played, &rows[usize::from(*at)], to, keep) {
+            Ok(pair) => pair,
+            Err(code) => return Err(Refusal::Code(code)),
+        };
+        match course.rename(pair) {
+            Ok(()) => {}
+            Err(NoMemory) => return Err(Refusal::NoMemory),
+        }
+    }
+    let Course { steps, pairs, .. } = course;
+    Ok(Ready {
+        directory: None,
+        keep,
+        steps,
+        pairs,
+    })
+}
+
+impl Store {
+    // Files are given other names.
+    pub(crate) fn rename(&self, from: &Place, to: &Place, moment: u64) -> Result<Ready, Refusal>
+        requires { MayPlan (plans.Rename from.now to.now) self.now.state }
+        ensures ready { IfOk result (λ ready.
+          planned (plans.Rename from.now to.now) moment self.now.state ≡ Ok (done_on self.now.state ready)) }
+        ensures sound { IfOk result (λ ready. IsWellFormed (applied ready self.now.state)) }
+        ensures refused { IfErr result (IsRefused (planned (plans.Rename from.now to.now) moment self.now.state)) }
+    {
+        let positions = self.positions(from, from.flags.deleted);
+        renames(self.alloc, &self.directories, &self.rows, &positions, to)
+    }
+}

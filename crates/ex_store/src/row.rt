@@ -1,0 +1,89 @@
+// The files of a store.
+ghost use Rattle.std.specs.Prelude.{◌≡◌};
+ghost use Rattle.ex_store.specs.Adding.{new_row};
+ghost use Rattle.ex_store.specs.Rows.{blank, by_row, full_of, is_full, is_in, is_of};
+
+use crate::key::{full_cmp, key_cmp};
+use crate::{FullName, Key};
+use ex_generations::{Bytes, File};
+use std::alloc::Global;
+use std::cmp::Ordering;
+
+/// A file of a store.
+#[derive(Debug, Drop)]
+pub struct Row {
+    /// Its directory, name and type.
+    pub key: Key,
+    /// Its generation, mark, moment and bytes.
+    pub file: File,
+}
+
+impl Row {
+    // A new file, unmarked.
+    pub(crate) fn new(key: Key, generation: u32, moment: u64, bytes: Bytes) -> Row
+        ensures { result ≡ new_row key moment bytes generation }
+    {
+        Row {
+            key,
+            file: File {
+                generation,
+                deleted: false,
+                moment,
+                bytes,
+            },
+        }
+    }
+
+    // The same without its bytes.
+    pub(crate) fn blank(&self, alloc: Global) -> Row
+        ensures { result ≡ blank self.now }
+    {
+        Row {
+            key: self.key.copy(),
+            file: File {
+                generation: self.file.generation,
+                deleted: self.file.deleted,
+                moment: self.file.moment,
+                bytes: Bytes::new(Vec::new(alloc)),
+            },
+        }
+    }
+
+    // Its full name.
+    pub(crate) fn full_name(&self) -> FullName
+        ensures { result ≡ full_of self.now }
+    {
+        FullName {
+            key: self.key.copy(),
+            generation: self.file.generation,
+        }
+    }
+
+    // Whether it is of this directory, name and type.
+    pub(crate) fn is_of(&self, key: &Key) -> bool
+        ensures { result ≡ is_of key.now self.now }
+    {
+        key_cmp(&self.key, key).is_eq()
+    }
+
+    // Whether it has this full name.
+    pub(crate) fn is_full(&self, full: &FullName) -> bool
+        ensures { result ≡ is_full full.now self.now }
+    {
+        full_cmp(&self.key, self.file.generation, full).is_eq()
+    }
+
+    // Whether it is one of this directory.
+    pub(crate) fn is_in(&self, directory: &[u8]) -> bool
+        ensures { result ≡ is_in directory.now self.now }
+    {
+        self.key.directory.as_bytes().cmp(directory).is_eq()
+    }
+
+    // Which of two comes first.
+    pub(crate) fn cmp_with(&self, other: &Row) -> Ordering
+        ensures { result ≡ by_row self.now other.now }
+    {
+        key_cmp(&self.key, &other.key).then(self.file.generation.cmp(&other.file.generation))
+    }
+}

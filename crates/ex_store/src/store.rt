@@ -1,0 +1,142 @@
+// The store.
+ghost use Rattle.std.specs.Prelude.{◌≡◌, ◌<◌, true, IfOk, Ok, Err, Result, if◌then◌else◌, length, slice_get, Some, option_map};
+ghost use Rattle.ex_generations.specs.declared.file.File.{File};
+ghost use Rattle.cm_fields.specs.declared.code.Code.TheVariants.{NoDefinition};
+ghost use Rattle.ex_store.specs.Lent.{queue_entry};
+ghost use Rattle.ex_store.specs.State.{defined, first_state, has_directory, logical_name, undefined};
+
+use crate::directory::{number_of};
+use crate::{Definition, Directory, Logical, QueueEntry, Queued, Row};
+use cm_fields::Code;
+use cm_io::NoMemory;
+use cm_text::{Name, equals};
+use std::alloc::Global;
+use std::marker::Model;
+
+/// The state of the file machine. Contracts see it as five flat lists and values, and for how many directories and
+/// files there is room.
+#[derive(Drop)]
+pub struct Store {
+    pub(crate) alloc: Global,
+    pub(crate) directories: Vec<Directory>,
+    pub(crate) connected: Name,
+    pub(crate) logical: Vec<Definition>,
+    pub(crate) rows: Vec<Row>,
+    pub(crate) queue: Vec<QueueEntry>,
+}
+
+impl Model for Store {
+    ghost use Rattle.std.specs.Prelude.{vec_capacity};
+    ghost use Rattle.ex_store.specs.State.{Held, State};
+    ghost use Rattle.ex_store.specs.WellFormed.{IsWellFormed};
+
+    ghost Value = { Held };
+
+    ghost view = { λ it. record {
+        state = record {
+            directories = it.directories.items;
+            connected = it.connected;
+            logical = it.logical.items;
+            rows = it.rows.items;
+            queue = it.queue.items;
+        };
+        directory_room = vec_capacity it.directories;
+        row_room = vec_capacity it.rows;
+    } };
+
+    ghost invariant = { λ it. IsWellFormed (record {
+        directories = it.directories.items;
+        connected = it.connected;
+        logical = it.logical.items;
+        rows = it.rows.items;
+        queue = it.queue.items;
+    }) };
+}
+
+impl Store {
+    /// The store that there is first: the directory OPERATOR, which is connected and keeps one generation of each
+    /// file, and no file.
+    pub fn new(alloc: Global) -> Result<Store, NoMemory>
+        ensures { IfOk result (λ store. store.state ≡ first_state) }
+    {
+        let operator = Directory {
+            name: Name::new("OPERATOR"),
+            keep: 1,
+        };
+        let mut directories = Vec::new(alloc);
+        directories.push(operator)?;
+        Ok(Store {
+            alloc,
+            directories,
+            connected: Name::new("OPERATOR"),
+            logical: Vec::new(alloc),
+            rows: Vec::new(alloc),
+            queue: Vec::new(alloc),
+        })
+    }
+
+    /// Connects to a directory.
+    pub fn connect(&mut self, directory: &str)
+        requires { has_directory directory.now self.old.state.directories ≡ true }
+        ensures { self.new ≡ record self.old { state = record self.old.state { connected = directory.now } } }
+    {
+        self.connected = Name::new(directory);
+    }
+
+    /// Takes a logical name away. NoDefinition where it stands for nothing, and then nothing changes. Letters have no
+    /// case.
+    pub fn undefine(&mut self, name: &str) -> Result<(), Code>
+        ensures answer { result ≡ (if defined name.now self.old.state then Ok tt else Err NoDefinition) }
+        ensures gone { self.new ≡ record self.old { state = undefined name.now self.old.state } }
+    {
+        if !self.is_defined(name) {
+            return Err(Code::NoDefinition);
+        }
+        self.logical.retain(|entry| !equals(entry.name.as_bytes(), name.as_bytes()));
+        Ok(())
+    }
+
+    /// How many generations of each file the directory with this number keeps; 0 where it keeps all.
+    pub fn retention(&self, directory: u16) -> u8
+        requires { directory < length self.now.state.directories }
+        ensures { option_map (λ directory. directory.keep) (slice_get self.now.state.directories directory)
+          ≡ Some result }
+    {
+        self.directories[usize::from(directory)].keep
+    }
+
+    /// How many logical names there are.
+    pub fn logicals(&self) -> u16
+        ensures { result ≡ length self.now.state.logical }
+    {
+        self.logical.len() as u16
+    }
+
+    /// A logical name, in ascending order.
+    pub fn logical_at(&self, i: u16) -> Logical<'_>
+        requires { i < length self.now.state.logical }
+        ensures { option_map (logical_name self.now.state.directories) (slice_get self.now.state.logical i)
+          ≡ Some (record { name = result.name.now; directory = result.directory }) }
+    {
+        let entry = &self.logical[usize::from(i)];
+        Logical {
+            name: entry.name.as_str(),
+            directory: number_of(&self.directories, entry.directory.as_bytes()) as u16,
+        }
+    }
+
+    /// How many entries the print queue has.
+    pub fn requests(&self) -> u16
+        ensures { result ≡ length self.now.state.queue }
+    {
+        self.queue.len() as u16
+    }
+
+    /// An entry of the print queue, in the order in which they came.
+    pub fn request(&self, i: u16) -> Queued<'_>
+        requires { i < length self.now.state.queue }
+        ensures { slice_get self.now.state.queue i ≡ Some (queue_entry result) }
+    {
+        self.queue[usize::from(i)].lent()
+    }
+}

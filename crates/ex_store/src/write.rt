@@ -1,0 +1,69 @@
+// A file is written.
+ghost use Rattle.std.specs.Prelude.{◌≡◌, [], ◌∷◌, IfOk, IfErr, None, Ok};
+ghost use Rattle.ex_store.specs.declared.plan.Plan.TheVariants as plans;
+ghost use Rattle.ex_store.specs.declared.ready.Step.TheVariants as steps;
+ghost use Rattle.ex_store.specs.Plan.{IsRefused, MayPlan, planned};
+ghost use Rattle.ex_store.specs.Ready.{applied, done_on};
+ghost use Rattle.ex_store.specs.Rows.{full_of};
+ghost use Rattle.ex_store.specs.WellFormed.{IsWellFormed};
+
+use crate::adding::admitted;
+use crate::copy::moment_of;
+use crate::directory::keep_of;
+use crate::search::total;
+use crate::{NamePair, Place, Ready, Refusal, Row, Step, Store};
+use cm_fields::Code;
+use cm_io::NoMemory;
+use ex_generations::Bytes;
+use std::alloc::Global;
+
+// One row is added, which is its own source.
+fn one_add(alloc: Global, row: Row, keep: u8) -> Result<Ready, NoMemory>
+    ensures { IfOk result (λ ready. ready ≡ record {
+      directory = None;
+      keep = keep;
+      steps = steps.Add row ∷ [];
+      pairs = (record { source = full_of row; target = full_of row }) ∷ [];
+    }) }
+{
+    let mut pairs = Vec::new(alloc);
+    pairs.push(NamePair {
+        source: row.full_name(),
+        target: row.full_name(),
+    })?;
+    let mut steps = Vec::new(alloc);
+    steps.push(Step::Add(row))?;
+    Ok(Ready {
+        directory: None,
+        keep,
+        steps,
+        pairs,
+    })
+}
+
+impl Store {
+    // A file is written.
+    pub(crate) fn write(&self, to: &Place, bytes: Bytes, moment: u64) -> Result<Ready, Refusal>
+        requires { MayPlan (plans.Write to.now bytes) self.now.state }
+        ensures ready { IfOk result (λ ready.
+          planned (plans.Write to.now bytes) moment self.now.state ≡ Ok (done_on self.now.state ready)) }
+        ensures sound { IfOk result (λ ready. IsWellFormed (applied ready self.now.state)) }
+        ensures refused { IfErr result (IsRefused (planned (plans.Write to.now bytes) moment self.now.state)) }
+    {
+        if to.lacks_name() {
+            return Err(Refusal::Code(Code::NameNeeded));
+        }
+        let key = to.own_key();
+        let all = total(&self.rows);
+        let generation = match admitted(&self.rows, all, &key, to.generation, bytes.len()) {
+            Ok(generation) => generation,
+            Err(code) => return Err(Refusal::Code(code)),
+        };
+        let row = Row::new(key, generation, moment_of(moment), bytes);
+        let keep = keep_of(&self.directories, to.directory.as_bytes());
+        match one_add(self.alloc, row, keep) {
+            Ok(ready) => Ok(ready),
+            Err(NoMemory) => Err(Refusal::NoMemory),
+        }
+    }
+}
