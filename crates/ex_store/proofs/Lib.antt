@@ -1,1 +1,4 @@
 pub mod Ascending
+pub mod Blanks
+pub mod Sizes
+pub mod Sound
