@@ -1,11 +1,13 @@
 -- The lines of lamps that are put one after another.
-use Rattle.std.proofs.Common.{◌≡◌, ℕ, ◌+◌, ◌<◌, List, [], ◌∷◌, ◌++◌, take, drop, get_or, length, ap, sym, ◌∙◌, subst}
+use Rattle.std.proofs.Common.{◌≡◌, ◌≢◌, ℕ, ◌+◌, ◌<◌, List, [], ◌∷◌, ◌++◌, take, drop, get_or, length, ap, sym, ◌∙◌, subst, arith}
 use Rattle.std.proofs.lemmas.List.{append-nil, take_more, take-append-drop}
 use Rattle.std.proofs.lemmas.Grind.{flat_map-append}
+use Rattle.std.specs.List.{flat_map}
+use Rattle.cm_text.specs.Shown.{end_of_line}
 use Rattle.cm_io.specs.Told.{Told, add, AddsPart}
 use Rattle.cm_io.proofs.Adding.{add_none, add_append, adds_early, adds_late}
 use Rattle.eg_lamps.specs.declared.lamps.Lamp.{Lamp}
-use Rattle.eg_lamps.specs.Lamps.{lamp_line, lamp_lines}
+use Rattle.eg_lamps.specs.Lamps.{lamp_line, lamp_lines, level_shown, note_shown}
 
 -- no line is put at first
 pub add_no_lines : (told : Told) → add told (lamp_lines []) ≡ told
@@ -41,3 +43,16 @@ lines_late before now lamps number lamp within at adds =
     let turn : AddsPart before now (lamp_lines (take (number + 1) lamps)) =
     subst P (sym (lines_more lamps number lamp within at)) (adds_late before now (lamp_lines (take number lamps)) (lamp_line lamp) adds) in
     subst P (lines_split lamps (number + 1)) (adds_early before now (lamp_lines (take (number + 1) lamps)) (lamp_lines (drop (number + 1) lamps)) turn)
+
+-- what has an end of line is not empty
+not_empty : (front more : List ℕ) → (front ++ end_of_line) ++ more ≢ []
+unfolding end_of_line
+not_empty [] more = λ (none : (end_of_line ++ more) ≡ []). cc
+not_empty (byte ∷ front) more = λ (none : (((byte ∷ front) ++ end_of_line) ++ more) ≡ []). cc
+
+-- where there is a lamp, there are lines
+pub some_lines : (lamps : List Lamp) (number : ℕ) → number < length lamps → lamp_lines lamps ≢ []
+unfolding lamp_lines lamp_line
+some_lines [] number within = absurd (omega (arith, within))
+some_lines (lamp ∷ lamps) number within =
+    not_empty (level_shown lamp ++ note_shown lamp.note) (flat_map lamp_line lamps)

@@ -89,18 +89,18 @@ module _ (a b : Scene) (count : ℕ) (runs : Runs a b count) where
       counted = omega (arith, length-append runs.taken (key ∷ []), runs.counted);
     }
 
-    pub runs_cut : b.program.has_quit ≡ false → KeyCut b.program key b.screen c.screen c.program.lamps
+    pub runs_cut : b.program.has_quit ≡ false → KeyCut b.program key b.screen c.screen c.program
         → Ends a c status.WriteFault
     runs_cut going cut = inr (record {
       before = runs.taken;
       key = key;
       keys = ap (λ left. runs.taken ++ left) (sym got) ∙ runs.behind.keys;
       going = sym (ap (λ (at : Program). at.has_quit) runs.behind.program) ∙ going;
-      cut = subst (λ (told : Told). KeyCut (run_after a.program runs.taken) key told c.screen c.program.lamps) runs.behind.screen
-          (subst (λ (at : Program). KeyCut at key b.screen c.screen c.program.lamps) runs.behind.program cut);
+      cut = subst (λ (told : Told). KeyCut (run_after a.program runs.taken) key told c.screen c.program) runs.behind.screen
+          (subst (λ (at : Program). KeyCut at key b.screen c.screen c.program) runs.behind.program cut);
     })
 
 -- the first prompt may be cut
 pub cut_first : (a c : Scene) → c.keys ≡ a.keys → AddsPart a.screen c.screen (prompt_text Main)
-    → c.program.lamps ≡ a.program.lamps → Ends a c status.WriteFault
-cut_first a c keys screen lamps = inl (record { keys = keys; screen = screen; lamps = lamps })
+    → c.program ≡ next_line a.program → Ends a c status.WriteFault
+cut_first a c keys screen program = inl (record { keys = keys; screen = screen; program = program })

@@ -1,30 +1,47 @@
 -- What stands where a run stops, and when each status comes.
-use Rattle.std.specs.Prelude.{◌≡◌, ◌⊎◌, ℕ, true, false, List, [], ◌∷◌, ◌++◌, length}
+use Rattle.std.specs.Prelude.{◌≡◌, ◌≢◌, ◌⊎◌, ℕ, true, false, List, [], ◌∷◌, ◌++◌, length}
 use Rattle.cm_io.specs.Told.{Told, add, AddsPart}
 use Rattle.cm_io.specs.Fault.{Rose}
 use Rattle.cm_io.specs.declared.sink.Put.{Put}
 use Rattle.cm_io.specs.declared.sink.Put.TheVariants as puts
 use Rattle.cm_state.specs.declared.prompt.Prompt.TheVariants.{Main}
+use Rattle.cm_state.specs.declared.turn.Turn.{Turn}
 use Rattle.cm_state.specs.Echo.{echo, prompt_text}
-use Rattle.eg_lamps.specs.declared.lamps.Lamp.{Lamp}
+use Rattle.eg_lamps.specs.declared.lamps.Command.{Command}
 use Rattle.eg_lamps.specs.declared.program.Program.{Program}
 use Rattle.eg_lamps.specs.declared.program.TheConstants.{KEY_LIMIT}
 use Rattle.eg_lamps.specs.declared.program.Status.{Status}
 use Rattle.eg_lamps.specs.declared.program.Status.TheVariants as status
-use Rattle.eg_lamps.specs.Run.{key_turn, run_after, run_shown, shows, step, turn_bytes, with_key}
+use Rattle.eg_lamps.specs.Lamps.{reply}
+use Rattle.eg_lamps.specs.Run.{acted, after_command, after_turn, command_prompt, key_turn, next_line, obeying, run_after, run_shown, shows, step, turn_prompt, turn_reply, with_key}
 use Rattle.eg_lamps.specs.Setting.{lamp_setting}
 
--- a key was cut in its echo, and its line has not acted; or behind the echo, and it has
-abbrev pub KeyCut : Program → ℕ → Told → Told → List Lamp → Type 0
-KeyCut at key before now lamps =
-    (AddsPart before now (echo lamp_setting at.session key) × (lamps ≡ at.lamps))
-    ⊎ (AddsPart (add before (echo lamp_setting at.session key)) now (turn_bytes (with_key at key) (key_turn at key))
-    × (lamps ≡ (step at key).lamps))
+-- there are some bytes to put, and a part of them was put
+abbrev pub IsCut : Told → Told → List ℕ → Type 0
+IsCut before now bytes = (bytes ≢ []) × AddsPart before now bytes
+
+-- a reply was cut, and the command is done; or the prompt behind it was, and the next line has begun
+abbrev pub CommandCut : Program → Command → Told → Told → Program → Type 0
+CommandCut at command before now next =
+    (IsCut before now (reply command at.lamps) × (next ≡ obeying at command))
+    ⊎ (IsCut (add before (reply command at.lamps)) now (command_prompt command) × (next ≡ after_command at command))
+
+-- the same behind the echo of a key, by what it came to
+abbrev pub TurnCut : Program → Turn → Told → Told → Program → Type 0
+TurnCut at turn before now next =
+    (IsCut before now (turn_reply at turn) × (next ≡ acted at turn))
+    ⊎ (IsCut (add before (turn_reply at turn)) now (turn_prompt at turn) × (next ≡ after_turn at turn))
+
+-- a key was cut in its echo, and its line has not acted; or behind the echo
+abbrev pub KeyCut : Program → ℕ → Told → Told → Program → Type 0
+KeyCut at key before now next =
+    (AddsPart before now (echo lamp_setting at.session key) × (next ≡ with_key at key))
+    ⊎ TurnCut (with_key at key) (key_turn at key) (add before (echo lamp_setting at.session key)) now next
 
 -- what a key leaves, by how its put went
 abbrev pub Took : Program → Program → ℕ → Told → Told → Put → Type 0
 Took at next key before now puts.Done = (now ≡ add before (shows at key)) × (next ≡ step at key)
-Took at next key before now puts.Failed = KeyCut at key before now next.lamps
+Took at next key before now puts.Failed = KeyCut at key before now next
 
 -- the program, the keys that are left, and what the screen tells, at one moment
 pub record Scene : Type 0 where
@@ -39,11 +56,11 @@ pub record Behind (a b : Scene) (taken : List ℕ) : Type 0 where
   pub screen : b.screen ≡ add a.screen (run_shown a.program taken)
   pub program : b.program ≡ run_after a.program taken
 
--- the first prompt was cut: no key is taken
+-- the first prompt was cut: the line has begun, and no key is taken
 pub record PromptCut (a b : Scene) : Type 0 where
   pub keys : b.keys ≡ a.keys
   pub screen : AddsPart a.screen b.screen (prompt_text Main)
-  pub lamps : b.program.lamps ≡ a.program.lamps
+  pub program : b.program ≡ next_line a.program
 
 -- this key was cut, behind those before it
 pub record CutAt (a b : Scene) : Type 0 where
@@ -51,8 +68,7 @@ pub record CutAt (a b : Scene) : Type 0 where
   pub key : ℕ
   pub keys : before ++ key ∷ b.keys ≡ a.keys
   pub going : (run_after a.program before).has_quit ≡ false
-  pub cut : KeyCut (run_after a.program before) key (add a.screen (run_shown a.program before)) b.screen
-      b.program.lamps
+  pub cut : KeyCut (run_after a.program before) key (add a.screen (run_shown a.program before)) b.screen b.program
 
 -- why no more keys are taken: QUIT has acted, none is left, or as many are taken as a run takes
 abbrev pub IsOver : Scene → List ℕ → Type 0

@@ -24,16 +24,17 @@ abbrev pub is_quit : Command → Bool
 is_quit commands.Quit = true
 is_quit command = false
 
--- the lamps are as the command makes them; behind QUIT no line begins
-abbrev pub after_command : Program → Command → Program
-after_command at command =
-    let now : Program = record at { lamps = obeyed command at.lamps; has_quit = is_quit command } in
-    if is_quit command then now else next_line now
+-- the command is done: the lamps are as it makes them, and QUIT has quit
+abbrev pub obeying : Program → Command → Program
+obeying at command = record at { lamps = obeyed command at.lamps; has_quit = is_quit command }
 
--- its reply, and the prompt of the next line
-abbrev pub command_bytes : Program → Command → List ℕ
-command_bytes at command =
-    reply command at.lamps ++ (if is_quit command then [] else prompt_text Main)
+-- then the next line begins; behind QUIT none does
+abbrev pub after_command : Program → Command → Program
+after_command at command = if is_quit command then obeying at command else next_line (obeying at command)
+
+-- the prompt of that line
+abbrev pub command_prompt : Command → List ℕ
+command_prompt command = if is_quit command then [] else prompt_text Main
 
 -- what a key that came to this leads to; only a confirmed line acts
 unfoldable pub after_turn : Program → Turn → Program
@@ -43,13 +44,27 @@ after_turn at (turns.Refused fault) = next_line at
 after_turn at turns.Abandoned = next_line at
 after_turn at turns.Failed = at
 
--- and what it shows behind the echo
+-- the same before the next line begins
+unfoldable pub acted : Program → Turn → Program
+acted at turns.Confirmed = obeying at (command_of at.session)
+acted at turn = at
+
+-- the reply of a confirmed command; no other turn has one
+unfoldable pub turn_reply : Program → Turn → List ℕ
+turn_reply at turns.Confirmed = reply (command_of at.session) at.lamps
+turn_reply at turn = []
+
+-- the prompt of the next line; behind QUIT and a key that only edits none begins
+unfoldable pub turn_prompt : Program → Turn → List ℕ
+turn_prompt at turns.Edited = []
+turn_prompt at turns.Confirmed = command_prompt (command_of at.session)
+turn_prompt at (turns.Refused fault) = prompt_text Main
+turn_prompt at turns.Abandoned = prompt_text Main
+turn_prompt at turns.Failed = []
+
+-- and what is shown behind the echo
 unfoldable pub turn_bytes : Program → Turn → List ℕ
-turn_bytes at turns.Edited = []
-turn_bytes at turns.Confirmed = command_bytes at (command_of at.session)
-turn_bytes at (turns.Refused fault) = prompt_text Main
-turn_bytes at turns.Abandoned = prompt_text Main
-turn_bytes at turns.Failed = []
+turn_bytes at turn = turn_reply at turn ++ turn_prompt at turn
 
 -- the session has taken a key
 abbrev pub with_key : Program → ℕ → Program

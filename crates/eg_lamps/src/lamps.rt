@@ -1,7 +1,7 @@
 // The lamps, what a command makes of them, and what it shows.
 #![tactic(auto, using(crate::proofs::Pieces::pieces))]
 
-ghost use Rattle.std.specs.Prelude.{◌≡◌, ◌≤◌, length};
+ghost use Rattle.std.specs.Prelude.{◌≡◌, ◌≢◌, ◌≤◌, [], length};
 ghost use Rattle.cm_io.specs.Told.{Adds};
 ghost use Rattle.cm_io.specs.Fault.{PutCause};
 ghost use Rattle.cm_text.specs.declared.name.TheConstants.{NAME_LIMIT};
@@ -69,10 +69,11 @@ fn dark(room: &str) -> Lamp
 }
 
 /// Does what a command says, and shows its reply, which LIST and a refused SET have. It acts also where the screen
-/// fails.
+/// fails, and is Failed only where there is a reply.
 pub fn obey<S: Sink>(command: Command, lamps: &mut [Lamp], screen: &mut S) -> Put
     ensures lamps { lamps.new ≡ obeyed command lamps.old }
     ensures reply { Adds (S.told screen.old) (S.told screen.new) (reply command lamps.old) result }
+    ensures fails { result ≡ Put.Failed → reply command lamps.old ≢ [] }
     ensures later { S.faults screen.old ≤ S.faults screen.new }
     ensures cause { PutCause (S.faults screen.old) (S.faults screen.new) result }
 {
@@ -89,6 +90,7 @@ pub fn obey<S: Sink>(command: Command, lamps: &mut [Lamp], screen: &mut S) -> Pu
 fn change_room<S: Sink>(room: u64, change: Change, lamps: &mut [Lamp], screen: &mut S) -> Put
     ensures lamps { lamps.new ≡ obeyed (Command.Change room change) lamps.old }
     ensures reply { Adds (S.told screen.old) (S.told screen.new) (refusal change) result }
+    ensures fails { result ≡ Put.Failed → refusal change ≢ [] }
     ensures later { S.faults screen.old ≤ S.faults screen.new }
     ensures cause { PutCause (S.faults screen.old) (S.faults screen.new) result }
 {
@@ -116,6 +118,7 @@ fn apply(change: Change, lamp: &mut Lamp)
 #[tactic(auto, using(crate::proofs::Pieces::pieces), unfolding(crate::specs::Lamps::too_bright))]
 fn put_refusal<S: Sink>(change: &Change, screen: &mut S) -> Put
     ensures bytes { Adds (S.told screen.old) (S.told screen.new) (refusal change.now) result }
+    ensures fails { result ≡ Put.Failed → refusal change.now ≢ [] }
     ensures later { S.faults screen.old ≤ S.faults screen.new }
     ensures cause { PutCause (S.faults screen.old) (S.faults screen.new) result }
 {
@@ -126,9 +129,10 @@ fn put_refusal<S: Sink>(change: &Change, screen: &mut S) -> Put
 }
 
 // Shows the line of each lamp.
-#[tactic(auto, using(crate::proofs::Lines::add_no_lines, crate::proofs::Lines::add_lines_more, crate::proofs::Lines::lines_late))]
+#[tactic(auto, using(crate::proofs::Lines::add_no_lines, crate::proofs::Lines::add_lines_more, crate::proofs::Lines::lines_late, crate::proofs::Lines::some_lines))]
 fn put_lamps<S: Sink>(lamps: &[Lamp], screen: &mut S) -> Put
     ensures bytes { Adds (S.told screen.old) (S.told screen.new) (lamp_lines lamps.now) result }
+    ensures fails { result ≡ Put.Failed → lamp_lines lamps.now ≢ [] }
     ensures later { S.faults screen.old ≤ S.faults screen.new }
     ensures cause { PutCause (S.faults screen.old) (S.faults screen.new) result }
 {

@@ -1,7 +1,7 @@
 // The program in its course: the loop over the keys, what each key comes to, and the act.
 #![tactic(auto, using(crate::proofs::Pieces::pieces))]
 
-ghost use Rattle.std.specs.Prelude.{◌≡◌, ◌≤◌, IsTrue, None, false};
+ghost use Rattle.std.specs.Prelude.{◌≡◌, ◌≤◌, ◌++◌, IsTrue, None, false};
 ghost use Rattle.cm_io.specs.Told.{Adds};
 ghost use Rattle.cm_io.specs.Fault.{PutCause};
 ghost use Rattle.cm_line.specs.Keys.{class_of};
@@ -13,10 +13,10 @@ ghost use Rattle.cm_state.specs.Edit.{edited};
 ghost use Rattle.cm_state.specs.Held.{IsReady, at_start};
 ghost use Rattle.cm_state.specs.Turn.{put_of, turn_of};
 ghost use Rattle.eg_lamps.specs.Command.{command_of};
-ghost use Rattle.eg_lamps.specs.End.{EndCause, Ends, Took, number_of};
-ghost use Rattle.eg_lamps.specs.Lamps.{dark_lamps};
+ghost use Rattle.eg_lamps.specs.End.{CommandCut, EndCause, Ends, Took, TurnCut, number_of};
+ghost use Rattle.eg_lamps.specs.Lamps.{dark_lamps, reply};
 ghost use Rattle.eg_lamps.specs.Rooms.{room_meanings};
-ghost use Rattle.eg_lamps.specs.Run.{after_command, after_turn, command_bytes, is_quit, next_line, turn_bytes, with_key};
+ghost use Rattle.eg_lamps.specs.Run.{after_command, after_turn, command_prompt, is_quit, next_line, turn_bytes, with_key};
 ghost use Rattle.eg_lamps.specs.Setting.{house, lamp_setting};
 
 use crate::grammar::COMMANDS;
@@ -114,8 +114,8 @@ impl Program {
         requires setting { setting parser.now.grammar parser.now.names room_meanings ≡ lamp_setting }
         requires ties { Ties room_meanings parser.now.hooks.now }
         requires hooks { hook_count parser.now.grammar ≤ count parser.now.hooks.now }
-        // What is shown, and what becomes of the lamps: those of the keys taken, or on a fault up to the key that
-        // was cut.
+        // What is shown, and where the program stands: behind the keys taken, or where the screen fails in the midst
+        // of the prompt or key that was cut.
         ensures ends { IsTrue K.tells → Ends
             (record { program = self.old; keys = K.left keys.old; screen = S.told screen.old })
             (record { program = self.new; keys = K.left keys.new; screen = S.told screen.new })
@@ -199,10 +199,10 @@ impl Program {
     }
 
     // Does what a key came to: a confirmed line acts, and behind one that is refused or given up the next begins.
-    #[tactic(auto, using(crate::proofs::Pieces::pieces), unfolding(crate::specs::Run::after_turn, crate::specs::Run::turn_bytes))]
+    #[tactic(auto, using(crate::proofs::Pieces::pieces), unfolding(crate::specs::Run::acted, crate::specs::Run::after_turn, crate::specs::Run::turn_bytes, crate::specs::Run::turn_prompt, crate::specs::Run::turn_reply))]
     fn take_turn<S: Sink>(&mut self, turn: Turn, screen: &mut S) -> Put
         ensures done { result ≡ Put.Done → self.new ≡ after_turn self.old turn }
-        ensures lamps { self.new.lamps ≡ (after_turn self.old turn).lamps }
+        ensures cut { result ≡ Put.Failed → TurnCut self.old turn (S.told screen.old) (S.told screen.new) self.new }
         ensures ready { IsReady lamp_setting self.old.session → IsReady lamp_setting self.new.session }
         ensures bytes { Adds (S.told screen.old) (S.told screen.new) (turn_bytes self.old turn) result }
         ensures later { S.faults screen.old ≤ S.faults screen.new }
@@ -230,9 +230,11 @@ impl Program {
     // Does what a confirmed line commands, shows the reply, and unless it is QUIT begins the next line.
     fn act<S: Sink>(&mut self, command: Command, screen: &mut S) -> Put
         ensures done { result ≡ Put.Done → self.new ≡ after_command self.old command }
-        ensures lamps { self.new.lamps ≡ (after_command self.old command).lamps }
+        ensures cut { result ≡ Put.Failed
+            → CommandCut self.old command (S.told screen.old) (S.told screen.new) self.new }
         ensures ready { IsReady lamp_setting self.old.session → IsReady lamp_setting self.new.session }
-        ensures bytes { Adds (S.told screen.old) (S.told screen.new) (command_bytes self.old command) result }
+        ensures bytes { Adds (S.told screen.old) (S.told screen.new)
+            (reply command self.old.lamps ++ command_prompt command) result }
         ensures later { S.faults screen.old ≤ S.faults screen.new }
         ensures cause { PutCause (S.faults screen.old) (S.faults screen.new) result }
     {

@@ -25,7 +25,7 @@ abbrev pub is_sorted : {X : Type 0} → (X → X → Ordering) → List X → Bo
 is_sorted compare [] = true
 is_sorted compare (x ∷ xs) = all_above compare x xs && is_sorted compare xs
 
-above_chain : {X : Type 0} (compare : X → X → Ordering) → IsTotalOrder compare → (x y : X) (xs : List X)
+pub above_chain : {X : Type 0} (compare : X → X → Ordering) → IsTotalOrder compare → (x y : X) (xs : List X)
     → is_lt (compare x y) ≡ true → all_above compare y xs ≡ true → all_above compare x xs ≡ true
 above_chain compare total x y [] less above = refl
 above_chain compare total x y (z ∷ xs) less above =
