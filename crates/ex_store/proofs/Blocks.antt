@@ -1,7 +1,5 @@
 -- The rows of one directory stand together.
 use Rattle.std.proofs.Common.{◌≡◌, ℕ, zero, suc, ◌+◌, ◌-◌, ◌<◌, ◌≤◌, Bool, true, false, not, ◌&&◌, ◌||◌, ◌==◌, cond, List, [], ◌∷◌, ◌++◌, length, map, filter, take, drop, get_or, slice_get, Some, None, Option, option_map, refl, ap, arith, ◌∙◌, sym, subst}
-use Rattle.std.specs.Cmp.{IsTotalOrder}
-use Rattle.std.specs.Cmp.Lexicographic.{on_texts}
 use Rattle.std.specs.List.{list_all, position_from, prefix_len}
 use Rattle.std.specs.List.Sorted.{IsPartitionedBy}
 use Rattle.std.specs.Ordering.{is_eq, is_gt, is_le, is_lt, nat_cmp, on, ordering_reverse, ordering_then}
@@ -9,23 +7,22 @@ use Rattle.std.specs.declared.cmp.Ordering.{Ordering}
 use Rattle.std.specs.declared.cmp.Ordering.TheVariants.{Less, Equal, Greater}
 use Rattle.std.proofs.lemmas.Bool.{and_from, and_parts}
 use Rattle.std.proofs.lemmas.Bool.Decides.{nat_tests}
-use Rattle.std.proofs.lemmas.Cmp.{nat_cmp_total, nat_list_cmp_total, on_total, then_total}
-use Rattle.std.proofs.lemmas.List.{append-nil, length-append}
+use Rattle.std.proofs.lemmas.Cmp.{nat_list_cmp_total}
+use Rattle.std.proofs.lemmas.List.{append-nil, length-append, length-map}
 use Rattle.std.proofs.lemmas.List.Sums.{prefix_len_is}
 use Rattle.std.proofs.lemmas.Slice.Eq.{bytes_eq-Decides}
 use Rattle.std.proofs.lemmas.Map.Lookups.{exact_bytes}
 use Rattle.cm_files.specs.declared.row.FileRow.{FileRow}
 use Rattle.cm_files.specs.Catalogue.{ascends, by_bytes, rows_of}
 use Rattle.ex_store.specs.declared.directory.Directory.{Directory}
-use Rattle.ex_store.specs.declared.key.FullName.{FullName}
-use Rattle.ex_store.specs.declared.key.Key.{Key}
 use Rattle.ex_store.specs.declared.row.Row.{Row}
 use Rattle.ex_store.specs.Positions.{positions_from}
-use Rattle.ex_store.specs.Rows.{by_row, end_in, first_in, full_of, is_in, rows_in}
+use Rattle.ex_store.specs.Rows.{by_row, end_in, first_in, is_in, rows_in}
 use Rattle.ex_store.specs.State.{State, catalogue_of, file_row, has_directory, is_named, number_of, rows_numbered}
 use Rattle.ex_store.specs.WellFormed.{IsWellFormed, is_row_among}
 use Rattle.ex_store.proofs.Ascending.{all_above, is_less, is_sorted, sorted_ascends}
 use Rattle.ex_store.proofs.Lawful.{below_name, by_name, by_name_total, directory_there, named, number_order, text_itself}
+use Rattle.ex_store.proofs.Sound.{by_row_total}
 
 -- what may stand behind an element of this place
 abbrev pub may_follow : Ordering → Ordering → Bool
@@ -226,12 +223,6 @@ sorted_rises directory (row ∷ rows) sorted =
     let parts = and_parts _ _ sorted in
     and_from _ _ (follows_rows directory row rows parts.0) (sorted_rises directory rows parts.1)
 
-by_row_total : IsTotalOrder by_row
-by_row_total =
-    on_total full_of (then_total (on_total (λ (full : FullName). full.key)
-      (then_total (on_texts (λ (key : Key). key.directory)) (then_total (on_texts (λ (key : Key). key.name)) (on_texts (λ (key : Key). key.kind)))))
-      (on_total (λ (full : FullName). full.generation) nat_cmp_total))
-
 pub directories_rise : (directory : List ℕ) (rows : List Row) → ascends by_row rows ≡ true
     → rises (λ row. by_bytes row.key.directory directory) rows ≡ true
 directories_rise directory rows ascend = sorted_rises directory rows (sorted_ascends by_row by_row_total rows ascend)
@@ -399,3 +390,52 @@ positions_within test inside only xs middle first behind parts =
     ∙ ap (λ front. front ++ positions_from test (0 + length parts.lower) (middle ++ parts.upper)) e2
     ∙ ap (λ (k : ℕ). positions_from test k (middle ++ parts.upper)) start
     ∙ e3 ∙ ap (λ more. positions_from test first middle ++ more) e4 ∙ append-nil (positions_from test first middle)
+
+-- the rows of the directory with a number, by its name
+pub rows_of_name : (state : State) → IsWellFormed state → (n : ℕ) (name : List ℕ)
+    → option_map (λ directory. directory.name) (slice_get state.directories n) ≡ Some name
+    → rows_numbered n state ≡ rows_in name state.rows
+rows_of_name state well n name is = by (slice_get state.directories n) refl is
+  where
+    by : (found : Option Directory) → slice_get state.directories n ≡ found
+        → option_map (λ directory. directory.name) found ≡ Some name → rows_numbered n state ≡ rows_in name state.rows
+    by None there is = absurd (cc)
+    by (Some directory) there is =
+        let same : directory.name ≡ name = cc in
+        rows_at_number state well n directory there ∙ ap (λ each. rows_in each state.rows) same
+
+-- where a row of the directory with a number stands
+pub row_stands : (state : State) → IsWellFormed state → (n i at : ℕ) (name : List ℕ) (rows : List Row)
+    → option_map (λ directory. directory.name) (slice_get state.directories n) ≡ Some name
+    → i < length (rows_numbered n state) → at ≡ first_in name state.rows → rows ≡ state.rows
+    → (at + i < length rows) × (slice_get (rows_numbered n state) i ≡ slice_get rows (at + i)) × (at + i < 4096)
+row_stands state well n i at name rows is within first items =
+    let same = rows_of_name state well n name is in
+    let parts = block name state.rows well.rows.ascend in
+    let bounds = block_within (is_in name) state.rows (rows_in name state.rows) (first_in name state.rows) (end_in name state.rows) parts in
+    let start = bounds.0 in
+    let last = bounds.1 in
+    let few = well.rows.few in
+    let sizes = ap length same in
+    let inside : i < length (rows_in name state.rows) = omega arith in
+    let all = ap length items in
+    (omega arith, ap (λ each. slice_get each i) same
+      ∙ block_at (is_in name) state.rows (rows_in name state.rows) (first_in name state.rows) (end_in name state.rows) parts i inside
+      ∙ ap (λ (k : ℕ). slice_get state.rows (k + i)) (sym first) ∙ ap (λ each. slice_get each (at + i)) (sym items), omega arith)
+
+-- how many rows the directory with a number has
+pub rows_counted : (state : State) → IsWellFormed state → (n : ℕ) (name : List ℕ)
+    → option_map (λ directory. directory.name) (slice_get state.directories n) ≡ Some name
+    → (end_in name state.rows ≡ first_in name state.rows + length (rows_of (catalogue_of state) n))
+      × (end_in name state.rows ≤ 4096)
+rows_counted state well n name is =
+    let same = rows_of_name state well n name is in
+    let parts = block name state.rows well.rows.ascend in
+    let bounds = block_within (is_in name) state.rows (rows_in name state.rows) (first_in name state.rows) (end_in name state.rows) parts in
+    let first = bounds.0 in
+    let last = bounds.1 in
+    let few = well.rows.few in
+    let sizes = ap length same in
+    let catalogue = ap length (rows_of_catalogue state n) in
+    let mapped = length-map (rows_numbered n state) (file_row state.directories) in
+    (omega arith, omega arith)
