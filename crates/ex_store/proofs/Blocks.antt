@@ -5,11 +5,12 @@ use Rattle.std.specs.List.Sorted.{IsPartitionedBy}
 use Rattle.std.specs.Ordering.{is_eq, is_gt, is_le, is_lt, nat_cmp, on, ordering_reverse, ordering_then}
 use Rattle.std.specs.declared.cmp.Ordering.{Ordering}
 use Rattle.std.specs.declared.cmp.Ordering.TheVariants.{Less, Equal, Greater}
-use Rattle.std.proofs.lemmas.Bool.{and_from, and_parts}
+use Rattle.std.proofs.lemmas.Bool.{and_from, and_parts, eqb-true}
 use Rattle.std.proofs.lemmas.Bool.Decides.{nat_tests}
 use Rattle.std.proofs.lemmas.Cmp.{nat_list_cmp_total}
 use Rattle.std.proofs.lemmas.List.{append-nil, length-append, length-map}
 use Rattle.std.proofs.lemmas.List.Sums.{prefix_len_is}
+use Rattle.std.proofs.lemmas.Option.{slice_get-map}
 use Rattle.std.proofs.lemmas.Slice.Eq.{bytes_eq-Decides}
 use Rattle.std.proofs.lemmas.Map.Lookups.{exact_bytes}
 use Rattle.cm_files.specs.declared.row.FileRow.{FileRow}
@@ -21,6 +22,7 @@ use Rattle.ex_store.specs.Rows.{by_row, end_in, first_in, is_in, rows_in}
 use Rattle.ex_store.specs.State.{State, catalogue_of, file_row, has_directory, is_named, number_of, rows_numbered}
 use Rattle.ex_store.specs.WellFormed.{IsWellFormed, is_row_among}
 use Rattle.ex_store.proofs.Ascending.{all_above, is_less, is_sorted, sorted_ascends}
+use Rattle.ex_store.proofs.Defining.{all_at}
 use Rattle.ex_store.proofs.Lawful.{below_name, by_name, by_name_total, directory_there, named, number_order, text_itself}
 use Rattle.ex_store.proofs.Sound.{by_row_total}
 
@@ -438,4 +440,49 @@ rows_counted state well n name is =
     let sizes = ap length same in
     let catalogue = ap length (rows_of_catalogue state n) in
     let mapped = length-map (rows_numbered n state) (file_row state.directories) in
+    (omega arith, omega arith)
+
+kept_pass : {X : Type 0} (keep : X → Bool) (xs : List X) → list_all keep (filter keep xs) ≡ true
+kept_pass keep [] = refl
+kept_pass {X} keep (x ∷ xs) = by (keep x) refl (kept_pass keep xs)
+  where
+    by : (kept : Bool) → keep x ≡ kept → list_all keep (filter keep xs) ≡ true
+        → list_all keep (cond kept (x ∷ filter keep xs) (filter keep xs)) ≡ true
+    by true is rest = and_from _ _ is rest
+    by false is rest = rest
+
+-- a row by its number, as the catalogue has it
+pub catalogue_row : (state : State) (n i : ℕ) (row : Row) → slice_get (rows_numbered n state) i ≡ Some row
+    → (name kind : List ℕ) → name ≡ row.key.name → kind ≡ row.key.kind
+    → slice_get (rows_of (catalogue_of state) n) i
+    ≡ Some (record { directory = n; name = name; kind = kind; generation = row.file.generation; deleted = row.file.deleted })
+catalogue_row state n i row at name kind names kinds =
+    let keep = λ (each : Row). number_of each.key.directory state.directories == n in
+    let number : number_of row.key.directory state.directories ≡ n =
+      eqb-true _ _ (all_at keep (rows_numbered n state) i row (kept_pass keep state.rows) at) in
+    let first = λ (k : ℕ). let made : FileRow = record { directory = k; name = row.key.name; kind = row.key.kind; generation = row.file.generation; deleted = row.file.deleted } in Some made in
+    let second = λ (text : List ℕ). let made : FileRow = record { directory = n; name = text; kind = row.key.kind; generation = row.file.generation; deleted = row.file.deleted } in Some made in
+    let third = λ (text : List ℕ). let made : FileRow = record { directory = n; name = name; kind = text; generation = row.file.generation; deleted = row.file.deleted } in Some made in
+    ap (λ rows. slice_get rows i) (rows_of_catalogue state n)
+    ∙ slice_get-map (file_row state.directories) (rows_numbered n state) i
+    ∙ ap (option_map (file_row state.directories)) at
+    ∙ ap first number ∙ ap second (sym names) ∙ ap third (sym kinds)
+
+-- how many rows the catalogue has of a directory
+pub catalogue_rows : (state : State) (n : ℕ) → length (rows_of (catalogue_of state) n) ≡ length (rows_numbered n state)
+catalogue_rows state n =
+    ap length (rows_of_catalogue state n) ∙ length-map (rows_numbered n state) (file_row state.directories)
+
+-- the same, as two searches tell them
+pub rows_between : (state : State) → IsWellFormed state → (n : ℕ) (name : List ℕ)
+    → option_map (λ directory. directory.name) (slice_get state.directories n) ≡ Some name
+    → (first end : ℕ) (rows others : List Row) → rows ≡ state.rows → others ≡ state.rows
+    → end ≡ end_in name rows → first ≡ first_in name others
+    → (end ≡ first + length (rows_of (catalogue_of state) n)) × (end ≤ 4096)
+rows_between state well n name is first end rows others same other_same ends starts =
+    let counts = rows_counted state well n name is in
+    let whole = counts.0 in
+    let few = counts.1 in
+    let last : end ≡ end_in name state.rows = ends ∙ ap (end_in name) same in
+    let start : first ≡ first_in name state.rows = starts ∙ ap (first_in name) other_same in
     (omega arith, omega arith)
