@@ -1,15 +1,40 @@
-use Rattle.std.proofs.Common.{rules, ◌≡◌, ◌≤◌, true, [], ◌∷◌, ◌++◌, length, nat_lt, min, IfOk, IfErr, OnOk, None, Ok, ℕ, ◌+◌, ◌-◌, ◌*◌, ◌<◌, ◌/◌, ◌%◌, Bool, false, nat_eq, List, slice_index_or, slice_set, bit_and, bit_or, Fits, w8, w32, w64, Bor, MutBor}
-use Rattle.std.specs.List.{list_all}
-use Rattle.ex_store.specs.declared.limits.TheConstants.{ROW_LIMIT}
-use Rattle.ex_store.specs.declared.plan.Plan.TheVariants as plans
-use Rattle.ex_store.specs.declared.ready.Step.TheVariants as steps
-use Rattle.ex_store.specs.Adding.{each_in_turn, new_row}
-use Rattle.ex_store.specs.Copying.{copied, moment_of, written}
-use Rattle.ex_store.specs.Plan.{IsRefused, IsTarget, MayPlan, planned}
-use Rattle.ex_store.specs.Positions.{elements_at}
-use Rattle.ex_store.specs.Ready.{all_stepped, applied, done_on, outcome_of}
-use Rattle.ex_store.specs.Rows.{added, blank, full_of}
+use Rattle.std.proofs.Common.{◌≡◌, ℕ, ◌+◌, Ok, Err, List, [], length, length-append, ap, drop, get_or, sym, subst, ◌∙◌, arith}
+use Rattle.std.proofs.Math.ListN.{drop_of_length-le}
+use Rattle.ex_store.specs.declared.row.Row.{Row}
+use Rattle.ex_store.specs.Adding.{each_in_turn}
+use Rattle.ex_store.specs.Copying.{copied}
 use Rattle.ex_store.specs.State.{keep_of}
-use Rattle.ex_store.specs.WellFormed.{AreRows, IsWellFormed}
+use Rattle.ex_store.specs.Positions.{elements_at}
+use Rattle.ex_store.specs.WellFormed.{is_row_among}
+use Rattle.ex_store.proofs.Copies.{IsCopying, IsSource, copies_more, copies_refused, form_at, outcome_at, source_at}
 use Rattle.ex_store.proofs.copy.copies.Goals as goal
 
+pub returns-in-Err-admitted-clause-refused : goal.returns-in-Err-admitted-clause-refused
+returns-in-Err-admitted-clause-refused c =
+    let at = source_at c.args.rows.now c.args.positions.now c.loop-at.at-index c.from.result c.index-rows-from.result c.requires.within c.loop-at-test.true c.from.ensures c.index-rows-from.is in
+    let copying = subst (λ (left : List Row). IsCopying c.args.directories.now c.keep_of-keep.result c.args.moment c.args.to.now c.args.rows.now (elements_at c.args.rows.now c.args.positions.now) left c.loop-at.course.steps.items c.loop-at.course.pairs.items c.loop-at.course.played.items c.loop-at.bytes) at.more c.loop-at.invariant.copying in
+    let keep_is : c.keep_of-keep.result ≡ keep_of c.args.to.now.directory c.args.directories.now = c.keep_of-keep.ensures ∙ ap (λ (name : List ℕ). keep_of name c.args.directories.now) c.as_bytes.ensures.value in
+    subst (λ (keep : ℕ). each_in_turn (copied keep c.args.moment c.args.to.now) (elements_at c.args.rows.now c.args.positions.now) (record { rows = c.args.rows.now; pairs = [] }) ≡ Err c.in-Err-admitted.code) keep_is
+    (copies_refused c.args.directories.now c.keep_of-keep.result c.args.moment c.args.to.now c.args.rows.now (elements_at c.args.rows.now c.args.positions.now) _ c.index-rows-from.result _ _ _ _ c.in-Err-admitted.code copying
+    (rw (← c.deref.ensures.value, ← c.key_from-key.ensures, ← c.len-size.ensures) (sym c.admitted.ensures ∙ c.in-Err-admitted.is)))
+
+pub loop-at-preserved : goal.loop-at-preserved
+loop-at-preserved c =
+    let at = source_at c.args.rows.now c.args.positions.now c.loop-at.at-index c.from.result c.index-rows-from.result c.requires.within c.loop-at-test.true c.from.ensures c.index-rows-from.is in
+    let copying = subst (λ (left : List Row). IsCopying c.args.directories.now c.keep_of-keep.result c.args.moment c.args.to.now c.args.rows.now (elements_at c.args.rows.now c.args.positions.now) left c.loop-at.course.steps.items c.loop-at.course.pairs.items c.loop-at.course.played.items c.loop-at.bytes) at.more c.loop-at.invariant.copying in
+    let count : length c.copy.new.self.pairs.items ≡ c.loop-at.at-index + 1 = rw c.in-Ok-copy.ensures.pairs (length-append _ _ ∙ ap (λ n. n + 1) c.loop-at.invariant.count) in
+    let form = form_at (is_row_among c.args.directories.now) c.args.rows.now at.there.0 c.index-rows-from.result c.requires.rows.within at.there.1 in
+    record {
+      copying = rw (c.in-Ok-copy.ensures.steps, c.in-Ok-copy.ensures.pairs, c.in-Ok-copy.ensures.played, c.key_from-key.ensures, c.moment_of.ensures, c.len-size.ensures)
+        (copies_more c.args.directories.now c.keep_of-keep.result c.args.moment c.args.to.now c.args.rows.now (elements_at c.args.rows.now c.args.positions.now) _ c.index-rows-from.result _ _ _ _ c.in-Ok-admitted.generation c.requires.target form copying
+        (rw (← c.deref.ensures.value, ← c.key_from-key.ensures, ← c.len-size.ensures) (sym c.admitted.ensures ∙ c.in-Ok-admitted.is)));
+      count = count;
+    }
+
+pub returns-clause-ready : goal.returns-clause-ready
+returns-clause-ready c =
+    let none : drop c.loop-at.at-index c.args.positions.now ≡ [] = drop_of_length-le c.args.positions.now (omega arith) in
+    let copying = subst (λ (left : List ℕ). IsCopying c.args.directories.now c.keep_of-keep.result c.args.moment c.args.to.now c.args.rows.now (elements_at c.args.rows.now c.args.positions.now) (elements_at c.args.rows.now left) c.loop-at.course.steps.items c.loop-at.course.pairs.items c.loop-at.course.played.items c.loop-at.bytes) none c.loop-at.invariant.copying in
+    let keep_is : c.keep_of-keep.result ≡ keep_of c.args.to.now.directory c.args.directories.now = c.keep_of-keep.ensures ∙ ap (λ (name : List ℕ). keep_of name c.args.directories.now) c.as_bytes.ensures.value in
+    subst (λ (keep : ℕ). each_in_turn (copied keep c.args.moment c.args.to.now) (elements_at c.args.rows.now c.args.positions.now) (record { rows = c.args.rows.now; pairs = [] }) ≡ Ok (outcome_at c.keep_of-keep.result c.args.rows.now c.loop-at.course.steps.items c.loop-at.course.pairs.items)) keep_is
+    (sym copying.on.course)
