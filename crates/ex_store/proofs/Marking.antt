@@ -214,3 +214,14 @@ well_formed_with_rows state rows well are = record {
   queue_within = well.queue_within;
   few_entries = well.few_entries;
 }
+
+-- the rows that are marked are those that pass
+pub marked_rows : (test : Row → Bool) (deleted : Bool) (rows before after : List Row) (given positions : List ℕ) → before ≡ rows
+    → given ≡ positions → positions ≡ positions_from test 0 rows → after ≡ all_changed_at (with_mark deleted) before given
+    → after ≡ map (where_passing test (with_mark deleted)) rows
+marked_rows test deleted rows before after given positions same told found marked =
+    rw (marked, told, found, same) (changed_at_positions test (with_mark deleted) rows)
+
+pub positions_fit : (test : Row → Bool) (rows before : List Row) (given positions : List ℕ) → before ≡ rows → given ≡ positions
+    → positions ≡ positions_from test 0 rows → list_all (λ at. nat_lt at (length before)) given ≡ true
+positions_fit test rows before given positions same told found = rw (told, found, same) (positions_within test rows)
