@@ -213,7 +213,8 @@ built_parts name keep directories made is = by (has_directory name directories) 
     by false true known limit is = absurd (cc)
     by false false known limit is = (cc, λ absent. leb-false DIRECTORY_LIMIT (length directories) limit)
 
-all_more : {X : Type 0} (test other : X → Bool) (xs : List X) → ((x : X) → test x ≡ true → other x ≡ true) → list_all test xs ≡ true
+-- what is so of all, and what follows from it
+pub all_more : {X : Type 0} (test other : X → Bool) (xs : List X) → ((x : X) → test x ≡ true → other x ≡ true) → list_all test xs ≡ true
     → list_all other xs ≡ true
 all_more test other [] more all = refl
 all_more test other (x ∷ xs) more all =

@@ -5,7 +5,7 @@ ghost use Rattle.cm_fields.specs.declared.code.Code.TheVariants.{NoDefinition};
 ghost use Rattle.ex_store.specs.Lent.{queue_entry};
 ghost use Rattle.ex_store.specs.State.{defined, first_state, has_directory, logical_name, undefined};
 
-use crate::directory::{number_of};
+use crate::directory::number_of;
 use crate::{Definition, Directory, Logical, QueueEntry, Queued, Row};
 use cm_fields::Code;
 use cm_io::NoMemory;
@@ -33,23 +33,23 @@ impl Model for Store {
     ghost Value = { Held };
 
     ghost view = { λ it. record {
-        state = record {
-            directories = it.directories.items;
-            connected = it.connected;
-            logical = it.logical.items;
-            rows = it.rows.items;
-            queue = it.queue.items;
-        };
-        directory_room = vec_capacity it.directories;
-        row_room = vec_capacity it.rows;
-    } };
-
-    ghost invariant = { λ it. IsWellFormed (record {
+      state = record {
         directories = it.directories.items;
         connected = it.connected;
         logical = it.logical.items;
         rows = it.rows.items;
         queue = it.queue.items;
+      };
+      directory_room = vec_capacity it.directories;
+      row_room = vec_capacity it.rows;
+    } };
+
+    ghost invariant = { λ it. IsWellFormed (record {
+      directories = it.directories.items;
+      connected = it.connected;
+      logical = it.logical.items;
+      rows = it.rows.items;
+      queue = it.queue.items;
     }) };
 }
 
@@ -93,7 +93,8 @@ impl Store {
         if !self.is_defined(name) {
             return Err(Code::NoDefinition);
         }
-        self.logical.retain(|entry| !equals(entry.name.as_bytes(), name.as_bytes()));
+        self.logical
+            .retain(|entry| !equals(entry.name.as_bytes(), name.as_bytes()));
         Ok(())
     }
 
@@ -101,7 +102,7 @@ impl Store {
     pub fn retention(&self, directory: u16) -> u8
         requires { directory < length self.now.state.directories }
         ensures { option_map (λ directory. directory.keep) (slice_get self.now.state.directories directory)
-          ≡ Some result }
+            ≡ Some result }
     {
         self.directories[usize::from(directory)].keep
     }
@@ -117,7 +118,7 @@ impl Store {
     pub fn logical_at(&self, i: u16) -> Logical<'_>
         requires { i < length self.now.state.logical }
         ensures { option_map (logical_name self.now.state.directories) (slice_get self.now.state.logical i)
-          ≡ Some (record { name = result.name.now; directory = result.directory }) }
+            ≡ Some (record { name = result.name.now; directory = result.directory }) }
     {
         let entry = &self.logical[usize::from(i)];
         Logical {

@@ -1,0 +1,10 @@
+use Rattle.std.proofs.Common.{◌≡◌, drop, length}
+use Rattle.ex_store.specs.Positions.{all_changed_at}
+use Rattle.ex_store.specs.Rows.{with_mark}
+use Rattle.ex_store.proofs.marks.set_marks.Given as goal
+
+abbrev pub invariant-loop-at : goal.invariant-loop-at
+invariant-loop-at l = record {
+  marked : all_changed_at (with_mark l.deleted) l.rows (drop l.at-index l.positions) ≡ all_changed_at (with_mark l.deleted) l.initial.rows l.positions;
+  size : length l.rows ≡ length l.initial.rows;
+}
