@@ -37,14 +37,16 @@ length_inserted row (other ∷ rows) = by (is_lt (by_row other row)) (length_ins
 total_kept : (keep : ℕ) (key : Key) (rows : List Row) → total (kept_newest keep key rows) ≡ total rows
 total_kept keep key [] = refl
 total_kept keep key (row ∷ rows) =
-    total_cons _ (kept_newest keep key rows)
-    ∙ (by (is_of key row && nat_le keep (live (files_of key rows))) (total_kept keep key rows) ∙ sym (total_cons row rows))
+    by (is_of key row && nat_le keep (live (files_of key rows))) (total_kept keep key rows)
   where
     by : (b : Bool) → total (kept_newest keep key rows) ≡ total rows
-        → length (cond b (with_mark true row) row).file.bytes + total (kept_newest keep key rows)
-        ≡ length row.file.bytes + total rows
-    by true rest = ap (λ n. length row.file.bytes + n) rest
-    by false rest = ap (λ n. length row.file.bytes + n) rest
+        → total (cond b (with_mark true row) row ∷ kept_newest keep key rows) ≡ total (row ∷ rows)
+    by true rest =
+        total_cons (with_mark true row) (kept_newest keep key rows)
+        ∙ (ap (λ n. length row.file.bytes + n) rest ∙ sym (total_cons row rows))
+    by false rest =
+        total_cons row (kept_newest keep key rows)
+        ∙ (ap (λ n. length row.file.bytes + n) rest ∙ sym (total_cons row rows))
 
 length_kept : (keep : ℕ) (key : Key) (rows : List Row) → length (kept_newest keep key rows) ≡ length rows
 length_kept keep key [] = refl

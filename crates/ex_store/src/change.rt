@@ -1,5 +1,6 @@
 // Changes of the rows of a store.
 ghost use Rattle.std.specs.Prelude.{◌≡◌, ◌<◌, ◌≤◌, ◌+◌, length, insert, vec_capacity, vec_len, OnSome};
+ghost use Rattle.std.specs.Option.{option_to_list};
 ghost use Rattle.ex_store.specs.Ready.{put_back, stepped, under};
 ghost use Rattle.ex_generations.specs.Generations.{rewritten};
 ghost use Rattle.ex_store.specs.Rows.{added, filled, inserted, kept_newest, retained, row_at, without};
@@ -75,6 +76,7 @@ pub(crate) fn add(rows: &mut Vec<Row>, row: Row, keep: u8)
 pub(crate) fn take_out(rows: &mut Vec<Row>, full: &FullName) -> Option<Row>
     ensures row { result ≡ row_at full.now rows.old.items }
     ensures items { rows.new.items ≡ without full.now rows.old.items }
+    ensures len { vec_len rows.new + length (option_to_list result) ≡ vec_len rows.old }
     ensures room { OnSome result (vec_len rows.new < vec_capacity rows.new) }
     ensures capacity { vec_capacity rows.new ≡ vec_capacity rows.old }
 {
@@ -96,6 +98,7 @@ fn under(row: Row, target: &FullName) -> Row
 pub(crate) fn put_back(rows: &mut Vec<Row>, target: &FullName, row: Option<Row>, keep: u8)
     requires { OnSome row (vec_len rows.old < vec_capacity rows.old) }
     ensures items { rows.new.items ≡ put_back keep target.now rows.old.items row }
+    ensures len { vec_len rows.new ≡ vec_len rows.old + length (option_to_list row) }
     ensures capacity { vec_capacity rows.new ≡ vec_capacity rows.old }
 {
     if let Some(row) = row {

@@ -79,7 +79,6 @@ fn copies(
         (record { rows = rows.now; pairs = [] }))) }
 {
     let keep = keep_of(directories, to.directory.as_bytes());
-    let moment = moment_of(moment);
     let mut course = match Course::new(alloc, rows) {
         Ok(course) => course,
         Err(NoMemory) => return Err(Refusal::NoMemory),
@@ -93,7 +92,7 @@ fn copies(
             Ok(generation) => generation,
             Err(code) => return Err(Refusal::Code(code)),
         };
-        match course.copy(alloc, source, key, generation, moment, keep) {
+        match course.copy(alloc, source, key, generation, moment_of(moment), keep) {
             Ok(()) => bytes += size,
             Err(NoMemory) => return Err(Refusal::NoMemory),
         }

@@ -1,7 +1,8 @@
 // Which files of a directory are meant.
-ghost use Rattle.std.specs.Prelude.{◌≡◌, option_copied};
+ghost use Rattle.std.specs.Prelude.{◌≡◌, [], false, option_copied, unwrap_or};
+ghost use Rattle.std.specs.Option.{option_map_or};
 ghost use Rattle.cm_files.specs.Selection.{wanted};
-ghost use Rattle.ex_store.specs.Copying.{key_from, lacks_name, own_key, part_from};
+ghost use Rattle.ex_store.specs.Copying.{is_star, key_from, lacks_name, own_key, part_from};
 ghost use Rattle.ex_store.specs.Selection.{wanted_kind, wanted_name, wanted_of};
 
 use crate::Key;
@@ -37,6 +38,7 @@ fn part_from(part: &Option<Name>, own: &Name) -> Name
 }
 
 fn name_or_none(part: &Option<Name>) -> Name
+    ensures { result ≡ unwrap_or part.now [] }
 {
     match part {
         Some(part) => copy_of(part),
@@ -45,6 +47,7 @@ fn name_or_none(part: &Option<Name>) -> Name
 }
 
 fn is_star(part: &Option<Name>) -> bool
+    ensures { result ≡ option_map_or is_star part.now false }
 {
     match part {
         Some(part) => part.as_bytes() == b"*".as_slice(),

@@ -1,0 +1,178 @@
+-- Files are copied one after the other: where the walk over the sources stands.
+use Rattle.std.proofs.Common.{◌≡◌, ◌||◌, drop-cons, ℕ, suc, ◌+◌, ◌<◌, ◌≤◌, ◌&&◌, nat_lt, nat_le, min, Bool, true, false, cond, List, [], ◌∷◌, ◌++◌, drop, get_or, slice_get, length, map, Result, Ok, Err, Option, Some, None, refl, ap, arith, ◌∙◌, sym, subst}
+use Rattle.std.specs.List.{fold, list_all}
+use Rattle.std.specs.Option.{option_to_list}
+use Rattle.std.proofs.lemmas.Bool.{and_from, and_parts}
+use Rattle.std.proofs.lemmas.Bool.Decides.{nat_tests}
+use Rattle.std.proofs.lemmas.List.Sums.{fold-append}
+use Rattle.std.proofs.lemmas.Option.{slice_get-get_or}
+use Rattle.cm_fields.specs.declared.code.Code.{Code}
+use Rattle.cm_fields.specs.declared.value.Gen.{Gen}
+use Rattle.ex_generations.specs.declared.file.TheConstants.{FILE_LIMIT}
+use Rattle.ex_store.specs.declared.directory.Directory.{Directory}
+use Rattle.ex_store.specs.declared.key.FullName.{FullName}
+use Rattle.ex_store.specs.declared.key.Key.{Key}
+use Rattle.ex_store.specs.declared.key.NamePair.{NamePair}
+use Rattle.ex_store.specs.declared.limits.TheConstants.{MOMENT_LIMIT}
+use Rattle.ex_store.specs.declared.place.Place.{Place}
+use Rattle.ex_store.specs.declared.ready.Step.{Step}
+use Rattle.ex_store.specs.declared.ready.Step.TheVariants as steps
+use Rattle.ex_store.specs.declared.row.Row.{Row}
+use Rattle.ex_store.specs.Adding.{Outcome, admitted, and_then, each_in_turn, limited, new_row, numbered, placed}
+use Rattle.ex_store.specs.Copying.{copied, is_star, key_from, moment_of, part_from}
+use Rattle.ex_store.specs.Plan.{IsTarget, may_be}
+use Rattle.ex_store.specs.Positions.{elements_at}
+use Rattle.ex_store.specs.Ready.{all_stepped, stepped}
+use Rattle.ex_store.specs.Rows.{added, blank, files_of, full_of, total}
+use Rattle.ex_store.specs.State.{has_directory}
+use Rattle.ex_store.specs.WellFormed.{AreRows, is_file_name, is_file_type, is_numbered, is_row_among}
+use Rattle.ex_store.proofs.Admitting.{IsAdmitted, admitted_is, counted_target, rows_added}
+use Rattle.ex_store.proofs.Blanks.{added_blank, numbered_blank}
+use Rattle.ex_store.proofs.Sizes.{length_added, total_added}
+
+-- the elements at places, one by one
+pub elements_more : {X : Type 0} (xs : List X) (positions : List ℕ) (i : ℕ) (x : X) → i < length positions
+    → slice_get xs (get_or positions i 0) ≡ Some x
+    → elements_at xs (drop i positions) ≡ x ∷ elements_at xs (drop (suc i) positions)
+elements_more xs positions i x within is =
+    rw (drop-cons positions i 0 within, is)
+
+pub get_some : {X : Type 0} (xs : List X) (i : ℕ) (x : X) → i < length xs → x ≡ get_or xs i x → slice_get xs i ≡ Some x
+get_some xs i x within is = slice_get-get_or xs i x within ∙ ap (λ y. Some y) (sym is)
+
+-- what a plan has come to
+abbrev pub outcome_at : ℕ → List Row → List Step → List NamePair → Outcome
+outcome_at keep rows done pairs = record { rows = all_stepped keep rows done; pairs = pairs }
+
+-- a step more
+pub stepped_more : (keep : ℕ) (rows : List Row) (done : List Step) (step : Step)
+    → all_stepped keep rows (done ++ step ∷ []) ≡ stepped keep (all_stepped keep rows done) step
+stepped_more keep rows done step = fold-append (stepped keep) rows done (step ∷ [])
+
+pub length_blank : (rows : List Row) → length (map blank rows) ≡ length rows
+length_blank [] = refl
+length_blank (row ∷ rows) = ap (λ n. suc n) (length_blank rows)
+
+-- the walk goes on from here as it goes from the start, and what has come of it are rows of a store
+pub record IsOnCourse (step : Row → Outcome → Result Outcome Code) (directories : List Directory) (keep : ℕ) (rows whole left : List Row)
+    (done : List Step) (pairs : List NamePair) (played : List Row) : Type 0 where
+  pub course : each_in_turn step left (outcome_at keep rows done pairs)
+      ≡ each_in_turn step whole (record { rows = rows; pairs = [] })
+  pub sound : AreRows directories (all_stepped keep rows done)
+  pub played_are : played ≡ map blank (all_stepped keep rows done)
+
+pub course_start : (step : Row → Outcome → Result Outcome Code) (directories : List Directory) (keep : ℕ) (rows whole : List Row)
+    → AreRows directories rows
+    → IsOnCourse step directories keep rows whole whole [] [] (map blank rows)
+course_start step directories keep rows whole are = record { course = refl; sound = are; played_are = refl }
+
+-- the form of a name that a target gives
+name_from : (test : List ℕ → Bool) (part : Option (List ℕ)) (own : List ℕ) → may_be test part ≡ true → test own ≡ true
+    → test (part_from part own) ≡ true
+name_from test None own may form = form
+name_from test (Some part) own may form = by (is_star part) refl
+  where
+    second : (a b : Bool) → a ≡ false → (a || b) ≡ true → b ≡ true
+    second true b no_star may = absurd (cc)
+    second false b no_star may = may
+
+    by : (b : Bool) → is_star part ≡ b → test (cond b own part) ≡ true
+    by true star = form
+    by false star = second (is_star part) (test part) star may
+
+moment_within : (moment : ℕ) → nat_le (moment_of moment) MOMENT_LIMIT ≡ true
+moment_within moment = grind (arith, nat_tests)
+
+-- what is known of a row of a store
+pub record IsFormed (directories : List Directory) (row : Row) : Type 0 where
+  pub there : has_directory row.key.directory directories ≡ true
+  pub name : is_file_name row.key.name ≡ true
+  pub kind : is_file_type row.key.kind ≡ true
+  pub generation : is_numbered row.file.generation ≡ true
+  pub moment : nat_le row.file.moment MOMENT_LIMIT ≡ true
+  pub short : nat_le (length row.file.bytes) FILE_LIMIT ≡ true
+
+pub formed : (directories : List Directory) (row : Row) → is_row_among directories row ≡ true → IsFormed directories row
+formed directories row is =
+    let five = and_parts _ _ is in
+    let four = and_parts _ _ five.0 in
+    let three = and_parts _ _ four.0 in
+    let two = and_parts _ _ three.0 in
+    let one = and_parts _ _ two.0 in
+    record { there = one.0; name = one.1; kind = two.1; generation = three.1; moment = four.1; short = five.1 }
+
+pub formed_is : (directories : List Directory) (row : Row) → IsFormed directories row → is_row_among directories row ≡ true
+formed_is directories row is =
+    and_from _ _ (and_from _ _ (and_from _ _ (and_from _ _ (and_from _ _ is.there is.name) is.kind) is.generation) is.moment) is.short
+
+-- a row under the name that a target gives
+pub from_formed : (directories : List Directory) (to : Place) (source : Row) (moment generation : ℕ) → IsTarget to directories
+    → is_row_among directories source ≡ true → nat_le moment MOMENT_LIMIT ≡ true → is_numbered generation ≡ true
+    → is_row_among directories (new_row (key_from to source.key) moment source.file.bytes generation) ≡ true
+from_formed directories to source moment generation target is within number =
+    let parts = formed directories source is in
+    formed_is directories (new_row (key_from to source.key) moment source.file.bytes generation) (record {
+      there = target.there;
+      name = name_from is_file_name to.name source.key.name target.name parts.name;
+      kind = name_from is_file_type to.kind source.key.kind target.kind parts.kind;
+      generation = number;
+      moment = within;
+      short = parts.short;
+    })
+
+-- what the code asks of the rows without their bytes is what is asked of the rows
+pub played_admitted : (key : Key) (generation : Gen) (size bytes : ℕ) (rows played : List Row) → played ≡ map blank rows
+    → bytes ≡ total rows
+    → and_then (limited (length played) bytes size) (numbered generation (files_of key played)) ≡ admitted key generation size rows
+played_admitted key generation size bytes rows played is all =
+    rw (is, all, length_blank rows, numbered_blank generation key rows)
+
+-- the walk over the sources of a copy
+pub record IsCopying (directories : List Directory) (keep moment : ℕ) (to : Place) (rows whole left : List Row)
+    (done : List Step) (pairs : List NamePair) (played : List Row) (bytes : ℕ) : Type 0 where
+  pub on : IsOnCourse (copied keep moment to) directories keep rows whole left done pairs played
+  pub bytes_are : bytes ≡ total (all_stepped keep rows done)
+
+pub copies_refused : (directories : List Directory) (keep moment : ℕ) (to : Place) (rows whole more : List Row) (source : Row)
+    (done : List Step) (pairs : List NamePair) (played : List Row) (bytes : ℕ) (code : Code)
+    → IsCopying directories keep moment to rows whole (source ∷ more) done pairs played bytes
+    → and_then (limited (length played) bytes (length source.file.bytes)) (numbered to.generation (files_of (key_from to source.key) played)) ≡ Err code
+    → each_in_turn (copied keep moment to) whole (record { rows = rows; pairs = [] }) ≡ Err code
+copies_refused directories keep moment to rows whole more source done pairs played bytes code is refused =
+    let asked = sym (played_admitted (key_from to source.key) to.generation (length source.file.bytes) bytes (all_stepped keep rows done) played is.on.played_are is.bytes_are) ∙ refused in
+    sym is.on.course ∙ rw asked refl
+
+pub copies_more : (directories : List Directory) (keep moment : ℕ) (to : Place) (rows whole more : List Row) (source : Row)
+    (done : List Step) (pairs : List NamePair) (played : List Row) (bytes generation : ℕ)
+    → IsTarget to directories → is_row_among directories source ≡ true
+    → IsCopying directories keep moment to rows whole (source ∷ more) done pairs played bytes
+    → and_then (limited (length played) bytes (length source.file.bytes)) (numbered to.generation (files_of (key_from to source.key) played)) ≡ Ok generation
+    → (let row = new_row (key_from to source.key) (moment_of moment) source.file.bytes generation in
+      IsCopying directories keep moment to rows whole more (done ++ steps.Add row ∷ [])
+        (pairs ++ (record { source = full_of source; target = full_of row }) ∷ []) (added keep (blank row) played)
+        (bytes + length source.file.bytes))
+copies_more directories keep moment to rows whole more source done pairs played bytes generation target form is admits =
+    let so_far = all_stepped keep rows done in
+    let key = key_from to source.key in
+    let row = new_row key (moment_of moment) source.file.bytes generation in
+    let asked : admitted key to.generation (length source.file.bytes) so_far ≡ Ok generation =
+    sym (played_admitted key to.generation (length source.file.bytes) bytes so_far played is.on.played_are is.bytes_are) ∙ admits in
+    let known = admitted_is key to.generation (length source.file.bytes) so_far generation (counted_target to.generation target.generation) asked in
+    let next : all_stepped keep rows (done ++ steps.Add row ∷ []) ≡ added keep row so_far = stepped_more keep rows done (steps.Add row) in
+    let shape = from_formed directories to source (moment_of moment) generation target form (moment_within moment) known.free.within in
+    record {
+      on = record {
+        course = rw next (step_on asked is.on.course);
+        sound = rw next (rows_added directories keep row so_far is.on.sound known shape);
+        played_are = rw (next, is.on.played_are) (added_blank keep row so_far);
+      };
+      bytes_are = rw (next, is.bytes_are) (sym (total_added keep row so_far ∙ omega arith));
+    }
+  where
+    step_on : admitted (key_from to source.key) to.generation (length source.file.bytes) (all_stepped keep rows done) ≡ Ok generation
+        → each_in_turn (copied keep moment to) (source ∷ more) (outcome_at keep rows done pairs) ≡ each_in_turn (copied keep moment to) whole (record { rows = rows; pairs = [] })
+        → each_in_turn (copied keep moment to) more (record {
+            rows = added keep (new_row (key_from to source.key) (moment_of moment) source.file.bytes generation) (all_stepped keep rows done);
+            pairs = pairs ++ (record { source = full_of source; target = record { key = key_from to source.key; generation = generation } }) ∷ [];
+          }) ≡ each_in_turn (copied keep moment to) whole (record { rows = rows; pairs = [] })
+    step_on asked course = rw asked at course
