@@ -442,7 +442,7 @@ rows_counted state well n name is =
     let mapped = length-map (rows_numbered n state) (file_row state.directories) in
     (omega arith, omega arith)
 
-kept_pass : {X : Type 0} (keep : X → Bool) (xs : List X) → list_all keep (filter keep xs) ≡ true
+pub kept_pass : {X : Type 0} (keep : X → Bool) (xs : List X) → list_all keep (filter keep xs) ≡ true
 kept_pass keep [] = refl
 kept_pass {X} keep (x ∷ xs) = by (keep x) refl (kept_pass keep xs)
   where

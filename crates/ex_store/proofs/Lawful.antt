@@ -18,7 +18,7 @@ use Rattle.ex_store.specs.declared.directory.Definition.{Definition}
 use Rattle.ex_store.specs.declared.directory.Directory.{Directory}
 use Rattle.ex_store.specs.declared.row.Row.{Row}
 use Rattle.ex_store.specs.Rows.{by_row}
-use Rattle.ex_store.specs.State.{Held, State, catalogue_of, file_row, has_directory, is_named, logical_name, number_of}
+use Rattle.ex_store.specs.State.{State, catalogue_of, file_row, has_directory, is_named, logical_name, number_of}
 use Rattle.ex_store.specs.WellFormed.{AreRows, IsWellFormed, is_definition_among, is_directory, is_row_among}
 use Rattle.ex_store.proofs.Ascending.{all_above, ascends_map, is_less, is_sorted, sorted_ascends}
 
@@ -201,6 +201,3 @@ number_found directories name there n text items is texts lists =
     let same : n ≡ number_of name directories =
       is ∙ ap (λ each. number_of each items) texts ∙ ap (number_of name) lists in
     omega arith
-
-pub catalogue_kept : (held : Held) (state : State) → IsWellFormed state → state ≡ held.state → IsCatalogue (catalogue_of held.state)
-catalogue_kept held state well same = catalogue_lawful held.state (subst IsWellFormed same well)

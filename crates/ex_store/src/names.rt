@@ -11,7 +11,7 @@ use cm_text::equals;
 use ex_generations::File;
 
 // How many rows stand before those of a directory.
-fn first_of(rows: &[Row], directory: &[u8]) -> usize
+pub(crate) fn first_of(rows: &[Row], directory: &[u8]) -> usize
     requires { ascends by_row rows.now ≡ true }
     ensures { result ≡ first_in directory.now rows.now }
 {
@@ -37,7 +37,7 @@ impl Store {
     }
 
     // How many rows stand before those of a directory.
-    pub(crate) fn first_row(&self, directory: &[u8]) -> usize
+    fn first_row(&self, directory: &[u8]) -> usize
         ensures { result ≡ first_in directory.now self.now.state.rows }
     {
         first_of(&self.rows, directory)

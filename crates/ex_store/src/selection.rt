@@ -8,6 +8,7 @@ ghost use Rattle.ex_store.specs.State.{has_directory};
 
 use crate::directory::number_of;
 use crate::limits::ROW_LIMIT;
+use crate::names::first_of;
 use crate::{Place, Store};
 use arrayvec::ArrayVec;
 use cm_files::select;
@@ -29,7 +30,7 @@ impl Store {
         requires { has_directory files.now.directory self.now.state.directories ≡ true }
         ensures { result.items ≡ positions_from (is_meant deleted files.now self.now.state) 0 self.now.state.rows }
     {
-        let first = self.first_row(files.directory.as_bytes());
+        let first = first_of(&self.rows, files.directory.as_bytes());
         let mut positions = ArrayVec::new();
         let mut from = 0;
         while let Some(i) = self.select(files, deleted, from) {

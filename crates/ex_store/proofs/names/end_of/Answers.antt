@@ -1,6 +1,6 @@
-use Rattle.std.proofs.Common.{rules, of_calls, ◌≡◌, sym}
+use Rattle.std.proofs.Common.{rules, ◌≡◌, sym}
 use Rattle.std.specs.Ordering.{is_le}
-use Rattle.std.proofs.lemmas.Fn.{always_returns_same}
+use Rattle.std.proofs.lemmas.List.Sorted.{IsPartitionPoint-from_clause}
 use Rattle.cm_files.specs.Catalogue.{by_bytes}
 use Rattle.ex_store.specs.declared.row.Row.{Row}
 use Rattle.ex_store.proofs.Blocks.{directories_rise, upper_falls, parted, prefix_from_point}
@@ -9,11 +9,9 @@ use Rattle.ex_store.proofs.names.end_of.Goals as goal
 -- src/names.rt:22:1
 pub returns : goal.returns
 returns c =
-    let d = c.args.directory.now in
-    let rows = c.args.rows.now in
-    let rise = directories_rise d rows c.requires in
-    let point = c.partition_point.ensures.partitioned (λ (row : Row). is_le (by_bytes row.key.directory d))
-      (always_returns_same _ _ _ (λ a r f k. search (rules, of_calls)))
-      (parted is_le upper_falls (λ (row : Row). by_bytes row.key.directory d) rows rise) in
-    sym (prefix_from_point (λ (row : Row). is_le (by_bytes row.key.directory d)) rows c.partition_point.result
-      c.partition_point.ensures.bound point.0 point.1)
+    let test = λ (row : Row). is_le (by_bytes row.key.directory c.args.directory.now) in
+    let rise = directories_rise c.args.directory.now c.args.rows.now c.requires in
+    let falls = parted is_le upper_falls (λ (row : Row). by_bytes row.key.directory c.args.directory.now) c.args.rows.now rise in
+    let point = IsPartitionPoint-from_clause test c.args.rows.now c.partition_point.result
+      c.partition_point.ensures.partitioned falls (λ a r f k. search rules) in
+    sym (prefix_from_point test c.args.rows.now c.partition_point.result c.partition_point.ensures.bound point.0 point.1)
