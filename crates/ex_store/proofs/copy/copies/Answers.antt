@@ -6,7 +6,8 @@ use Rattle.ex_store.specs.Copying.{copied}
 use Rattle.ex_store.specs.State.{keep_of}
 use Rattle.ex_store.specs.Positions.{elements_at}
 use Rattle.ex_store.specs.WellFormed.{is_row_among}
-use Rattle.ex_store.proofs.Copies.{IsCopying, IsSource, copies_more, copies_refused, form_at, outcome_at, source_at}
+use Rattle.ex_store.proofs.Copies.{IsCopying, copies_more, copies_refused, outcome_at}
+use Rattle.ex_store.proofs.Sources.{form_at, source_at}
 use Rattle.ex_store.proofs.copy.copies.Goals as goal
 
 pub returns-in-Err-admitted-clause-refused : goal.returns-in-Err-admitted-clause-refused
