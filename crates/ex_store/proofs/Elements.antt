@@ -1,0 +1,29 @@
+-- The elements at some places, one after the other.
+use Rattle.std.proofs.Common.{◌≡◌, ℕ, ◌+◌, ◌<◌, ◌≤◌, Bool, true, false, suc, zero, List, [], ◌∷◌, ◌++◌, length, get_or, drop, nat_lt, Option, Some, refl, sym, ap, subst, ◌∙◌, arith}
+use Rattle.std.specs.List.{list_all, slice_get}
+use Rattle.std.specs.Option.{option_to_list}
+use Rattle.std.proofs.lemmas.Bool.{and_parts, ltb-true}
+use Rattle.std.proofs.lemmas.List.{at_drop_more}
+use Rattle.ex_store.specs.Positions.{elements_at}
+
+get-within : {X : Type 0} (xs : List X) (at : ℕ) (x : X) → at < length xs → slice_get xs at ≡ Some (get_or xs at x)
+get-within [] at x lt = absurd (omega arith)
+get-within (first ∷ more) zero x lt = refl
+get-within (first ∷ more) (suc at) x lt = get-within more at x (omega arith)
+
+-- the next place of some places
+pub elements_more : {X : Type 0} (xs : List X) (positions : List ℕ) (i at : ℕ) (x : X) → i < length positions → at ≡ get_or positions i 0 → at < length xs → elements_at xs (drop i positions) ≡ get_or xs at x ∷ elements_at xs (drop (i + 1) positions)
+elements_more xs positions i at x lt place within =
+    at_drop_more (elements_at xs) positions i 0 lt
+    ∙ (ap (λ other. option_to_list (slice_get xs other) ++ elements_at xs (drop (i + 1) positions)) (sym place)
+    ∙ ap (λ there. option_to_list there ++ elements_at xs (drop (i + 1) positions)) (get-within xs at x within))
+
+-- all places but the next pass a test, too
+pub all_more : (test : ℕ → Bool) (positions : List ℕ) (i : ℕ) → i < length positions → list_all test (drop i positions) ≡ true → list_all test (drop (i + 1) positions) ≡ true
+all_more test positions i lt all =
+    (and_parts (test (get_or positions i 0)) (list_all test (drop (i + 1) positions)) (sym (at_drop_more (list_all test) positions i 0 lt) ∙ all)).1
+
+-- the next place, where all are within a list
+pub within_next : (limit : ℕ) (positions : List ℕ) (i at : ℕ) → i < length positions → at ≡ get_or positions i 0 → list_all (λ place. nat_lt place limit) (drop i positions) ≡ true → at < limit
+within_next limit positions i at lt place all =
+    subst (λ other. other < limit) (sym place) (ltb-true _ _ ((and_parts (nat_lt (get_or positions i 0) limit) (list_all (λ other. nat_lt other limit) (drop (i + 1) positions)) (sym (at_drop_more (list_all (λ other. nat_lt other limit)) positions i 0 lt) ∙ all)).0))
