@@ -1,5 +1,5 @@
 -- A directory is made, or keeps another number of generations: what is well formed stays so.
-use Rattle.std.proofs.Common.{◌≡◌, ℕ, ◌+◌, ◌<◌, ◌≤◌, suc, zero, Bool, true, false, cond, ◌&&◌, ◌||◌, nat_le, List, [], ◌∷◌, length, insert, map, find, Option, Some, None, unwrap_or, Result, Ok, Err, IfSome, refl, ap, sym, subst, ◌∙◌, ◌⊎◌, inl, inr, arith}
+use Rattle.std.proofs.Common.{◌≡◌, ℕ, ◌+◌, ◌<◌, ◌≤◌, suc, Bool, true, false, cond, ◌&&◌, ◌||◌, nat_le, List, [], ◌∷◌, length, insert, map, find, Option, Some, None, unwrap_or, Ok, Err, IfSome, refl, ap, sym, subst, ◌∙◌, arith}
 use Rattle.std.specs.Cmp.{IsTotalOrder}
 use Rattle.std.specs.Cmp.Lexicographic.{on_texts}
 use Rattle.std.specs.List.{list_all, prefix_len}
@@ -27,7 +27,7 @@ use Rattle.ex_store.specs.Building.{built, directory_inserted, kept_by, with_dir
 use Rattle.ex_store.specs.Plan.{planned}
 use Rattle.ex_store.specs.Ready.{Change, applied, done_on}
 use Rattle.ex_store.specs.State.{State, has_directory, is_named}
-use Rattle.ex_store.specs.WellFormed.{AreRows, IsWellFormed, is_definition_among, is_directory, is_entry_among, is_row_among}
+use Rattle.ex_store.specs.WellFormed.{IsWellFormed, is_definition_among, is_directory, is_entry_among, is_row_among}
 use Rattle.ex_store.proofs.Ascending.{ascends_map}
 
 -- the directory of a name keeps as many generations
