@@ -1,5 +1,5 @@
 -- A directory is made, or keeps another number of generations: what is well formed stays so.
-use Rattle.std.proofs.Common.{◌≡◌, ℕ, ◌+◌, ◌<◌, ◌≤◌, suc, zero, Bool, true, false, cond, ◌&&◌, ◌||◌, nat_le, List, [], ◌∷◌, length, insert, map, find, Option, Some, None, unwrap_or, Result, Ok, Err, IfSome, refl, ap, sym, subst, ◌∙◌, ◌⊎◌, inl, inr, arith}
+use Rattle.std.proofs.Common.{◌≡◌, ℕ, ◌+◌, ◌<◌, ◌≤◌, suc, Bool, true, false, cond, ◌&&◌, ◌||◌, nat_le, List, [], ◌∷◌, length, insert, map, find, Option, Some, None, unwrap_or, Ok, Err, IfSome, refl, ap, sym, subst, ◌∙◌, arith}
 use Rattle.std.specs.Cmp.{IsTotalOrder}
 use Rattle.std.specs.Cmp.Lexicographic.{on_texts}
 use Rattle.std.specs.List.{list_all, prefix_len}
@@ -27,7 +27,8 @@ use Rattle.ex_store.specs.Building.{built, directory_inserted, kept_by, with_dir
 use Rattle.ex_store.specs.Plan.{planned}
 use Rattle.ex_store.specs.Ready.{Change, applied, done_on}
 use Rattle.ex_store.specs.State.{State, has_directory, is_named}
-use Rattle.ex_store.specs.WellFormed.{AreRows, IsWellFormed, is_definition_among, is_directory, is_entry_among, is_row_among}
+use Rattle.ex_store.specs.WellFormed.{IsWellFormed, is_definition_among, is_directory, is_entry_among, is_row_among}
+use Rattle.ex_store.proofs.Ascending.{ascends_map}
 
 -- the directory of a name keeps as many generations
 abbrev pub kept_as : List ℕ → ℕ → Directory → Directory
@@ -97,13 +98,13 @@ kept_name name keep other = by (is_named name other)
     by true = refl
     by false = refl
 
+kept_order : (name : List ℕ) (keep : ℕ) (other next : Directory) → by_name (kept_as name keep other) (kept_as name keep next) ≡ by_name other next
+kept_order name keep other next =
+    ap (λ text. by_bytes text (kept_as name keep next).name) (kept_name name keep other)
+    ∙ ap (by_bytes other.name) (kept_name name keep next)
+
 kept_ascends : (name : List ℕ) (keep : ℕ) (directories : List Directory) → ascends by_name (map (kept_as name keep) directories) ≡ ascends by_name directories
-kept_ascends name keep [] = refl
-kept_ascends name keep (other ∷ []) = refl
-kept_ascends name keep (other ∷ next ∷ more) =
-    ap (λ text. is_lt (by_bytes text (kept_as name keep next).name) && ascends by_name (map (kept_as name keep) (next ∷ more))) (kept_name name keep other)
-    ∙ (ap (λ text. is_lt (by_bytes other.name text) && ascends by_name (map (kept_as name keep) (next ∷ more))) (kept_name name keep next)
-    ∙ ap (λ rest. is_lt (by_name other next) && rest) (kept_ascends name keep (next ∷ more)))
+kept_ascends name keep directories = ascends_map by_name by_name (kept_as name keep) (kept_order name keep) directories
 
 kept_has : (x name : List ℕ) (keep : ℕ) (directories : List Directory) → has_directory x (map (kept_as name keep) directories) ≡ has_directory x directories
 kept_has x name keep [] = refl

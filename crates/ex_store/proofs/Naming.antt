@@ -10,11 +10,10 @@ use Rattle.std.proofs.lemmas.Slice.Eq.{bytes_eq-Decides}
 use Rattle.cm_text.specs.Bytes.{is_name, is_word}
 use Rattle.cm_text.specs.Case.{equals}
 use Rattle.cm_text.specs.declared.name.TheConstants.{NAME_LIMIT}
-use Rattle.cm_files.specs.declared.row.LogicalName.{LogicalName}
 use Rattle.ex_store.specs.declared.directory.Definition.{Definition}
 use Rattle.ex_store.specs.declared.directory.Directory.{Directory}
 use Rattle.ex_store.specs.State.{State, first_state, has_directory, is_named, logical_name, number_of}
-use Rattle.ex_store.specs.WellFormed.{AreRows, IsWellFormed, is_definition_among, is_directory}
+use Rattle.ex_store.specs.WellFormed.{IsWellFormed, is_definition_among, is_directory}
 use Rattle.ex_store.proofs.Ascending.{all_filter, ascends_filter}
 
 -- the first state is well formed

@@ -6,9 +6,9 @@ ghost use Rattle.cm_files.specs.Catalogue.{by_bytes};
 ghost use Rattle.ex_store.specs.Building.{built, directory_inserted, with_directory};
 ghost use Rattle.ex_store.specs.State.{is_named};
 
+use crate::Directory;
 use crate::directory::has_directory;
 use crate::limits::DIRECTORY_LIMIT;
-use crate::Directory;
 use cm_fields::Code;
 use cm_text::Name;
 
@@ -23,7 +23,11 @@ fn place(directories: &[Directory], name: &[u8]) -> usize
 }
 
 // The directory that is made, or the limit that is passed.
-pub(crate) fn built(directories: &[Directory], name: Name, keep: Option<u8>) -> Result<Directory, Code>
+pub(crate) fn built(
+    directories: &[Directory],
+    name: Name,
+    keep: Option<u8>,
+) -> Result<Directory, Code>
     ensures { result ≡ built name keep directories.now }
 {
     for directory in directories {
@@ -44,7 +48,7 @@ pub(crate) fn built(directories: &[Directory], name: Name, keep: Option<u8>) -> 
 // The directory of a name keeps another number of generations.
 fn set_keep(directories: &mut [Directory], name: &[u8], keep: u8)
     ensures { directories.new
-      ≡ map (λ other. if is_named name.now other then record other { keep = keep } else other) directories.old }
+        ≡ map (λ other. if is_named name.now other then record other { keep = keep } else other) directories.old }
 {
     for directory in directories.iter_mut() {
         if directory.name.as_bytes() == name {

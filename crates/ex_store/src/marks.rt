@@ -8,6 +8,7 @@ ghost use Rattle.ex_store.specs.Positions.{all_changed_at};
 ghost use Rattle.ex_store.specs.Rows.{expunged, is_short, pages_marked, with_mark};
 ghost use Rattle.ex_store.specs.Selection.{meant, remarked};
 ghost use Rattle.ex_store.specs.State.{has_directory};
+
 use crate::{Place, Row, Store};
 use ex_generations::{Bytes, PAGE_BYTES};
 
@@ -81,8 +82,7 @@ impl Store {
         ensures pages { result ≡ pages_marked directory.now self.old.state.rows }
     {
         let pages = marked_pages(&self.rows, directory.as_bytes());
-        self.rows
-            .retain(|row| !(row.is_in(directory.as_bytes()) && row.file.deleted));
+        self.rows.retain(|row| !(row.is_in(directory.as_bytes()) && row.file.deleted));
         pages
     }
 }

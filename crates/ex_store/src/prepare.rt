@@ -15,10 +15,10 @@ impl Store {
     fn build(&self, directory: Name, keep: Option<u8>) -> Result<Ready, Refusal>
         requires { MayPlan (plans.Build directory keep) self.now.state }
         ensures ready { IfOk result (λ ready.
-          (moment : ℕ) → planned (plans.Build directory keep) moment self.now.state ≡ Ok (done_on self.now.state ready)) }
+            (moment : ℕ) → planned (plans.Build directory keep) moment self.now.state ≡ Ok (done_on self.now.state ready)) }
         ensures sound { IfOk result (λ ready. IsWellFormed (applied ready self.now.state)) }
         ensures refused { (moment : ℕ)
-          → IfErr result (IsRefused (planned (plans.Build directory keep) moment self.now.state)) }
+            → IfErr result (IsRefused (planned (plans.Build directory keep) moment self.now.state)) }
     {
         match built(&self.directories, directory, keep) {
             Ok(directory) => Ok(Ready {
@@ -51,7 +51,7 @@ impl Store {
     fn make_room(&mut self, ready: &Ready) -> Result<(), NoMemory>
         ensures state { self.new.state ≡ self.old.state }
         ensures directories { OnOk result
-          (length self.old.state.directories + count_made ready.now.directory ≤ self.new.directory_room) }
+            (length self.old.state.directories + count_made ready.now.directory ≤ self.new.directory_room) }
         ensures rows { OnOk result (length self.old.state.rows + length ready.now.steps ≤ self.new.row_room) }
     {
         if ready.directory.is_some() {

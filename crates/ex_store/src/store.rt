@@ -80,6 +80,7 @@ impl Store {
         requires { has_directory directory.now self.old.state.directories ≡ true }
         ensures { self.new ≡ record self.old { state = record self.old.state { connected = directory.now } } }
     {
+        // A use of a field, for the proof: the directories' names have at most 39 bytes.
         let _ = &self.directories;
         self.connected = Name::new(directory);
     }
