@@ -1,8 +1,7 @@
 -- The rows of one directory stand together.
-use Rattle.std.proofs.Common.{◌≡◌, ℕ, zero, suc, ◌+◌, ◌-◌, ◌<◌, ◌≤◌, Bool, true, false, not, ◌&&◌, ◌||◌, ◌==◌, cond, List, [], ◌∷◌, ◌++◌, length, map, filter, take, drop, get_or, slice_get, Some, None, Option, option_map, refl, ap, arith, ◌∙◌, sym, subst}
-use Rattle.std.specs.List.{list_all, position_from, prefix_len}
-use Rattle.std.specs.List.Sorted.{IsPartitionedBy}
-use Rattle.std.specs.Ordering.{is_eq, is_gt, is_le, is_lt, nat_cmp, on, ordering_reverse, ordering_then}
+use Rattle.std.proofs.Common.{◌≡◌, ℕ, zero, suc, ◌+◌, ◌<◌, ◌≤◌, Bool, true, false, not, ◌&&◌, ◌||◌, ◌==◌, cond, List, [], ◌∷◌, ◌++◌, length, map, filter, get_or, slice_get, Some, None, Option, option_map, refl, ap, arith, ◌∙◌, sym, subst, ◌-◌, take, drop}
+use Rattle.std.specs.List.{list_all, prefix_len}
+use Rattle.std.specs.Ordering.{is_eq, is_gt, is_le, is_lt, nat_cmp, ordering_reverse, ordering_then}
 use Rattle.std.specs.declared.cmp.Ordering.{Ordering}
 use Rattle.std.specs.declared.cmp.Ordering.TheVariants.{Less, Equal, Greater}
 use Rattle.std.proofs.lemmas.Bool.{and_from, and_parts, eqb-true}
@@ -65,7 +64,7 @@ none_at {X} place (x ∷ xs) all = by (place x) (and_parts _ _ all).0 (none_at p
     by : (o : Ordering) → is_gt o ≡ true
         → (filter (λ x. is_eq (place x)) xs ≡ []) × (list_all (λ x. not (is_eq (place x))) xs ≡ true)
         → (cond (is_eq o) (x ∷ filter (λ x. is_eq (place x)) xs) (filter (λ x. is_eq (place x)) xs) ≡ [])
-          × ((not (is_eq o) && list_all (λ x. not (is_eq (place x))) xs) ≡ true)
+        × ((not (is_eq o) && list_all (λ x. not (is_eq (place x))) xs) ≡ true)
     by Less is rest = absurd (cc)
     by Equal is rest = absurd (cc)
     by Greater is rest = rest
@@ -77,20 +76,20 @@ no_length (x ∷ xs) is = absurd (omega arith)
 abbrev parts_at : {X : Type 0} → (X → Ordering) → List X → Type 0
 parts_at place xs =
     Parts (λ x. is_eq (place x)) xs (filter (λ x. is_eq (place x)) xs) (prefix_len (λ x. is_lt (place x)) xs)
-      (prefix_len (λ x. is_le (place x)) xs)
+    (prefix_len (λ x. is_le (place x)) xs)
 
 pub parts_of : {X : Type 0} (place : X → Ordering) (xs : List X) → rises place xs ≡ true
     → Parts (λ x. is_eq (place x)) xs (filter (λ x. is_eq (place x)) xs) (prefix_len (λ x. is_lt (place x)) xs)
-      (prefix_len (λ x. is_le (place x)) xs)
+    (prefix_len (λ x. is_le (place x)) xs)
 parts_of place [] rise =
     record { lower = []; upper = []; whole = refl; starts = refl; ends = refl; below = refl; above = refl }
 parts_of {X} place (x ∷ xs) rise = by (place x) refl (and_parts _ _ rise).0 (parts_of place xs (and_parts _ _ rise).1)
   where
     by : (o : Ordering) → place x ≡ o → list_all (λ y. may_follow o (place y)) xs ≡ true → parts_at place xs
         → Parts (λ y. is_eq (place y)) (x ∷ xs)
-          (cond (is_eq o) (x ∷ filter (λ y. is_eq (place y)) xs) (filter (λ y. is_eq (place y)) xs))
-          (cond (is_lt o) (1 + prefix_len (λ y. is_lt (place y)) xs) 0)
-          (cond (is_le o) (1 + prefix_len (λ y. is_le (place y)) xs) 0)
+        (cond (is_eq o) (x ∷ filter (λ y. is_eq (place y)) xs) (filter (λ y. is_eq (place y)) xs))
+        (cond (is_lt o) (1 + prefix_len (λ y. is_lt (place y)) xs) 0)
+        (cond (is_le o) (1 + prefix_len (λ y. is_le (place y)) xs) 0)
     by Less is follow rest =
         let starts = rest.starts in
         let ends = rest.ends in
@@ -213,10 +212,10 @@ follows_rows directory row [] above = refl
 follows_rows directory row (other ∷ rows) above =
     let parts = and_parts _ _ above in
     and_from _ _
-      (text_follows directory row.key.directory other.key.directory
-        (falls_not (by_bytes row.key.directory other.key.directory) (by_bytes row.key.name other.key.name)
-        (by_bytes row.key.kind other.key.kind) (nat_cmp row.file.generation other.file.generation) (is_less _ parts.0)))
-      (follows_rows directory row rows parts.1)
+    (text_follows directory row.key.directory other.key.directory
+    (falls_not (by_bytes row.key.directory other.key.directory) (by_bytes row.key.name other.key.name)
+    (by_bytes row.key.kind other.key.kind) (nat_cmp row.file.generation other.file.generation) (is_less _ parts.0)))
+    (follows_rows directory row rows parts.1)
 
 sorted_rises : (directory : List ℕ) (rows : List Row) → is_sorted by_row rows ≡ true
     → rises (λ row. by_bytes row.key.directory directory) rows ≡ true
@@ -250,12 +249,12 @@ number_at [] n directory sorted is = absurd (cc)
 number_at (first ∷ directories) zero directory sorted is =
     let same : first ≡ directory = cc in
     let named : is_named directory.name first ≡ true =
-      (bytes_eq-Decides first.name directory.name).1 (ap (λ (each : Directory). each.name) same) in
+    (bytes_eq-Decides first.name directory.name).1 (ap (λ (each : Directory). each.name) same) in
     by (is_named directory.name first) named
   where
     by : (here : Bool) → here ≡ true
         → ((here || has_directory directory.name directories) ≡ true)
-          × (cond (not here) (1 + number_of directory.name directories) 0 ≡ 0)
+        × (cond (not here) (1 + number_of directory.name directories) 0 ≡ 0)
     by true is = (refl, refl)
     by false is = absurd (cc)
 number_at (first ∷ directories) (suc n) directory sorted is =
@@ -267,7 +266,7 @@ number_at (first ∷ directories) (suc n) directory sorted is =
     by : (here : Bool) → is_named directory.name first ≡ here → by_bytes first.name directory.name ≡ Less
         → (has_directory directory.name directories ≡ true) × (number_of directory.name directories ≡ n)
         → ((here || has_directory directory.name directories) ≡ true)
-          × (cond (not here) (1 + number_of directory.name directories) 0 ≡ suc n)
+        × (cond (not here) (1 + number_of directory.name directories) 0 ≡ suc n)
     by true is below rest =
         let same = ap (λ name. by_bytes name directory.name) (named directory.name first is) ∙ text_itself directory.name in
         absurd (cc)
@@ -291,11 +290,11 @@ pub rows_by_number : (state : State) → IsWellFormed state → (name : List ℕ
 rows_by_number state well name there =
     let sorted = sorted_ascends by_name by_name_total state.directories well.directories_ascend in
     filter_same (is_row_among state.directories)
-      (λ row. number_of row.key.directory state.directories == number_of name state.directories) (is_in name)
-      (λ row is.
-        same_numbers (number_of row.key.directory state.directories) (number_of name state.directories)
-        ∙ ap is_eq (number_order state.directories row.key.directory name sorted (directory_there state.directories row is) there))
-      state.rows well.rows.within
+    (λ row. number_of row.key.directory state.directories == number_of name state.directories) (is_in name)
+    (λ row is.
+    same_numbers (number_of row.key.directory state.directories) (number_of name state.directories)
+    ∙ ap is_eq (number_order state.directories row.key.directory name sorted (directory_there state.directories row is) there))
+    state.rows well.rows.within
 
 pub rows_at_number : (state : State) → IsWellFormed state → (n : ℕ) (directory : Directory)
     → slice_get state.directories n ≡ Some directory → rows_numbered n state ≡ rows_in directory.name state.rows
@@ -303,7 +302,7 @@ rows_at_number state well n directory is =
     let sorted = sorted_ascends by_name by_name_total state.directories well.directories_ascend in
     let number = number_at state.directories n directory sorted is in
     subst (λ (k : ℕ). rows_numbered k state ≡ rows_in directory.name state.rows) number.1
-      (rows_by_number state well directory.name number.0)
+    (rows_by_number state well directory.name number.0)
 
 pub filter_of_map : {X Y : Type 0} (test : Y → Bool) (f : X → Y) (xs : List X)
     → filter test (map f xs) ≡ map f (filter (λ x. test (f x)) xs)
@@ -312,7 +311,7 @@ filter_of_map {X} {Y} test f (x ∷ xs) = by (test (f x)) (filter_of_map test f 
   where
     by : (is : Bool) → filter test (map f xs) ≡ map f (filter (λ x. test (f x)) xs)
         → cond is (f x ∷ filter test (map f xs)) (filter test (map f xs))
-          ≡ map f (cond is (x ∷ filter (λ x. test (f x)) xs) (filter (λ x. test (f x)) xs))
+        ≡ map f (cond is (x ∷ filter (λ x. test (f x)) xs) (filter (λ x. test (f x)) xs))
     by true rest = ap (λ more. f x ∷ more) rest
     by false rest = rest
 
@@ -337,8 +336,8 @@ pub block_at : {X : Type 0} (test : X → Bool) (xs middle : List X) (first behi
 block_at test xs middle first behind parts i within =
     let start = parts.starts in
     sym (ap (λ (k : ℕ). slice_get xs (k + i)) start
-      ∙ ap (λ each. slice_get each (length parts.lower + i)) parts.whole
-      ∙ get_behind parts.lower (middle ++ parts.upper) i ∙ get_before middle parts.upper i within)
+    ∙ ap (λ each. slice_get each (length parts.lower + i)) parts.whole
+    ∙ get_behind parts.lower (middle ++ parts.upper) i ∙ get_before middle parts.upper i within)
 
 pub block_within : {X : Type 0} (test : X → Bool) (xs middle : List X) (first behind : ℕ) → Parts test xs middle first behind
     → (behind ≡ first + length middle) × (behind ≤ length xs)
@@ -350,6 +349,33 @@ block_within test xs middle first behind parts =
     let inner = length-append middle parts.upper in
     (omega arith, omega arith)
 
+drop_front : {X : Type 0} (front more : List X) → drop (length front) (front ++ more) ≡ more
+drop_front [] more = refl
+drop_front (x ∷ front) more = drop_front front more
+
+take_front : {X : Type 0} (front more : List X) → take (length front) (front ++ more) ≡ front
+take_front [] more = refl
+take_front (x ∷ front) more = ap (λ rest. x ∷ rest) (take_front front more)
+
+-- the middle part, as a slice of the whole
+pub middle_slice : {X : Type 0} (test : X → Bool) (xs middle : List X) (first behind : ℕ) → Parts test xs middle first behind
+    → take (behind - first) (drop first xs) ≡ middle
+middle_slice test xs middle first behind parts =
+    let start = parts.starts in
+    let end = parts.ends in
+    let size : behind - first ≡ length middle = omega arith in
+    let rest : drop first xs ≡ middle ++ parts.upper =
+    ap (λ (k : ℕ). drop k xs) start ∙ ap (drop (length parts.lower)) parts.whole
+    ∙ drop_front parts.lower (middle ++ parts.upper) in
+    ap (λ (k : ℕ). take k (drop first xs)) size ∙ ap (take (length middle)) rest ∙ take_front middle parts.upper
+
+-- the rows of a directory are a slice of all
+pub block_slice : (directory : List ℕ) (rows : List Row) → ascends by_row rows ≡ true
+    → take (end_in directory rows - first_in directory rows) (drop (first_in directory rows) rows) ≡ rows_in directory rows
+block_slice directory rows ascend =
+    middle_slice (is_in directory) rows (rows_in directory rows) (first_in directory rows) (end_in directory rows)
+    (block directory rows ascend)
+
 -- the positions of what passes, among the rows of a directory
 positions_append : {X : Type 0} (test : X → Bool) (at : ℕ) (front more : List X)
     → positions_from test at (front ++ more) ≡ positions_from test at front ++ positions_from test (at + length front) more
@@ -357,14 +383,14 @@ positions_append test at [] more = ap (λ (k : ℕ). positions_from test k more)
 positions_append {X} test at (x ∷ front) more =
     let next : at + 1 + length front ≡ at + suc (length front) = omega arith in
     by (test x) (positions_append test (at + 1) front more
-      ∙ ap (λ (k : ℕ). positions_from test (at + 1) front ++ positions_from test k more) next)
+    ∙ ap (λ (k : ℕ). positions_from test (at + 1) front ++ positions_from test k more) next)
   where
     by : (is : Bool)
         → positions_from test (at + 1) (front ++ more)
-          ≡ positions_from test (at + 1) front ++ positions_from test (at + suc (length front)) more
+        ≡ positions_from test (at + 1) front ++ positions_from test (at + suc (length front)) more
         → cond is (at ∷ positions_from test (at + 1) (front ++ more)) (positions_from test (at + 1) (front ++ more))
-          ≡ cond is (at ∷ positions_from test (at + 1) front) (positions_from test (at + 1) front)
-            ++ positions_from test (at + suc (length front)) more
+        ≡ cond is (at ∷ positions_from test (at + 1) front) (positions_from test (at + 1) front)
+        ++ positions_from test (at + suc (length front)) more
     by true rest = ap (λ all. at ∷ all) rest
     by false rest = rest
 
@@ -420,16 +446,19 @@ row_stands state well n i at name rows is within first items =
     let few = well.rows.few in
     let sizes = ap length same in
     let inside : i < length (rows_in name state.rows) = omega arith in
-    let all = ap length items in
-    (omega arith, ap (λ each. slice_get each i) same
-      ∙ block_at (is_in name) state.rows (rows_in name state.rows) (first_in name state.rows) (end_in name state.rows) parts i inside
-      ∙ ap (λ (k : ℕ). slice_get state.rows (k + i)) (sym first) ∙ ap (λ each. slice_get each (at + i)) (sym items), omega arith)
+    let all = ap length items in (
+      omega arith,
+      ap (λ each. slice_get each i) same
+          ∙ block_at (is_in name) state.rows (rows_in name state.rows) (first_in name state.rows) (end_in name state.rows) parts i inside
+          ∙ ap (λ (k : ℕ). slice_get state.rows (k + i)) (sym first) ∙ ap (λ each. slice_get each (at + i)) (sym items),
+      omega arith,
+    )
 
 -- how many rows the directory with a number has
 pub rows_counted : (state : State) → IsWellFormed state → (n : ℕ) (name : List ℕ)
     → option_map (λ directory. directory.name) (slice_get state.directories n) ≡ Some name
     → (end_in name state.rows ≡ first_in name state.rows + length (rows_of (catalogue_of state) n))
-      × (end_in name state.rows ≤ 4096)
+    × (end_in name state.rows ≤ 4096)
 rows_counted state well n name is =
     let same = rows_of_name state well n name is in
     let parts = block name state.rows well.rows.ascend in
@@ -459,7 +488,7 @@ pub catalogue_row : (state : State) (n i : ℕ) (row : Row) → slice_get (rows_
 catalogue_row state n i row at name kind names kinds =
     let keep = λ (each : Row). number_of each.key.directory state.directories == n in
     let number : number_of row.key.directory state.directories ≡ n =
-      eqb-true _ _ (all_at keep (rows_numbered n state) i row (kept_pass keep state.rows) at) in
+    eqb-true _ _ (all_at keep (rows_numbered n state) i row (kept_pass keep state.rows) at) in
     let first = λ (k : ℕ). let made : FileRow = record { directory = k; name = row.key.name; kind = row.key.kind; generation = row.file.generation; deleted = row.file.deleted } in Some made in
     let second = λ (text : List ℕ). let made : FileRow = record { directory = n; name = text; kind = row.key.kind; generation = row.file.generation; deleted = row.file.deleted } in Some made in
     let third = λ (text : List ℕ). let made : FileRow = record { directory = n; name = name; kind = text; generation = row.file.generation; deleted = row.file.deleted } in Some made in

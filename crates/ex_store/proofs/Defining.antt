@@ -1,5 +1,5 @@
 -- The directory that a logical name stands for, found in a walk over the logical names.
-use Rattle.std.proofs.Common.{◌≡◌, ℕ, zero, suc, ◌+◌, ◌<◌, ◌≤◌, Bool, true, false, cond, List, [], ◌∷◌, length, map, drop, find, slice_get, Some, None, Option, option_map, refl, ap, arith, ◌∙◌, sym, subst}
+use Rattle.std.proofs.Common.{◌≡◌, ℕ, zero, suc, ◌+◌, ◌≤◌, Bool, true, false, cond, List, [], ◌∷◌, length, map, drop, find, slice_get, Some, None, Option, option_map, refl, ap, arith, ◌∙◌, sym, subst}
 use Rattle.std.specs.List.{list_all}
 use Rattle.std.proofs.lemmas.Bool.{and_parts}
 use Rattle.cm_text.specs.Case.{equals}
@@ -22,12 +22,12 @@ found_all directories name (entry ∷ entries) = by (equals entry.name name) (fo
   where
     by : (is : Bool)
         → option_map (λ entry. number_of entry.directory directories) (find (λ entry. equals entry.name name) entries)
-          ≡ option_map (λ entry. entry.directory) (find (λ entry. equals entry.name name) (map (logical_name directories) entries))
+        ≡ option_map (λ entry. entry.directory) (find (λ entry. equals entry.name name) (map (logical_name directories) entries))
         → option_map (λ entry. number_of entry.directory directories)
-            (cond is (Some entry) (find (λ entry. equals entry.name name) entries))
-          ≡ option_map (λ entry. entry.directory)
-            (cond is (Some (logical_name directories entry))
-              (find (λ entry. equals entry.name name) (map (logical_name directories) entries)))
+        (cond is (Some entry) (find (λ entry. equals entry.name name) entries))
+        ≡ option_map (λ entry. entry.directory)
+        (cond is (Some (logical_name directories entry))
+        (find (λ entry. equals entry.name name) (map (logical_name directories) entries)))
     by true rest = refl
     by false rest = rest
 
@@ -82,5 +82,5 @@ pub entry_there : (state : State) → IsWellFormed state → (i : ℕ) (entries 
     → entries ≡ state.logical → slice_get entries i ≡ Some entry → has_directory entry.directory state.directories ≡ true
 entry_there state well i entries entry same at =
     let is = all_at (is_definition_among state.directories) state.logical i entry well.logical_within
-      (ap (λ each. slice_get each i) (sym same) ∙ at) in
+    (ap (λ each. slice_get each i) (sym same) ∙ at) in
     (and_parts _ _ (and_parts _ _ is).0).0

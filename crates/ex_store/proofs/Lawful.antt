@@ -1,25 +1,23 @@
 -- The catalogue of a state that is well formed is a catalogue.
-use Rattle.std.proofs.Common.{◌≡◌, ℕ, zero, suc, ◌+◌, ◌<◌, ◌≤◌, Bool, true, false, not, ◌&&◌, ◌||◌, ◌==◌, nat_lt, nat_le, cond, List, [], ◌∷◌, length, map, filter, slice_get, Some, refl, ap, arith, ◌∙◌, sym, subst}
+use Rattle.std.proofs.Common.{◌≡◌, ℕ, suc, ◌+◌, ◌<◌, Bool, true, false, not, ◌||◌, cond, List, [], ◌∷◌, length, map, refl, ap, arith, ◌∙◌, sym, subst}
 use Rattle.std.specs.Cmp.{IsTotalOrder}
 use Rattle.std.specs.Cmp.Lexicographic.{on_texts}
 use Rattle.std.specs.List.{list_all}
 use Rattle.std.specs.Ordering.{is_lt, nat_cmp, on, ordering_reverse, ordering_then}
-use Rattle.std.specs.Str.{bytes_eq}
 use Rattle.std.specs.declared.cmp.Ordering.{Ordering}
 use Rattle.std.specs.declared.cmp.Ordering.TheVariants.{Less, Equal, Greater}
 use Rattle.std.proofs.lemmas.Bool.{and_from, and_parts, lt-ltb}
 use Rattle.std.proofs.lemmas.Bool.Decides.{nat_tests}
-use Rattle.std.proofs.lemmas.Cmp.{nat_cmp_total, nat_list_cmp_total, on_total, then_total}
+use Rattle.std.proofs.lemmas.Cmp.{nat_list_cmp_total}
 use Rattle.std.proofs.lemmas.List.{length-map}
 use Rattle.std.proofs.lemmas.Slice.Eq.{bytes_eq-Decides}
-use Rattle.cm_files.specs.declared.row.FileRow.{FileRow}
 use Rattle.cm_files.specs.Catalogue.{IsCatalogue, ascends, by_bytes, by_file, is_directory_name, is_logical, is_row}
 use Rattle.ex_store.specs.declared.directory.Definition.{Definition}
 use Rattle.ex_store.specs.declared.directory.Directory.{Directory}
 use Rattle.ex_store.specs.declared.row.Row.{Row}
 use Rattle.ex_store.specs.Rows.{by_row}
 use Rattle.ex_store.specs.State.{State, catalogue_of, file_row, has_directory, is_named, logical_name, number_of}
-use Rattle.ex_store.specs.WellFormed.{AreRows, IsWellFormed, is_definition_among, is_directory, is_row_among}
+use Rattle.ex_store.specs.WellFormed.{IsWellFormed, is_definition_among, is_directory, is_row_among}
 use Rattle.ex_store.proofs.Ascending.{all_above, ascends_map, is_less, is_sorted, sorted_ascends}
 
 -- directories by their names
@@ -47,7 +45,7 @@ pub below_name : (directory : Directory) (directories : List Directory) (name : 
 below_name directory [] name above there = absurd (cc)
 below_name directory (first ∷ directories) name above there =
     by (is_named name first) refl (and_parts _ _ above).0
-      (λ later. below_name directory directories name (and_parts _ _ above).1 later) there
+    (λ later. below_name directory directories name (and_parts _ _ above).1 later) there
   where
     by : (is : Bool) → is_named name first ≡ is → is_lt (by_name directory first) ≡ true
         → (has_directory name directories ≡ true → by_bytes directory.name name ≡ Less)
@@ -72,15 +70,15 @@ pub number_order : (directories : List Directory) (a b : List ℕ) → is_sorted
 number_order [] a b sorted has_a has_b = absurd (cc)
 number_order (first ∷ directories) a b sorted has_a has_b =
     by (is_named a first) (is_named b first) refl refl (and_parts _ _ sorted).0
-      (λ later_a later_b. number_order directories a b (and_parts _ _ sorted).1 later_a later_b) has_a has_b
+    (λ later_a later_b. number_order directories a b (and_parts _ _ sorted).1 later_a later_b) has_a has_b
   where
     by : (is_a is_b : Bool) → is_named a first ≡ is_a → is_named b first ≡ is_b
         → all_above by_name first directories ≡ true
         → (has_directory a directories ≡ true → has_directory b directories ≡ true
-          → nat_cmp (number_of a directories) (number_of b directories) ≡ by_bytes a b)
+        → nat_cmp (number_of a directories) (number_of b directories) ≡ by_bytes a b)
         → (is_a || has_directory a directories) ≡ true → (is_b || has_directory b directories) ≡ true
         → nat_cmp (cond (not is_a) (1 + number_of a directories) 0) (cond (not is_b) (1 + number_of b directories) 0)
-          ≡ by_bytes a b
+        ≡ by_bytes a b
     by true true same_a same_b above rest has_a has_b =
         let same : a ≡ b = sym (named a first same_a) ∙ named b first same_b in
         sym (ap (by_bytes a) (sym same) ∙ text_itself a)
@@ -121,9 +119,9 @@ pub row_order : (directories : List Directory) (row other : Row) → is_sorted b
     → by_file (file_row directories row) (file_row directories other) ≡ by_row row other
 row_order directories row other sorted there other_there =
     ap (λ (o : Ordering). ordering_then o (ordering_then (by_bytes row.key.name other.key.name) (ordering_then (by_bytes row.key.kind other.key.kind) (nat_cmp row.file.generation other.file.generation))))
-      (number_order directories row.key.directory other.key.directory sorted there other_there)
+    (number_order directories row.key.directory other.key.directory sorted there other_there)
     ∙ grouped (by_bytes row.key.directory other.key.directory) (by_bytes row.key.name other.key.name)
-      (by_bytes row.key.kind other.key.kind) (nat_cmp row.file.generation other.file.generation)
+    (by_bytes row.key.kind other.key.kind) (nat_cmp row.file.generation other.file.generation)
 
 -- what a row of one of these directories is
 pub directory_there : (directories : List Directory) (row : Row) → is_row_among directories row ≡ true
@@ -140,7 +138,7 @@ rows_ascend directories (row ∷ other ∷ rows) sorted within ascend =
     let parts = and_parts _ _ ascend in
     let all = and_parts _ _ within in
     let same = row_order directories row other sorted (directory_there directories row all.0)
-      (directory_there directories other (and_parts _ _ all.1).0) in
+    (directory_there directories other (and_parts _ _ all.1).0) in
     and_from _ _ (ap is_lt same ∙ parts.0) (rows_ascend directories (other ∷ rows) sorted all.1 parts.1)
 
 pub all_map : {X Y : Type 0} (test : X → Bool) (other : Y → Bool) (f : X → Y)
@@ -162,7 +160,7 @@ row_within directories row is =
     let number = and_parts _ _ first.1 in
     let directory = lt-ltb _ _ (number_within directories row.key.directory third.0) in
     and_from _ _ (and_from _ _ (and_from _ _ (and_from _ _ (and_from _ _ (and_from _ _ (and_from _ _
-      directory size.0) size.1) name.1) kind.0) kind.1) number.0) number.1
+    directory size.0) size.1) name.1) kind.0) kind.1) number.0) number.1
 
 definition_within : (directories : List Directory) (entry : Definition) → is_definition_among directories entry ≡ true
     → is_logical (length directories) (logical_name directories entry) ≡ true
@@ -178,17 +176,17 @@ catalogue_lawful state well =
     length-map state.directories (λ directory. directory.name) in
     record {
       directories_ascend = ascends_map by_bytes by_name (λ directory. directory.name) (λ a b. refl) state.directories
-        ∙ well.directories_ascend;
+          ∙ well.directories_ascend;
       directory_names = all_map is_directory is_directory_name (λ directory. directory.name) (λ directory is. (and_parts _ _ is).0)
-        state.directories well.directories_within;
+          state.directories well.directories_within;
       connected_within = rw many (number_within state.directories state.connected well.connected_there);
       logical_ascend = ascends_map (on (λ entry. entry.name) by_bytes) (on (λ entry. entry.name) by_bytes)
-        (logical_name state.directories) (λ a b. refl) state.logical ∙ well.logical_ascend;
+          (logical_name state.directories) (λ a b. refl) state.logical ∙ well.logical_ascend;
       logical_within = rw many (all_map (is_definition_among state.directories) (is_logical (length state.directories))
-        (logical_name state.directories) (definition_within state.directories) state.logical well.logical_within);
+          (logical_name state.directories) (definition_within state.directories) state.logical well.logical_within);
       rows_ascend = rows_ascend state.directories state.rows sorted well.rows.within well.rows.ascend;
       rows_within = rw many (all_map (is_row_among state.directories) (is_row (length state.directories))
-        (file_row state.directories) (row_within state.directories) state.rows well.rows.within);
+          (file_row state.directories) (row_within state.directories) state.rows well.rows.within);
     }
 
 -- the number that a search gives for a directory that is there
@@ -199,5 +197,5 @@ number_found directories name there n text items is texts lists =
     let within = number_within directories name there in
     let sizes = length-map directories (λ (directory : Directory). directory.name) in
     let same : n ≡ number_of name directories =
-      is ∙ ap (λ each. number_of each items) texts ∙ ap (number_of name) lists in
+    is ∙ ap (λ each. number_of each items) texts ∙ ap (number_of name) lists in
     omega arith

@@ -1,7 +1,7 @@
 -- The files that a place means, among the rows of its directory.
-use Rattle.std.proofs.Common.{◌≡◌, ℕ, zero, suc, ◌+◌, ◌<◌, ◌≤◌, Bool, true, false, ◌&&◌, cond, List, [], ◌∷◌, ◌++◌, length, map, filter, drop, Some, None, Option, refl, ap, arith, ◌∙◌, sym, subst}
+use Rattle.std.proofs.Common.{◌≡◌, ℕ, zero, suc, ◌+◌, ◌<◌, ◌≤◌, Bool, true, false, ◌&&◌, cond, List, [], ◌∷◌, ◌++◌, length, map, drop, Some, None, refl, ap, arith, ◌∙◌, sym}
 use Rattle.std.specs.List.{list_all, position_from}
-use Rattle.std.proofs.lemmas.Bool.{and_from, and_parts}
+use Rattle.std.proofs.lemmas.Bool.{and_parts}
 use Rattle.std.proofs.lemmas.List.{append-nil, append_assoc, drop-drop, drop-map, length-append, length-drop}
 use Rattle.cm_files.specs.declared.row.FileRow.{FileRow}
 use Rattle.cm_files.specs.Catalogue.{rows_of}
@@ -38,7 +38,7 @@ all_drop test (suc n) (x ∷ xs) all = all_drop test n xs (and_parts _ _ all).1
 -- of the rows of its directory, a place means those that are selected
 meant_inside : (deleted : Bool) (place : Place) (state : State) (row : Row) → is_in place.directory row ≡ true
     → is_selected (wanted_of deleted place) (map (file_row state.directories) (rows_in place.directory state.rows))
-      (file_row state.directories row)
+    (file_row state.directories row)
     ≡ is_meant deleted place state row
 unfolding is_meant
 meant_inside deleted place state row is =
@@ -58,19 +58,19 @@ pub walk_meant : (state : State) → IsWellFormed state → (deleted : Bool) (pl
     ≡ position_from (is_meant deleted place state) from (drop from (rows_in place.directory state.rows))
 walk_meant state well deleted place from n text items w there is texts lists same =
     let number : n ≡ number_of place.directory state.directories =
-      is ∙ ap (λ each. number_of each items) texts ∙ ap (number_of place.directory) lists in
+    is ∙ ap (λ each. number_of each items) texts ∙ ap (number_of place.directory) lists in
     let f = file_row state.directories in
     let inside = rows_in place.directory state.rows in
     let rows : rows_of (catalogue_of state) n ≡ map f inside =
-      ap (rows_of (catalogue_of state)) number ∙ rows_of_catalogue state (number_of place.directory state.directories)
-      ∙ ap (map f) (rows_by_number state well place.directory there) in
+    ap (rows_of (catalogue_of state)) number ∙ rows_of_catalogue state (number_of place.directory state.directories)
+    ∙ ap (map f) (rows_by_number state well place.directory there) in
     ap (λ (each : List FileRow). position_from (is_selected w each) from (drop from each)) rows
     ∙ ap (λ (each : Wanted). position_from (is_selected each (map f inside)) from (drop from (map f inside))) same
     ∙ ap (position_from (is_selected (wanted_of deleted place) (map f inside)) from) (drop-map f from inside)
     ∙ position_map (is_selected (wanted_of deleted place) (map f inside)) f from (drop from inside)
     ∙ position_same (is_in place.directory) (λ row. is_selected (wanted_of deleted place) (map f inside) (f row))
-      (is_meant deleted place state) (meant_inside deleted place state) from (drop from inside)
-      (all_drop (is_in place.directory) from inside (kept_pass (is_in place.directory) state.rows))
+    (is_meant deleted place state) (meant_inside deleted place state) from (drop from inside)
+    (all_drop (is_in place.directory) from inside (kept_pass (is_in place.directory) state.rows))
 
 -- where the first of a list is that passes, and the positions behind it
 record Found {X : Type 0} (test : X → Bool) (at : ℕ) (xs : List X) (i : ℕ) : Type 0 where
@@ -92,11 +92,11 @@ found {X} test at (x ∷ xs) i is = by (test x) refl is (λ later. found test (a
           is = omega arith;
           within = omega arith;
           all = λ first.
-            let next : first + at + 1 ≡ first + (i + 1) = omega arith in
-            let here : first + at ≡ first + i = omega arith in
-            ap (λ b. cond b ((first + at) ∷ positions_from test (first + at + 1) xs) (positions_from test (first + at + 1) xs)) passes
-            ∙ ap (λ (k : ℕ). (first + at) ∷ positions_from test k xs) next
-            ∙ ap (λ (k : ℕ). k ∷ positions_from test (first + (i + 1)) xs) here;
+              let next : first + at + 1 ≡ first + (i + 1) = omega arith in
+              let here : first + at ≡ first + i = omega arith in
+              ap (λ b. cond b ((first + at) ∷ positions_from test (first + at + 1) xs) (positions_from test (first + at + 1) xs)) passes
+              ∙ ap (λ (k : ℕ). (first + at) ∷ positions_from test k xs) next
+              ∙ ap (λ (k : ℕ). k ∷ positions_from test (first + (i + 1)) xs) here;
         }
     by false passes is rest =
         let later = rest is in
@@ -107,10 +107,10 @@ found {X} test at (x ∷ xs) i is = by (test x) refl is (λ later. found test (a
           is = omega arith;
           within = omega arith;
           all = λ first.
-            let next : first + at + 1 ≡ first + (at + 1) = omega arith in
-            ap (λ b. cond b ((first + at) ∷ positions_from test (first + at + 1) xs) (positions_from test (first + at + 1) xs)) passes
-            ∙ ap (λ (k : ℕ). positions_from test k xs) next
-            ∙ later.all first;
+              let next : first + at + 1 ≡ first + (at + 1) = omega arith in
+              ap (λ b. cond b ((first + at) ∷ positions_from test (first + at + 1) xs) (positions_from test (first + at + 1) xs)) passes
+              ∙ ap (λ (k : ℕ). positions_from test k xs) next
+              ∙ later.all first;
         }
 
 found_none : {X : Type 0} (test : X → Bool) (at : ℕ) (xs : List X) → position_from test at xs ≡ None → (first : ℕ)
@@ -165,14 +165,14 @@ collects_more test first xs items more from i so_far is pushed =
     let sizes = length-append items ((first + i) ∷ []) in
     let same : from + suc next.passed ≡ i + 1 = omega arith in
     let left : drop (suc next.passed) (drop from xs) ≡ drop (i + 1) xs =
-      drop-drop (suc next.passed) from xs ∙ ap (λ (k : ℕ). drop k xs) same in
+    drop-drop (suc next.passed) from xs ∙ ap (λ (k : ℕ). drop k xs) same in
     let behind = positions_from test (first + (i + 1)) (drop (i + 1) xs) in
     record {
       walk = ap (λ front. front ++ behind) pushed
-        ∙ append_assoc items ((first + i) ∷ []) behind
-        ∙ ap (λ rest. items ++ ((first + i) ∷ positions_from test (first + (i + 1)) rest)) (sym left)
-        ∙ ap (λ rest. items ++ rest) (sym (next.all first))
-        ∙ so_far.walk;
+          ∙ append_assoc items ((first + i) ∷ []) behind
+          ∙ ap (λ rest. items ++ ((first + i) ∷ positions_from test (first + (i + 1)) rest)) (sym left)
+          ∙ ap (λ rest. items ++ rest) (sym (next.all first))
+          ∙ so_far.walk;
       few = omega arith;
       within = omega arith;
     }
@@ -189,15 +189,15 @@ pub positions_meant : (state : State) → IsWellFormed state → (deleted : Bool
     ≡ positions_from (is_meant deleted place state) (first_in place.directory state.rows) (rows_in place.directory state.rows)
 positions_meant state well deleted place =
     positions_within (is_meant deleted place state) (is_in place.directory) (meant_in deleted place state) state.rows
-      (rows_in place.directory state.rows) (first_in place.directory state.rows) (end_in place.directory state.rows)
-      (block place.directory state.rows well.rows.ascend)
+    (rows_in place.directory state.rows) (first_in place.directory state.rows) (end_in place.directory state.rows)
+    (block place.directory state.rows well.rows.ascend)
 
 -- and they are few
 pub block_few : (state : State) → IsWellFormed state → (directory : List ℕ)
     → first_in directory state.rows + length (rows_in directory state.rows) ≤ 4096
 block_few state well directory =
     let bounds = block_within (is_in directory) state.rows (rows_in directory state.rows) (first_in directory state.rows)
-      (end_in directory state.rows) (block directory state.rows well.rows.ascend) in
+    (end_in directory state.rows) (block directory state.rows well.rows.ascend) in
     let start = bounds.0 in
     let last = bounds.1 in
     let few = well.rows.few in

@@ -31,7 +31,7 @@ impl Store {
     fn name_of(&self, directory: u16) -> &[u8]
         requires { directory < length self.now.state.directories }
         ensures { option_map (λ directory. directory.name) (slice_get self.now.state.directories directory)
-          ≡ Some result.now }
+            ≡ Some result.now }
     {
         self.directories[usize::from(directory)].name.as_bytes()
     }

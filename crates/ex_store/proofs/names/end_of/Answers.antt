@@ -1,4 +1,4 @@
-use Rattle.std.proofs.Common.{rules, ◌≡◌, sym}
+use Rattle.std.proofs.Common.{rules, sym}
 use Rattle.std.specs.Ordering.{is_le}
 use Rattle.std.proofs.lemmas.List.Sorted.{IsPartitionPoint-from_clause}
 use Rattle.cm_files.specs.Catalogue.{by_bytes}
@@ -13,5 +13,5 @@ returns c =
     let rise = directories_rise c.args.directory.now c.args.rows.now c.requires in
     let falls = parted is_le upper_falls (λ (row : Row). by_bytes row.key.directory c.args.directory.now) c.args.rows.now rise in
     let point = IsPartitionPoint-from_clause test c.args.rows.now c.partition_point.result
-      c.partition_point.ensures.partitioned falls (λ a r f k. search rules) in
+    c.partition_point.ensures.partitioned falls (λ a r f k. search rules) in
     sym (prefix_from_point test c.args.rows.now c.partition_point.result c.partition_point.ensures.bound point.0 point.1)

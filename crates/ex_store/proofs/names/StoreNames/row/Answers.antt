@@ -13,4 +13,4 @@ row_at-row-requires-clause-row c =
 pub returns-clause-value : goal.returns-clause-value
 returns-clause-value c =
     catalogue_row c.args.self.now.state c.args.directory c.args.i c.row_at-row.result.now c.row_at-row.ensures
-      c.as_str.result.now c.as_str-2.result.now c.as_str.ensures.value c.as_str-2.ensures.value
+    c.as_str.result.now c.as_str-2.result.now c.as_str.ensures.value c.as_str-2.ensures.value

@@ -1,5 +1,4 @@
-use Rattle.std.proofs.Common.{◌≡◌, ◌+◌, ◌<◌, Some, None, length, ap, arith, sym, subst, ◌∙◌}
-use Rattle.std.specs.List.{position_from}
+use Rattle.std.proofs.Common.{◌≡◌, ◌+◌, ◌<◌, length, ap, arith, sym, subst, ◌∙◌}
 use Rattle.ex_store.specs.Positions.{positions_from}
 use Rattle.ex_store.specs.Rows.{first_in, rows_in}
 use Rattle.ex_store.specs.Selection.{is_meant}
@@ -17,10 +16,10 @@ bounds c =
     let well = subst (λ held. IsWellFormed held.state) c.self.view_is c.self.invariant in
     let few = block_few state well directory in
     let first : c.first_of-first.result ≡ first_in directory state.rows =
-      c.first_of-first.ensures ∙ ap (λ text. first_in text c.deref.result.now) c.as_bytes.ensures.value
-      ∙ ap (first_in directory) (c.deref.ensures.value ∙ ap (λ held. held.state.rows) c.self.view_is) in
+    c.first_of-first.ensures ∙ ap (λ text. first_in text c.deref.result.now) c.as_bytes.ensures.value
+    ∙ ap (first_in directory) (c.deref.ensures.value ∙ ap (λ held. held.state.rows) c.self.view_is) in
     let within = collects_within (is_meant c.args.deleted c.args.files.now state) c.first_of-first.result rows
-      c.loop-i.positions.items c.loop-i.from c.in-Some.i c.loop-i.invariant (sym c.in-Some.is ∙ c.select.ensures) in
+    c.loop-i.positions.items c.loop-i.from c.in-Some.i c.loop-i.invariant (sym c.in-Some.is ∙ c.select.ensures) in
     let low = within.0 in
     let high = within.1 in
     let size = c.loop-i.invariant.few in
@@ -30,7 +29,7 @@ bounds c =
 pub loop-i-init : goal.loop-i-init
 loop-i-init c =
     collects_none (is_meant c.args.deleted c.args.files.now c.args.self.now.state) c.first_of-first.result
-      (rows_in c.args.files.now.directory c.args.self.now.state.rows) c.new-positions.result.items c.new-positions.ensures
+    (rows_in c.args.files.now.directory c.args.self.now.state.rows) c.new-positions.result.items c.new-positions.ensures
 
 -- src/selection.rt:37:29
 pub overflow_add-first : goal.overflow_add-first
@@ -50,8 +49,8 @@ overflow_add-from c =
     let well = subst (λ held. IsWellFormed held.state) c.self.view_is c.self.invariant in
     let few = block_few c.args.self.now.state well c.args.files.now.directory in
     let within = collects_within (is_meant c.args.deleted c.args.files.now c.args.self.now.state) c.first_of-first.result
-      (rows_in c.args.files.now.directory c.args.self.now.state.rows)
-      c.loop-i.positions.items c.loop-i.from c.in-Some.i c.loop-i.invariant (sym c.in-Some.is ∙ c.select.ensures) in
+    (rows_in c.args.files.now.directory c.args.self.now.state.rows)
+    c.loop-i.positions.items c.loop-i.from c.in-Some.i c.loop-i.invariant (sym c.in-Some.is ∙ c.select.ensures) in
     let high = within.1 in
     omega arith
 
@@ -59,8 +58,8 @@ overflow_add-from c =
 pub loop-i-smaller : goal.loop-i-smaller
 loop-i-smaller c =
     let within = collects_within (is_meant c.args.deleted c.args.files.now c.args.self.now.state) c.first_of-first.result
-      (rows_in c.args.files.now.directory c.args.self.now.state.rows)
-      c.loop-i.positions.items c.loop-i.from c.in-Some.i c.loop-i.invariant (sym c.in-Some.is ∙ c.select.ensures) in
+    (rows_in c.args.files.now.directory c.args.self.now.state.rows)
+    c.loop-i.positions.items c.loop-i.from c.in-Some.i c.loop-i.invariant (sym c.in-Some.is ∙ c.select.ensures) in
     let low = within.0 in
     let high = within.1 in
     omega arith
@@ -69,9 +68,9 @@ loop-i-smaller c =
 pub loop-i-preserved : goal.loop-i-preserved
 loop-i-preserved c =
     collects_more (is_meant c.args.deleted c.args.files.now c.args.self.now.state) c.first_of-first.result
-      (rows_in c.args.files.now.directory c.args.self.now.state.rows)
-      c.loop-i.positions.items c.push.new.self.items c.loop-i.from c.in-Some.i c.loop-i.invariant
-      (sym c.in-Some.is ∙ c.select.ensures) c.push.ensures.items
+    (rows_in c.args.files.now.directory c.args.self.now.state.rows)
+    c.loop-i.positions.items c.push.new.self.items c.loop-i.from c.in-Some.i c.loop-i.invariant
+    (sym c.in-Some.is ∙ c.select.ensures) c.push.ensures.items
 
 -- src/selection.rt:28:5
 pub returns : goal.returns
@@ -80,10 +79,10 @@ returns c =
     let directory = c.args.files.now.directory in
     let well = subst (λ held. IsWellFormed held.state) c.self.view_is c.self.invariant in
     let first : c.first_of-first.result ≡ first_in directory state.rows =
-      c.first_of-first.ensures ∙ ap (λ text. first_in text c.deref.result.now) c.as_bytes.ensures.value
-      ∙ ap (first_in directory) (c.deref.ensures.value ∙ ap (λ held. held.state.rows) c.self.view_is) in
+    c.first_of-first.ensures ∙ ap (λ text. first_in text c.deref.result.now) c.as_bytes.ensures.value
+    ∙ ap (first_in directory) (c.deref.ensures.value ∙ ap (λ held. held.state.rows) c.self.view_is) in
     let test = is_meant c.args.deleted c.args.files.now state in
     collects_all test c.first_of-first.result (rows_in directory state.rows) c.loop-i.positions.items c.loop-i.from c.loop-i.invariant
-      (sym c.in_default.is ∙ c.select.ensures)
+    (sym c.in_default.is ∙ c.select.ensures)
     ∙ ap (λ at. positions_from test at (rows_in directory state.rows)) first
     ∙ sym (positions_meant state well c.args.deleted c.args.files.now)
