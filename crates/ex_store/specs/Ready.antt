@@ -1,6 +1,7 @@
 -- A plan that is ready to be done.
-use Rattle.std.specs.Prelude.{ℕ, ◌+◌, ◌≤◌, List, length, Option, Some, None}
+use Rattle.std.specs.Prelude.{ℕ, ◌≡◌, ◌+◌, ◌≤◌, List, length, Option, Some, None, Result, Ok}
 use Rattle.std.specs.List.{fold}
+use Rattle.cm_fields.specs.declared.code.Code.{Code}
 use Rattle.ex_store.specs.declared.directory.Directory.{Directory}
 use Rattle.ex_store.specs.declared.key.FullName.{FullName}
 use Rattle.ex_store.specs.declared.key.NamePair.{NamePair}
@@ -12,7 +13,7 @@ use Rattle.ex_store.specs.Adding.{Outcome, new_row}
 use Rattle.ex_store.specs.Plan.{Planned}
 use Rattle.ex_store.specs.Rows.{added, filled, row_at, without}
 use Rattle.ex_store.specs.State.{Held, State}
-use Rattle.ex_store.specs.WellFormed.{IsWellFormed}
+use Rattle.ex_store.specs.WellFormed.{AreRows, IsWellFormed}
 
 -- a directory to be made or changed; how many generations are kept where files are added; what is done with the
 -- files, step by step; and from which file to which one each goes
@@ -44,6 +45,12 @@ all_stepped keep rows done = fold (stepped keep) rows done
 -- what the steps make of some rows
 abbrev pub outcome_of : List Row → Change → Outcome
 outcome_of rows change = record { rows = all_stepped change.keep rows change.steps; pairs = change.pairs }
+
+-- what is to be done with some rows comes to what a plan makes of them, and they stay those of a store
+pub record IsMade (directories : List Directory) (rows : List Row) (plan : Result Outcome Code) (change : Change) : Type 0 where
+  pub none : change.directory ≡ None
+  pub outcome : plan ≡ Ok (outcome_of rows change)
+  pub sound : AreRows directories (all_stepped change.keep rows change.steps)
 
 -- the directories with the one that is made
 abbrev pub with_made : Option Directory → List Directory → List Directory

@@ -8,7 +8,7 @@ ghost use Rattle.ex_store.specs.Adding.{each_in_turn, new_row};
 ghost use Rattle.ex_store.specs.Copying.{copied, moment_of, written};
 ghost use Rattle.ex_store.specs.Plan.{IsRefused, IsTarget, MayPlan, planned};
 ghost use Rattle.ex_store.specs.Positions.{elements_at};
-ghost use Rattle.ex_store.specs.Ready.{all_stepped, applied, done_on, outcome_of};
+ghost use Rattle.ex_store.specs.Ready.{IsMade, applied, done_on};
 ghost use Rattle.ex_store.specs.Rows.{added, blank, full_of};
 ghost use Rattle.ex_store.specs.State.{keep_of};
 ghost use Rattle.ex_store.specs.WellFormed.{AreRows, IsWellFormed};
@@ -69,11 +69,9 @@ fn copies(
     requires within { list_all (λ at. nat_lt at (length rows.now)) positions.now ≡ true }
     requires few { length positions.now ≤ ROW_LIMIT }
     requires target { IsTarget to.now directories.now }
-    ensures ready { IfOk result (λ ready.
-      each_in_turn (copied (keep_of to.now.directory directories.now) moment to.now) (elements_at rows.now positions.now)
-        (record { rows = rows.now; pairs = [] }) ≡ Ok (outcome_of rows.now ready)) }
-    ensures none { IfOk result (λ ready. ready.directory ≡ None) }
-    ensures sound { IfOk result (λ ready. AreRows directories.now (all_stepped ready.keep rows.now ready.steps)) }
+    ensures made { IfOk result (IsMade directories.now rows.now
+      (each_in_turn (copied (keep_of to.now.directory directories.now) moment to.now) (elements_at rows.now positions.now)
+        (record { rows = rows.now; pairs = [] }))) }
     ensures refused { IfErr result (IsRefused
       (each_in_turn (copied (keep_of to.now.directory directories.now) moment to.now) (elements_at rows.now positions.now)
         (record { rows = rows.now; pairs = [] }))) }

@@ -8,7 +8,7 @@ ghost use Rattle.ex_store.specs.Adding.{and_then, each_in_turn, numbered};
 ghost use Rattle.ex_store.specs.Copying.{key_from};
 ghost use Rattle.ex_store.specs.Plan.{IsRefused, IsTarget, MayPlan, planned};
 ghost use Rattle.ex_store.specs.Positions.{elements_at};
-ghost use Rattle.ex_store.specs.Ready.{all_stepped, applied, done_on, outcome_of, put_back};
+ghost use Rattle.ex_store.specs.Ready.{IsMade, applied, done_on, put_back};
 ghost use Rattle.ex_store.specs.Renaming.{AreDistinct, renamed};
 ghost use Rattle.ex_store.specs.Rows.{files_of, full_of, row_at, without};
 ghost use Rattle.ex_store.specs.State.{keep_of};
@@ -73,11 +73,9 @@ fn renames(
     requires few { length positions.now ≤ ROW_LIMIT }
     requires distinct { AreDistinct (elements_at rows.now positions.now) }
     requires target { IsTarget to.now directories.now }
-    ensures ready { IfOk result (λ ready.
-      each_in_turn (renamed (keep_of to.now.directory directories.now) to.now) (elements_at rows.now positions.now)
-        (record { rows = rows.now; pairs = [] }) ≡ Ok (outcome_of rows.now ready)) }
-    ensures none { IfOk result (λ ready. ready.directory ≡ None) }
-    ensures sound { IfOk result (λ ready. AreRows directories.now (all_stepped ready.keep rows.now ready.steps)) }
+    ensures made { IfOk result (IsMade directories.now rows.now
+      (each_in_turn (renamed (keep_of to.now.directory directories.now) to.now) (elements_at rows.now positions.now)
+        (record { rows = rows.now; pairs = [] }))) }
     ensures refused { IfErr result (IsRefused
       (each_in_turn (renamed (keep_of to.now.directory directories.now) to.now) (elements_at rows.now positions.now)
         (record { rows = rows.now; pairs = [] }))) }
