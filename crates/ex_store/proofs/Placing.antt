@@ -1,5 +1,5 @@
 -- Where the row of a full name stands, and what a change there is.
-use Rattle.std.proofs.Common.{◌≡◌, ℕ, ◌+◌, ◌<◌, ◌≤◌, Bool, true, false, not, ◌||◌, cond, nat_lt, suc, zero, List, [], ◌∷◌, length, get_or, set, find, insert, remove, position, Some, None, refl, sym, ap, subst, ◌∙◌, arith}
+use Rattle.std.proofs.Common.{◌≡◌, ℕ, ◌+◌, ◌<◌, ◌≤◌, Bool, true, false, not, ◌||◌, cond, nat_lt, suc, zero, List, [], ◌∷◌, length, get_or, set, insert, remove, position, Some, None, refl, sym, ap, ◌∙◌, arith}
 use Rattle.std.specs.List.{list_any, position_or_len, prefix_len}
 use Rattle.std.specs.Ordering.{is_lt}
 use Rattle.std.proofs.lemmas.Bool.{ltb-false, or_parts}

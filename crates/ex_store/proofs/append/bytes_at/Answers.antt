@@ -1,5 +1,4 @@
-use Rattle.std.proofs.Common.{◌≡◌, Some, None, [], ap, sym, ◌∙◌}
-use Rattle.std.specs.Option.{option_map_or}
+use Rattle.std.proofs.Common.{ap, sym, ◌∙◌}
 use Rattle.ex_store.specs.declared.row.Row.{Row}
 use Rattle.ex_store.proofs.Placing.{row_is, row_none}
 use Rattle.ex_store.proofs.append.bytes_at.Goals as goal

@@ -1,7 +1,4 @@
-use Rattle.std.proofs.Common.{◌≡◌, ◌+◌, ◌<◌, ◌≤◌, ◌∷◌, ◌++◌, drop, length, length-append, get_or, sym, ◌∙◌, arith}
-use Rattle.ex_generations.specs.declared.file.TheConstants.{FILE_LIMIT}
-use Rattle.ex_store.specs.declared.limits.TheConstants.{STORE_LIMIT}
-use Rattle.ex_store.specs.Positions.{elements_at}
+use Rattle.std.proofs.Common.{◌≡◌, ◌<◌, length, length-append, get_or, sym, ◌∙◌, arith}
 use Rattle.ex_store.proofs.Elements.{all_more, elements_more, within_next}
 use Rattle.ex_store.proofs.Pouring.{fits_within, poured_err, poured_more}
 use Rattle.ex_store.proofs.append.poured.Goals as goal

@@ -1,4 +1,4 @@
-use Rattle.std.proofs.Common.{◌≡◌, insert, length, ap, ◌∙◌, arith}
+use Rattle.std.proofs.Common.{◌≡◌, insert, ap, ◌∙◌, arith}
 use Rattle.std.specs.Ordering.{is_lt}
 use Rattle.std.proofs.lemmas.List.Sums.{prefix_len-le-length}
 use Rattle.ex_store.specs.Rows.{by_row}
