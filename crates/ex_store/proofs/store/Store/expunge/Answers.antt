@@ -1,6 +1,5 @@
-use Rattle.std.proofs.Common.{◌≡◌, ◌&&◌, List, not, filter, rules, sym, ap, subst, ◌∙◌}
+use Rattle.std.proofs.Common.{◌≡◌, ◌&&◌, not, rules}
 use Rattle.std.proofs.lemmas.Fn.{filter_same}
-use Rattle.ex_store.specs.declared.row.Row.{Row}
 use Rattle.ex_store.specs.Rows.{expunged, is_in}
 use Rattle.ex_store.proofs.Marking.{rows_left, rows_short, well_formed_with_rows}
 use Rattle.ex_store.proofs.store.Store.expunge.Goals as goal

@@ -1,4 +1,4 @@
-use Rattle.std.proofs.Common.{◌≡◌, List, not, filter, rules, sym, ap, subst, ◌∙◌}
+use Rattle.std.proofs.Common.{◌≡◌, List, not, filter, rules, sym, ap, ◌∙◌}
 use Rattle.std.proofs.lemmas.Fn.{filter_same}
 use Rattle.cm_text.specs.Case.{equals}
 use Rattle.ex_store.specs.declared.directory.Definition.{Definition}
