@@ -70,7 +70,7 @@ name_from test (Some part) own may form = by (is_star part) refl
     by true star = form
     by false star = second (is_star part) (test part) star may
 
-moment_within : (moment : ℕ) → nat_le (moment_of moment) MOMENT_LIMIT ≡ true
+pub moment_within : (moment : ℕ) → nat_le (moment_of moment) MOMENT_LIMIT ≡ true
 moment_within moment = grind (arith, nat_tests)
 
 -- what is known of a row of a store
