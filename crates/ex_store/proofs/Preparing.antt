@@ -1,17 +1,21 @@
 -- What is made of the sources of a plan is what the plan makes of the state.
-use Rattle.std.proofs.Common.{◌≡◌, ℕ, Bool, List, filter, Result, Ok, Err, refl, subst}
+use Rattle.std.proofs.Common.{◌≡◌, ℕ, Bool, List, [], filter, Result, Ok, Err, refl, subst}
 use Rattle.cm_fields.specs.declared.code.Code.{Code}
 use Rattle.ex_store.specs.declared.directory.Directory.{Directory}
 use Rattle.ex_store.specs.declared.place.Place.{Place}
+use Rattle.ex_store.specs.declared.plan.Plan.TheVariants as plans
 use Rattle.ex_store.specs.declared.plan.Refusal.{Refusal}
 use Rattle.ex_store.specs.declared.plan.Refusal.TheVariants as refusals
 use Rattle.ex_store.specs.declared.row.Row.{Row}
-use Rattle.ex_store.specs.Adding.{Outcome, and_then}
-use Rattle.ex_store.specs.Plan.{IsRefused, Planned, with_rows}
+use Rattle.ex_store.specs.Adding.{Outcome, each_in_turn}
+use Rattle.ex_store.specs.Copying.{copied}
+use Rattle.ex_store.specs.Plan.{IsRefused, planned, with_rows}
 use Rattle.ex_store.specs.Positions.{elements_at, positions_from}
-use Rattle.ex_store.specs.Ready.{Change, IsMade, all_stepped, applied, done_on, outcome_of, with_made}
-use Rattle.ex_store.specs.State.{State}
-use Rattle.ex_store.specs.WellFormed.{AreRows, IsWellFormed}
+use Rattle.ex_store.specs.Ready.{Change, IsMade, all_stepped, applied, done_on}
+use Rattle.ex_store.specs.Renaming.{renamed}
+use Rattle.ex_store.specs.Selection.{meant}
+use Rattle.ex_store.specs.State.{State, keep_of}
+use Rattle.ex_store.specs.WellFormed.{IsWellFormed}
 use Rattle.ex_store.proofs.Marking.{well_formed_with_rows}
 use Rattle.ex_store.proofs.Sources.{elements_filter}
 
@@ -40,3 +44,51 @@ refused_of state plan refusals.NoMemory refused = tt
 pub sources_at : (test : Row → Bool) (rows before : List Row) (given positions : List ℕ) → before ≡ rows → given ≡ positions
     → positions ≡ positions_from test 0 rows → elements_at before given ≡ filter test rows
 sources_at test rows before given positions same told found = rw (same, told, found) (elements_filter test rows)
+
+-- a copy of the sources is the plan of the copy
+abbrev copies : ℕ → Place → List Directory → List Row → List Row → Result Outcome Code
+copies moment to directories rows sources =
+    each_in_turn (copied (keep_of to.directory directories) moment to) sources (record { rows = rows; pairs = [] })
+
+pub made_copy : (state : State) (from to : Place) (moment : ℕ) (directories : List Directory) (rows sources : List Row) (change : Change)
+    → directories ≡ state.directories → rows ≡ state.rows → sources ≡ meant from.flags.deleted from state
+    → IsMade directories rows (copies moment to directories rows sources) change
+    → planned (plans.Copy from to) moment state ≡ Ok (done_on state change)
+unfolding planned
+made_copy state from to moment directories rows sources change same_directories same_rows same_sources made =
+    let same : copies moment to directories rows sources ≡ copies moment to state.directories state.rows (meant from.flags.deleted from state) = rw (same_directories, same_rows, same_sources) refl in
+    made_of state _ directories rows change same_directories same_rows
+    (subst (λ (plan : Result Outcome Code). IsMade directories rows plan change) same made)
+
+pub refused_copy : (state : State) (from to : Place) (moment : ℕ) (directories : List Directory) (rows sources : List Row) (refusal : Refusal)
+    → directories ≡ state.directories → rows ≡ state.rows → sources ≡ meant from.flags.deleted from state
+    → IsRefused (copies moment to directories rows sources) refusal
+    → IsRefused (planned (plans.Copy from to) moment state) refusal
+unfolding planned
+refused_copy state from to moment directories rows sources refusal same_directories same_rows same_sources refused =
+    let same : copies moment to directories rows sources ≡ copies moment to state.directories state.rows (meant from.flags.deleted from state) = rw (same_directories, same_rows, same_sources) refl in
+    refused_of state _ refusal (subst (λ (plan : Result Outcome Code). IsRefused plan refusal) same refused)
+
+-- new names of the sources are the plan of the renaming
+abbrev renames : Place → List Directory → List Row → List Row → Result Outcome Code
+renames to directories rows sources =
+    each_in_turn (renamed (keep_of to.directory directories) to) sources (record { rows = rows; pairs = [] })
+
+pub made_rename : (state : State) (from to : Place) (moment : ℕ) (directories : List Directory) (rows sources : List Row) (change : Change)
+    → directories ≡ state.directories → rows ≡ state.rows → sources ≡ meant from.flags.deleted from state
+    → IsMade directories rows (renames to directories rows sources) change
+    → planned (plans.Rename from to) moment state ≡ Ok (done_on state change)
+unfolding planned
+made_rename state from to moment directories rows sources change same_directories same_rows same_sources made =
+    let same : renames to directories rows sources ≡ renames to state.directories state.rows (meant from.flags.deleted from state) = rw (same_directories, same_rows, same_sources) refl in
+    made_of state _ directories rows change same_directories same_rows
+    (subst (λ (plan : Result Outcome Code). IsMade directories rows plan change) same made)
+
+pub refused_rename : (state : State) (from to : Place) (moment : ℕ) (directories : List Directory) (rows sources : List Row) (refusal : Refusal)
+    → directories ≡ state.directories → rows ≡ state.rows → sources ≡ meant from.flags.deleted from state
+    → IsRefused (renames to directories rows sources) refusal
+    → IsRefused (planned (plans.Rename from to) moment state) refusal
+unfolding planned
+refused_rename state from to moment directories rows sources refusal same_directories same_rows same_sources refused =
+    let same : renames to directories rows sources ≡ renames to state.directories state.rows (meant from.flags.deleted from state) = rw (same_directories, same_rows, same_sources) refl in
+    refused_of state _ refusal (subst (λ (plan : Result Outcome Code). IsRefused plan refusal) same refused)
