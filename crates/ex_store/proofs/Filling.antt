@@ -1,18 +1,16 @@
 -- Bytes are put behind those of a file: the rows stay those of a store, and what the plan comes to.
-use Rattle.std.proofs.Common.{◌≡◌, ◌≤◌, ◌+◌, ◌&&◌, not, nat_le, nat_lt, ℕ, suc, Bool, true, false, cond, List, [], ◌∷◌, ◌++◌, length, length-append, map, slice_get, unwrap_or, Result, Ok, Err, Option, Some, None, IfOk, IfErr, refl, ap, arith, ◌∙◌, sym, subst}
+use Rattle.std.proofs.Common.{◌≡◌, ◌≤◌, ◌+◌, ◌&&◌, nat_le, nat_lt, ℕ, suc, Bool, true, false, cond, List, [], ◌∷◌, ◌++◌, length, slice_get, unwrap_or, Result, Ok, Err, Option, Some, None, IfOk, IfErr, refl, ap, arith, ◌∙◌, subst}
 use Rattle.std.specs.List.{list_all}
 use Rattle.std.specs.Option.{option_map_or, option_to_list}
 use Rattle.std.specs.Ordering.{is_lt}
 use Rattle.std.proofs.lemmas.Bool.{and_from, and_parts, le-leb, leb-true, not-true}
 use Rattle.std.proofs.lemmas.List.{length-map}
 use Rattle.cm_fields.specs.declared.code.Code.{Code}
-use Rattle.cm_fields.specs.declared.value.Gen.{Gen}
 use Rattle.ex_generations.specs.declared.file.TheConstants.{FILE_LIMIT}
 use Rattle.ex_generations.specs.Generations.{rewritten}
 use Rattle.ex_store.specs.declared.append.Opening.{Opening}
 use Rattle.ex_store.specs.declared.directory.Directory.{Directory}
 use Rattle.ex_store.specs.declared.key.FullName.{FullName}
-use Rattle.ex_store.specs.declared.key.Key.{Key}
 use Rattle.ex_store.specs.declared.key.NamePair.{NamePair}
 use Rattle.ex_store.specs.declared.limits.TheConstants.{MOMENT_LIMIT, STORE_LIMIT}
 use Rattle.ex_store.specs.declared.place.Place.{Place}
@@ -21,20 +19,20 @@ use Rattle.ex_store.specs.declared.plan.Refusal.{Refusal}
 use Rattle.ex_store.specs.declared.plan.Refusal.TheVariants as refusals
 use Rattle.ex_store.specs.declared.ready.Step.{Step}
 use Rattle.ex_store.specs.declared.row.Row.{Row}
-use Rattle.ex_store.specs.Adding.{Outcome, admitted, and_then, new_row}
+use Rattle.ex_store.specs.Adding.{Outcome, admitted, new_row}
 use Rattle.ex_store.specs.Appending.{appended, bytes_at, found, opened, opening_of, pairs_to, poured, steps_of, with_opened}
 use Rattle.ex_store.specs.Copying.{moment_of, own_key}
 use Rattle.ex_store.specs.Plan.{IsOneFile, IsRefused, has_plain_kind, has_plain_name, planned, sources, with_rows}
 use Rattle.ex_store.specs.Positions.{elements_at, positions_from}
-use Rattle.ex_store.specs.Ready.{Change, all_stepped, applied, done_on, outcome_of}
+use Rattle.ex_store.specs.Ready.{Change, all_stepped, done_on, outcome_of}
 use Rattle.ex_store.specs.Rows.{added, by_row, files_of, filled, full_of, is_full, row_at, total}
 use Rattle.ex_store.specs.Selection.{is_meant}
 use Rattle.ex_store.specs.State.{State, keep_of}
-use Rattle.ex_store.specs.WellFormed.{AreRows, IsWellFormed, is_file_name, is_file_type, is_row_among}
+use Rattle.ex_store.specs.WellFormed.{AreRows, is_file_name, is_file_type, is_row_among}
 use Rattle.ex_store.proofs.Admitting.{admitted_is, and_then_ok, counted_file, rows_added}
 use Rattle.ex_store.proofs.Ascending.{all_above, ascends_sorted, is_sorted, sorted_ascends}
 use Rattle.ex_store.proofs.Copies.{formed, formed_is, moment_within}
-use Rattle.ex_store.proofs.Marking.{positions_fit, well_formed_with_rows}
+use Rattle.ex_store.proofs.Marking.{positions_fit}
 use Rattle.ex_store.proofs.Pouring.{poured_within}
 use Rattle.ex_store.proofs.Sizes.{total_added, total_cons}
 use Rattle.ex_store.proofs.Sound.{absent_has, by_row_total, is_absent}
@@ -170,7 +168,7 @@ plain_kind (Some kind) has = has
 new_opened : (directories : List Directory) (keep moment : ℕ) (to : Place) (rows : List Row) (number : ℕ) → AreRows directories rows
     → IsOneFile to directories → admitted (own_key to) to.generation 0 rows ≡ Ok number
     → (let row = new_row (own_key to) (moment_of moment) [] number in
-      IsOpened directories keep rows (record { target = full_of row; new = Some row }))
+    IsOpened directories keep rows (record { target = full_of row; new = Some row }))
 new_opened directories keep moment to rows number are one admits =
     let row = new_row (own_key to) (moment_of moment) [] number in
     let known = admitted_is (own_key to) to.generation 0 rows number (counted_file to.generation one.generation) admits in
@@ -198,8 +196,8 @@ opening_is directories keep moment to rows (Some number) there are one is =
     subst (IsOpened directories keep rows) same (record { are = are; room = omega arith })
 opening_is directories keep moment to rows None there are one is =
     let parts = and_then_ok (λ number.
-      let row = new_row (own_key to) (moment_of moment) [] number in
-      Ok (record { target = full_of row; new = Some row })) (admitted (own_key to) to.generation 0 rows) there is in
+    let row = new_row (own_key to) (moment_of moment) [] number in
+    Ok (record { target = full_of row; new = Some row })) (admitted (own_key to) to.generation 0 rows) there is in
     let row = new_row (own_key to) (moment_of moment) [] parts.0 in
     let told : Ok (record { target = full_of row; new = Some row }) ≡ Ok there = parts.2 in
     let same : record { target = full_of row; new = Some row } ≡ there = cc in
@@ -308,17 +306,3 @@ append_refused state from to moment directories rows from_rows (Err (refusals.Co
     let asked : asks moment to state.directories state.rows (sources from state) ≡ Err code =
     rw (← taken, ← same, ← are) refused in
     ap (with_rows state) asked
-
-pub append_applied : (state : State) (directories : List Directory) (rows : List Row) (result : Result Change Refusal) → IsWellFormed state
-    → directories ≡ state.directories → rows ≡ state.rows
-    → IfOk result (λ ready. AreRows directories (all_stepped ready.keep rows ready.steps))
-    → IfOk result (λ ready. ready.directory ≡ None)
-    → IfOk result (λ ready. IsWellFormed (applied ready state))
-append_applied state directories rows result well same are sound none =
-    both_ok (λ (ready : Change). AreRows directories (all_stepped ready.keep rows ready.steps)) (λ (ready : Change). ready.directory ≡ None)
-    (λ (ready : Change). IsWellFormed (applied ready state)) each result sound none
-  where
-    each : (ready : Change) → AreRows directories (all_stepped ready.keep rows ready.steps) → ready.directory ≡ None → IsWellFormed (applied ready state)
-    each ready holds nothing =
-        let here : AreRows state.directories (all_stepped ready.keep state.rows ready.steps) = rw (← same, ← are) holds in
-        rw nothing (well_formed_with_rows state (all_stepped ready.keep state.rows ready.steps) well here)

@@ -1,7 +1,6 @@
-use Rattle.std.proofs.Common.{◌≡◌, ap, subst, ◌∙◌}
+use Rattle.std.proofs.Common.{ap, ◌∙◌}
 use Rattle.ex_store.specs.State.{Held}
-use Rattle.ex_store.specs.WellFormed.{IsWellFormed}
-use Rattle.ex_store.proofs.Filling.{append_applied, append_planned, append_refused, append_within, sources_are}
+use Rattle.ex_store.proofs.Filling.{append_planned, append_refused, append_within, sources_are}
 use Rattle.ex_store.proofs.store.Store.append.Goals as goal
 
 pub appends-requires-clause-within : goal.appends-requires-clause-within
@@ -16,14 +15,6 @@ returns-clause-ready c =
     (c.deref.ensures.value ∙ ap (λ (held : Held). held.state.directories) c.self.view_is) rows
     (sources_are c.args.self.now.state c.args.from.now c.deref-2.result.now c.deref-3.result.now c.positions-positions.result.items rows c.deref-3.ensures.0 c.positions-positions.ensures)
     c.appends.ensures.ready c.appends.ensures.none
-
-pub returns-clause-sound : goal.returns-clause-sound
-returns-clause-sound c =
-    append_applied c.args.self.now.state c.deref.result.now c.deref-2.result.now c.appends.result
-    (subst (λ (held : Held). IsWellFormed held.state) c.self.view_is c.self.invariant)
-    (c.deref.ensures.value ∙ ap (λ (held : Held). held.state.directories) c.self.view_is)
-    (c.deref-2.ensures.value ∙ ap (λ (held : Held). held.state.rows) c.self.view_is)
-    c.appends.ensures.sound c.appends.ensures.none
 
 pub returns-clause-refused : goal.returns-clause-refused
 returns-clause-refused c =
