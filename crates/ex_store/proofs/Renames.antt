@@ -1,5 +1,5 @@
 -- Files are given other names one after the other: where the walk over the sources stands.
-use Rattle.std.proofs.Common.{◌≡◌, ℕ, zero, suc, ◌+◌, ◌<◌, ◌≤◌, ◌==◌, ◌&&◌, nat_lt, nat_le, Bool, true, false, not, cond, List, [], ◌∷◌, ◌++◌, length, slice_get, find, map, Result, Ok, Err, Option, Some, None, refl, ap, arith, ◌∙◌, sym, subst}
+use Rattle.std.proofs.Common.{◌≡◌, ℕ, zero, suc, ◌+◌, ◌<◌, ◌≤◌, ◌==◌, ◌&&◌, nat_lt, nat_le, Bool, true, false, not, cond, List, [], ◌∷◌, ◌++◌, length, slice_get, filter, find, map, Result, Ok, Err, Option, Some, None, refl, ap, arith, ◌∙◌, sym, subst}
 use Rattle.std.specs.List.{list_all}
 use Rattle.std.specs.Option.{option_map, option_to_list}
 use Rattle.std.specs.Ordering.{is_eq, is_lt, ordering_reverse}
@@ -28,7 +28,7 @@ use Rattle.ex_store.specs.Renaming.{AreDistinct, renamed}
 use Rattle.ex_store.specs.Rows.{added, blank, by_full, by_row, files_of, full_of, inserted, is_full, is_of, kept_newest, row_at, total, with_mark, without}
 use Rattle.ex_store.specs.WellFormed.{AreRows, is_row_among}
 use Rattle.ex_store.proofs.Admitting.{IsAdmitted, IsFree, IsRoomy, counted_target, numbered_free, rows_added}
-use Rattle.ex_store.proofs.Ascending.{all_above, ascends_sorted, is_less, is_sorted, sorted_ascends}
+use Rattle.ex_store.proofs.Ascending.{all_above, ascends_filter, ascends_sorted, is_less, is_sorted, sorted_ascends}
 use Rattle.ex_store.proofs.Blanks.{numbered_blank, put_back_blank, row_at_blank, without_blank}
 use Rattle.ex_store.proofs.Copies.{IsFormed, IsOnCourse, formed, from_formed, outcome_at, stepped_more}
 use Rattle.ex_store.proofs.Sizes.{total_cons}
@@ -284,3 +284,9 @@ rows_without directories full rows row are is =
       few = omega (arith, count, few);
       small = omega (arith, bytes, small);
     }
+
+-- no two of those rows that pass a test have one name
+pub distinct_meant : (test : Row → Bool) (rows : List Row) → ascends by_row rows ≡ true → AreDistinct (filter test rows)
+distinct_meant test rows ascend =
+    distinct_sorted (filter test rows)
+    (sorted_ascends by_row by_row_total (filter test rows) (ascends_filter by_row by_row_total test rows ascend))
