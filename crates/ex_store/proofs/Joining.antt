@@ -162,3 +162,59 @@ files_added keep row rows ascend none =
     files_retained keep row.key (inserted row rows)
     ∙ ap (retention.retained keep)
       (files_inserted row rows (absent_has row.key row.file.generation rows none) (sorted_ascends by_row by_row_total rows ascend))
+
+-- one more row in front
+files_more : (key : Key) (row : Row) (before after : List Row) → files_of key before ≡ files_of key after
+    → files_of key (row ∷ before) ≡ files_of key (row ∷ after)
+files_more key row before after rest = by (is_of key row)
+  where
+    by : (b : Bool) → map (λ (each : Row). each.file) (cond b (row ∷ filter (is_of key) before) (filter (is_of key) before))
+        ≡ map (λ (each : Row). each.file) (cond b (row ∷ filter (is_of key) after) (filter (is_of key) after))
+    by true = ap (λ files. row.file ∷ files) rest
+    by false = rest
+
+others_inserted : (key : Key) (row : Row) (rows : List Row) → is_of key row ≡ false
+    → files_of key (inserted row rows) ≡ files_of key rows
+others_inserted key row [] apart = rw apart
+others_inserted key row (other ∷ rows) apart = by (is_lt (by_row other row)) (others_inserted key row rows apart)
+  where
+    by : (b : Bool) → files_of key (inserted row rows) ≡ files_of key rows
+        → files_of key (cond b (other ∷ inserted row rows) (row ∷ other ∷ rows)) ≡ files_of key (other ∷ rows)
+    by true rest = files_more key other (inserted row rows) rows rest
+    by false rest = rw apart
+
+is_equal : (o : Ordering) → is_eq o ≡ true → o ≡ Equal
+is_equal Less is = absurd (cc)
+is_equal Equal is = refl
+is_equal Greater is = absurd (cc)
+
+-- a row of one key is of no other
+of_no_other : (key own : Key) (row : Row) → is_of own row ≡ true → is_eq (by_key own key) ≡ false → is_of key row ≡ false
+of_no_other key own row is apart =
+    ap is_eq (by_key_total.congr row.key own key (is_equal (by_key row.key own) is)) ∙ apart
+
+others_kept : (keep : ℕ) (key own : Key) (rows : List Row) → is_eq (by_key own key) ≡ false
+    → files_of key (kept_newest keep own rows) ≡ files_of key rows
+others_kept keep key own [] apart = refl
+others_kept keep key own (row ∷ rows) apart =
+    by (is_of own row) (nat_le keep (live (files_of own rows))) refl (others_kept keep key own rows apart)
+  where
+    by : (of marks : Bool) → is_of own row ≡ of → files_of key (kept_newest keep own rows) ≡ files_of key rows
+        → files_of key (cond (of && marks) (with_mark true row) row ∷ kept_newest keep own rows) ≡ files_of key (row ∷ rows)
+    by true true is rest = rw (of_no_other key own row is apart) rest
+    by true false is rest = files_more key row (kept_newest keep own rows) rows rest
+    by false marks is rest = files_more key row (kept_newest keep own rows) rows rest
+
+others_retained : (keep : ℕ) (key own : Key) (rows : List Row) → is_eq (by_key own key) ≡ false
+    → files_of key (retained keep own rows) ≡ files_of key rows
+others_retained keep key own rows apart = by (keep == 0)
+  where
+    by : (b : Bool) → files_of key (cond b rows (kept_newest keep own rows)) ≡ files_of key rows
+    by true = refl
+    by false = others_kept keep key own rows apart
+
+-- what is added stands among its own generations alone
+pub files_apart : (keep : ℕ) (row : Row) (rows : List Row) (key : Key) → is_of key row ≡ false
+    → files_of key (added keep row rows) ≡ files_of key rows
+files_apart keep row rows key apart =
+    others_retained keep key row.key (inserted row rows) apart ∙ others_inserted key row rows apart
