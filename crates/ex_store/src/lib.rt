@@ -12,6 +12,7 @@ mod copy;
 mod course;
 mod directory;
 mod key;
+pub mod laws;
 mod limits;
 mod marks;
 mod names;
