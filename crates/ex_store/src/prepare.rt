@@ -41,7 +41,7 @@ impl Store {
         match plan {
             Plan::Build { directory, keep } => self.build(directory, keep),
             Plan::Copy { from, to } => self.copy(&from, &to, moment),
-            Plan::Rename { from, to } => self.rename(&from, &to, moment),
+            Plan::Rename { from, to } => self.rename(&from, &to),
             Plan::Append { from, to } => self.append(&from, &to, moment),
             Plan::Write { to, bytes } => self.write(&to, bytes, moment),
         }

@@ -1,5 +1,5 @@
 // Files are given other names.
-ghost use Rattle.std.specs.Prelude.{◌≡◌, ◌≤◌, true, [], ◌∷◌, ◌++◌, length, nat_lt, IfOk, IfErr, OnOk, None, Ok};
+ghost use Rattle.std.specs.Prelude.{ℕ, ◌≡◌, ◌≤◌, true, [], ◌∷◌, ◌++◌, length, nat_lt, IfOk, IfErr, OnOk, None, Ok};
 ghost use Rattle.std.specs.List.{list_all};
 ghost use Rattle.ex_store.specs.declared.limits.TheConstants.{ROW_LIMIT};
 ghost use Rattle.ex_store.specs.declared.plan.Plan.TheVariants as plans;
@@ -106,12 +106,13 @@ fn renames(
 
 impl Store {
     // Files are given other names.
-    pub(crate) fn rename(&self, from: &Place, to: &Place, moment: u64) -> Result<Ready, Refusal>
+    pub(crate) fn rename(&self, from: &Place, to: &Place) -> Result<Ready, Refusal>
         requires { MayPlan (plans.Rename from.now to.now) self.now.state }
-        ensures ready { IfOk result (λ ready.
-          planned (plans.Rename from.now to.now) moment self.now.state ≡ Ok (done_on self.now.state ready)) }
+        ensures ready { IfOk result (λ ready. (moment : ℕ)
+          → planned (plans.Rename from.now to.now) moment self.now.state ≡ Ok (done_on self.now.state ready)) }
         ensures sound { IfOk result (λ ready. IsWellFormed (applied ready self.now.state)) }
-        ensures refused { IfErr result (IsRefused (planned (plans.Rename from.now to.now) moment self.now.state)) }
+        ensures refused { (moment : ℕ)
+          → IfErr result (IsRefused (planned (plans.Rename from.now to.now) moment self.now.state)) }
     {
         let positions = self.positions(from, from.flags.deleted);
         renames(self.alloc, &self.directories, &self.rows, &positions, to)

@@ -32,14 +32,14 @@ sources_are c =
 
 pub returns-clause-ready : goal.returns-clause-ready
 returns-clause-ready c =
-    IfOk-weaker c.renames.result _ _ (λ (ready : Change) made.
-      made_rename c.args.self.now.state c.args.from.now c.args.to.now c.args.moment c.deref.result.now c.deref-2.result.now _ ready (directories_are c) (rows_are c) (sources_are c) made)
+    IfOk-weaker c.renames.result _ _ (λ (ready : Change) made moment.
+      made_rename c.args.self.now.state c.args.from.now c.args.to.now moment c.deref.result.now c.deref-2.result.now _ ready (directories_are c) (rows_are c) (sources_are c) made)
     c.renames.ensures.made
 
 pub returns-clause-refused : goal.returns-clause-refused
-returns-clause-refused c =
+returns-clause-refused c = λ moment.
     IfErr-weaker c.renames.result _ _ (λ (refusal : Refusal) refused.
-      refused_rename c.args.self.now.state c.args.from.now c.args.to.now c.args.moment c.deref.result.now c.deref-2.result.now _ refusal (directories_are c) (rows_are c) (sources_are c) refused)
+      refused_rename c.args.self.now.state c.args.from.now c.args.to.now moment c.deref.result.now c.deref-2.result.now _ refusal (directories_are c) (rows_are c) (sources_are c) refused)
     c.renames.ensures.refused
 
 pub renames-requires-clause-distinct : goal.renames-requires-clause-distinct
