@@ -12,4 +12,5 @@ mod plans;
 mod refusals;
 mod renames;
 mod retention;
+mod rows;
 mod sample;

@@ -4,6 +4,7 @@ use super::listing::sizes;
 use super::marks::{expunge, mark};
 use super::places::{EACH, place, place_with, zeros};
 use super::plans::{build, done, stored, write};
+use super::rows::store_with;
 use crate::{Plan, Store};
 use cm_files::Names;
 use std::process::Abort;
@@ -42,15 +43,12 @@ fn doubled(rt: &(impl Abort + AllocGlobal), store: &mut Store, times: u8) -> Res
 
 #[test]
 fn there_are_at_most_4096_files(rt: HostRuntime) -> Result<(), Fail> {
-    let mut store = stored(&rt, 0, &[])?;
-    let empty = zeros(rt.alloc(), 0)?;
-    write(&rt, &mut store, "A.T", empty, 5)?;
-    doubled(&rt, &mut store, 12)?;
-    assert_eq!(rt; store.rows.len(), 4_096);
+    let mut store = store_with(&rt, 4_095)?;
     for (to, size, told) in [
+        ("B.T", 0, "B.T.1=>B.T.1"),
         ("B.T", 0, "FileLimit"),
         ("B.T", 65_537, "FileLimit"),
-        ("A.T.4096", 0, "FileExists"),
+        ("A.T.4095", 0, "FileExists"),
     ] {
         let bytes = zeros(rt.alloc(), size)?;
         assert_eq!(rt; write(&rt, &mut store, to, bytes, 5)?.as_str(), told, "{to}");
@@ -59,7 +57,7 @@ fn there_are_at_most_4096_files(rt: HostRuntime) -> Result<(), Fail> {
         from: place(&rt, "A.T.7"),
         to: place(&rt, "B.T"),
     };
-    assert_eq!(rt; done(&rt, &mut store, plan, 5)?.as_str(), "A.T.7=>B.T.1");
+    assert_eq!(rt; done(&rt, &mut store, plan, 5)?.as_str(), "A.T.7=>B.T.2");
     assert_eq!(rt; store.rows.len(), 4_096);
     Ok(())
 }

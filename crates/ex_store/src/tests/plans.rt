@@ -25,13 +25,13 @@ fn is_upper_name(text: &[u8]) -> bool
         .all(|byte| is_name(*byte) && !byte.is_ascii_lowercase())
 }
 
-fn is_file_name(text: &[u8]) -> bool
+pub(super) fn is_file_name(text: &[u8]) -> bool
     ensures { result ≡ is_file_name text.now }
 {
     !text.is_empty() && text.len() <= NAME_LIMIT && is_upper_name(text)
 }
 
-fn is_file_type(text: &[u8]) -> bool
+pub(super) fn is_file_type(text: &[u8]) -> bool
     ensures { result ≡ is_file_type text.now }
 {
     text.len() <= NAME_LIMIT && is_upper_name(text)
@@ -46,7 +46,7 @@ fn is_directory_name(text: &[u8]) -> bool
             .all(|part| !part.is_empty() && is_upper_name(part))
 }
 
-fn is_numbered(generation: u32) -> bool
+pub(super) fn is_numbered(generation: u32) -> bool
     ensures { result ≡ is_numbered generation }
 {
     generation > 0 && generation <= GENERATION_LIMIT
