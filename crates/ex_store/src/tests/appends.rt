@@ -2,7 +2,7 @@
 
 use super::listing::{contents, names};
 use super::marks::mark;
-use super::places::{place, place_with, EACH};
+use super::places::{EACH, place, place_with};
 use super::plans::{done, stored};
 use crate::Plan;
 use std::test::Fail;
@@ -16,11 +16,27 @@ fn one_generation_is_put_behind(rt: HostRuntime) -> Result<(), Fail> {
         ("A.T.-2", "B.T.1=>A.T.1", before),
         ("A.T.1", "B.T.1=>A.T.1", before),
         ("A.T.2", "NoFile", before),
-        ("A.T.-1", "B.T.1=>A.T.5", "A.T.1 A.T.2- A.T.3 A.T.4- A.T.5 B.T.1"),
-        ("A.T.9", "B.T.1=>A.T.9", "A.T.1 A.T.2- A.T.3 A.T.4- A.T.9 B.T.1"),
+        (
+            "A.T.-1",
+            "B.T.1=>A.T.5",
+            "A.T.1 A.T.2- A.T.3 A.T.4- A.T.5 B.T.1",
+        ),
+        (
+            "A.T.9",
+            "B.T.1=>A.T.9",
+            "A.T.1 A.T.2- A.T.3 A.T.4- A.T.9 B.T.1",
+        ),
         ("A", "B.T.1=>A..1", "A..1 A.T.1 A.T.2- A.T.3 A.T.4- B.T.1"),
-        ("C.T.-2", "B.T.1=>C.T.1", "A.T.1 A.T.2- A.T.3 A.T.4- B.T.1 C.T.1"),
-        ("C.T.7", "B.T.1=>C.T.7", "A.T.1 A.T.2- A.T.3 A.T.4- B.T.1 C.T.7"),
+        (
+            "C.T.-2",
+            "B.T.1=>C.T.1",
+            "A.T.1 A.T.2- A.T.3 A.T.4- B.T.1 C.T.1",
+        ),
+        (
+            "C.T.7",
+            "B.T.1=>C.T.7",
+            "A.T.1 A.T.2- A.T.3 A.T.4- B.T.1 C.T.7",
+        ),
     ] {
         let mut store = stored(&rt, 0, &["A.T", "A.T", "A.T", "A.T", "B.T"])?;
         mark(&rt, &mut store, "A.T.2");
@@ -59,7 +75,11 @@ fn the_bytes_are_those_of_the_start(rt: HostRuntime) -> Result<(), Fail> {
             to: place(&rt, to),
         };
         assert_eq!(rt; done(&rt, &mut store, plan, 99)?.as_str(), told, "{from}");
-        assert_eq!(rt; contents(rt.alloc(), &store)?.as_str(), contents_then, "{from}");
+        assert_eq!(rt;
+            contents(rt.alloc(), &store)?.as_str(),
+            contents_then,
+            "{from}"
+        );
     }
     Ok(())
 }

@@ -25,7 +25,11 @@ fn a_copy_to_its_own_name_is_the_next(rt: HostRuntime) -> Result<(), Fail> {
             "A.TXT.1=>A.TXT.2",
             "{to}"
         );
-        assert_eq!(rt; contents(rt.alloc(), &store)?.as_str(), contents_then, "{to}");
+        assert_eq!(rt;
+            contents(rt.alloc(), &store)?.as_str(),
+            contents_then,
+            "{to}"
+        );
     }
     Ok(())
 }
@@ -95,10 +99,7 @@ fn a_copy_of_a_marked_file_is_unmarked(rt: HostRuntime) -> Result<(), Fail> {
         done(&rt, &mut store, plan, 99)?.as_str(),
         "<SMITH>B.T.1=>B.U.1"
     );
-    assert_eq!(rt;
-        names(rt.alloc(), &store)?.as_str(),
-        "A.T.1- A.T.2 B.U.1"
-    );
+    assert_eq!(rt; names(rt.alloc(), &store)?.as_str(), "A.T.1- A.T.2 B.U.1");
     assert_eq!(rt; names_in(rt.alloc(), &store, "SMITH")?.as_str(), "B.T.1");
     Ok(())
 }

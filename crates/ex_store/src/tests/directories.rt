@@ -8,7 +8,10 @@ use std::test::Fail;
 
 // How many generations the directory with a number keeps.
 fn retention(rt: &impl Abort, store: &Store, directory: u16) -> u8 {
-    assert!(rt; directory < store.directories(), "there is no such directory");
+    assert!(rt;
+        directory < store.directories(),
+        "there is no such directory"
+    );
     store.retention(directory)
 }
 
@@ -26,7 +29,11 @@ fn a_directory_keeps_so_many(rt: HostRuntime) -> Result<(), Fail> {
         assert_eq!(rt; build(&rt, &mut store, directory, keep)?.as_str(), "");
         if store.directories() == 3 {
             for i in 0..3 {
-                assert_eq!(rt; retention(&rt, &store, i), kept[usize::from(i)], "{directory}");
+                assert_eq!(rt;
+                    retention(&rt, &store, i),
+                    kept[usize::from(i)],
+                    "{directory}"
+                );
             }
         }
     }

@@ -15,7 +15,10 @@ fn there_are_at_most_64_directories(rt: HostRuntime) -> Result<(), Fail> {
     let mut store = Store::new(rt.alloc())?;
     for i in 1..64 {
         let directory = format!(in rt.alloc(); "D{i}")?;
-        assert_eq!(rt; build(&rt, &mut store, directory.as_str(), None)?.as_str(), "");
+        assert_eq!(rt;
+            build(&rt, &mut store, directory.as_str(), None)?.as_str(),
+            ""
+        );
     }
     assert_eq!(rt; store.directories(), 64);
     for (directory, told) in [("D64", "DirLimit"), ("D63", ""), ("OPERATOR", "")] {
@@ -51,7 +54,11 @@ fn there_are_at_most_4096_files(rt: HostRuntime) -> Result<(), Fail> {
         ("A.T.4095", 0, "FileExists"),
     ] {
         let bytes = zeros(rt.alloc(), size)?;
-        assert_eq!(rt; write(&rt, &mut store, to, bytes, 5)?.as_str(), told, "{to}");
+        assert_eq!(rt;
+            write(&rt, &mut store, to, bytes, 5)?.as_str(),
+            told,
+            "{to}"
+        );
     }
     let plan = Plan::Rename {
         from: place(&rt, "A.T.7"),
@@ -72,7 +79,11 @@ fn a_file_has_at_most_65536_bytes(rt: HostRuntime) -> Result<(), Fail> {
         ("C.T", 1, "C.T.1=>C.T.1"),
     ] {
         let bytes = zeros(rt.alloc(), size)?;
-        assert_eq!(rt; write(&rt, &mut store, to, bytes, 5)?.as_str(), told, "{size}");
+        assert_eq!(rt;
+            write(&rt, &mut store, to, bytes, 5)?.as_str(),
+            told,
+            "{size}"
+        );
     }
     for (to, told, sizes_then) in [
         ("B.T", "C.T.1=>B.T.1", "65536 65536 1"),
@@ -97,13 +108,13 @@ fn all_files_have_at_most_8388608_bytes(rt: HostRuntime) -> Result<(), Fail> {
     write(&rt, &mut store, "A.T", most, 5)?;
     doubled(&rt, &mut store, 7)?;
     assert_eq!(rt; store.rows.len(), 128);
-    for (size, told) in [
-        (1, "StoreSize"),
-        (65_537, "FileSize"),
-        (0, "B.T.1=>B.T.1"),
-    ] {
+    for (size, told) in [(1, "StoreSize"), (65_537, "FileSize"), (0, "B.T.1=>B.T.1")] {
         let bytes = zeros(rt.alloc(), size)?;
-        assert_eq!(rt; write(&rt, &mut store, "B.T", bytes, 5)?.as_str(), told, "{size}");
+        assert_eq!(rt;
+            write(&rt, &mut store, "B.T", bytes, 5)?.as_str(),
+            told,
+            "{size}"
+        );
     }
     assert_eq!(rt; mark(&rt, &mut store, "A.T.1"), 1);
     assert_eq!(rt; expunge(&rt, &mut store, "OPERATOR"), 26);
@@ -113,7 +124,11 @@ fn all_files_have_at_most_8388608_bytes(rt: HostRuntime) -> Result<(), Fail> {
         (1, "StoreSize"),
     ] {
         let bytes = zeros(rt.alloc(), size)?;
-        assert_eq!(rt; write(&rt, &mut store, "B.T", bytes, 5)?.as_str(), told, "{size}");
+        assert_eq!(rt;
+            write(&rt, &mut store, "B.T", bytes, 5)?.as_str(),
+            told,
+            "{size}"
+        );
     }
     Ok(())
 }

@@ -9,12 +9,18 @@ use std::process::Abort;
 use std::test::Fail;
 
 fn mark_all(rt: &impl Abort, store: &mut Store, files: &Place) -> u32 {
-    assert!(rt; has(store, files.directory.as_str()), "there is no such directory");
+    assert!(rt;
+        has(store, files.directory.as_str()),
+        "there is no such directory"
+    );
     store.mark(files)
 }
 
 fn unmark_all(rt: &impl Abort, store: &mut Store, files: &Place) -> u32 {
-    assert!(rt; has(store, files.directory.as_str()), "there is no such directory");
+    assert!(rt;
+        has(store, files.directory.as_str()),
+        "there is no such directory"
+    );
     store.unmark(files)
 }
 
@@ -24,7 +30,10 @@ pub(super) fn expunge(rt: &impl Abort, store: &mut Store, directory: &str) -> u3
 }
 
 fn select(rt: &impl Abort, store: &Store, files: &Place, deleted: bool, from: u32) -> Option<u32> {
-    assert!(rt; has(store, files.directory.as_str()), "there is no such directory");
+    assert!(rt;
+        has(store, files.directory.as_str()),
+        "there is no such directory"
+    );
     store.select(files, deleted, from)
 }
 

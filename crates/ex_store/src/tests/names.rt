@@ -27,7 +27,10 @@ fn tells_file<N: Names>(
     i: u32,
     wanted: (&str, &str, u32, bool),
 ) {
-    assert!(rt; directory < names.directories(), "there is no such directory");
+    assert!(rt;
+        directory < names.directories(),
+        "there is no such directory"
+    );
     assert!(rt; i < names.rows(directory), "there is no such file");
     let row = names.row(directory, i);
     assert_eq!(rt; row.name, wanted.0);
@@ -42,7 +45,12 @@ fn a_store_tells_its_files(rt: HostRuntime) -> Result<(), Fail> {
     build(&rt, &mut store, "ALPHA", None)?;
     build(&rt, &mut store, "SMITH", None)?;
     write(&rt, &mut store, "<SMITH>X", bytes(rt.alloc(), "XYZ")?, 5)?;
-    tells(&rt, &store, &[("ALPHA", 0), ("OPERATOR", 3), ("SMITH", 1)], 1);
+    tells(
+        &rt,
+        &store,
+        &[("ALPHA", 0), ("OPERATOR", 3), ("SMITH", 1)],
+        1,
+    );
     for (directory, i, wanted) in [
         (1, 0, ("A", "T", 1, true)),
         (1, 1, ("A", "T", 2, false)),
@@ -56,7 +64,10 @@ fn a_store_tells_its_files(rt: HostRuntime) -> Result<(), Fail> {
 
 // The moment and the bytes of a file.
 fn holds(rt: &impl Abort, store: &Store, directory: u16, i: u32, moment: u64, text: &str) {
-    assert!(rt; directory < store.directories(), "there is no such directory");
+    assert!(rt;
+        directory < store.directories(),
+        "there is no such directory"
+    );
     assert!(rt; i < store.rows(directory), "there is no such file");
     let file = store.file(directory, i);
     assert_eq!(rt; file.moment, moment, "{text}");

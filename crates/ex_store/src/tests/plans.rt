@@ -164,7 +164,11 @@ pub(super) fn write(
 
 // A store whose directory OPERATOR keeps so many generations, with these files. Each holds its own name, and the
 // moments are 10, 20 and so on.
-pub(super) fn stored(rt: &(impl Abort + AllocGlobal), keep: u8, files: &[&str]) -> Result<Store, Fail> {
+pub(super) fn stored(
+    rt: &(impl Abort + AllocGlobal),
+    keep: u8,
+    files: &[&str],
+) -> Result<Store, Fail> {
     let mut store = Store::new(rt.alloc())?;
     build(rt, &mut store, "OPERATOR", Some(keep))?;
     let mut moment: u64 = 0;

@@ -19,7 +19,11 @@ fn a_file_that_is_written_wants_a_name(rt: HostRuntime) -> Result<(), Fail> {
         ("A.", "A..2=>A..2"),
     ] {
         let empty = zeros(rt.alloc(), 0)?;
-        assert_eq!(rt; write(&rt, &mut store, to, empty, 5)?.as_str(), told, "{to}");
+        assert_eq!(rt;
+            write(&rt, &mut store, to, empty, 5)?.as_str(),
+            told,
+            "{to}"
+        );
     }
     assert_eq!(rt; names(rt.alloc(), &store)?.as_str(), "A..1 A..2");
     Ok(())
@@ -45,7 +49,11 @@ fn a_generation_that_is_there_is_not_written(rt: HostRuntime) -> Result<(), Fail
         ),
     ] {
         let empty = zeros(rt.alloc(), 0)?;
-        assert_eq!(rt; write(&rt, &mut store, to, empty, 5)?.as_str(), told, "{to}");
+        assert_eq!(rt;
+            write(&rt, &mut store, to, empty, 5)?.as_str(),
+            told,
+            "{to}"
+        );
         assert_eq!(rt; names(rt.alloc(), &store)?.as_str(), names_then, "{to}");
     }
     Ok(())
@@ -54,7 +62,12 @@ fn a_generation_that_is_there_is_not_written(rt: HostRuntime) -> Result<(), Fail
 #[test]
 fn a_copy_is_whole_or_not_at_all(rt: HostRuntime) -> Result<(), Fail> {
     for (from, to, told, names_then) in [
-        ("*.FOR", "X.Y.1", "FileExists", "A.FOR.1 B.FOR.1 C.OLD.131071"),
+        (
+            "*.FOR",
+            "X.Y.1",
+            "FileExists",
+            "A.FOR.1 B.FOR.1 C.OLD.131071",
+        ),
         ("*.*", "C.OLD", "GenFull", "A.FOR.1 B.FOR.1 C.OLD.131071"),
         (
             "B.FOR",

@@ -10,7 +10,8 @@ use std::test::Fail;
 #[test]
 fn what_is_refused_leaves_the_files_as_they_were(rt: HostRuntime) -> Result<(), Fail> {
     let files = ["A.FOR.1", "B.FOR.1", "C.FOR.1", "C.OLD.131071"];
-    let as_they_were = "A.FOR.1@10=A.FOR.1 B.FOR.1@20=B.FOR.1 C.FOR.1@30=C.FOR.1 C.OLD.131071@40=C.OLD.131071";
+    let as_they_were =
+        "A.FOR.1@10=A.FOR.1 B.FOR.1@20=B.FOR.1 C.FOR.1@30=C.FOR.1 C.OLD.131071@40=C.OLD.131071";
     for (to, told) in [
         ("*.OLD", "GenFull"),
         ("X.OLD.9", "FileExists"),
@@ -22,7 +23,11 @@ fn what_is_refused_leaves_the_files_as_they_were(rt: HostRuntime) -> Result<(), 
             to: place(&rt, to),
         };
         assert_eq!(rt; done(&rt, &mut store, plan, 99)?.as_str(), told, "{to}");
-        assert_eq!(rt; contents(rt.alloc(), &store)?.as_str(), as_they_were, "{to}");
+        assert_eq!(rt;
+            contents(rt.alloc(), &store)?.as_str(),
+            as_they_were,
+            "{to}"
+        );
     }
     Ok(())
 }
@@ -51,9 +56,27 @@ fn the_source_is_taken_out_first(rt: HostRuntime) -> Result<(), Fail> {
         ("A.T.1", DELETED, "B.T", "A.T.1=>B.T.1", "A.T.2 B.T.1"),
         ("A.T.1", DELETED, "A.T", "A.T.1=>A.T.3", "A.T.2- A.T.3"),
         ("A.T.1", DELETED, "A.T.1", "A.T.1=>A.T.1", "A.T.1- A.T.2"),
-        ("A.T.2", Flags::default(), "A.T", "A.T.2=>A.T.2", "A.T.1- A.T.2"),
-        ("A.T.2", Flags::default(), "A.T.2", "A.T.2=>A.T.2", "A.T.1- A.T.2"),
-        ("A.T.2", Flags::default(), "A.T.1", "FileExists", "A.T.1- A.T.2"),
+        (
+            "A.T.2",
+            Flags::default(),
+            "A.T",
+            "A.T.2=>A.T.2",
+            "A.T.1- A.T.2",
+        ),
+        (
+            "A.T.2",
+            Flags::default(),
+            "A.T.2",
+            "A.T.2=>A.T.2",
+            "A.T.1- A.T.2",
+        ),
+        (
+            "A.T.2",
+            Flags::default(),
+            "A.T.1",
+            "FileExists",
+            "A.T.1- A.T.2",
+        ),
         ("A.T.1", Flags::default(), "B.T", "", "A.T.1- A.T.2"),
     ] {
         let mut store = stored(&rt, 1, &["A.T.1", "A.T.2"])?;
@@ -61,8 +84,16 @@ fn the_source_is_taken_out_first(rt: HostRuntime) -> Result<(), Fail> {
             from: place_with(&rt, from, flags),
             to: place(&rt, to),
         };
-        assert_eq!(rt; done(&rt, &mut store, plan, 99)?.as_str(), told, "{from} {to}");
-        assert_eq!(rt; names(rt.alloc(), &store)?.as_str(), names_then, "{from} {to}");
+        assert_eq!(rt;
+            done(&rt, &mut store, plan, 99)?.as_str(),
+            told,
+            "{from} {to}"
+        );
+        assert_eq!(rt;
+            names(rt.alloc(), &store)?.as_str(),
+            names_then,
+            "{from} {to}"
+        );
     }
     Ok(())
 }

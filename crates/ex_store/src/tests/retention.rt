@@ -34,7 +34,11 @@ fn each_write_keeps_the_newest(rt: HostRuntime) -> Result<(), Fail> {
         for names_then in [fourth, fifth] {
             let empty = zeros(rt.alloc(), 0)?;
             write(&rt, &mut store, "A.T", empty, 5)?;
-            assert_eq!(rt; names(rt.alloc(), &store)?.as_str(), names_then, "{keep} kept");
+            assert_eq!(rt;
+                names(rt.alloc(), &store)?.as_str(),
+                names_then,
+                "{keep} kept"
+            );
         }
     }
     Ok(())
@@ -61,7 +65,11 @@ fn no_other_file_is_marked(rt: HostRuntime) -> Result<(), Fail> {
         let empty = zeros(rt.alloc(), 0)?;
         write(&rt, &mut store, to, empty, 5)?;
         assert_eq!(rt; names(rt.alloc(), &store)?.as_str(), own, "{to}");
-        assert_eq!(rt; names_in(rt.alloc(), &store, "SMITH")?.as_str(), smith, "{to}");
+        assert_eq!(rt;
+            names_in(rt.alloc(), &store, "SMITH")?.as_str(),
+            smith,
+            "{to}"
+        );
     }
     Ok(())
 }
@@ -75,7 +83,11 @@ fn a_lower_generation_may_be_marked_at_once(rt: HostRuntime) -> Result<(), Fail>
         (63, ["A.T.5", "A.T.3", "A.T.4"], "A.T.3 A.T.4 A.T.5"),
     ] {
         let store = stored(&rt, keep, &files)?;
-        assert_eq!(rt; names(rt.alloc(), &store)?.as_str(), names_then, "{keep} kept");
+        assert_eq!(rt;
+            names(rt.alloc(), &store)?.as_str(),
+            names_then,
+            "{keep} kept"
+        );
     }
     Ok(())
 }

@@ -70,7 +70,10 @@ fn store_of(rt: &(impl Abort + AllocGlobal), rows: Vec<Row>) -> Result<Store, Fa
         keep: 0,
     };
     let directories = vec![in rt.alloc(); operator]?;
-    assert!(rt; are_rows(&directories, &rows), "they are no files of a store");
+    assert!(rt;
+        are_rows(&directories, &rows),
+        "they are no files of a store"
+    );
     Ok(Store {
         alloc: rt.alloc(),
         directories,
