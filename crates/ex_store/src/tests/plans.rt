@@ -1,0 +1,181 @@
+// Plans that are prepared and done.
+ghost use Rattle.std.specs.Prelude.{◌≡◌, true, IfOk};
+ghost use Rattle.std.specs.Option.{option_map_or};
+ghost use Rattle.cm_files.specs.Catalogue.{is_directory_name, is_upper_name};
+ghost use Rattle.ex_store.specs.Copying.{is_star};
+ghost use Rattle.ex_store.specs.Plan.{IsOneFile, IsTarget, MayPlan, has_plain_kind, has_plain_name, may_be, may_grow, may_number};
+ghost use Rattle.ex_store.specs.State.{has_directory};
+ghost use Rattle.ex_store.specs.WellFormed.{is_file_name, is_file_type, is_numbered};
+
+use super::listing::pairs;
+use super::places::{bytes, name, place};
+use crate::directory::has_directory;
+use crate::{Directory, Place, Plan, RETENTION_LIMIT, Refusal, Store};
+use cm_fields::Gen;
+use cm_files::Flags;
+use cm_text::{NAME_LIMIT, is_name};
+use ex_generations::{Bytes, GENERATION_LIMIT};
+use std::process::Abort;
+use std::test::Fail;
+
+fn is_upper_name(text: &[u8]) -> bool
+    ensures { result ≡ is_upper_name text.now }
+{
+    text.iter()
+        .all(|byte| is_name(*byte) && !byte.is_ascii_lowercase())
+}
+
+pub(super) fn is_file_name(text: &[u8]) -> bool
+    ensures { result ≡ is_file_name text.now }
+{
+    !text.is_empty() && text.len() <= NAME_LIMIT && is_upper_name(text)
+}
+
+pub(super) fn is_file_type(text: &[u8]) -> bool
+    ensures { result ≡ is_file_type text.now }
+{
+    text.len() <= NAME_LIMIT && is_upper_name(text)
+}
+
+fn is_directory_name(text: &[u8]) -> bool
+    ensures { result ≡ true → is_directory_name text.now ≡ true }
+{
+    text.len() <= NAME_LIMIT
+        && text
+            .split(|byte| *byte == b'.')
+            .all(|part| !part.is_empty() && is_upper_name(part))
+}
+
+pub(super) fn is_numbered(generation: u32) -> bool
+    ensures { result ≡ is_numbered generation }
+{
+    generation > 0 && generation <= GENERATION_LIMIT
+}
+
+// Whether files can be put under a place's name and generation.
+fn is_target(to: &Place, directories: &[Directory]) -> bool
+    ensures { result ≡ true → IsTarget to.now directories.now }
+{
+    let name = match &to.name {
+        Some(name) => name.as_bytes() == b"*".as_slice() || is_file_name(name.as_bytes()),
+        None => true,
+    };
+    let kind = match &to.kind {
+        Some(kind) => kind.as_bytes() == b"*".as_slice() || is_file_type(kind.as_bytes()),
+        None => true,
+    };
+    let generation = match to.generation {
+        Gen::Missing | Gen::Next => true,
+        Gen::Number(number) => is_numbered(number),
+        _ => false,
+    };
+    has_directory(directories, to.directory.as_bytes()) && name && kind && generation
+}
+
+// Whether bytes can be put behind the one file of a place.
+fn is_one_file(to: &Place, directories: &[Directory]) -> bool
+    ensures { result ≡ true → IsOneFile to.now directories.now }
+{
+    let name = match &to.name {
+        Some(name) => is_file_name(name.as_bytes()),
+        None => false,
+    };
+    let kind = match &to.kind {
+        Some(kind) => is_file_type(kind.as_bytes()),
+        None => true,
+    };
+    let generation = match to.generation {
+        Gen::All => false,
+        Gen::Number(number) => is_numbered(number),
+        _ => true,
+    };
+    has_directory(directories, to.directory.as_bytes()) && name && kind && generation
+}
+
+// Whether there is a directory of this name.
+pub(super) fn has(store: &Store, name: &str) -> bool
+    ensures { result ≡ has_directory name.now store.now.state.directories }
+{
+    has_directory(&store.directories, name.as_bytes())
+}
+
+// Whether a plan can be prepared.
+fn may_plan(store: &Store, plan: &Plan) -> bool
+    ensures { result ≡ true → MayPlan plan.now store.now.state }
+{
+    match plan {
+        Plan::Build { directory, keep } => {
+            is_directory_name(directory.as_bytes()) && keep.unwrap_or(0) <= RETENTION_LIMIT
+        }
+        Plan::Copy { from, to } | Plan::Rename { from, to } => {
+            has(store, from.directory.as_str()) && is_target(to, &store.directories)
+        }
+        Plan::Append { from, to } => {
+            has(store, from.directory.as_str()) && is_one_file(to, &store.directories)
+        }
+        Plan::Write { to, .. } => is_target(to, &store.directories),
+    }
+}
+
+// Does a plan, and tells its pairs; or tells the code with which it is refused.
+pub(super) fn done(
+    rt: &(impl Abort + AllocGlobal),
+    store: &mut Store,
+    plan: Plan,
+    moment: u64,
+) -> Result<String, Fail> {
+    assert!(rt; may_plan(store, &plan), "the plan cannot be prepared");
+    match store.prepare(plan, moment) {
+        Ok(ready) => {
+            let told = pairs(rt.alloc(), &ready)?;
+            store.apply(ready);
+            Ok(told)
+        }
+        Err(Refusal::Code(code)) => Ok(format!(in rt.alloc(); "{code:?}")?),
+        Err(Refusal::NoMemory) => {
+            assert!(rt; false, "there is no memory");
+            Ok(String::new(rt.alloc()))
+        }
+    }
+}
+
+// Makes a directory, or has it keep as many generations.
+pub(super) fn build(
+    rt: &(impl Abort + AllocGlobal),
+    store: &mut Store,
+    directory: &str,
+    keep: Option<u8>,
+) -> Result<String, Fail> {
+    let directory = name(rt, directory);
+    done(rt, store, Plan::Build { directory, keep }, 0)
+}
+
+// Writes a file.
+pub(super) fn write(
+    rt: &(impl Abort + AllocGlobal),
+    store: &mut Store,
+    to: &str,
+    bytes: Bytes,
+    moment: u64,
+) -> Result<String, Fail> {
+    let to = place(rt, to);
+    done(rt, store, Plan::Write { to, bytes }, moment)
+}
+
+// A store whose directory OPERATOR keeps so many generations, with these files. Each holds its own name, and the
+// moments are 10, 20 and so on.
+pub(super) fn stored(
+    rt: &(impl Abort + AllocGlobal),
+    keep: u8,
+    files: &[&str],
+) -> Result<Store, Fail> {
+    let mut store = Store::new(rt.alloc())?;
+    build(rt, &mut store, "OPERATOR", Some(keep))?;
+    let mut moment: u64 = 0;
+    for file in files {
+        moment = moment.saturating_add(10);
+        let bytes = bytes(rt.alloc(), file)?;
+        write(rt, &mut store, file, bytes, moment)?;
+    }
+    Ok(store)
+}
