@@ -161,7 +161,7 @@ pub files_added : (keep : ℕ) (row : Row) (rows : List Row) → ascends by_row 
 files_added keep row rows ascend none =
     files_retained keep row.key (inserted row rows)
     ∙ ap (retention.retained keep)
-      (files_inserted row rows (absent_has row.key row.file.generation rows none) (sorted_ascends by_row by_row_total rows ascend))
+    (files_inserted row rows (absent_has row.key row.file.generation rows none) (sorted_ascends by_row by_row_total rows ascend))
 
 -- one more row in front
 files_more : (key : Key) (row : Row) (before after : List Row) → files_of key before ≡ files_of key after

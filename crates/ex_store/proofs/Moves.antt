@@ -121,9 +121,9 @@ renames_refused directories keep to rows whole more source done pairs played cod
     sym is.on.course ∙ rw asked refl
   where
     asked_none : (asked : Result ℕ Code) → and_then {B = NamePair} (λ generation. Ok (record {
-        source = full_of source;
-        target = record { key = key_from to source.key; generation = generation };
-      })) asked ≡ Err code → asked ≡ Err code
+      source = full_of source;
+      target = record { key = key_from to source.key; generation = generation };
+    })) asked ≡ Err code → asked ≡ Err code
     asked_none (Ok number) is = absurd (cc)
     asked_none (Err other) is = cc
 
@@ -144,8 +144,8 @@ renames_step : (directories : List Directory) (keep : ℕ) (to : Place) (rows wh
     → IsRenaming directories keep to rows whole (source ∷ more) done pairs played
     → numbered to.generation (files_of (key_from to source.key) (without (full_of source) (all_stepped keep rows done))) ≡ Ok number
     → IsRenaming directories keep to rows whole more (done ++ steps.Move (named to source number) ∷ [])
-      (pairs ++ named to source number ∷ [])
-      (put_back keep (named to source number).target (without (full_of source) played) (row_at (full_of source) played))
+    (pairs ++ named to source number ∷ [])
+    (put_back keep (named to source number).target (without (full_of source) played) (row_at (full_of source) played))
 renames_step directories keep to rows whole more source done pairs played number target form is numbers =
     let so_far = all_stepped keep rows done in
     let key = key_from to source.key in
@@ -174,9 +174,9 @@ renames_step directories keep to rows whole more source done pairs played number
     step_on : admitted (key_from to source.key) to.generation (length source.file.bytes) (without (full_of source) (all_stepped keep rows done)) ≡ Ok number
         → each_in_turn (renamed keep to) (source ∷ more) (outcome_at keep rows done pairs) ≡ each_in_turn (renamed keep to) whole (record { rows = rows; pairs = [] })
         → each_in_turn (renamed keep to) more (record {
-            rows = added keep (new_row (key_from to source.key) source.file.moment source.file.bytes number) (without (full_of source) (all_stepped keep rows done));
-            pairs = pairs ++ named to source number ∷ [];
-          }) ≡ each_in_turn (renamed keep to) whole (record { rows = rows; pairs = [] })
+          rows = added keep (new_row (key_from to source.key) source.file.moment source.file.bytes number) (without (full_of source) (all_stepped keep rows done));
+          pairs = pairs ++ named to source number ∷ [];
+        }) ≡ each_in_turn (renamed keep to) whole (record { rows = rows; pairs = [] })
     step_on asked course = rw asked at course
 
 pub renames_more : (directories : List Directory) (keep : ℕ) (to : Place) (rows whole more : List Row) (source : Row)
@@ -184,12 +184,12 @@ pub renames_more : (directories : List Directory) (keep : ℕ) (to : Place) (row
     → is_row_among directories source ≡ true
     → IsRenaming directories keep to rows whole (source ∷ more) done pairs played → pair_for to source played ≡ Ok pair
     → IsRenaming directories keep to rows whole more (done ++ steps.Move pair ∷ []) (pairs ++ pair ∷ [])
-      (put_back keep pair.target (without (full_of source) played) (row_at (full_of source) played))
+    (put_back keep pair.target (without (full_of source) played) (row_at (full_of source) played))
 renames_more directories keep to rows whole more source done pairs played pair target form is names =
     let parts = and_then_ok (λ number. Ok (named to source number))
-      (numbered to.generation (files_of (key_from to source.key) (without (full_of source) (all_stepped keep rows done)))) pair
-      (sym (played_pair to source (all_stepped keep rows done) played is.on.played_are) ∙ names) in
+    (numbered to.generation (files_of (key_from to source.key) (without (full_of source) (all_stepped keep rows done)))) pair
+    (sym (played_pair to source (all_stepped keep rows done) played is.on.played_are) ∙ names) in
     let same : named to source parts.0 ≡ pair = cc in
     subst (λ (pair : NamePair). IsRenaming directories keep to rows whole more (done ++ steps.Move pair ∷ []) (pairs ++ pair ∷ [])
-      (put_back keep pair.target (without (full_of source) played) (row_at (full_of source) played))) same
+    (put_back keep pair.target (without (full_of source) played) (row_at (full_of source) played))) same
     (renames_step directories keep to rows whole more source done pairs played parts.0 target form is parts.1)

@@ -220,9 +220,10 @@ there_moved keep source new rows (other ∷ others) absent distinct there =
     let stays = here_without (full_of source) other rows (not-true _ parts.0) in
     let here : IsHere (without (full_of source) rows) other = ap (option_map plain) stays ∙ there.0 in
     let found = some_of _ other here in
-    let differs = fresh (full_of other) new (without (full_of source) rows) found.0 absent found.1 in
-    (here_added (full_of other) keep new (without (full_of source) rows) differs ∙ here,
-    there_moved keep source new rows others absent parts.1 there.1)
+    let differs = fresh (full_of other) new (without (full_of source) rows) found.0 absent found.1 in (
+      here_added (full_of other) keep new (without (full_of source) rows) differs ∙ here,
+      there_moved keep source new rows others absent parts.1 there.1,
+    )
 
 pub length_without : (full : FullName) (rows : List Row) (row : Row) → row_at full rows ≡ Some row
     → suc (length (without full rows)) ≡ length rows

@@ -71,7 +71,7 @@ with_there made directories name there = by (has_directory made.name directories
 
 built_there : (state : State) (plan : Result Directory Code) (made : Planned)
     → and_then (λ (directory : Directory).
-        Ok (record { state = record state { directories = with_directory directory state.directories }; pairs = [] })) plan ≡ Ok made
+    Ok (record { state = record state { directories = with_directory directory state.directories }; pairs = [] })) plan ≡ Ok made
     → (name : List ℕ) → has_directory name state.directories ≡ true → has_directory name made.state.directories ≡ true
 built_there state (Ok directory) made is name there =
     let same : record { state = record state { directories = with_directory directory state.directories }; pairs = [] } ≡ made = cc in

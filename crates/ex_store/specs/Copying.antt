@@ -37,7 +37,7 @@ abbrev pub copied : ℕ → ℕ → Place → Row → Outcome → Result Outcome
 copied keep moment to source outcome =
     let key = key_from to source.key in
     and_then (λ generation.
-      Ok (placed keep (full_of source) outcome (new_row key (moment_of moment) source.file.bytes generation)))
+    Ok (placed keep (full_of source) outcome (new_row key (moment_of moment) source.file.bytes generation)))
     (admitted key to.generation (length source.file.bytes) outcome.rows)
 
 -- a name is given, and none of its parts is `*`
@@ -62,6 +62,6 @@ abbrev pub written : ℕ → ℕ → Place → List ℕ → List Row → Result 
 written keep moment to bytes rows =
     if lacks_name to then Err NameNeeded
     else and_then (λ generation.
-      let row = new_row (own_key to) (moment_of moment) bytes generation in
-      Ok (placed keep (full_of row) (record { rows = rows; pairs = [] }) row))
+    let row = new_row (own_key to) (moment_of moment) bytes generation in
+    Ok (placed keep (full_of row) (record { rows = rows; pairs = [] }) row))
     (admitted (own_key to) to.generation (length bytes) rows)

@@ -47,7 +47,7 @@ keep_at to state = keep_of to.directory state.directories
 unfoldable pub planned : Plan → ℕ → State → Result Planned Code
 planned (plans.Build directory keep) moment state =
     and_then (λ made.
-      Ok (record { state = record state { directories = with_directory made state.directories }; pairs = [] }))
+    Ok (record { state = record state { directories = with_directory made state.directories }; pairs = [] }))
     (built directory keep state.directories)
 planned (plans.Copy from to) moment state =
     with_rows state (each_in_turn (copied (keep_at to state) moment to) (sources from state) (at_first state))

@@ -14,7 +14,7 @@ renamed keep to source outcome =
     let key = key_from to source.key in
     let left : Outcome = record outcome { rows = without (full_of source) outcome.rows } in
     and_then (λ generation.
-      Ok (placed keep (full_of source) left (new_row key source.file.moment source.file.bytes generation)))
+    Ok (placed keep (full_of source) left (new_row key source.file.moment source.file.bytes generation)))
     (admitted key to.generation (length source.file.bytes) left.rows)
 
 -- no two of some rows have one full name

@@ -10,7 +10,7 @@ use crate::{NamePair, Ready, Row, Step, Store};
 // A file goes to another name.
 fn carry(rows: &mut Vec<Row>, pair: &NamePair, keep: u8)
     ensures items { rows.new.items
-      ≡ put_back keep pair.now.target (without pair.now.source rows.old.items) (row_at pair.now.source rows.old.items) }
+        ≡ put_back keep pair.now.target (without pair.now.source rows.old.items) (row_at pair.now.source rows.old.items) }
     ensures len { vec_len rows.new ≤ vec_len rows.old }
     ensures capacity { vec_capacity rows.new ≡ vec_capacity rows.old }
 {

@@ -26,11 +26,11 @@ use std::alloc::Global;
 // A source is played: taken out, and put back under the target's name. Which names it had and has.
 fn play(played: &mut Vec<Row>, source: &Row, to: &Place, keep: u8) -> Result<NamePair, Code>
     ensures pair { result ≡ and_then (λ generation. Ok (record {
-        source = full_of source.now;
-        target = record { key = key_from to.now source.now.key; generation = generation };
-      })) (numbered to.now.generation (files_of (key_from to.now source.now.key) (without (full_of source.now) played.old.items))) }
+      source = full_of source.now;
+      target = record { key = key_from to.now source.now.key; generation = generation };
+    })) (numbered to.now.generation (files_of (key_from to.now source.now.key) (without (full_of source.now) played.old.items))) }
     ensures played { IfOk result (λ pair. played.new.items
-      ≡ put_back keep pair.target (without (full_of source.now) played.old.items) (row_at (full_of source.now) played.old.items)) }
+        ≡ put_back keep pair.target (without (full_of source.now) played.old.items) (row_at (full_of source.now) played.old.items)) }
 {
     let full = source.full_name();
     let taken = take_out(played, &full);
@@ -74,10 +74,10 @@ fn renames(
     requires distinct { AreDistinct (elements_at rows.now positions.now) }
     requires target { IsTarget to.now directories.now }
     ensures made { IfOk result (IsMade directories.now rows.now
-      (each_in_turn (renamed (keep_of to.now.directory directories.now) to.now) (elements_at rows.now positions.now)
+        (each_in_turn (renamed (keep_of to.now.directory directories.now) to.now) (elements_at rows.now positions.now)
         (record { rows = rows.now; pairs = [] }))) }
     ensures refused { IfErr result (IsRefused
-      (each_in_turn (renamed (keep_of to.now.directory directories.now) to.now) (elements_at rows.now positions.now)
+        (each_in_turn (renamed (keep_of to.now.directory directories.now) to.now) (elements_at rows.now positions.now)
         (record { rows = rows.now; pairs = [] }))) }
 {
     let keep = keep_of(directories, to.directory.as_bytes());
@@ -109,10 +109,10 @@ impl Store {
     pub(crate) fn rename(&self, from: &Place, to: &Place) -> Result<Ready, Refusal>
         requires { MayPlan (plans.Rename from.now to.now) self.now.state }
         ensures ready { IfOk result (λ ready. (moment : ℕ)
-          → planned (plans.Rename from.now to.now) moment self.now.state ≡ Ok (done_on self.now.state ready)) }
+            → planned (plans.Rename from.now to.now) moment self.now.state ≡ Ok (done_on self.now.state ready)) }
         ensures sound { IfOk result (λ ready. IsWellFormed (applied ready self.now.state)) }
         ensures refused { (moment : ℕ)
-          → IfErr result (IsRefused (planned (plans.Rename from.now to.now) moment self.now.state)) }
+            → IfErr result (IsRefused (planned (plans.Rename from.now to.now) moment self.now.state)) }
     {
         let positions = self.positions(from, from.flags.deleted);
         renames(self.alloc, &self.directories, &self.rows, &positions, to)

@@ -12,7 +12,7 @@ use Rattle.ex_store.proofs.rename.renames.Goals as goal
 pub loop-at-init : goal.loop-at-init
 loop-at-init c = record {
   renaming = rw (c.in-Ok.ensures.steps, c.in-Ok.ensures.pairs, c.in-Ok.ensures.played)
-    (renaming_start c.args.directories.now c.keep_of-keep.result c.args.to.now c.args.rows.now c.args.positions.now c.requires.rows c.requires.distinct);
+      (renaming_start c.args.directories.now c.keep_of-keep.result c.args.to.now c.args.rows.now c.args.positions.now c.requires.rows c.requires.distinct);
   count = ap length c.in-Ok.ensures.pairs;
 }
 
@@ -34,7 +34,7 @@ loop-at-preserved c =
     let count : length c.rename.new.self.pairs.items ≡ c.loop-at.at-index + 1 = rw c.in-Ok-rename.ensures.pairs (length-append _ _ ∙ ap (λ n. n + 1) c.loop-at.invariant.count) in
     record {
       renaming = rw (c.in-Ok-rename.ensures.steps, c.in-Ok-rename.ensures.pairs, c.in-Ok-rename.ensures.played, c.in-Ok-play.ensures.played)
-        (renames_more c.args.directories.now c.keep_of-keep.result c.args.to.now c.args.rows.now (elements_at c.args.rows.now c.args.positions.now) _ c.index-rows-from.result _ _ _ c.in-Ok-play.pair c.requires.target form renaming
-        (sym c.play.ensures.pair ∙ c.in-Ok-play.is));
+          (renames_more c.args.directories.now c.keep_of-keep.result c.args.to.now c.args.rows.now (elements_at c.args.rows.now c.args.positions.now) _ c.index-rows-from.result _ _ _ c.in-Ok-play.pair c.requires.target form renaming
+          (sym c.play.ensures.pair ∙ c.in-Ok-play.is));
       count = count;
     }

@@ -30,11 +30,11 @@ sources_are c =
 pub returns-clause-ready : goal.returns-clause-ready
 returns-clause-ready c =
     IfOk-weaker c.copies.result _ _ (λ (ready : Change) made.
-      made_copy c.args.self.now.state c.args.from.now c.args.to.now c.args.moment c.deref.result.now c.deref-2.result.now _ ready (directories_are c) (rows_are c) (sources_are c) made)
+    made_copy c.args.self.now.state c.args.from.now c.args.to.now c.args.moment c.deref.result.now c.deref-2.result.now _ ready (directories_are c) (rows_are c) (sources_are c) made)
     c.copies.ensures.made
 
 pub returns-clause-refused : goal.returns-clause-refused
 returns-clause-refused c =
     IfErr-weaker c.copies.result _ _ (λ (refusal : Refusal) refused.
-      refused_copy c.args.self.now.state c.args.from.now c.args.to.now c.args.moment c.deref.result.now c.deref-2.result.now _ refusal (directories_are c) (rows_are c) (sources_are c) refused)
+    refused_copy c.args.self.now.state c.args.from.now c.args.to.now c.args.moment c.deref.result.now c.deref-2.result.now _ refusal (directories_are c) (rows_are c) (sources_are c) refused)
     c.copies.ensures.refused

@@ -33,19 +33,19 @@ sources_are c =
 pub returns-clause-ready : goal.returns-clause-ready
 returns-clause-ready c =
     IfOk-weaker c.renames.result _ _ (λ (ready : Change) made moment.
-      made_rename c.args.self.now.state c.args.from.now c.args.to.now moment c.deref.result.now c.deref-2.result.now _ ready (directories_are c) (rows_are c) (sources_are c) made)
+    made_rename c.args.self.now.state c.args.from.now c.args.to.now moment c.deref.result.now c.deref-2.result.now _ ready (directories_are c) (rows_are c) (sources_are c) made)
     c.renames.ensures.made
 
 pub returns-clause-refused : goal.returns-clause-refused
 returns-clause-refused c = λ moment.
     IfErr-weaker c.renames.result _ _ (λ (refusal : Refusal) refused.
-      refused_rename c.args.self.now.state c.args.from.now c.args.to.now moment c.deref.result.now c.deref-2.result.now _ refusal (directories_are c) (rows_are c) (sources_are c) refused)
+    refused_rename c.args.self.now.state c.args.from.now c.args.to.now moment c.deref.result.now c.deref-2.result.now _ refusal (directories_are c) (rows_are c) (sources_are c) refused)
     c.renames.ensures.refused
 
 pub renames-requires-clause-distinct : goal.renames-requires-clause-distinct
 renames-requires-clause-distinct c =
     let rows_are = c.deref-2.ensures.value ∙ ap (λ (held : Held). held.state.rows) c.self.view_is in
     rw (sources_at (is_meant c.args.from.now.flags.deleted c.args.from.now c.args.self.now.state) c.args.self.now.state.rows
-      c.deref-2.result.now c.deref-3.result.now c.positions-positions.result.items rows_are c.deref-3.ensures.0 c.positions-positions.ensures)
+    c.deref-2.result.now c.deref-3.result.now c.positions-positions.result.items rows_are c.deref-3.ensures.0 c.positions-positions.ensures)
     (distinct_meant (is_meant c.args.from.now.flags.deleted c.args.from.now c.args.self.now.state) c.args.self.now.state.rows
-      (subst (λ (held : Held). ascends by_row held.state.rows ≡ true) c.self.view_is c.self.invariant.rows.ascend))
+    (subst (λ (held : Held). ascends by_row held.state.rows ≡ true) c.self.view_is c.self.invariant.rows.ascend))
