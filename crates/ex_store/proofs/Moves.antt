@@ -20,7 +20,7 @@ use Rattle.ex_store.specs.Adding.{Outcome, admitted, and_then, each_in_turn, lim
 use Rattle.ex_store.specs.Copying.{key_from}
 use Rattle.ex_store.specs.Plan.{IsTarget}
 use Rattle.ex_store.specs.Positions.{elements_at}
-use Rattle.ex_store.specs.Ready.{all_stepped, put_back, stepped, under}
+use Rattle.ex_store.specs.Ready.{all_stepped, moved, put_back, under}
 use Rattle.ex_store.specs.Renaming.{AreDistinct, renamed}
 use Rattle.ex_store.specs.Rows.{added, blank, files_of, full_of, row_at, total, with_mark, without}
 use Rattle.ex_store.specs.WellFormed.{AreRows, is_row_among}
@@ -145,7 +145,7 @@ renames_step : (directories : List Directory) (keep : ℕ) (to : Place) (rows wh
     → numbered to.generation (files_of (key_from to source.key) (without (full_of source) (all_stepped keep rows done))) ≡ Ok number
     → IsRenaming directories keep to rows whole more (done ++ steps.Move (named to source number) ∷ [])
     (pairs ++ named to source number ∷ [])
-    (put_back keep (named to source number).target (without (full_of source) played) (row_at (full_of source) played))
+    (moved keep (named to source number) played)
 renames_step directories keep to rows whole more source done pairs played number target form is numbers =
     let so_far = all_stepped keep rows done in
     let key = key_from to source.key in
@@ -157,15 +157,15 @@ renames_step directories keep to rows whole more source done pairs played number
     let free = numbered_free to.generation (files_of key left) number (counted_target to.generation target.generation) numbers in
     let shape = from_formed directories to source source.file.moment number target form (formed directories source form).moment free.within in
     let same : under (named to source number).target known.found ≡ new = rw (known.moment, known.bytes) refl in
-    let moved : put_back keep (named to source number).target left (row_at (full_of source) so_far) ≡ added keep new left =
+    let put : put_back keep (named to source number).target left (row_at (full_of source) so_far) ≡ added keep new left =
     rw (known.is, same) refl in
     let next : all_stepped keep rows (done ++ steps.Move (named to source number) ∷ []) ≡ added keep new left =
-    stepped_more keep rows done (steps.Move (named to source number)) ∙ moved in
+    stepped_more keep rows done (steps.Move (named to source number)) ∙ put in
     record {
       on = record {
         course = rw next (step_on asked is.on.course);
         sound = rw next (rows_added directories keep new left known.left (record { free = free; roomy = known.room }) shape);
-        played_are = rw next (played_moved keep (full_of source) (named to source number).target so_far played is.on.played_are ∙ ap (map blank) moved);
+        played_are = rw next (played_moved keep (full_of source) (named to source number).target so_far played is.on.played_are ∙ ap (map blank) put);
       };
       there = rw next (there_moved keep source new so_far more (absent_has key number left free.absent) is.distinct.0 is.there.1);
       distinct = is.distinct.1;
@@ -184,12 +184,12 @@ pub renames_more : (directories : List Directory) (keep : ℕ) (to : Place) (row
     → is_row_among directories source ≡ true
     → IsRenaming directories keep to rows whole (source ∷ more) done pairs played → pair_for to source played ≡ Ok pair
     → IsRenaming directories keep to rows whole more (done ++ steps.Move pair ∷ []) (pairs ++ pair ∷ [])
-    (put_back keep pair.target (without (full_of source) played) (row_at (full_of source) played))
+    (moved keep pair played)
 renames_more directories keep to rows whole more source done pairs played pair target form is names =
     let parts = and_then_ok (λ number. Ok (named to source number))
     (numbered to.generation (files_of (key_from to source.key) (without (full_of source) (all_stepped keep rows done)))) pair
     (sym (played_pair to source (all_stepped keep rows done) played is.on.played_are) ∙ names) in
     let same : named to source parts.0 ≡ pair = cc in
     subst (λ (pair : NamePair). IsRenaming directories keep to rows whole more (done ++ steps.Move pair ∷ []) (pairs ++ pair ∷ [])
-    (put_back keep pair.target (without (full_of source) played) (row_at (full_of source) played))) same
+    (moved keep pair played)) same
     (renames_step directories keep to rows whole more source done pairs played parts.0 target form is parts.1)

@@ -1,5 +1,5 @@
 -- What is made of the sources of a plan is what the plan makes of the state.
-use Rattle.std.proofs.Common.{◌≡◌, ℕ, Bool, List, [], filter, Result, Ok, Err, refl, subst}
+use Rattle.std.proofs.Common.{◌≡◌, ℕ, Bool, List, filter, Result, Ok, Err, refl, subst}
 use Rattle.cm_fields.specs.declared.code.Code.{Code}
 use Rattle.ex_store.specs.declared.directory.Directory.{Directory}
 use Rattle.ex_store.specs.declared.place.Place.{Place}
@@ -7,12 +7,12 @@ use Rattle.ex_store.specs.declared.plan.Plan.TheVariants as plans
 use Rattle.ex_store.specs.declared.plan.Refusal.{Refusal}
 use Rattle.ex_store.specs.declared.plan.Refusal.TheVariants as refusals
 use Rattle.ex_store.specs.declared.row.Row.{Row}
-use Rattle.ex_store.specs.Adding.{Outcome, each_in_turn}
-use Rattle.ex_store.specs.Copying.{copied}
+use Rattle.ex_store.specs.Adding.{Outcome}
+use Rattle.ex_store.specs.Copying.{all_copied}
 use Rattle.ex_store.specs.Plan.{IsRefused, planned, with_rows}
 use Rattle.ex_store.specs.Positions.{elements_at, positions_from}
 use Rattle.ex_store.specs.Ready.{Change, IsMade, all_stepped, applied, done_on}
-use Rattle.ex_store.specs.Renaming.{renamed}
+use Rattle.ex_store.specs.Renaming.{all_renamed}
 use Rattle.ex_store.specs.Selection.{meant}
 use Rattle.ex_store.specs.State.{State, keep_of}
 use Rattle.ex_store.specs.WellFormed.{IsWellFormed}
@@ -46,49 +46,45 @@ pub sources_at : (test : Row → Bool) (rows before : List Row) (given positions
 sources_at test rows before given positions same told found = rw (same, told, found) (elements_filter test rows)
 
 -- a copy of the sources is the plan of the copy
-abbrev copies : ℕ → Place → List Directory → List Row → List Row → Result Outcome Code
-copies moment to directories rows sources =
-    each_in_turn (copied (keep_of to.directory directories) moment to) sources (record { rows = rows; pairs = [] })
-
 pub made_copy : (state : State) (from to : Place) (moment : ℕ) (directories : List Directory) (rows sources : List Row) (change : Change)
     → directories ≡ state.directories → rows ≡ state.rows → sources ≡ meant from.flags.deleted from state
-    → IsMade directories rows (copies moment to directories rows sources) change
+    → IsMade directories rows (all_copied (keep_of to.directory directories) moment to sources rows) change
     → planned (plans.Copy from to) moment state ≡ Ok (done_on state change)
 unfolding planned
 made_copy state from to moment directories rows sources change same_directories same_rows same_sources made =
-    let same : copies moment to directories rows sources ≡ copies moment to state.directories state.rows (meant from.flags.deleted from state) = rw (same_directories, same_rows, same_sources) refl in
+    let same : all_copied (keep_of to.directory directories) moment to sources rows
+      ≡ all_copied (keep_of to.directory state.directories) moment to (meant from.flags.deleted from state) state.rows = rw (same_directories, same_rows, same_sources) refl in
     made_of state _ directories rows change same_directories same_rows
     (subst (λ (plan : Result Outcome Code). IsMade directories rows plan change) same made)
 
 pub refused_copy : (state : State) (from to : Place) (moment : ℕ) (directories : List Directory) (rows sources : List Row) (refusal : Refusal)
     → directories ≡ state.directories → rows ≡ state.rows → sources ≡ meant from.flags.deleted from state
-    → IsRefused (copies moment to directories rows sources) refusal
+    → IsRefused (all_copied (keep_of to.directory directories) moment to sources rows) refusal
     → IsRefused (planned (plans.Copy from to) moment state) refusal
 unfolding planned
 refused_copy state from to moment directories rows sources refusal same_directories same_rows same_sources refused =
-    let same : copies moment to directories rows sources ≡ copies moment to state.directories state.rows (meant from.flags.deleted from state) = rw (same_directories, same_rows, same_sources) refl in
+    let same : all_copied (keep_of to.directory directories) moment to sources rows
+      ≡ all_copied (keep_of to.directory state.directories) moment to (meant from.flags.deleted from state) state.rows = rw (same_directories, same_rows, same_sources) refl in
     refused_of state _ refusal (subst (λ (plan : Result Outcome Code). IsRefused plan refusal) same refused)
 
 -- new names of the sources are the plan of the renaming
-abbrev renames : Place → List Directory → List Row → List Row → Result Outcome Code
-renames to directories rows sources =
-    each_in_turn (renamed (keep_of to.directory directories) to) sources (record { rows = rows; pairs = [] })
-
 pub made_rename : (state : State) (from to : Place) (moment : ℕ) (directories : List Directory) (rows sources : List Row) (change : Change)
     → directories ≡ state.directories → rows ≡ state.rows → sources ≡ meant from.flags.deleted from state
-    → IsMade directories rows (renames to directories rows sources) change
+    → IsMade directories rows (all_renamed (keep_of to.directory directories) to sources rows) change
     → planned (plans.Rename from to) moment state ≡ Ok (done_on state change)
 unfolding planned
 made_rename state from to moment directories rows sources change same_directories same_rows same_sources made =
-    let same : renames to directories rows sources ≡ renames to state.directories state.rows (meant from.flags.deleted from state) = rw (same_directories, same_rows, same_sources) refl in
+    let same : all_renamed (keep_of to.directory directories) to sources rows
+      ≡ all_renamed (keep_of to.directory state.directories) to (meant from.flags.deleted from state) state.rows = rw (same_directories, same_rows, same_sources) refl in
     made_of state _ directories rows change same_directories same_rows
     (subst (λ (plan : Result Outcome Code). IsMade directories rows plan change) same made)
 
 pub refused_rename : (state : State) (from to : Place) (moment : ℕ) (directories : List Directory) (rows sources : List Row) (refusal : Refusal)
     → directories ≡ state.directories → rows ≡ state.rows → sources ≡ meant from.flags.deleted from state
-    → IsRefused (renames to directories rows sources) refusal
+    → IsRefused (all_renamed (keep_of to.directory directories) to sources rows) refusal
     → IsRefused (planned (plans.Rename from to) moment state) refusal
 unfolding planned
 refused_rename state from to moment directories rows sources refusal same_directories same_rows same_sources refused =
-    let same : renames to directories rows sources ≡ renames to state.directories state.rows (meant from.flags.deleted from state) = rw (same_directories, same_rows, same_sources) refl in
+    let same : all_renamed (keep_of to.directory directories) to sources rows
+      ≡ all_renamed (keep_of to.directory state.directories) to (meant from.flags.deleted from state) state.rows = rw (same_directories, same_rows, same_sources) refl in
     refused_of state _ refusal (subst (λ (plan : Result Outcome Code). IsRefused plan refusal) same refused)

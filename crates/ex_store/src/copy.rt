@@ -4,8 +4,8 @@ ghost use Rattle.std.specs.List.{list_all};
 ghost use Rattle.ex_store.specs.declared.limits.TheConstants.{ROW_LIMIT};
 ghost use Rattle.ex_store.specs.declared.plan.Plan.TheVariants as plans;
 ghost use Rattle.ex_store.specs.declared.ready.Step.TheVariants as steps;
-ghost use Rattle.ex_store.specs.Adding.{each_in_turn, new_row};
-ghost use Rattle.ex_store.specs.Copying.{copied, moment_of, written};
+ghost use Rattle.ex_store.specs.Adding.{new_row};
+ghost use Rattle.ex_store.specs.Copying.{all_copied, moment_of};
 ghost use Rattle.ex_store.specs.Plan.{IsRefused, IsTarget, MayPlan, planned};
 ghost use Rattle.ex_store.specs.Positions.{elements_at};
 ghost use Rattle.ex_store.specs.Ready.{IsMade, applied, done_on};
@@ -78,11 +78,9 @@ fn copies(
     requires few { length positions.now ≤ ROW_LIMIT }
     requires target { IsTarget to.now directories.now }
     ensures made { IfOk result (IsMade directories.now rows.now
-        (each_in_turn (copied (keep_of to.now.directory directories.now) moment to.now) (elements_at rows.now positions.now)
-        (record { rows = rows.now; pairs = [] }))) }
+        (all_copied (keep_of to.now.directory directories.now) moment to.now (elements_at rows.now positions.now) rows.now)) }
     ensures refused { IfErr result (IsRefused
-        (each_in_turn (copied (keep_of to.now.directory directories.now) moment to.now) (elements_at rows.now positions.now)
-        (record { rows = rows.now; pairs = [] }))) }
+        (all_copied (keep_of to.now.directory directories.now) moment to.now (elements_at rows.now positions.now) rows.now)) }
 {
     let keep = keep_of(directories, to.directory.as_bytes());
     let mut course = match Course::new(alloc, rows) {
