@@ -1,23 +1,22 @@
 -- What is admitted may be added: the rows stay those of a store.
-use Rattle.std.proofs.Common.{◌≡◌, ℕ, suc, ◌+◌, ◌<◌, ◌≤◌, ◌==◌, ◌&&◌, nat_lt, nat_le, min, Bool, true, false, cond, List, [], ◌∷◌, length, unwrap_or, Result, Ok, Err, Option, Some, None, refl, ap, arith, ◌∙◌, sym, subst}
-use Rattle.std.proofs.lemmas.Bool.{and_from, and_parts}
+use Rattle.std.proofs.Common.{◌≡◌, ℕ, suc, ◌+◌, ◌<◌, ◌≤◌, nat_lt, nat_le, Bool, true, false, cond, List, length, unwrap_or, Result, Ok, Err, refl, ap, arith, ◌∙◌, subst}
+use Rattle.std.proofs.lemmas.Bool.{and_from}
 use Rattle.std.proofs.lemmas.Bool.Decides.{nat_tests}
 use Rattle.cm_fields.specs.declared.code.Code.{Code}
 use Rattle.cm_fields.specs.declared.code.Code.TheVariants.{GenFull, FileExists, FileLimit, FileSize, StoreSize}
 use Rattle.cm_fields.specs.declared.value.Gen.{Gen}
 use Rattle.cm_fields.specs.declared.value.Gen.TheVariants.{Missing, Highest, Next, Lowest, All, Number}
-use Rattle.cm_files.specs.Catalogue.{ascends}
 use Rattle.ex_generations.specs.declared.file.File.{File}
 use Rattle.ex_generations.specs.declared.file.TheConstants.{FILE_LIMIT, GENERATION_LIMIT}
 use Rattle.ex_generations.specs.Generations.{has, highest}
 use Rattle.ex_generations.proofs.Extremes.{has-above}
 use Rattle.ex_store.specs.declared.directory.Directory.{Directory}
 use Rattle.ex_store.specs.declared.key.Key.{Key}
-use Rattle.ex_store.specs.declared.limits.TheConstants.{MOMENT_LIMIT, ROW_LIMIT, STORE_LIMIT}
+use Rattle.ex_store.specs.declared.limits.TheConstants.{ROW_LIMIT, STORE_LIMIT}
 use Rattle.ex_store.specs.declared.row.Row.{Row}
-use Rattle.ex_store.specs.Adding.{admitted, and_then, limited, new_row, next_of, numbered}
+use Rattle.ex_store.specs.Adding.{admitted, and_then, limited, next_of, numbered}
 use Rattle.ex_store.specs.Plan.{may_grow, may_number}
-use Rattle.ex_store.specs.Rows.{added, by_row, files_of, full_of, total}
+use Rattle.ex_store.specs.Rows.{added, files_of, total}
 use Rattle.ex_store.specs.WellFormed.{AreRows, is_numbered, is_row_among}
 use Rattle.ex_store.proofs.Sizes.{length_added, total_added}
 use Rattle.ex_store.proofs.Sound.{absent_has, all_added, ascends_added}

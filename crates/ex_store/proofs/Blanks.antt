@@ -1,5 +1,5 @@
 -- Rows without their bytes are counted, added and taken out as the rows themselves.
-use Rattle.std.proofs.Common.{◌≡◌, ℕ, suc, max, ◌==◌, ◌&&◌, ◌||◌, nat_lt, nat_le, Bool, true, false, not, cond, List, [], ◌∷◌, length, filter, find, map, unwrap_or, Option, Some, None, refl, ap, ◌∙◌, sym}
+use Rattle.std.proofs.Common.{◌≡◌, ℕ, suc, max, ◌==◌, ◌&&◌, ◌||◌, nat_le, Bool, true, false, not, cond, List, [], ◌∷◌, length, filter, map, Option, Some, None, refl, ap}
 use Rattle.std.specs.Option.{option_map, option_map_or}
 use Rattle.std.specs.Ordering.{is_lt}
 use Rattle.cm_fields.specs.declared.value.Gen.{Gen}

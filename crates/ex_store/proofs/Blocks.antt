@@ -21,7 +21,7 @@ use Rattle.ex_store.specs.Rows.{by_row, end_in, first_in, is_in, rows_in}
 use Rattle.ex_store.specs.State.{State, catalogue_of, file_row, has_directory, is_named, number_of, rows_numbered}
 use Rattle.ex_store.specs.WellFormed.{IsWellFormed, is_row_among}
 use Rattle.ex_store.proofs.Ascending.{all_above, is_less, is_sorted, sorted_ascends}
-use Rattle.ex_store.proofs.Defining.{all_at}
+use Rattle.ex_store.proofs.Elements.{all_at}
 use Rattle.ex_store.proofs.Lawful.{below_name, by_name, by_name_total, directory_there, named, number_order, text_itself}
 use Rattle.ex_store.proofs.Sound.{by_row_total}
 

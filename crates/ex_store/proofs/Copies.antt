@@ -1,16 +1,12 @@
 -- Files are copied one after the other: where the walk over the sources stands.
-use Rattle.std.proofs.Common.{◌≡◌, ◌||◌, drop-cons, ℕ, zero, suc, ◌+◌, ◌<◌, ◌≤◌, ◌&&◌, nat_lt, nat_le, min, Bool, true, false, cond, List, [], ◌∷◌, ◌++◌, drop, get_or, slice_get, length, map, Result, Ok, Err, Option, Some, None, refl, ap, arith, ◌∙◌, sym, subst}
-use Rattle.std.specs.List.{fold, list_all}
-use Rattle.std.specs.Option.{option_to_list}
+use Rattle.std.proofs.Common.{◌≡◌, ◌||◌, ℕ, suc, ◌+◌, nat_le, Bool, true, false, cond, List, [], ◌∷◌, ◌++◌, length, map, Result, Ok, Err, Option, Some, None, refl, ap, arith, ◌∙◌, sym}
 use Rattle.std.proofs.lemmas.Bool.{and_from, and_parts}
 use Rattle.std.proofs.lemmas.Bool.Decides.{nat_tests}
 use Rattle.std.proofs.lemmas.List.Sums.{fold-append}
-use Rattle.std.proofs.lemmas.Option.{slice_get-get_or}
 use Rattle.cm_fields.specs.declared.code.Code.{Code}
 use Rattle.cm_fields.specs.declared.value.Gen.{Gen}
 use Rattle.ex_generations.specs.declared.file.TheConstants.{FILE_LIMIT}
 use Rattle.ex_store.specs.declared.directory.Directory.{Directory}
-use Rattle.ex_store.specs.declared.key.FullName.{FullName}
 use Rattle.ex_store.specs.declared.key.Key.{Key}
 use Rattle.ex_store.specs.declared.key.NamePair.{NamePair}
 use Rattle.ex_store.specs.declared.limits.TheConstants.{MOMENT_LIMIT}
@@ -18,17 +14,16 @@ use Rattle.ex_store.specs.declared.place.Place.{Place}
 use Rattle.ex_store.specs.declared.ready.Step.{Step}
 use Rattle.ex_store.specs.declared.ready.Step.TheVariants as steps
 use Rattle.ex_store.specs.declared.row.Row.{Row}
-use Rattle.ex_store.specs.Adding.{Outcome, admitted, and_then, each_in_turn, limited, new_row, numbered, placed}
+use Rattle.ex_store.specs.Adding.{Outcome, admitted, and_then, each_in_turn, limited, new_row, numbered}
 use Rattle.ex_store.specs.Copying.{copied, is_star, key_from, moment_of, part_from}
 use Rattle.ex_store.specs.Plan.{IsTarget, may_be}
-use Rattle.ex_store.specs.Positions.{elements_at}
 use Rattle.ex_store.specs.Ready.{all_stepped, stepped}
 use Rattle.ex_store.specs.Rows.{added, blank, files_of, full_of, total}
 use Rattle.ex_store.specs.State.{has_directory}
 use Rattle.ex_store.specs.WellFormed.{AreRows, is_file_name, is_file_type, is_numbered, is_row_among}
-use Rattle.ex_store.proofs.Admitting.{IsAdmitted, admitted_is, counted_target, rows_added}
+use Rattle.ex_store.proofs.Admitting.{admitted_is, counted_target, rows_added}
 use Rattle.ex_store.proofs.Blanks.{added_blank, numbered_blank}
-use Rattle.ex_store.proofs.Sizes.{length_added, total_added}
+use Rattle.ex_store.proofs.Sizes.{total_added}
 
 -- what a plan has come to
 abbrev pub outcome_at : ℕ → List Row → List Step → List NamePair → Outcome

@@ -1,6 +1,5 @@
 -- The directory that a logical name stands for, found in a walk over the logical names.
-use Rattle.std.proofs.Common.{◌≡◌, ℕ, zero, suc, ◌+◌, ◌≤◌, Bool, true, false, cond, List, [], ◌∷◌, length, map, drop, find, slice_get, Some, None, Option, option_map, refl, ap, arith, ◌∙◌, sym, subst}
-use Rattle.std.specs.List.{list_all}
+use Rattle.std.proofs.Common.{◌≡◌, ℕ, zero, suc, ◌+◌, ◌≤◌, Bool, true, false, cond, List, [], ◌∷◌, length, map, drop, find, slice_get, Some, None, Option, option_map, refl, ap, arith, ◌∙◌, sym}
 use Rattle.std.proofs.lemmas.Bool.{and_parts}
 use Rattle.cm_text.specs.Case.{equals}
 use Rattle.cm_files.specs.Catalogue.{logical_of}
@@ -8,6 +7,7 @@ use Rattle.ex_store.specs.declared.directory.Definition.{Definition}
 use Rattle.ex_store.specs.declared.directory.Directory.{Directory}
 use Rattle.ex_store.specs.State.{State, catalogue_of, has_directory, logical_name, number_of}
 use Rattle.ex_store.specs.WellFormed.{IsWellFormed, is_definition_among}
+use Rattle.ex_store.proofs.Elements.{all_at}
 
 -- what a walk finds from here on
 abbrev pub found_from : List Directory → List ℕ → ℕ → List Definition → Option ℕ
@@ -69,13 +69,6 @@ walk_ends directories name zero [] past = refl
 walk_ends directories name (suc i) [] past = refl
 walk_ends directories name zero (first ∷ entries) past = absurd (omega arith)
 walk_ends directories name (suc i) (first ∷ entries) past = walk_ends directories name i entries (omega arith)
-
-pub all_at : {X : Type 0} (test : X → Bool) (xs : List X) (i : ℕ) (x : X) → list_all test xs ≡ true → slice_get xs i ≡ Some x
-    → test x ≡ true
-all_at test [] i x all is = absurd (cc)
-all_at {X} test (first ∷ xs) zero x all is =
-    let same : first ≡ x = cc in subst (λ (each : X). test each ≡ true) same (and_parts _ _ all).0
-all_at test (first ∷ xs) (suc i) x all is = all_at test xs i x (and_parts _ _ all).1 is
 
 -- the directory that an entry stands for is there
 pub entry_there : (state : State) → IsWellFormed state → (i : ℕ) (entries : List Definition) (entry : Definition)

@@ -1,22 +1,37 @@
 -- The elements at some places, one after the other.
-use Rattle.std.proofs.Common.{◌≡◌, ℕ, ◌+◌, ◌<◌, Bool, true, suc, zero, List, [], ◌∷◌, ◌++◌, length, get_or, drop, nat_lt, Some, refl, sym, ap, subst, ◌∙◌, arith}
+use Rattle.std.proofs.Common.{◌≡◌, ℕ, ◌+◌, ◌<◌, Bool, true, suc, zero, List, [], ◌∷◌, ◌++◌, length, get_or, drop, nat_lt, Some, sym, ap, subst, ◌∙◌, arith}
 use Rattle.std.specs.List.{list_all, slice_get}
 use Rattle.std.specs.Option.{option_to_list}
 use Rattle.std.proofs.lemmas.Bool.{and_parts, ltb-true}
 use Rattle.std.proofs.lemmas.List.{at_drop_more}
+use Rattle.std.proofs.lemmas.Option.{slice_get-get_or}
 use Rattle.ex_store.specs.Positions.{elements_at}
 
-get-within : {X : Type 0} (xs : List X) (at : ℕ) (x : X) → at < length xs → slice_get xs at ≡ Some (get_or xs at x)
-get-within [] at x lt = absurd (omega arith)
-get-within (first ∷ more) zero x lt = refl
-get-within (first ∷ more) (suc at) x lt = get-within more at x (omega arith)
+-- the element at an index that is read
+pub get_some : {X : Type 0} (xs : List X) (i : ℕ) (x : X) → i < length xs → x ≡ get_or xs i x → slice_get xs i ≡ Some x
+get_some xs i x within is = slice_get-get_or xs i x within ∙ ap (λ y. Some y) (sym is)
+
+-- what all pass, one of them passes
+pub all_at : {X : Type 0} (test : X → Bool) (xs : List X) (i : ℕ) (x : X) → list_all test xs ≡ true → slice_get xs i ≡ Some x
+    → test x ≡ true
+all_at test [] i x all is = absurd (cc)
+all_at {X} test (first ∷ xs) zero x all is =
+    let same : first ≡ x = cc in subst (λ (each : X). test each ≡ true) same (and_parts _ _ all).0
+all_at test (first ∷ xs) (suc i) x all is = all_at test xs i x (and_parts _ _ all).1 is
+
+-- a place among some that are within a list is within it
+pub place_within : (positions : List ℕ) (n i at : ℕ) → list_all (λ position. nat_lt position n) positions ≡ true → i < length positions
+    → at ≡ get_or positions i 0 → at < n
+place_within positions n i at all within is =
+    let passes = all_at (λ position. nat_lt position n) positions i (get_or positions i 0) all (slice_get-get_or positions i 0 within) in
+    omega (arith, ltb-true (get_or positions i 0) n passes)
 
 -- the next place of some places
 pub elements_more : {X : Type 0} (xs : List X) (positions : List ℕ) (i at : ℕ) (x : X) → i < length positions → at ≡ get_or positions i 0 → at < length xs → elements_at xs (drop i positions) ≡ get_or xs at x ∷ elements_at xs (drop (i + 1) positions)
 elements_more xs positions i at x lt place within =
     at_drop_more (elements_at xs) positions i 0 lt
     ∙ (ap (λ other. option_to_list (slice_get xs other) ++ elements_at xs (drop (i + 1) positions)) (sym place)
-    ∙ ap (λ there. option_to_list there ++ elements_at xs (drop (i + 1) positions)) (get-within xs at x within))
+    ∙ ap (λ there. option_to_list there ++ elements_at xs (drop (i + 1) positions)) (slice_get-get_or xs at x within))
 
 -- all places but the next pass a test, too
 pub all_more : (test : ℕ → Bool) (positions : List ℕ) (i : ℕ) → i < length positions → list_all test (drop i positions) ≡ true → list_all test (drop (i + 1) positions) ≡ true

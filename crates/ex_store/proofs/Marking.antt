@@ -1,9 +1,8 @@
 -- Rows are marked, cleared of their mark, and taken out: the rows stay those of a store.
 use Rattle.std.proofs.Common.{◌≡◌, ℕ, suc, zero, ◌+◌, ◌<◌, ◌≤◌, nat_lt, ◌&&◌, Bool, true, false, cond, List, [], ◌∷◌, ◌++◌, append_assoc, drop, drop-cons, filter, get_or, length, length-append, map, set, refl, ap, arith, ◌∙◌, sym}
 use Rattle.std.specs.List.{list_all}
-use Rattle.std.proofs.lemmas.Bool.{and_from, and_parts, both_ways, lt-ltb, ltb-true, true_from_ne_false}
+use Rattle.std.proofs.lemmas.Bool.{and_from, and_parts, lt-ltb}
 use Rattle.std.proofs.lemmas.List.{length-map}
-use Rattle.std.proofs.lemmas.List.Folds.{list_all_at}
 use Rattle.std.proofs.lemmas.List.Sums.{count_by-le-length, length-filter}
 use Rattle.ex_store.specs.declared.directory.Directory.{Directory}
 use Rattle.ex_store.specs.declared.row.Row.{Row}
@@ -29,14 +28,6 @@ changed_is_set change [] at d below = absurd (omega arith)
 changed_is_set change (x ∷ xs) zero d below = refl
 changed_is_set change (x ∷ xs) (suc at) d below =
     rw (next_one at) (ap (λ rest. x ∷ rest) (changed_is_set change xs at d (omega arith)))
-
--- a place among some that are within the list is within it
-pub place_within : (positions : List ℕ) (n i at : ℕ) → list_all (λ position. nat_lt position n) positions ≡ true → i < length positions
-    → at ≡ get_or positions i 0 → at < n
-place_within positions n i at all within is =
-    let passes : nat_lt (get_or positions i 0) n ≡ true =
-    true_from_ne_false _ (λ fails. both_ways _ (list_all_at (λ position. nat_lt position n) positions i 0 within fails) all) in
-    omega (arith, ltb-true (get_or positions i 0) n passes)
 
 -- one place more
 pub changed_more : {X : Type 0} (change : X → X) (xs : List X) (positions : List ℕ) (i at : ℕ) (d : X) → i < length positions

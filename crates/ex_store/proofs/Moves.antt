@@ -1,33 +1,29 @@
 -- A source that is taken out and added under another name: one step of a renaming.
-use Rattle.std.proofs.Common.{◌≡◌, ℕ, suc, ◌+◌, ◌≤◌, ◌&&◌, nat_lt, nat_le, Bool, true, false, not, List, [], ◌∷◌, ◌++◌, length, map, Result, Ok, Err, Option, Some, None, refl, ap, arith, ◌∙◌, sym, subst}
-use Rattle.std.specs.List.{list_all}
+use Rattle.std.proofs.Common.{◌≡◌, ℕ, ◌+◌, nat_lt, nat_le, true, false, List, [], ◌∷◌, ◌++◌, length, map, Result, Ok, Err, Some, refl, ap, arith, ◌∙◌, sym, subst}
 use Rattle.std.specs.Option.{option_map}
 use Rattle.std.proofs.lemmas.Bool.Decides.{nat_tests}
 use Rattle.cm_fields.specs.declared.code.Code.{Code}
-use Rattle.cm_fields.specs.declared.code.Code.TheVariants.{FileLimit, FileSize, StoreSize}
-use Rattle.cm_fields.specs.declared.value.Gen.{Gen}
 use Rattle.ex_generations.specs.declared.file.TheConstants.{FILE_LIMIT}
 use Rattle.ex_store.specs.declared.directory.Directory.{Directory}
 use Rattle.ex_store.specs.declared.key.FullName.{FullName}
-use Rattle.ex_store.specs.declared.key.Key.{Key}
 use Rattle.ex_store.specs.declared.key.NamePair.{NamePair}
 use Rattle.ex_store.specs.declared.limits.TheConstants.{ROW_LIMIT, STORE_LIMIT}
 use Rattle.ex_store.specs.declared.place.Place.{Place}
 use Rattle.ex_store.specs.declared.ready.Step.{Step}
 use Rattle.ex_store.specs.declared.ready.Step.TheVariants as steps
 use Rattle.ex_store.specs.declared.row.Row.{Row}
-use Rattle.ex_store.specs.Adding.{Outcome, admitted, and_then, each_in_turn, limited, new_row, numbered}
+use Rattle.ex_store.specs.Adding.{admitted, and_then, each_in_turn, limited, new_row, numbered}
 use Rattle.ex_store.specs.Copying.{key_from}
 use Rattle.ex_store.specs.Plan.{IsTarget}
 use Rattle.ex_store.specs.Positions.{elements_at}
 use Rattle.ex_store.specs.Ready.{all_stepped, moved, put_back, under}
 use Rattle.ex_store.specs.Renaming.{AreDistinct, renamed}
-use Rattle.ex_store.specs.Rows.{added, blank, files_of, full_of, row_at, total, with_mark, without}
+use Rattle.ex_store.specs.Rows.{added, blank, files_of, full_of, row_at, total, without}
 use Rattle.ex_store.specs.WellFormed.{AreRows, is_row_among}
-use Rattle.ex_store.proofs.Admitting.{IsAdmitted, IsFree, IsRoomy, and_then_ok, counted_target, numbered_free, rows_added}
+use Rattle.ex_store.proofs.Admitting.{IsRoomy, and_then_ok, counted_target, numbered_free, rows_added}
 use Rattle.ex_store.proofs.Ascending.{sorted_ascends}
 use Rattle.ex_store.proofs.Blanks.{numbered_blank, put_back_blank, row_at_blank, without_blank}
-use Rattle.ex_store.proofs.Copies.{IsFormed, IsOnCourse, course_start, formed, from_formed, outcome_at, stepped_more}
+use Rattle.ex_store.proofs.Copies.{IsOnCourse, course_start, formed, from_formed, outcome_at, stepped_more}
 use Rattle.ex_store.proofs.Renames.{AreThere, length_without, plain, rows_without, some_of, there_elements, there_moved, total_without}
 use Rattle.ex_store.proofs.Sound.{absent_has, by_row_total}
 use Rattle.ex_store.specs.Rows.{by_row}

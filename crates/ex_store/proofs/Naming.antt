@@ -1,5 +1,5 @@
 -- The first state, and states with another connected directory or fewer logical names.
-use Rattle.std.proofs.Common.{◌≡◌, ℕ, ◌<◌, ◌≤◌, Bool, true, false, not, ◌||◌, cond, List, [], ◌∷◌, length, filter, slice_get, get_or, Some, refl, ap, arith, subst, sym, ◌∙◌}
+use Rattle.std.proofs.Common.{◌≡◌, ℕ, ◌<◌, ◌≤◌, Bool, true, false, not, ◌||◌, List, [], ◌∷◌, length, filter, slice_get, get_or, Some, refl, ap, arith, subst, ◌∙◌}
 use Rattle.std.specs.Cmp.Lexicographic.{on_texts}
 use Rattle.std.specs.List.{list_all, list_any}
 use Rattle.std.specs.Option.{option_map}

@@ -1,5 +1,5 @@
 -- What is made of the sources of a plan is what the plan makes of the state.
-use Rattle.std.proofs.Common.{◌≡◌, ℕ, Bool, List, filter, Result, Ok, Err, refl, subst}
+use Rattle.std.proofs.Common.{◌≡◌, ℕ, Bool, List, filter, Result, Ok, refl, subst}
 use Rattle.cm_fields.specs.declared.code.Code.{Code}
 use Rattle.ex_store.specs.declared.directory.Directory.{Directory}
 use Rattle.ex_store.specs.declared.place.Place.{Place}
@@ -53,7 +53,7 @@ pub made_copy : (state : State) (from to : Place) (moment : ℕ) (directories : 
 unfolding planned
 made_copy state from to moment directories rows sources change same_directories same_rows same_sources made =
     let same : all_copied (keep_of to.directory directories) moment to sources rows
-      ≡ all_copied (keep_of to.directory state.directories) moment to (meant from.flags.deleted from state) state.rows = rw (same_directories, same_rows, same_sources) refl in
+    ≡ all_copied (keep_of to.directory state.directories) moment to (meant from.flags.deleted from state) state.rows = rw (same_directories, same_rows, same_sources) refl in
     made_of state _ directories rows change same_directories same_rows
     (subst (λ (plan : Result Outcome Code). IsMade directories rows plan change) same made)
 
@@ -64,7 +64,7 @@ pub refused_copy : (state : State) (from to : Place) (moment : ℕ) (directories
 unfolding planned
 refused_copy state from to moment directories rows sources refusal same_directories same_rows same_sources refused =
     let same : all_copied (keep_of to.directory directories) moment to sources rows
-      ≡ all_copied (keep_of to.directory state.directories) moment to (meant from.flags.deleted from state) state.rows = rw (same_directories, same_rows, same_sources) refl in
+    ≡ all_copied (keep_of to.directory state.directories) moment to (meant from.flags.deleted from state) state.rows = rw (same_directories, same_rows, same_sources) refl in
     refused_of state _ refusal (subst (λ (plan : Result Outcome Code). IsRefused plan refusal) same refused)
 
 -- new names of the sources are the plan of the renaming
@@ -75,7 +75,7 @@ pub made_rename : (state : State) (from to : Place) (moment : ℕ) (directories 
 unfolding planned
 made_rename state from to moment directories rows sources change same_directories same_rows same_sources made =
     let same : all_renamed (keep_of to.directory directories) to sources rows
-      ≡ all_renamed (keep_of to.directory state.directories) to (meant from.flags.deleted from state) state.rows = rw (same_directories, same_rows, same_sources) refl in
+    ≡ all_renamed (keep_of to.directory state.directories) to (meant from.flags.deleted from state) state.rows = rw (same_directories, same_rows, same_sources) refl in
     made_of state _ directories rows change same_directories same_rows
     (subst (λ (plan : Result Outcome Code). IsMade directories rows plan change) same made)
 
@@ -86,5 +86,5 @@ pub refused_rename : (state : State) (from to : Place) (moment : ℕ) (directori
 unfolding planned
 refused_rename state from to moment directories rows sources refusal same_directories same_rows same_sources refused =
     let same : all_renamed (keep_of to.directory directories) to sources rows
-      ≡ all_renamed (keep_of to.directory state.directories) to (meant from.flags.deleted from state) state.rows = rw (same_directories, same_rows, same_sources) refl in
+    ≡ all_renamed (keep_of to.directory state.directories) to (meant from.flags.deleted from state) state.rows = rw (same_directories, same_rows, same_sources) refl in
     refused_of state _ refusal (subst (λ (plan : Result Outcome Code). IsRefused plan refusal) same refused)

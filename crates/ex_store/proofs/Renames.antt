@@ -1,39 +1,26 @@
 -- Files are given other names one after the other: where the walk over the sources stands.
-use Rattle.std.proofs.Common.{◌≡◌, ℕ, zero, suc, ◌+◌, ◌<◌, ◌≤◌, ◌==◌, ◌&&◌, nat_lt, nat_le, Bool, true, false, not, cond, List, [], ◌∷◌, ◌++◌, length, slice_get, filter, find, map, Result, Ok, Err, Option, Some, None, refl, ap, arith, ◌∙◌, sym, subst}
+use Rattle.std.proofs.Common.{◌≡◌, ℕ, zero, suc, ◌+◌, ◌==◌, ◌&&◌, nat_le, Bool, true, false, not, cond, List, [], ◌∷◌, ◌++◌, length, slice_get, filter, find, Option, Some, None, refl, ap, arith, ◌∙◌, subst}
 use Rattle.std.specs.List.{list_all}
 use Rattle.std.specs.Option.{option_map, option_to_list}
 use Rattle.std.specs.Ordering.{is_eq, is_lt, ordering_reverse}
 use Rattle.std.specs.declared.cmp.Ordering.{Ordering}
 use Rattle.std.specs.declared.cmp.Ordering.TheVariants.{Less, Equal, Greater}
 use Rattle.std.proofs.lemmas.Bool.{and_from, and_parts, not-true, not_from_false}
-use Rattle.std.proofs.lemmas.Bool.Decides.{nat_tests}
-use Rattle.std.proofs.lemmas.Cmp.{alike_right, tied_back, tied_itself}
-use Rattle.cm_fields.specs.declared.code.Code.{Code}
+use Rattle.std.proofs.lemmas.Cmp.{tied_back, tied_itself}
 use Rattle.cm_files.specs.Catalogue.{ascends}
 use Rattle.ex_generations.specs.Retention.{live}
 use Rattle.ex_store.specs.declared.directory.Directory.{Directory}
 use Rattle.ex_store.specs.declared.key.FullName.{FullName}
 use Rattle.ex_store.specs.declared.key.Key.{Key}
-use Rattle.ex_store.specs.declared.key.NamePair.{NamePair}
-use Rattle.ex_store.specs.declared.place.Place.{Place}
-use Rattle.ex_store.specs.declared.ready.Step.{Step}
-use Rattle.ex_store.specs.declared.ready.Step.TheVariants as steps
 use Rattle.ex_store.specs.declared.row.Row.{Row}
-use Rattle.ex_store.specs.Adding.{Outcome, admitted, and_then, each_in_turn, limited, new_row, numbered}
-use Rattle.ex_store.specs.Copying.{key_from}
-use Rattle.ex_store.specs.Plan.{IsTarget}
 use Rattle.ex_store.specs.Positions.{elements_at}
-use Rattle.ex_store.specs.Ready.{all_stepped, put_back, stepped, under}
-use Rattle.ex_store.specs.Renaming.{AreDistinct, renamed}
-use Rattle.ex_store.specs.Rows.{added, blank, by_full, by_row, files_of, full_of, inserted, is_full, is_of, kept_newest, row_at, total, with_mark, without}
+use Rattle.ex_store.specs.Renaming.{AreDistinct}
+use Rattle.ex_store.specs.Rows.{added, by_full, by_row, files_of, full_of, inserted, is_full, is_of, kept_newest, row_at, total, with_mark, without}
 use Rattle.ex_store.specs.WellFormed.{AreRows, is_row_among}
-use Rattle.ex_store.proofs.Admitting.{IsAdmitted, IsFree, IsRoomy, counted_target, numbered_free, rows_added}
-use Rattle.ex_store.proofs.Ascending.{all_above, ascends_filter, ascends_sorted, is_less, is_sorted, sorted_ascends}
-use Rattle.ex_store.proofs.Blanks.{numbered_blank, put_back_blank, row_at_blank, without_blank}
-use Rattle.ex_store.proofs.Copies.{IsFormed, IsOnCourse, formed, from_formed, outcome_at, stepped_more}
+use Rattle.ex_store.proofs.Ascending.{all_above, ascends_filter, ascends_sorted, is_sorted, sorted_ascends}
 use Rattle.ex_store.proofs.Sizes.{total_cons}
-use Rattle.ex_store.proofs.Sound.{absent_has, by_full_total, by_row_total, is_absent}
-use Rattle.ex_store.proofs.Sources.{form_at}
+use Rattle.ex_store.proofs.Sound.{by_full_total, by_row_total, is_absent}
+use Rattle.ex_store.proofs.Elements.{all_at}
 
 -- a row as it is, but for its mark
 abbrev pub plain : Row → Row
@@ -100,7 +87,7 @@ here_at (first ∷ rows) zero row sorted is =
     subst (λ (each : Row). row_at (full_of each) (first ∷ rows) ≡ Some each) same (rw (itself first) refl)
 here_at (first ∷ rows) (suc at) row sorted is =
     let parts = and_parts _ _ sorted in
-    let less = form_at (λ other. is_lt (by_row first other)) rows at row parts.0 is in
+    let less = all_at (λ other. is_lt (by_row first other)) rows at row parts.0 is in
     rw (below_differs (by_row first row) less) (here_at rows at row parts.1 is)
 
 pub there_elements : (rows : List Row) (positions : List ℕ) → is_sorted by_row rows ≡ true → AreThere rows (elements_at rows positions)

@@ -5,7 +5,7 @@ use Rattle.std.proofs.lemmas.List.Sums.{sum_by-cons}
 use Rattle.ex_generations.specs.Retention.{live}
 use Rattle.ex_store.specs.declared.key.Key.{Key}
 use Rattle.ex_store.specs.declared.row.Row.{Row}
-use Rattle.ex_store.specs.Rows.{added, by_row, files_of, inserted, is_of, kept_newest, retained, total, with_mark}
+use Rattle.ex_store.specs.Rows.{added, by_row, files_of, inserted, is_of, kept_newest, total, with_mark}
 
 abbrev size : Row → ℕ
 size row = length row.file.bytes

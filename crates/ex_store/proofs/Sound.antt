@@ -1,5 +1,5 @@
 -- With a row added that is admitted, the rows are still those of a store.
-use Rattle.std.proofs.Common.{◌≡◌, ℕ, suc, ◌+◌, ◌<◌, ◌≤◌, ◌==◌, ◌&&◌, ◌||◌, nat_lt, nat_le, Bool, true, false, not, cond, List, [], ◌∷◌, length, filter, map, unwrap_or, Result, Ok, Err, Option, Some, None, refl, ap, arith, ◌∙◌, sym, subst}
+use Rattle.std.proofs.Common.{◌≡◌, ℕ, ◌==◌, ◌&&◌, nat_le, Bool, true, false, not, cond, List, [], ◌∷◌, filter, map, refl, ap, arith, ◌∙◌}
 use Rattle.std.specs.Cmp.{IsTotalOrder}
 use Rattle.std.specs.Cmp.Lexicographic.{on_texts}
 use Rattle.std.specs.List.{list_all, list_any}
@@ -10,15 +10,13 @@ use Rattle.std.proofs.lemmas.Bool.{and_from, and_parts, not-true, not_from_false
 use Rattle.std.proofs.lemmas.Bool.Decides.{nat_tests}
 use Rattle.std.proofs.lemmas.Cmp.{nat_cmp_total, on_total, then_total}
 use Rattle.cm_files.specs.Catalogue.{ascends}
-use Rattle.ex_generations.specs.declared.file.File.{File}
 use Rattle.ex_generations.specs.Generations.{has, is_generation}
 use Rattle.ex_generations.specs.Retention.{live}
-use Rattle.ex_store.specs.declared.directory.Directory.{Directory}
 use Rattle.ex_store.specs.declared.key.FullName.{FullName}
 use Rattle.ex_store.specs.declared.key.Key.{Key}
 use Rattle.ex_store.specs.declared.row.Row.{Row}
-use Rattle.ex_store.specs.Rows.{added, by_full, by_key, by_row, files_of, full_of, inserted, is_full, is_of, kept_newest, retained, with_mark}
-use Rattle.ex_store.proofs.Ascending.{above_chain, all_above, ascends_sorted, is_less, is_sorted, sorted_ascends, turned}
+use Rattle.ex_store.specs.Rows.{added, by_full, by_key, by_row, files_of, full_of, inserted, is_full, is_of, kept_newest, with_mark}
+use Rattle.ex_store.proofs.Ascending.{above_chain, all_above, ascends_sorted, is_sorted, sorted_ascends, turned}
 
 pub by_key_total : IsTotalOrder by_key
 by_key_total =

@@ -1,53 +1,25 @@
 -- The sources that a plan takes one after the other, by their places among the rows.
-use Rattle.std.proofs.Common.{◌≡◌, drop-cons, ℕ, zero, suc, ◌+◌, ◌<◌, nat_lt, Bool, true, false, cond, List, [], ◌∷◌, ◌++◌, drop, filter, get_or, slice_get, length, length-append, append_assoc, Some, refl, ap, arith, ◌∙◌, sym, subst}
+use Rattle.std.proofs.Common.{◌≡◌, ℕ, ◌+◌, ◌<◌, nat_lt, Bool, true, false, cond, List, [], ◌∷◌, ◌++◌, drop, filter, get_or, slice_get, length, length-append, append_assoc, Some, refl, ap, ◌∙◌, sym}
 use Rattle.std.specs.List.{list_all}
-use Rattle.std.proofs.lemmas.Bool.{and_parts}
-use Rattle.std.proofs.lemmas.Bool.Decides.{nat_tests}
-use Rattle.std.proofs.lemmas.Option.{slice_get-get_or}
 use Rattle.ex_store.specs.declared.row.Row.{Row}
 use Rattle.ex_store.specs.Positions.{elements_at, positions_from}
-
--- the elements at places, one by one
-pub elements_more : {X : Type 0} (xs : List X) (positions : List ℕ) (i : ℕ) (x : X) → i < length positions
-    → slice_get xs (get_or positions i 0) ≡ Some x
-    → elements_at xs (drop i positions) ≡ x ∷ elements_at xs (drop (suc i) positions)
-elements_more xs positions i x within is =
-    rw (drop-cons positions i 0 within, is)
-
-pub get_some : {X : Type 0} (xs : List X) (i : ℕ) (x : X) → i < length xs → x ≡ get_or xs i x → slice_get xs i ≡ Some x
-get_some xs i x within is = slice_get-get_or xs i x within ∙ ap (λ y. Some y) (sym is)
+use Rattle.ex_store.proofs.Elements.{elements_more, get_some, place_within}
 
 -- the source that a walk over places comes to
 pub record IsSource (rows : List Row) (positions : List ℕ) (i : ℕ) (row : Row) : Type 0 where
   pub there : (at : ℕ) × (slice_get rows at ≡ Some row)
   pub more : elements_at rows (drop i positions) ≡ row ∷ elements_at rows (drop (i + 1) positions)
 
-all_at : {X : Type 0} (test : X → Bool) (xs : List X) (i : ℕ) (d : X) → list_all test xs ≡ true → i < length xs
-    → test (get_or xs i d) ≡ true
-all_at test [] i d all within = absurd (omega arith)
-all_at test (x ∷ xs) zero d all within = (and_parts _ _ all).0
-all_at test (x ∷ xs) (suc i) d all within = all_at test xs i d (and_parts _ _ all).1 (omega arith)
-
 pub source_at : (rows : List Row) (positions : List ℕ) (i at : ℕ) (row : Row) → list_all (λ (at : ℕ). nat_lt at (length rows)) positions ≡ true
     → i < length positions → at ≡ get_or positions i 0 → row ≡ get_or rows at row
     → IsSource rows positions i row
 source_at rows positions i at row all within is_at is_row =
-    let below : nat_lt (get_or positions i 0) (length rows) ≡ true = all_at (λ (at : ℕ). nat_lt at (length rows)) positions i 0 all within in
-    let inside : at < length rows = grind (arith, nat_tests) in
-    let found = get_some rows at row inside is_row in
-    let here : slice_get rows (get_or positions i 0) ≡ Some row = subst (λ (n : ℕ). slice_get rows n ≡ Some row) is_at found in
-    let next : i + 1 ≡ suc i = omega arith in
+    let inside = place_within positions (length rows) i at all within is_at in
     record {
-      there = (at, found);
-      more = rw next (elements_more rows positions i row within here);
+      there = (at, get_some rows at row inside is_row);
+      more = elements_more rows positions i at row within is_at inside
+          ∙ ap (λ (first : Row). first ∷ elements_at rows (drop (i + 1) positions)) (sym is_row);
     }
-
-pub form_at : (test : Row → Bool) (rows : List Row) (at : ℕ) (row : Row) → list_all test rows ≡ true → slice_get rows at ≡ Some row
-    → test row ≡ true
-form_at test [] at row all is = absurd (cc)
-form_at test (first ∷ rows) zero row all is =
-    let same : first ≡ row = cc in subst (λ (each : Row). test each ≡ true) same (and_parts _ _ all).0
-form_at test (first ∷ rows) (suc at) row all is = form_at test rows at row (and_parts _ _ all).1 is
 
 -- the element behind a front
 at_length : {X : Type 0} (x : X) (xs front : List X) → slice_get (front ++ x ∷ xs) (length front) ≡ Some x

@@ -7,7 +7,7 @@ use Rattle.cm_fields.specs.declared.value.Gen.{Gen}
 use Rattle.cm_fields.specs.declared.value.Gen.TheVariants.{Missing, Highest, Next, Lowest, All, Number}
 use Rattle.ex_generations.specs.declared.file.File.{File}
 use Rattle.ex_generations.specs.declared.file.TheConstants.{FILE_LIMIT}
-use Rattle.ex_generations.specs.Generations.{has, highest, is_generation, lowest, unmarked}
+use Rattle.ex_generations.specs.Generations.{has, highest, lowest, unmarked}
 use Rattle.ex_store.specs.declared.append.Opening.{Opening}
 use Rattle.ex_store.specs.declared.key.FullName.{FullName}
 use Rattle.ex_store.specs.declared.key.Key.{Key}

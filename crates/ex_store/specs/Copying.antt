@@ -1,5 +1,5 @@
 -- Files are copied, or written anew.
-use Rattle.std.specs.Prelude.{ℕ, min, Bool, true, false, ◌||◌, if◌then◌else◌, List, [], ◌∷◌, length, codes, Option, Some, None, unwrap_or, Result, Ok, Err}
+use Rattle.std.specs.Prelude.{ℕ, min, Bool, true, false, ◌||◌, if◌then◌else◌, List, [], length, codes, Option, Some, None, unwrap_or, Result, Ok, Err}
 use Rattle.std.specs.Str.{bytes_eq}
 use Rattle.cm_fields.specs.declared.code.Code.{Code}
 use Rattle.cm_fields.specs.declared.code.Code.TheVariants.{NameNeeded}
@@ -8,7 +8,7 @@ use Rattle.ex_store.specs.declared.limits.TheConstants.{MOMENT_LIMIT}
 use Rattle.ex_store.specs.declared.place.Place.{Place}
 use Rattle.ex_store.specs.declared.row.Row.{Row}
 use Rattle.ex_store.specs.Adding.{Outcome, admitted, and_then, each_in_turn, new_row, placed}
-use Rattle.ex_store.specs.Rows.{added, full_of}
+use Rattle.ex_store.specs.Rows.{full_of}
 
 -- the moment of a line, as a file may have it
 abbrev pub moment_of : ℕ → ℕ

@@ -1,5 +1,4 @@
 -- What a store tells of its parts, as texts that are lent.
-use Rattle.std.specs.Prelude.{ℕ, List, Option}
 use Rattle.ex_store.specs.declared.key.Full.{Full}
 use Rattle.ex_store.specs.declared.key.FullName.{FullName}
 use Rattle.ex_store.specs.declared.key.NamePair.{NamePair}

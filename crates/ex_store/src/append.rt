@@ -70,9 +70,9 @@ fn poured(rows: &[Row], positions: &[u16], bytes: Vec<u8>) -> Result<Bytes, Refu
     requires all { total rows.now ≤ STORE_LIMIT }
     requires short { length bytes.items ≤ FILE_LIMIT }
     ensures ok { IfOk result (λ out.
-      poured (total rows.now) bytes.items (elements_at rows.now positions.now) ≡ Ok out) }
+        poured (total rows.now) bytes.items (elements_at rows.now positions.now) ≡ Ok out) }
     ensures refused { IfErr result (IsRefused
-      (poured (total rows.now) bytes.items (elements_at rows.now positions.now))) }
+        (poured (total rows.now) bytes.items (elements_at rows.now positions.now))) }
 {
     let mut bytes = bytes;
     let mut all = total(rows);
@@ -190,7 +190,7 @@ fn appends(
     ensures none { IfOk result (λ ready. ready.directory ≡ None) }
     ensures sound { IfOk result (λ ready. AreRows directories.now (all_stepped ready.keep rows.now ready.steps)) }
     ensures refused { IfErr result (IsRefused
-      (appended (keep_of to.now.directory directories.now) moment to.now (elements_at rows.now positions.now)
+        (appended (keep_of to.now.directory directories.now) moment to.now (elements_at rows.now positions.now)
         rows.now)) }
 {
     let opening = match opened(alloc, rows, to.own_key(), to.generation, moment) {

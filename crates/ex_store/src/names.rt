@@ -57,7 +57,7 @@ impl Store {
         requires directory { directory < length self.now.state.directories }
         requires row { i < length (rows_numbered directory self.now.state) }
         ensures { option_map (λ row. row.file) (slice_get (rows_numbered directory self.now.state) i)
-          ≡ Some result.now }
+            ≡ Some result.now }
     {
         &self.row_at(directory, i).file
     }

@@ -38,10 +38,10 @@ impl Model for Ready {
     ghost Value = { Change };
 
     ghost view = { λ it. record {
-        directory = it.directory;
-        keep = it.keep;
-        steps = it.steps.items;
-        pairs = it.pairs.items;
+      directory = it.directory;
+      keep = it.keep;
+      steps = it.steps.items;
+      pairs = it.pairs.items;
     } };
 
     ghost invariant = { λ it. length it.pairs.items ≤ ROW_LIMIT };

@@ -1,4 +1,4 @@
-use Rattle.std.proofs.Common.{◌≡◌, ℕ, ◌+◌, Ok, Err, List, [], length, length-append, ap, refl, drop, get_or, sym, subst, ◌∙◌, arith}
+use Rattle.std.proofs.Common.{◌≡◌, ℕ, ◌+◌, Ok, Err, List, [], length, length-append, ap, refl, drop, sym, subst, ◌∙◌, arith}
 use Rattle.std.proofs.Math.ListN.{drop_of_length-le}
 use Rattle.ex_store.specs.declared.row.Row.{Row}
 use Rattle.ex_store.specs.Adding.{each_in_turn}
@@ -7,7 +7,8 @@ use Rattle.ex_store.specs.State.{keep_of}
 use Rattle.ex_store.specs.Positions.{elements_at}
 use Rattle.ex_store.specs.WellFormed.{is_row_among}
 use Rattle.ex_store.proofs.Copies.{IsCopying, copies_more, copies_refused, outcome_at}
-use Rattle.ex_store.proofs.Sources.{form_at, source_at}
+use Rattle.ex_store.proofs.Elements.{all_at}
+use Rattle.ex_store.proofs.Sources.{source_at}
 use Rattle.ex_store.proofs.copy.copies.Goals as goal
 
 pub returns-in-Err-admitted-clause-refused : goal.returns-in-Err-admitted-clause-refused
@@ -24,7 +25,7 @@ loop-at-preserved c =
     let at = source_at c.args.rows.now c.args.positions.now c.loop-at.at-index c.from.result c.index-rows-from.result c.requires.within c.loop-at-test.true c.from.ensures c.index-rows-from.is in
     let copying = subst (λ (left : List Row). IsCopying c.args.directories.now c.keep_of-keep.result c.args.moment c.args.to.now c.args.rows.now (elements_at c.args.rows.now c.args.positions.now) left c.loop-at.course.steps.items c.loop-at.course.pairs.items c.loop-at.course.played.items c.loop-at.bytes) at.more c.loop-at.invariant.copying in
     let count : length c.copy.new.self.pairs.items ≡ c.loop-at.at-index + 1 = rw c.in-Ok-copy.ensures.pairs (length-append _ _ ∙ ap (λ n. n + 1) c.loop-at.invariant.count) in
-    let form = form_at (is_row_among c.args.directories.now) c.args.rows.now at.there.0 c.index-rows-from.result c.requires.rows.within at.there.1 in
+    let form = all_at (is_row_among c.args.directories.now) c.args.rows.now at.there.0 c.index-rows-from.result c.requires.rows.within at.there.1 in
     record {
       copying = rw (c.in-Ok-copy.ensures.steps, c.in-Ok-copy.ensures.pairs, c.in-Ok-copy.ensures.played, c.key_from-key.ensures, c.moment_of.ensures, c.len-size.ensures)
           (copies_more c.args.directories.now c.keep_of-keep.result c.args.moment c.args.to.now c.args.rows.now (elements_at c.args.rows.now c.args.positions.now) _ c.index-rows-from.result _ _ _ _ c.in-Ok-admitted.generation c.requires.target form copying
