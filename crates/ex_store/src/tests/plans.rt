@@ -1,9 +1,8 @@
 // Plans that are prepared and done.
-ghost use Rattle.std.specs.Prelude.{◌≡◌, true, IfOk};
-ghost use Rattle.std.specs.Option.{option_map_or};
+ghost use Rattle.std.specs.Prelude.{◌≡◌, ◌==◌, ◌&&◌, true, length, nat_lt};
+ghost use Rattle.std.specs.List.{list_all, slice_split};
 ghost use Rattle.cm_files.specs.Catalogue.{is_directory_name, is_upper_name};
-ghost use Rattle.ex_store.specs.Copying.{is_star};
-ghost use Rattle.ex_store.specs.Plan.{IsOneFile, IsTarget, MayPlan, has_plain_kind, has_plain_name, may_be, may_grow, may_number};
+ghost use Rattle.ex_store.specs.Plan.{IsOneFile, IsTarget, MayPlan};
 ghost use Rattle.ex_store.specs.State.{has_directory};
 ghost use Rattle.ex_store.specs.WellFormed.{is_file_name, is_file_type, is_numbered};
 
@@ -37,13 +36,23 @@ pub(super) fn is_file_type(text: &[u8]) -> bool
     text.len() <= NAME_LIMIT && is_upper_name(text)
 }
 
-fn is_directory_name(text: &[u8]) -> bool
-    ensures { result ≡ true → is_directory_name text.now ≡ true }
+fn is_part(text: &[u8]) -> bool
+    ensures { result ≡ nat_lt 0 (length text.now) && is_upper_name text.now }
 {
-    text.len() <= NAME_LIMIT
-        && text
-            .split(|byte| *byte == b'.')
-            .all(|part| !part.is_empty() && is_upper_name(part))
+    text.len() > 0 && is_upper_name(text)
+}
+
+// Whether the parts between points are not empty, and made of the bytes of names.
+fn are_parts(text: &[u8]) -> bool
+    ensures { result ≡ list_all (λ part. nat_lt 0 (length part) && is_upper_name part) (slice_split (λ byte. byte == 46) text.now) }
+{
+    text.split(|byte| *byte == b'.').all(|part| is_part(part))
+}
+
+fn is_directory_name(text: &[u8]) -> bool
+    ensures { result ≡ is_directory_name text.now }
+{
+    text.len() <= NAME_LIMIT && are_parts(text)
 }
 
 pub(super) fn is_numbered(generation: u32) -> bool

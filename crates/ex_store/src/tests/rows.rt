@@ -18,8 +18,11 @@ fn ascend(rows: &[Row]) -> bool
     ensures { result ≡ ascends by_row rows.now }
 {
     match rows {
-        [] | [_] => true,
-        [first, more @ ..] => first.cmp_with(&more[0]).is_lt() && ascend(more),
+        [] => true,
+        [first, more @ ..] => match more {
+            [] => true,
+            [second, ..] => first.cmp_with(second).is_lt() && ascend(more),
+        },
     }
 }
 
@@ -64,6 +67,7 @@ fn are_rows(directories: &[Directory], rows: &[Row]) -> bool
 }
 
 // A store with these files.
+#[tactic(auto, unfolding(cm_text::specs::Bytes::is_name, cm_text::specs::Bytes::is_word))]
 fn store_of(rt: &(impl Abort + AllocGlobal), rows: Vec<Row>) -> Result<Store, Fail> {
     let operator = Directory {
         name: Name::new("OPERATOR"),

@@ -1,4 +1,5 @@
 // A store with logical names and requests for printing.
+ghost use Rattle.std.specs.Prelude.{◌≡◌, codes};
 
 use crate::{Definition, Directory, FullName, Key, QueueEntry, Queued, Store, form_text};
 use cm_fields::Code;
@@ -9,6 +10,7 @@ use std::process::Abort;
 use std::test::Fail;
 
 // Directories OPERATOR and SMITH; the logical names HOME for SMITH and SYS for OPERATOR; and two requests.
+#[tactic(auto, unfolding(cm_text::specs::Bytes::is_name, cm_text::specs::Bytes::is_word, cm_text::specs::Bytes::is_text, cm_text::specs::Case::equals, cm_files::specs::LogicalName::is_logical_name))]
 pub(super) fn sample(alloc: Global) -> Result<Store, NoMemory> {
     let operator = Directory {
         name: Name::new("OPERATOR"),
@@ -28,7 +30,7 @@ pub(super) fn sample(alloc: Global) -> Result<Store, NoMemory> {
     };
     let directories = vec![in alloc; operator, smith]?;
     let logical = vec![in alloc; home, sys]?;
-    let queue = vec![in alloc; request("A", 2, None), request("B", 63, Some(47_481))]?;
+    let queue = vec![in alloc; request(Name::new("A"), 2, None), request(Name::new("B"), 63, Some(47_481))]?;
     Ok(Store {
         alloc,
         directories,
@@ -39,13 +41,25 @@ pub(super) fn sample(alloc: Global) -> Result<Store, NoMemory> {
     })
 }
 
-// A request to print <SMITH>B.TXT.7, say.
-fn request(name: &str, copies: u8, after: Option<i32>) -> QueueEntry {
+// A request to print <SMITH>A.TXT.7, say.
+fn request(name: Name, copies: u8, after: Option<i32>) -> QueueEntry
+    ensures { result ≡ record {
+      file = record {
+        key = record { directory = codes "SMITH"; name = name; kind = codes "TXT" };
+        generation = 7;
+      };
+      copies = copies;
+      form = 2;
+      after = after;
+      job = codes "JOB-1";
+      note = codes "by noon";
+    } }
+{
     QueueEntry {
         file: FullName {
             key: Key {
                 directory: Name::new("SMITH"),
-                name: Name::new(name),
+                name,
                 kind: Name::new("TXT"),
             },
             generation: 7,
