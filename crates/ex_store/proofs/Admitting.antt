@@ -105,7 +105,7 @@ limited_roomy files bytes size generation number is = first (nat_le ROW_LIMIT fi
 
     first : (b : Bool) → nat_le ROW_LIMIT files ≡ b
         → cond b (Err FileLimit) (cond (nat_lt FILE_LIMIT size) (Err FileSize)
-          (cond (nat_lt STORE_LIMIT (bytes + size)) (Err StoreSize) (Ok generation))) ≡ Ok number
+        (cond (nat_lt STORE_LIMIT (bytes + size)) (Err StoreSize) (Ok generation))) ≡ Ok number
         → IsRoomy files bytes size × (generation ≡ number)
     first true few is = absurd (cc)
     first false few is = second (nat_lt FILE_LIMIT size) few refl is

@@ -138,9 +138,9 @@ pub copies_more : (directories : List Directory) (keep moment : ℕ) (to : Place
     → IsCopying directories keep moment to rows whole (source ∷ more) done pairs played bytes
     → and_then (limited (length played) bytes (length source.file.bytes)) (numbered to.generation (files_of (key_from to source.key) played)) ≡ Ok generation
     → (let row = new_row (key_from to source.key) (moment_of moment) source.file.bytes generation in
-      IsCopying directories keep moment to rows whole more (done ++ steps.Add row ∷ [])
-        (pairs ++ (record { source = full_of source; target = full_of row }) ∷ []) (added keep (blank row) played)
-        (bytes + length source.file.bytes))
+    IsCopying directories keep moment to rows whole more (done ++ steps.Add row ∷ [])
+    (pairs ++ (record { source = full_of source; target = full_of row }) ∷ []) (added keep (blank row) played)
+    (bytes + length source.file.bytes))
 copies_more directories keep moment to rows whole more source done pairs played bytes generation target form is admits =
     let so_far = all_stepped keep rows done in
     let key = key_from to source.key in
@@ -162,7 +162,7 @@ copies_more directories keep moment to rows whole more source done pairs played 
     step_on : admitted (key_from to source.key) to.generation (length source.file.bytes) (all_stepped keep rows done) ≡ Ok generation
         → each_in_turn (copied keep moment to) (source ∷ more) (outcome_at keep rows done pairs) ≡ each_in_turn (copied keep moment to) whole (record { rows = rows; pairs = [] })
         → each_in_turn (copied keep moment to) more (record {
-            rows = added keep (new_row (key_from to source.key) (moment_of moment) source.file.bytes generation) (all_stepped keep rows done);
-            pairs = pairs ++ (record { source = full_of source; target = record { key = key_from to source.key; generation = generation } }) ∷ [];
-          }) ≡ each_in_turn (copied keep moment to) whole (record { rows = rows; pairs = [] })
+          rows = added keep (new_row (key_from to source.key) (moment_of moment) source.file.bytes generation) (all_stepped keep rows done);
+          pairs = pairs ++ (record { source = full_of source; target = record { key = key_from to source.key; generation = generation } }) ∷ [];
+        }) ≡ each_in_turn (copied keep moment to) whole (record { rows = rows; pairs = [] })
     step_on asked course = rw asked at course

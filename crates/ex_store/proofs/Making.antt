@@ -106,7 +106,7 @@ kept_order name keep other next =
 kept_ascends : (name : List ℕ) (keep : ℕ) (directories : List Directory) → ascends by_name (map (kept_as name keep) directories) ≡ ascends by_name directories
 kept_ascends name keep directories = ascends_map by_name by_name (kept_as name keep) (kept_order name keep) directories
 
-kept_has : (x name : List ℕ) (keep : ℕ) (directories : List Directory) → has_directory x (map (kept_as name keep) directories) ≡ has_directory x directories
+pub kept_has : (x name : List ℕ) (keep : ℕ) (directories : List Directory) → has_directory x (map (kept_as name keep) directories) ≡ has_directory x directories
 kept_has x name keep [] = refl
 kept_has x name keep (other ∷ more) =
     ap (λ text. bytes_eq text x || has_directory x (map (kept_as name keep) more)) (kept_name name keep other)
@@ -122,7 +122,7 @@ kept_within name keep (other ∷ more) few within =
     by true = and_from _ _ (and_parts _ _ (and_parts _ _ within).0).0 (le-leb keep RETENTION_LIMIT few)
     by false = (and_parts _ _ within).0
 
-inserted_has : (x : List ℕ) (new : Directory) (directories : List Directory) → has_directory x directories ≡ true
+pub inserted_has : (x : List ℕ) (new : Directory) (directories : List Directory) → has_directory x directories ≡ true
     → has_directory x (directory_inserted new directories) ≡ true
 inserted_has x new [] there = absurd (cc)
 inserted_has x new (other ∷ more) there = by (is_lt (by_name other new)) (is_named x other) refl there (inserted_has x new more)

@@ -1,13 +1,11 @@
 -- A file is written: the row that is added, and what the plan comes to.
-use Rattle.std.proofs.Common.{◌≡◌, ◌||◌, ℕ, Bool, true, false, cond, List, [], ◌∷◌, length, unwrap_or, Result, Ok, Err, Option, Some, None, refl, ap, arith, ◌∙◌, sym, subst}
+use Rattle.std.proofs.Common.{◌≡◌, ◌||◌, ℕ, Bool, true, false, cond, List, [], ◌∷◌, length, unwrap_or, Result, Ok, Err, Option, Some, None, refl, ap}
 use Rattle.std.proofs.lemmas.Bool.{le-leb, or_parts}
 use Rattle.cm_fields.specs.declared.code.Code.{Code}
 use Rattle.cm_fields.specs.declared.code.Code.TheVariants.{NameNeeded}
 use Rattle.cm_fields.specs.declared.value.Gen.{Gen}
 use Rattle.ex_generations.specs.declared.file.TheConstants.{FILE_LIMIT}
-use Rattle.ex_store.specs.declared.directory.Directory.{Directory}
 use Rattle.ex_store.specs.declared.key.Key.{Key}
-use Rattle.ex_store.specs.declared.key.NamePair.{NamePair}
 use Rattle.ex_store.specs.declared.place.Place.{Place}
 use Rattle.ex_store.specs.declared.plan.Plan.TheVariants as plans
 use Rattle.ex_store.specs.declared.ready.Step.TheVariants as steps
@@ -19,7 +17,7 @@ use Rattle.ex_store.specs.Ready.{Change, applied, done_on}
 use Rattle.ex_store.specs.Rows.{files_of, full_of, total}
 use Rattle.ex_store.specs.State.{State}
 use Rattle.ex_store.specs.WellFormed.{IsWellFormed, is_file_name, is_file_type, is_row_among}
-use Rattle.ex_store.proofs.Admitting.{IsAdmitted, admitted_is, counted_target, rows_added}
+use Rattle.ex_store.proofs.Admitting.{admitted_is, counted_target, rows_added}
 use Rattle.ex_store.proofs.Copies.{formed_is, moment_within}
 use Rattle.ex_store.proofs.Marking.{well_formed_with_rows}
 

@@ -21,7 +21,8 @@ and_then next (Err code) = Err code
 
 -- the generation behind the highest of these, deleted ones included
 abbrev pub next_of : List File → Result ℕ Code
-next_of files = if nat_lt (unwrap_or (highest files) 0) GENERATION_LIMIT then Ok (next_generation files) else Err GenFull
+next_of files =
+    if nat_lt (unwrap_or (highest files) 0) GENERATION_LIMIT then Ok (next_generation files) else Err GenFull
 
 -- the generation that a new one of these takes: a number that is given, and else the next
 abbrev pub numbered : Gen → List File → Result ℕ Code
@@ -39,10 +40,15 @@ limited files bytes size generation =
     else (if nat_lt FILE_LIMIT size then Err FileSize
     else (if nat_lt STORE_LIMIT (bytes + size) then Err StoreSize else Ok generation))
 
--- the generation under which a file of this size is added to the rows, or the first refusal
+-- the generation under which a file of this size is added to these rows, where all files have so many bytes; or the
+-- first refusal
+abbrev pub admitted_beside : ℕ → Key → Gen → ℕ → List Row → Result ℕ Code
+admitted_beside bytes key generation size rows =
+    and_then (limited (length rows) bytes size) (numbered generation (files_of key rows))
+
+-- the same where these are all files
 abbrev pub admitted : Key → Gen → ℕ → List Row → Result ℕ Code
-admitted key generation size rows =
-    and_then (limited (length rows) (total rows) size) (numbered generation (files_of key rows))
+admitted key generation size rows = admitted_beside (total rows) key generation size rows
 
 -- a new file, unmarked, of this moment
 abbrev pub new_row : Key → ℕ → List ℕ → ℕ → Row

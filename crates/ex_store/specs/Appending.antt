@@ -38,8 +38,8 @@ opening_of moment key (Some number) generation rows =
     Ok (record { target = record { key = key; generation = number }; new = None })
 opening_of moment key None generation rows =
     and_then (λ number.
-      let row = new_row key (moment_of moment) [] number in
-      Ok (record { target = full_of row; new = Some row }))
+    let row = new_row key (moment_of moment) [] number in
+    Ok (record { target = full_of row; new = Some row }))
     (admitted key generation 0 rows)
 
 abbrev pub opened : ℕ → Key → Gen → List Row → Result Opening Code
@@ -76,12 +76,12 @@ pairs_to target sources = map (λ source. record { source = full_of source; targ
 abbrev pub appended : ℕ → ℕ → Place → List Row → List Row → Result Outcome Code
 appended keep moment to sources rows =
     and_then (λ there.
-      and_then (λ bytes.
-        Ok (record {
-          rows = filled there.target (moment_of moment) bytes (with_opened keep rows there.new);
-          pairs = pairs_to there.target sources;
-        }))
-      (poured (total rows) (bytes_at there.target rows) sources))
+    and_then (λ bytes.
+    Ok (record {
+      rows = filled there.target (moment_of moment) bytes (with_opened keep rows there.new);
+      pairs = pairs_to there.target sources;
+    }))
+    (poured (total rows) (bytes_at there.target rows) sources))
     (opened moment (own_key to) to.generation rows)
 
 -- what is to be done for it: the empty row is added, and then the bytes are filled in

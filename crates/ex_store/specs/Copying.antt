@@ -7,7 +7,7 @@ use Rattle.ex_store.specs.declared.key.Key.{Key}
 use Rattle.ex_store.specs.declared.limits.TheConstants.{MOMENT_LIMIT}
 use Rattle.ex_store.specs.declared.place.Place.{Place}
 use Rattle.ex_store.specs.declared.row.Row.{Row}
-use Rattle.ex_store.specs.Adding.{Outcome, admitted, and_then, new_row, placed}
+use Rattle.ex_store.specs.Adding.{Outcome, admitted, and_then, each_in_turn, new_row, placed}
 use Rattle.ex_store.specs.Rows.{added, full_of}
 
 -- the moment of a line, as a file may have it
@@ -37,10 +37,15 @@ abbrev pub copied : ℕ → ℕ → Place → Row → Outcome → Result Outcome
 copied keep moment to source outcome =
     let key = key_from to source.key in
     and_then (λ generation.
-      Ok (placed keep (full_of source) outcome (new_row key (moment_of moment) source.file.bytes generation)))
+    Ok (placed keep (full_of source) outcome (new_row key (moment_of moment) source.file.bytes generation)))
     (admitted key to.generation (length source.file.bytes) outcome.rows)
 
--- a name is given, and none of its parts is `*`
+-- the sources are copied one after the other
+abbrev pub all_copied : ℕ → ℕ → Place → List Row → List Row → Result Outcome Code
+all_copied keep moment to sources rows =
+    each_in_turn (copied keep moment to) sources (record { rows = rows; pairs = [] })
+
+-- no name is given, or `*` stands for a part
 abbrev pub lacks_name : Place → Bool
 lacks_name to = name_is_open to.name || kind_is_open to.kind
   where
@@ -62,6 +67,6 @@ abbrev pub written : ℕ → ℕ → Place → List ℕ → List Row → Result 
 written keep moment to bytes rows =
     if lacks_name to then Err NameNeeded
     else and_then (λ generation.
-      let row = new_row (own_key to) (moment_of moment) bytes generation in
-      Ok (placed keep (full_of row) (record { rows = rows; pairs = [] }) row))
+    let row = new_row (own_key to) (moment_of moment) bytes generation in
+    Ok (placed keep (full_of row) (record { rows = rows; pairs = [] }) row))
     (admitted (own_key to) to.generation (length bytes) rows)

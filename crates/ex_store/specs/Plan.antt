@@ -13,11 +13,11 @@ use Rattle.ex_store.specs.declared.plan.Plan.TheVariants as plans
 use Rattle.ex_store.specs.declared.plan.Refusal.{Refusal}
 use Rattle.ex_store.specs.declared.plan.Refusal.TheVariants as refusals
 use Rattle.ex_store.specs.declared.row.Row.{Row}
-use Rattle.ex_store.specs.Adding.{Outcome, and_then, each_in_turn}
+use Rattle.ex_store.specs.Adding.{Outcome, and_then}
 use Rattle.ex_store.specs.Appending.{appended}
 use Rattle.ex_store.specs.Building.{built, with_directory}
-use Rattle.ex_store.specs.Copying.{copied, is_star, written}
-use Rattle.ex_store.specs.Renaming.{renamed}
+use Rattle.ex_store.specs.Copying.{all_copied, is_star, written}
+use Rattle.ex_store.specs.Renaming.{all_renamed}
 use Rattle.ex_store.specs.Selection.{meant}
 use Rattle.ex_store.specs.State.{State, has_directory, keep_of}
 use Rattle.ex_store.specs.WellFormed.{is_file_name, is_file_type, is_numbered}
@@ -31,13 +31,10 @@ pub record Planned : Type 0 where
 abbrev pub sources : Place → State → List Row
 sources from state = meant from.flags.deleted from state
 
--- nothing is done yet
-abbrev pub at_first : State → Outcome
-at_first state = record { rows = state.rows; pairs = [] }
-
 -- the state with these rows
 abbrev pub with_rows : State → Result Outcome Code → Result Planned Code
-with_rows state = and_then (λ outcome. Ok (record { state = record state { rows = outcome.rows }; pairs = outcome.pairs }))
+with_rows state =
+    and_then (λ outcome. Ok (record { state = record state { rows = outcome.rows }; pairs = outcome.pairs }))
 
 -- how many generations the directory of a target keeps
 abbrev pub keep_at : Place → State → ℕ
@@ -47,12 +44,12 @@ keep_at to state = keep_of to.directory state.directories
 unfoldable pub planned : Plan → ℕ → State → Result Planned Code
 planned (plans.Build directory keep) moment state =
     and_then (λ made.
-      Ok (record { state = record state { directories = with_directory made state.directories }; pairs = [] }))
+    Ok (record { state = record state { directories = with_directory made state.directories }; pairs = [] }))
     (built directory keep state.directories)
 planned (plans.Copy from to) moment state =
-    with_rows state (each_in_turn (copied (keep_at to state) moment to) (sources from state) (at_first state))
+    with_rows state (all_copied (keep_at to state) moment to (sources from state) state.rows)
 planned (plans.Rename from to) moment state =
-    with_rows state (each_in_turn (renamed (keep_at to state) to) (sources from state) (at_first state))
+    with_rows state (all_renamed (keep_at to state) to (sources from state) state.rows)
 planned (plans.Append from to) moment state =
     with_rows state (appended (keep_at to state) moment to (sources from state) state.rows)
 planned (plans.Write to bytes) moment state =

@@ -32,11 +32,14 @@ abbrev pub put_back : ℕ → FullName → List Row → Option Row → List Row
 put_back keep target rows None = rows
 put_back keep target rows (Some row) = added keep (under target row) rows
 
+-- the row of a full name is taken out, where there is one, and put back under another
+abbrev pub moved : ℕ → NamePair → List Row → List Row
+moved keep pair rows = put_back keep pair.target (without pair.source rows) (row_at pair.source rows)
+
 -- the rows after a step
 abbrev pub stepped : ℕ → List Row → Step → List Row
 stepped keep rows (steps.Add row) = added keep row rows
-stepped keep rows (steps.Move pair) =
-    put_back keep pair.target (without pair.source rows) (row_at pair.source rows)
+stepped keep rows (steps.Move pair) = moved keep pair rows
 stepped keep rows (steps.Fill target moment bytes) = filled target moment bytes rows
 
 abbrev pub all_stepped : ℕ → List Row → List Step → List Row
@@ -47,7 +50,8 @@ abbrev pub outcome_of : List Row → Change → Outcome
 outcome_of rows change = record { rows = all_stepped change.keep rows change.steps; pairs = change.pairs }
 
 -- what is to be done with some rows comes to what a plan makes of them, and they stay those of a store
-pub record IsMade (directories : List Directory) (rows : List Row) (plan : Result Outcome Code) (change : Change) : Type 0 where
+pub record IsMade (directories : List Directory) (rows : List Row) (plan : Result Outcome Code) (change : Change)
+    : Type 0 where
   pub none : change.directory ≡ None
   pub outcome : plan ≡ Ok (outcome_of rows change)
   pub sound : AreRows directories (all_stepped change.keep rows change.steps)

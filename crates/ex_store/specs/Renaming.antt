@@ -2,11 +2,12 @@
 use Rattle.std.specs.Prelude.{ℕ, ◌≡◌, true, not, List, [], ◌∷◌, length, Result, Ok}
 use Rattle.std.specs.List.{list_all}
 use Rattle.cm_fields.specs.declared.code.Code.{Code}
+use Rattle.ex_store.specs.declared.key.NamePair.{NamePair}
 use Rattle.ex_store.specs.declared.place.Place.{Place}
 use Rattle.ex_store.specs.declared.row.Row.{Row}
-use Rattle.ex_store.specs.Adding.{Outcome, admitted, and_then, new_row, placed}
+use Rattle.ex_store.specs.Adding.{Outcome, admitted, and_then, each_in_turn, new_row, numbered, placed}
 use Rattle.ex_store.specs.Copying.{key_from}
-use Rattle.ex_store.specs.Rows.{full_of, is_full, without}
+use Rattle.ex_store.specs.Rows.{files_of, full_of, is_full, without}
 
 -- a source is taken out, and added under the target's name with its own moment and bytes
 abbrev pub renamed : ℕ → Place → Row → Outcome → Result Outcome Code
@@ -14,8 +15,21 @@ renamed keep to source outcome =
     let key = key_from to source.key in
     let left : Outcome = record outcome { rows = without (full_of source) outcome.rows } in
     and_then (λ generation.
-      Ok (placed keep (full_of source) left (new_row key source.file.moment source.file.bytes generation)))
+    Ok (placed keep (full_of source) left (new_row key source.file.moment source.file.bytes generation)))
     (admitted key to.generation (length source.file.bytes) left.rows)
+
+-- the sources are given other names, one after the other
+abbrev pub all_renamed : ℕ → Place → List Row → List Row → Result Outcome Code
+all_renamed keep to sources rows =
+    each_in_turn (renamed keep to) sources (record { rows = rows; pairs = [] })
+
+-- the names that a source had among these rows and has then, or the refusal of its generation
+abbrev pub pair_for : Place → Row → List Row → Result NamePair Code
+pair_for to source rows =
+    let key = key_from to source.key in
+    and_then (λ generation.
+    Ok (record { source = full_of source; target = record { key = key; generation = generation } }))
+    (numbered to.generation (files_of key (without (full_of source) rows)))
 
 -- no two of some rows have one full name
 abbrev pub AreDistinct : List Row → Type 0

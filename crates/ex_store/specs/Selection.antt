@@ -32,7 +32,7 @@ unfoldable pub is_meant : Bool → Place → State → Row → Bool
 is_meant deleted place state row =
     is_in place.directory row
     && is_selected (wanted_of deleted place) (map (file_row state.directories) (rows_in place.directory state.rows))
-      (file_row state.directories row)
+    (file_row state.directories row)
 
 -- the rows that a place means, with this mark
 abbrev pub meant : Bool → Place → State → List Row

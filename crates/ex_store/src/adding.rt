@@ -1,7 +1,7 @@
 // Under which generation a file is added, or why it is refused.
 ghost use Rattle.std.specs.Prelude.{◌≡◌, ◌≤◌, length};
 ghost use Rattle.ex_generations.specs.declared.file.TheConstants.{FILE_LIMIT};
-ghost use Rattle.ex_store.specs.Adding.{and_then, limited, next_of, numbered};
+ghost use Rattle.ex_store.specs.Adding.{admitted_beside, limited, next_of, numbered};
 ghost use Rattle.ex_store.specs.Rows.{files_of};
 
 use crate::limits::{ROW_LIMIT, STORE_LIMIT};
@@ -59,7 +59,7 @@ pub(crate) fn admitted(
     size: usize,
 ) -> Result<u32, Code>
     requires { bytes ≤ STORE_LIMIT }
-    ensures { result ≡ and_then (limited (length rows.now) bytes size) (numbered generation (files_of key.now rows.now)) }
+    ensures { result ≡ admitted_beside bytes key.now generation size rows.now }
 {
     match numbered(rows, key, generation) {
         Ok(number) => limited(rows.len(), bytes, size, number),

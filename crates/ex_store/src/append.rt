@@ -69,8 +69,10 @@ fn poured(rows: &[Row], positions: &[u16], bytes: Vec<u8>) -> Result<Bytes, Refu
     requires within { list_all (λ at. nat_lt at (length rows.now)) positions.now ≡ true }
     requires all { total rows.now ≤ STORE_LIMIT }
     requires short { length bytes.items ≤ FILE_LIMIT }
-    ensures ok { IfOk result (λ out. poured (total rows.now) bytes.items (elements_at rows.now positions.now) ≡ Ok out) }
-    ensures refused { IfErr result (IsRefused (poured (total rows.now) bytes.items (elements_at rows.now positions.now))) }
+    ensures ok { IfOk result (λ out.
+      poured (total rows.now) bytes.items (elements_at rows.now positions.now) ≡ Ok out) }
+    ensures refused { IfErr result (IsRefused
+      (poured (total rows.now) bytes.items (elements_at rows.now positions.now))) }
 {
     let mut bytes = bytes;
     let mut all = total(rows);
@@ -89,7 +91,12 @@ fn poured(rows: &[Row], positions: &[u16], bytes: Vec<u8>) -> Result<Bytes, Refu
 }
 
 // Each source goes to the target.
-fn pairs_to(alloc: Global, rows: &[Row], positions: &[u16], target: &FullName) -> Result<Vec<NamePair>, NoMemory>
+fn pairs_to(
+    alloc: Global,
+    rows: &[Row],
+    positions: &[u16],
+    target: &FullName,
+) -> Result<Vec<NamePair>, NoMemory>
     requires { list_all (λ at. nat_lt at (length rows.now)) positions.now ≡ true }
     ensures { IfOk result (λ pairs. pairs.items ≡ pairs_to target.now (elements_at rows.now positions.now)) }
 {
@@ -111,7 +118,13 @@ struct Opening {
 }
 
 // The file is there, or an empty one is added.
-fn opened(alloc: Global, rows: &[Row], key: Key, generation: Gen, moment: u64) -> Result<Opening, Code>
+fn opened(
+    alloc: Global,
+    rows: &[Row],
+    key: Key,
+    generation: Gen,
+    moment: u64,
+) -> Result<Opening, Code>
     requires { total rows.now ≤ STORE_LIMIT }
     ensures { result ≡ opened moment key generation rows.now }
 {
@@ -137,7 +150,12 @@ fn opened(alloc: Global, rows: &[Row], key: Key, generation: Gen, moment: u64) -
 }
 
 // What is to be done: an empty row is added where there is none yet, and then the bytes are filled in.
-fn steps_of(alloc: Global, opening: Opening, moment: u64, bytes: Bytes) -> Result<Vec<Step>, NoMemory>
+fn steps_of(
+    alloc: Global,
+    opening: Opening,
+    moment: u64,
+    bytes: Bytes,
+) -> Result<Vec<Step>, NoMemory>
     ensures { IfOk result (λ steps. steps.items ≡ steps_of opening (moment_of moment) bytes) }
 {
     let Opening { target, new } = opening;
@@ -167,12 +185,13 @@ fn appends(
     requires few { length positions.now ≤ ROW_LIMIT }
     requires target { IsOneFile to.now directories.now }
     ensures ready { IfOk result (λ ready.
-      appended (keep_of to.now.directory directories.now) moment to.now (elements_at rows.now positions.now) rows.now
-      ≡ Ok (outcome_of rows.now ready)) }
+        appended (keep_of to.now.directory directories.now) moment to.now (elements_at rows.now positions.now) rows.now
+        ≡ Ok (outcome_of rows.now ready)) }
     ensures none { IfOk result (λ ready. ready.directory ≡ None) }
     ensures sound { IfOk result (λ ready. AreRows directories.now (all_stepped ready.keep rows.now ready.steps)) }
     ensures refused { IfErr result (IsRefused
-      (appended (keep_of to.now.directory directories.now) moment to.now (elements_at rows.now positions.now) rows.now)) }
+      (appended (keep_of to.now.directory directories.now) moment to.now (elements_at rows.now positions.now)
+        rows.now)) }
 {
     let opening = match opened(alloc, rows, to.own_key(), to.generation, moment) {
         Ok(opening) => opening,
@@ -206,11 +225,18 @@ impl Store {
     pub(crate) fn append(&self, from: &Place, to: &Place, moment: u64) -> Result<Ready, Refusal>
         requires { MayPlan (plans.Append from.now to.now) self.now.state }
         ensures ready { IfOk result (λ ready.
-          planned (plans.Append from.now to.now) moment self.now.state ≡ Ok (done_on self.now.state ready)) }
+            planned (plans.Append from.now to.now) moment self.now.state ≡ Ok (done_on self.now.state ready)) }
         ensures sound { IfOk result (λ ready. IsWellFormed (applied ready self.now.state)) }
         ensures refused { IfErr result (IsRefused (planned (plans.Append from.now to.now) moment self.now.state)) }
     {
         let positions = self.positions(from, from.flags.deleted);
-        appends(self.alloc, &self.directories, &self.rows, &positions, to, moment)
+        appends(
+            self.alloc,
+            &self.directories,
+            &self.rows,
+            &positions,
+            to,
+            moment,
+        )
     }
 }

@@ -1,7 +1,6 @@
 // Plans are done.
 ghost use Rattle.std.specs.Prelude.{◌≡◌, ◌<◌, ◌≤◌, ◌+◌, vec_capacity, vec_len};
-ghost use Rattle.ex_store.specs.Ready.{IsFor, all_stepped, applied, put_back, stepped};
-ghost use Rattle.ex_store.specs.Rows.{row_at, without};
+ghost use Rattle.ex_store.specs.Ready.{IsFor, all_stepped, applied, moved, stepped};
 
 use crate::build::make;
 use crate::change::{add, fill, put_back, take_out};
@@ -9,8 +8,7 @@ use crate::{NamePair, Ready, Row, Step, Store};
 
 // A file goes to another name.
 fn carry(rows: &mut Vec<Row>, pair: &NamePair, keep: u8)
-    ensures items { rows.new.items
-      ≡ put_back keep pair.now.target (without pair.now.source rows.old.items) (row_at pair.now.source rows.old.items) }
+    ensures items { rows.new.items ≡ moved keep pair.now rows.old.items }
     ensures len { vec_len rows.new ≤ vec_len rows.old }
     ensures capacity { vec_capacity rows.new ≡ vec_capacity rows.old }
 {

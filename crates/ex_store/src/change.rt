@@ -91,7 +91,12 @@ fn under(row: Row, target: &FullName) -> Row
     ensures { result ≡ under target.now row }
 {
     let Row { file, .. } = row;
-    Row::new(target.key.copy(), target.generation, file.moment, file.bytes)
+    Row::new(
+        target.key.copy(),
+        target.generation,
+        file.moment,
+        file.bytes,
+    )
 }
 
 // Puts a row that was taken out back under another name.

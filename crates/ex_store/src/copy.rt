@@ -4,8 +4,8 @@ ghost use Rattle.std.specs.List.{list_all};
 ghost use Rattle.ex_store.specs.declared.limits.TheConstants.{ROW_LIMIT};
 ghost use Rattle.ex_store.specs.declared.plan.Plan.TheVariants as plans;
 ghost use Rattle.ex_store.specs.declared.ready.Step.TheVariants as steps;
-ghost use Rattle.ex_store.specs.Adding.{each_in_turn, new_row};
-ghost use Rattle.ex_store.specs.Copying.{copied, moment_of, written};
+ghost use Rattle.ex_store.specs.Adding.{new_row};
+ghost use Rattle.ex_store.specs.Copying.{all_copied, moment_of};
 ghost use Rattle.ex_store.specs.Plan.{IsRefused, IsTarget, MayPlan, planned};
 ghost use Rattle.ex_store.specs.Positions.{elements_at};
 ghost use Rattle.ex_store.specs.Ready.{IsMade, applied, done_on};
@@ -33,16 +33,24 @@ pub(crate) fn moment_of(moment: u64) -> u64
 
 impl Course {
     // A source is copied under a name and a generation.
-    fn copy(&mut self, alloc: Global, source: &Row, key: Key, generation: u32, moment: u64, keep: u8) -> Result<(), NoMemory>
+    fn copy(
+        &mut self,
+        alloc: Global,
+        source: &Row,
+        key: Key,
+        generation: u32,
+        moment: u64,
+        keep: u8,
+    ) -> Result<(), NoMemory>
         ensures steps { OnOk result (self.new.steps.items
-          ≡ self.old.steps.items ++ steps.Add (new_row key moment source.now.file.bytes generation) ∷ []) }
+            ≡ self.old.steps.items ++ steps.Add (new_row key moment source.now.file.bytes generation) ∷ []) }
         ensures pairs { OnOk result (self.new.pairs.items
-          ≡ self.old.pairs.items ++ (record {
-            source = full_of source.now;
-            target = record { key = key; generation = generation };
-          }) ∷ []) }
+            ≡ self.old.pairs.items ++ (record {
+              source = full_of source.now;
+              target = record { key = key; generation = generation };
+            }) ∷ []) }
         ensures played { OnOk result (self.new.played.items
-          ≡ added keep (blank (new_row key moment source.now.file.bytes generation)) self.old.played.items) }
+            ≡ added keep (blank (new_row key moment source.now.file.bytes generation)) self.old.played.items) }
     {
         let row = Row::new(key, generation, moment, source.file.bytes.copy(alloc)?);
         self.played.reserve(1)?;
@@ -70,11 +78,9 @@ fn copies(
     requires few { length positions.now ≤ ROW_LIMIT }
     requires target { IsTarget to.now directories.now }
     ensures made { IfOk result (IsMade directories.now rows.now
-      (each_in_turn (copied (keep_of to.now.directory directories.now) moment to.now) (elements_at rows.now positions.now)
-        (record { rows = rows.now; pairs = [] }))) }
+        (all_copied (keep_of to.now.directory directories.now) moment to.now (elements_at rows.now positions.now) rows.now)) }
     ensures refused { IfErr result (IsRefused
-      (each_in_turn (copied (keep_of to.now.directory directories.now) moment to.now) (elements_at rows.now positions.now)
-        (record { rows = rows.now; pairs = [] }))) }
+        (all_copied (keep_of to.now.directory directories.now) moment to.now (elements_at rows.now positions.now) rows.now)) }
 {
     let keep = keep_of(directories, to.directory.as_bytes());
     let mut course = match Course::new(alloc, rows) {
@@ -109,11 +115,18 @@ impl Store {
     pub(crate) fn copy(&self, from: &Place, to: &Place, moment: u64) -> Result<Ready, Refusal>
         requires { MayPlan (plans.Copy from.now to.now) self.now.state }
         ensures ready { IfOk result (λ ready.
-          planned (plans.Copy from.now to.now) moment self.now.state ≡ Ok (done_on self.now.state ready)) }
+            planned (plans.Copy from.now to.now) moment self.now.state ≡ Ok (done_on self.now.state ready)) }
         ensures sound { IfOk result (λ ready. IsWellFormed (applied ready self.now.state)) }
         ensures refused { IfErr result (IsRefused (planned (plans.Copy from.now to.now) moment self.now.state)) }
     {
         let positions = self.positions(from, from.flags.deleted);
-        copies(self.alloc, &self.directories, &self.rows, &positions, to, moment)
+        copies(
+            self.alloc,
+            &self.directories,
+            &self.rows,
+            &positions,
+            to,
+            moment,
+        )
     }
 }

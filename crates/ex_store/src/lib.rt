@@ -12,6 +12,7 @@ mod copy;
 mod course;
 mod directory;
 mod key;
+pub mod laws;
 mod limits;
 mod marks;
 mod names;
@@ -32,8 +33,8 @@ mod write;
 pub use directory::{Definition, Directory, Logical};
 pub use key::{Full, FullName, Key, NamePair, Pair};
 pub use limits::{
-    COPIES_LIMIT, DIRECTORY_LIMIT, FORMS, LOGICAL_LIMIT, MOMENT_LIMIT, QUEUE_LIMIT, RETENTION_LIMIT,
-    ROW_LIMIT, STORE_LIMIT,
+    COPIES_LIMIT, DIRECTORY_LIMIT, FORMS, LOGICAL_LIMIT, MOMENT_LIMIT, QUEUE_LIMIT,
+    RETENTION_LIMIT, ROW_LIMIT, STORE_LIMIT,
 };
 pub use place::Place;
 pub use plan::{Plan, Refusal};

@@ -56,7 +56,8 @@ impl Store {
     pub fn file(&self, directory: u16, i: u32) -> &File
         requires directory { directory < length self.now.state.directories }
         requires row { i < length (rows_numbered directory self.now.state) }
-        ensures { option_map (λ row. row.file) (slice_get (rows_numbered directory self.now.state) i) ≡ Some result.now }
+        ensures { option_map (λ row. row.file) (slice_get (rows_numbered directory self.now.state) i)
+          ≡ Some result.now }
     {
         &self.row_at(directory, i).file
     }

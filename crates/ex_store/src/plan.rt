@@ -9,30 +9,15 @@ use ex_generations::Bytes;
 pub enum Plan {
     /// A directory is made that keeps so many generations of each name and type, one where nothing is said; or a
     /// directory that is there keeps another number from now on.
-    Build {
-        directory: Name,
-        keep: Option<u8>,
-    },
+    Build { directory: Name, keep: Option<u8> },
     /// Files are copied.
-    Copy {
-        from: Place,
-        to: Place,
-    },
+    Copy { from: Place, to: Place },
     /// Files are given other names.
-    Rename {
-        from: Place,
-        to: Place,
-    },
+    Rename { from: Place, to: Place },
     /// The bytes of files are put behind those of one file.
-    Append {
-        from: Place,
-        to: Place,
-    },
+    Append { from: Place, to: Place },
     /// A file is written.
-    Write {
-        to: Place,
-        bytes: Bytes,
-    },
+    Write { to: Place, bytes: Bytes },
 }
 
 /// Why a plan is not done.

@@ -14,8 +14,8 @@ impl Store {
     // A directory is made, or keeps another number of generations.
     fn build(&self, directory: Name, keep: Option<u8>) -> Result<Ready, Refusal>
         requires { MayPlan (plans.Build directory keep) self.now.state }
-        ensures ready { IfOk result (λ ready.
-            (moment : ℕ) → planned (plans.Build directory keep) moment self.now.state ≡ Ok (done_on self.now.state ready)) }
+        ensures ready { IfOk result (λ ready. (moment : ℕ)
+            → planned (plans.Build directory keep) moment self.now.state ≡ Ok (done_on self.now.state ready)) }
         ensures sound { IfOk result (λ ready. IsWellFormed (applied ready self.now.state)) }
         ensures refused { (moment : ℕ)
             → IfErr result (IsRefused (planned (plans.Build directory keep) moment self.now.state)) }
@@ -41,7 +41,7 @@ impl Store {
         match plan {
             Plan::Build { directory, keep } => self.build(directory, keep),
             Plan::Copy { from, to } => self.copy(&from, &to, moment),
-            Plan::Rename { from, to } => self.rename(&from, &to, moment),
+            Plan::Rename { from, to } => self.rename(&from, &to),
             Plan::Append { from, to } => self.append(&from, &to, moment),
             Plan::Write { to, bytes } => self.write(&to, bytes, moment),
         }

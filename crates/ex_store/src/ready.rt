@@ -37,7 +37,12 @@ impl Model for Ready {
 
     ghost Value = { Change };
 
-    ghost view = { λ it. record { directory = it.directory; keep = it.keep; steps = it.steps.items; pairs = it.pairs.items } };
+    ghost view = { λ it. record {
+        directory = it.directory;
+        keep = it.keep;
+        steps = it.steps.items;
+        pairs = it.pairs.items;
+    } };
 
     ghost invariant = { λ it. length it.pairs.items ≤ ROW_LIMIT };
 }

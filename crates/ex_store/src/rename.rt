@@ -1,16 +1,13 @@
 // Files are given other names.
-ghost use Rattle.std.specs.Prelude.{◌≡◌, ◌≤◌, true, [], ◌∷◌, ◌++◌, length, nat_lt, IfOk, IfErr, OnOk, None, Ok};
+ghost use Rattle.std.specs.Prelude.{ℕ, ◌≡◌, ◌≤◌, true, [], ◌∷◌, ◌++◌, length, nat_lt, IfOk, IfErr, OnOk, None, Ok};
 ghost use Rattle.std.specs.List.{list_all};
 ghost use Rattle.ex_store.specs.declared.limits.TheConstants.{ROW_LIMIT};
 ghost use Rattle.ex_store.specs.declared.plan.Plan.TheVariants as plans;
 ghost use Rattle.ex_store.specs.declared.ready.Step.TheVariants as steps;
-ghost use Rattle.ex_store.specs.Adding.{and_then, each_in_turn, numbered};
-ghost use Rattle.ex_store.specs.Copying.{key_from};
 ghost use Rattle.ex_store.specs.Plan.{IsRefused, IsTarget, MayPlan, planned};
 ghost use Rattle.ex_store.specs.Positions.{elements_at};
-ghost use Rattle.ex_store.specs.Ready.{IsMade, applied, done_on, put_back};
-ghost use Rattle.ex_store.specs.Renaming.{AreDistinct, renamed};
-ghost use Rattle.ex_store.specs.Rows.{files_of, full_of, row_at, without};
+ghost use Rattle.ex_store.specs.Ready.{IsMade, applied, done_on, moved};
+ghost use Rattle.ex_store.specs.Renaming.{AreDistinct, all_renamed, pair_for};
 ghost use Rattle.ex_store.specs.State.{keep_of};
 ghost use Rattle.ex_store.specs.WellFormed.{AreRows, IsWellFormed};
 
@@ -25,12 +22,8 @@ use std::alloc::Global;
 
 // A source is played: taken out, and put back under the target's name. Which names it had and has.
 fn play(played: &mut Vec<Row>, source: &Row, to: &Place, keep: u8) -> Result<NamePair, Code>
-    ensures pair { result ≡ and_then (λ generation. Ok (record {
-        source = full_of source.now;
-        target = record { key = key_from to.now source.now.key; generation = generation };
-      })) (numbered to.now.generation (files_of (key_from to.now source.now.key) (without (full_of source.now) played.old.items))) }
-    ensures played { IfOk result (λ pair. played.new.items
-      ≡ put_back keep pair.target (without (full_of source.now) played.old.items) (row_at (full_of source.now) played.old.items)) }
+    ensures pair { result ≡ pair_for to.now source.now played.old.items }
+    ensures played { IfOk result (λ pair. played.new.items ≡ moved keep pair played.old.items) }
 {
     let full = source.full_name();
     let taken = take_out(played, &full);
@@ -74,11 +67,9 @@ fn renames(
     requires distinct { AreDistinct (elements_at rows.now positions.now) }
     requires target { IsTarget to.now directories.now }
     ensures made { IfOk result (IsMade directories.now rows.now
-      (each_in_turn (renamed (keep_of to.now.directory directories.now) to.now) (elements_at rows.now positions.now)
-        (record { rows = rows.now; pairs = [] }))) }
+        (all_renamed (keep_of to.now.directory directories.now) to.now (elements_at rows.now positions.now) rows.now)) }
     ensures refused { IfErr result (IsRefused
-      (each_in_turn (renamed (keep_of to.now.directory directories.now) to.now) (elements_at rows.now positions.now)
-        (record { rows = rows.now; pairs = [] }))) }
+        (all_renamed (keep_of to.now.directory directories.now) to.now (elements_at rows.now positions.now) rows.now)) }
 {
     let keep = keep_of(directories, to.directory.as_bytes());
     let mut course = match Course::new(alloc, rows) {
@@ -106,12 +97,13 @@ fn renames(
 
 impl Store {
     // Files are given other names.
-    pub(crate) fn rename(&self, from: &Place, to: &Place, moment: u64) -> Result<Ready, Refusal>
+    pub(crate) fn rename(&self, from: &Place, to: &Place) -> Result<Ready, Refusal>
         requires { MayPlan (plans.Rename from.now to.now) self.now.state }
-        ensures ready { IfOk result (λ ready.
-          planned (plans.Rename from.now to.now) moment self.now.state ≡ Ok (done_on self.now.state ready)) }
+        ensures ready { IfOk result (λ ready. (moment : ℕ)
+            → planned (plans.Rename from.now to.now) moment self.now.state ≡ Ok (done_on self.now.state ready)) }
         ensures sound { IfOk result (λ ready. IsWellFormed (applied ready self.now.state)) }
-        ensures refused { IfErr result (IsRefused (planned (plans.Rename from.now to.now) moment self.now.state)) }
+        ensures refused { (moment : ℕ)
+            → IfErr result (IsRefused (planned (plans.Rename from.now to.now) moment self.now.state)) }
     {
         let positions = self.positions(from, from.flags.deleted);
         renames(self.alloc, &self.directories, &self.rows, &positions, to)

@@ -46,7 +46,7 @@ impl Store {
     pub(crate) fn write(&self, to: &Place, bytes: Bytes, moment: u64) -> Result<Ready, Refusal>
         requires { MayPlan (plans.Write to.now bytes) self.now.state }
         ensures ready { IfOk result (λ ready.
-          planned (plans.Write to.now bytes) moment self.now.state ≡ Ok (done_on self.now.state ready)) }
+            planned (plans.Write to.now bytes) moment self.now.state ≡ Ok (done_on self.now.state ready)) }
         ensures sound { IfOk result (λ ready. IsWellFormed (applied ready self.now.state)) }
         ensures refused { IfErr result (IsRefused (planned (plans.Write to.now bytes) moment self.now.state)) }
     {

@@ -7,5 +7,5 @@ abbrev pub invariant-loop-row : goal.invariant-loop-row
 invariant-loop-row l = record {
   above : l.above ≡ live (files_of l.key (drop l.row-index l.rows));
   kept : take l.row-index l.rows ++ kept_newest l.keep l.key (drop l.row-index l.rows)
-    ≡ kept_newest l.keep l.key l.initial.rows;
+      ≡ kept_newest l.keep l.key l.initial.rows;
 }

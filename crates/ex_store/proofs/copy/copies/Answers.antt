@@ -27,8 +27,8 @@ loop-at-preserved c =
     let form = form_at (is_row_among c.args.directories.now) c.args.rows.now at.there.0 c.index-rows-from.result c.requires.rows.within at.there.1 in
     record {
       copying = rw (c.in-Ok-copy.ensures.steps, c.in-Ok-copy.ensures.pairs, c.in-Ok-copy.ensures.played, c.key_from-key.ensures, c.moment_of.ensures, c.len-size.ensures)
-        (copies_more c.args.directories.now c.keep_of-keep.result c.args.moment c.args.to.now c.args.rows.now (elements_at c.args.rows.now c.args.positions.now) _ c.index-rows-from.result _ _ _ _ c.in-Ok-admitted.generation c.requires.target form copying
-        (rw (← c.deref.ensures.value, ← c.key_from-key.ensures, ← c.len-size.ensures) (sym c.admitted.ensures ∙ c.in-Ok-admitted.is)));
+          (copies_more c.args.directories.now c.keep_of-keep.result c.args.moment c.args.to.now c.args.rows.now (elements_at c.args.rows.now c.args.positions.now) _ c.index-rows-from.result _ _ _ _ c.in-Ok-admitted.generation c.requires.target form copying
+          (rw (← c.deref.ensures.value, ← c.key_from-key.ensures, ← c.len-size.ensures) (sym c.admitted.ensures ∙ c.in-Ok-admitted.is)));
       count = count;
     }
 
@@ -40,6 +40,6 @@ returns-clause-made c =
     record {
       none = refl;
       outcome = subst (λ (keep : ℕ). each_in_turn (copied keep c.args.moment c.args.to.now) (elements_at c.args.rows.now c.args.positions.now) (record { rows = c.args.rows.now; pairs = [] }) ≡ Ok (outcome_at c.keep_of-keep.result c.args.rows.now c.loop-at.course.steps.items c.loop-at.course.pairs.items)) keep_is
-        (sym copying.on.course);
+          (sym copying.on.course);
       sound = copying.on.sound;
     }

@@ -1,4 +1,4 @@
-use Rattle.std.proofs.Common.{◌≡◌, ℕ, List, length, ap, sym, subst, ◌∙◌}
+use Rattle.std.proofs.Common.{◌≡◌, ℕ, List, length, Ok, ap, sym, subst, ◌∙◌}
 use Rattle.ex_store.specs.Adding.{admitted}
 use Rattle.ex_store.specs.Copying.{own_key}
 use Rattle.ex_store.specs.Plan.{keep_at}
@@ -22,30 +22,33 @@ returns-in-Err-clause-refused c =
     write_refused c.args.self.now.state c.args.to.now c.args.bytes c.args.moment c.in-Err.code (sym c.lacks_name.ensures ∙ c.if-lacks_name.false)
     (sym asked ∙ c.in-Err.is)
 
-pub returns-in-Ok-one_add-clause-ready : goal.returns-in-Ok-one_add-clause-ready
-returns-in-Ok-one_add-clause-ready c =
+-- the row is admitted
+admits : (c : goal.In-Ok-one_add) → admitted (own_key c.args.to.now) c.args.to.now.generation (length c.args.bytes) c.args.self.now.state.rows ≡ Ok c.in-Ok.generation
+admits c =
     let rows = ap (λ (held : Held). held.state.rows) c.self.view_is in
     let asked : c.admitted.result ≡ admitted (own_key c.args.to.now) c.args.to.now.generation (length c.args.bytes) c.args.self.now.state.rows =
     asked_is (own_key c.args.to.now) c.own_key-key.result c.args.to.now.generation (length c.args.bytes) c.len.result c.total-all.result
     c.args.self.now.state.rows c.deref-2.result.now c.admitted.result c.own_key-key.ensures (c.deref-2.ensures.value ∙ rows)
     (c.total-all.ensures ∙ ap total (c.deref.ensures.value ∙ rows)) c.len.ensures c.admitted.ensures in
+    sym asked ∙ c.in-Ok.is
+
+-- and it is what is added
+adds : (c : goal.In-Ok-one_add) → c.in-Ok-one_add.ready ≡ adds_one c.keep_of-keep.result (written_row c.args.to.now c.args.moment c.args.bytes c.in-Ok.generation)
+adds c =
     let row_is : c.new-row.result ≡ written_row c.args.to.now c.args.moment c.args.bytes c.in-Ok.generation =
     c.new-row.ensures ∙ rw (c.own_key-key.ensures, c.moment_of.ensures) in
+    c.in-Ok-one_add.ensures ∙ ap (adds_one c.keep_of-keep.result) row_is
+
+pub returns-in-Ok-one_add-clause-ready : goal.returns-in-Ok-one_add-clause-ready
+returns-in-Ok-one_add-clause-ready c =
     let keep_is : c.keep_of-keep.result ≡ keep_at c.args.to.now c.args.self.now.state =
     c.keep_of-keep.ensures ∙ ap (λ (name : List ℕ). keep_of name c.deref-3.result.now) c.as_bytes.ensures.value
     ∙ ap (keep_of c.args.to.now.directory) (c.deref-3.ensures.value ∙ ap (λ (held : Held). held.state.directories) c.self.view_is) in
     write_ready c.args.self.now.state c.args.to.now c.args.bytes c.args.moment c.keep_of-keep.result c.in-Ok.generation c.in-Ok-one_add.ready (sym c.lacks_name.ensures ∙ c.if-lacks_name.false)
-    (sym asked ∙ c.in-Ok.is) keep_is (c.in-Ok-one_add.ensures ∙ ap (adds_one c.keep_of-keep.result) row_is)
+    (admits c) keep_is (adds c)
 
 pub returns-in-Ok-one_add-clause-sound : goal.returns-in-Ok-one_add-clause-sound
 returns-in-Ok-one_add-clause-sound c =
-    let rows = ap (λ (held : Held). held.state.rows) c.self.view_is in
-    let asked : c.admitted.result ≡ admitted (own_key c.args.to.now) c.args.to.now.generation (length c.args.bytes) c.args.self.now.state.rows =
-    asked_is (own_key c.args.to.now) c.own_key-key.result c.args.to.now.generation (length c.args.bytes) c.len.result c.total-all.result
-    c.args.self.now.state.rows c.deref-2.result.now c.admitted.result c.own_key-key.ensures (c.deref-2.ensures.value ∙ rows)
-    (c.total-all.ensures ∙ ap total (c.deref.ensures.value ∙ rows)) c.len.ensures c.admitted.ensures in
-    let row_is : c.new-row.result ≡ written_row c.args.to.now c.args.moment c.args.bytes c.in-Ok.generation =
-    c.new-row.ensures ∙ rw (c.own_key-key.ensures, c.moment_of.ensures) in
     let well = subst (λ (held : Held). IsWellFormed held.state) c.self.view_is c.self.invariant in
     write_sound c.args.self.now.state c.args.to.now c.args.bytes c.args.moment c.keep_of-keep.result c.in-Ok.generation c.in-Ok-one_add.ready well c.requires
-    (sym c.lacks_name.ensures ∙ c.if-lacks_name.false) (sym asked ∙ c.in-Ok.is) (c.in-Ok-one_add.ensures ∙ ap (adds_one c.keep_of-keep.result) row_is)
+    (sym c.lacks_name.ensures ∙ c.if-lacks_name.false) (admits c) (adds c)

@@ -1,0 +1,5 @@
+use Rattle.ex_store.proofs.Joining.{files_apart}
+use Rattle.ex_store.proofs.laws.an_add_leaves_other_files.Goals as goal
+
+pub returns : goal.returns
+returns c = files_apart

@@ -1,0 +1,39 @@
+//! Laws of the store.
+ghost use Rattle.std.specs.Prelude.{ℕ, ◌≡◌, ◌&&◌, ◌↔◌, true, false, List, Contains, Ok};
+ghost use Rattle.cm_files.specs.Catalogue.{ascends};
+ghost use Rattle.ex_generations.specs.Generations.{has};
+ghost use Rattle.ex_generations.specs.Retention as generations;
+ghost use Rattle.ex_store.specs.declared.key.Key.{Key};
+ghost use Rattle.ex_store.specs.declared.plan.Plan.{Plan};
+ghost use Rattle.ex_store.specs.declared.row.Row.{Row};
+ghost use Rattle.ex_store.specs.Plan.{Planned, planned};
+ghost use Rattle.ex_store.specs.Rows.{added, by_row, expunged, files_of, is_in, is_of};
+ghost use Rattle.ex_store.specs.State.{State, has_directory};
+
+/// A row that is added is one of the generations of its directory, name and type: those are as if it were added to
+/// their list.
+pub fn an_add_is_one_of_generations()
+    ensures { (keep : ℕ) → (row : Row) → (rows : List Row) → ascends by_row rows ≡ true
+        → has row.file.generation (files_of row.key rows) ≡ false
+        → files_of row.key (added keep row rows) ≡ generations.added keep row.file (files_of row.key rows) }
+{}
+
+/// The files of every other directory, name and type stay as they were.
+pub fn an_add_leaves_other_files()
+    ensures { (keep : ℕ) → (row : Row) → (rows : List Row) → (key : Key) → is_of key row ≡ false
+        → files_of key (added keep row rows) ≡ files_of key rows }
+{}
+
+/// What expunging takes away are the marked files of the directory, and no others.
+pub fn what_is_expunged_was_marked()
+    ensures { (directory : List ℕ) → (row : Row) → (rows : List Row)
+        → Contains (expunged directory rows) row
+        ↔ (Contains rows row × ((is_in directory row && row.file.deleted) ≡ false)) }
+{}
+
+/// No plan takes a directory away.
+pub fn a_plan_keeps_the_directories()
+    ensures { (plan : Plan) → (moment : ℕ) → (state : State) → (made : Planned) → planned plan moment state ≡ Ok made
+        → (name : List ℕ) → has_directory name state.directories ≡ true
+        → has_directory name made.state.directories ≡ true }
+{}
