@@ -1,14 +1,13 @@
 // Bytes that are put behind those of a file.
 
-use super::listing::{contents, names};
+use super::listing::{contents_are, names_are};
 use super::marks::mark;
 use super::places::{EACH, place, place_with};
-use super::plans::{done, stored};
+use super::plans::{appends, does, stored};
 use crate::Plan;
-use std::test::Fail;
 
 #[test]
-fn one_generation_is_put_behind(rt: HostRuntime) -> Result<(), Fail> {
+fn one_generation_is_put_behind(rt: HostRuntime) {
     let before = "A.T.1 A.T.2- A.T.3 A.T.4- B.T.1";
     for (to, told, names_then) in [
         ("A.T", "B.T.1=>A.T.3", before),
@@ -38,21 +37,16 @@ fn one_generation_is_put_behind(rt: HostRuntime) -> Result<(), Fail> {
             "A.T.1 A.T.2- A.T.3 A.T.4- B.T.1 C.T.7",
         ),
     ] {
-        let mut store = stored(&rt, 0, &["A.T", "A.T", "A.T", "A.T", "B.T"])?;
+        let mut store = stored(&rt, 0, &["A.T", "A.T", "A.T", "A.T", "B.T"]);
         mark(&rt, &mut store, "A.T.2");
         mark(&rt, &mut store, "A.T.4");
-        let plan = Plan::Append {
-            from: place(&rt, "B.T"),
-            to: place(&rt, to),
-        };
-        assert_eq!(rt; done(&rt, &mut store, plan, 99)?.as_str(), told, "{to}");
-        assert_eq!(rt; names(rt.alloc(), &store)?.as_str(), names_then, "{to}");
+        appends(&rt, &mut store, place(&rt, "B.T"), to, 99, told);
+        names_are(&rt, &store, names_then);
     }
-    Ok(())
 }
 
 #[test]
-fn the_bytes_are_those_of_the_start(rt: HostRuntime) -> Result<(), Fail> {
+fn the_bytes_are_those_of_the_start(rt: HostRuntime) {
     for (from, to, told, contents_then) in [
         ("B.T", "A.T", "B.T.1=>A.T.1", "A.T.1@99=A.TB.T B.T.1@20=B.T"),
         ("A.T", "A.T", "A.T.1=>A.T.1", "A.T.1@99=A.TA.T B.T.1@20=B.T"),
@@ -69,40 +63,26 @@ fn the_bytes_are_those_of_the_start(rt: HostRuntime) -> Result<(), Fail> {
             "A.T.1@10=A.T B.T.1-@20=B.T B.T.2@99=A.TB.T",
         ),
     ] {
-        let mut store = stored(&rt, 1, &["A.T", "B.T"])?;
-        let plan = Plan::Append {
-            from: place_with(&rt, from, EACH),
-            to: place(&rt, to),
-        };
-        assert_eq!(rt; done(&rt, &mut store, plan, 99)?.as_str(), told, "{from}");
-        assert_eq!(rt;
-            contents(rt.alloc(), &store)?.as_str(),
-            contents_then,
-            "{from}"
-        );
+        let mut store = stored(&rt, 1, &["A.T", "B.T"]);
+        appends(&rt, &mut store, place_with(&rt, from, EACH), to, 99, told);
+        contents_are(&rt, &store, contents_then);
     }
-    Ok(())
 }
 
 #[test]
-fn the_moment_is_at_most_the_last_one(rt: HostRuntime) -> Result<(), Fail> {
+fn the_moment_is_at_most_the_last_one(rt: HostRuntime) {
     for (moment, contents_then) in [
         (0, "A.T.1@0=A.TB.T B.T.1@20=B.T"),
         (4_102_444_799, "A.T.1@4102444799=A.TB.T B.T.1@20=B.T"),
         (4_102_444_800, "A.T.1@4102444799=A.TB.T B.T.1@20=B.T"),
         (u64::MAX, "A.T.1@4102444799=A.TB.T B.T.1@20=B.T"),
     ] {
-        let mut store = stored(&rt, 1, &["A.T", "B.T"])?;
+        let mut store = stored(&rt, 1, &["A.T", "B.T"]);
         let plan = Plan::Append {
             from: place(&rt, "B.T"),
             to: place(&rt, "A.T"),
         };
-        done(&rt, &mut store, plan, moment)?;
-        assert_eq!(rt;
-            contents(rt.alloc(), &store)?.as_str(),
-            contents_then,
-            "at {moment}"
-        );
+        does(&rt, &mut store, plan, moment);
+        contents_are(&rt, &store, contents_then);
     }
-    Ok(())
 }

@@ -1,13 +1,11 @@
 // Files that are copied.
 
-use super::listing::{contents, names, names_in};
+use super::listing::{contents_are, names_are, names_in_are};
 use super::places::{DELETED, EACH, place, place_with};
-use super::plans::{build, done, stored};
-use crate::Plan;
-use std::test::Fail;
+use super::plans::{builds, copies, stored};
 
 #[test]
-fn a_copy_to_its_own_name_is_the_next(rt: HostRuntime) -> Result<(), Fail> {
+fn a_copy_to_its_own_name_is_the_next(rt: HostRuntime) {
     for (keep, to, contents_then) in [
         (0, "A.TXT", "A.TXT.1@10=A.TXT A.TXT.2@99=A.TXT"),
         (1, "A.TXT", "A.TXT.1-@10=A.TXT A.TXT.2@99=A.TXT"),
@@ -15,27 +13,20 @@ fn a_copy_to_its_own_name_is_the_next(rt: HostRuntime) -> Result<(), Fail> {
         (1, "<OPERATOR>", "A.TXT.1-@10=A.TXT A.TXT.2@99=A.TXT"),
         (2, "A.TXT.-1", "A.TXT.1@10=A.TXT A.TXT.2@99=A.TXT"),
     ] {
-        let mut store = stored(&rt, keep, &["A.TXT"])?;
-        let plan = Plan::Copy {
-            from: place(&rt, "A.TXT.1"),
-            to: place(&rt, to),
-        };
-        assert_eq!(rt;
-            done(&rt, &mut store, plan, 99)?.as_str(),
+        let mut store = stored(&rt, keep, &["A.TXT"]);
+        copies(
+            &rt,
+            &mut store,
+            place(&rt, "A.TXT.1"),
+            to,
             "A.TXT.1=>A.TXT.2",
-            "{to}"
         );
-        assert_eq!(rt;
-            contents(rt.alloc(), &store)?.as_str(),
-            contents_then,
-            "{to}"
-        );
+        contents_are(&rt, &store, contents_then);
     }
-    Ok(())
 }
 
 #[test]
-fn several_are_copied_in_their_order(rt: HostRuntime) -> Result<(), Fail> {
+fn several_are_copied_in_their_order(rt: HostRuntime) {
     for (from, to, told, names_then) in [
         (
             "*.FOR",
@@ -68,38 +59,30 @@ fn several_are_copied_in_their_order(rt: HostRuntime) -> Result<(), Fail> {
             "A.FOR.1 A.FOR.2 B.FOR.1 B.FOR.9 B.TXT.1 B.TXT.9",
         ),
     ] {
-        let mut store = stored(&rt, 0, &["A.FOR", "A.FOR", "B.FOR", "B.TXT"])?;
-        let plan = Plan::Copy {
-            from: place(&rt, from),
-            to: place(&rt, to),
-        };
-        assert_eq!(rt; done(&rt, &mut store, plan, 99)?.as_str(), told, "{from}");
-        assert_eq!(rt; names(rt.alloc(), &store)?.as_str(), names_then, "{from}");
+        let mut store = stored(&rt, 0, &["A.FOR", "A.FOR", "B.FOR", "B.TXT"]);
+        copies(&rt, &mut store, place(&rt, from), to, told);
+        names_are(&rt, &store, names_then);
     }
-    Ok(())
 }
 
 #[test]
-fn a_copy_of_a_marked_file_is_unmarked(rt: HostRuntime) -> Result<(), Fail> {
-    let mut store = stored(&rt, 1, &["A.T", "A.T"])?;
-    build(&rt, &mut store, "SMITH", None)?;
-    let plan = Plan::Copy {
-        from: place_with(&rt, "*.*.*", DELETED),
-        to: place(&rt, "<SMITH>B"),
-    };
-    assert_eq!(rt;
-        done(&rt, &mut store, plan, 99)?.as_str(),
-        "A.T.1=><SMITH>B.T.1"
+fn a_copy_of_a_marked_file_is_unmarked(rt: HostRuntime) {
+    let mut store = stored(&rt, 1, &["A.T", "A.T"]);
+    builds(&rt, &mut store, "SMITH", None, "");
+    copies(
+        &rt,
+        &mut store,
+        place_with(&rt, "*.*.*", DELETED),
+        "<SMITH>B",
+        "A.T.1=><SMITH>B.T.1",
     );
-    let plan = Plan::Copy {
-        from: place_with(&rt, "<SMITH>B.T", EACH),
-        to: place(&rt, "*.U"),
-    };
-    assert_eq!(rt;
-        done(&rt, &mut store, plan, 99)?.as_str(),
-        "<SMITH>B.T.1=>B.U.1"
+    copies(
+        &rt,
+        &mut store,
+        place_with(&rt, "<SMITH>B.T", EACH),
+        "*.U",
+        "<SMITH>B.T.1=>B.U.1",
     );
-    assert_eq!(rt; names(rt.alloc(), &store)?.as_str(), "A.T.1- A.T.2 B.U.1");
-    assert_eq!(rt; names_in(rt.alloc(), &store, "SMITH")?.as_str(), "B.T.1");
-    Ok(())
+    names_are(&rt, &store, "A.T.1- A.T.2 B.U.1");
+    names_in_are(&rt, &store, "SMITH", "B.T.1");
 }

@@ -1,10 +1,9 @@
 // Directories that are made, connected and changed.
 
-use super::plans::{build, has, stored};
+use super::plans::{builds, has, stored};
 use crate::Store;
 use cm_files::Names;
 use std::process::Abort;
-use std::test::Fail;
 
 // How many generations the directory with a number keeps.
 fn retention(rt: &impl Abort, store: &Store, directory: u16) -> u8 {
@@ -16,8 +15,8 @@ fn retention(rt: &impl Abort, store: &Store, directory: u16) -> u8 {
 }
 
 #[test]
-fn a_directory_keeps_so_many(rt: HostRuntime) -> Result<(), Fail> {
-    let mut store = Store::new(rt.alloc())?;
+fn a_directory_keeps_so_many(rt: HostRuntime) {
+    let mut store = Store::new(rt.alloc()).expect(&rt, "memory");
     for (directory, keep, kept) in [
         ("ZULU", None, [1, 1, 1]),
         ("ALPHA", Some(3), [3, 1, 1]),
@@ -26,7 +25,7 @@ fn a_directory_keeps_so_many(rt: HostRuntime) -> Result<(), Fail> {
         ("OPERATOR", Some(0), [3, 0, 63]),
         ("ZULU", None, [3, 0, 63]),
     ] {
-        assert_eq!(rt; build(&rt, &mut store, directory, keep)?.as_str(), "");
+        builds(&rt, &mut store, directory, keep, "");
         if store.directories() == 3 {
             for i in 0..3 {
                 assert_eq!(rt;
@@ -38,7 +37,6 @@ fn a_directory_keeps_so_many(rt: HostRuntime) -> Result<(), Fail> {
         }
     }
     assert_eq!(rt; store.directories(), 3);
-    Ok(())
 }
 
 // Connects to a directory.
@@ -48,14 +46,13 @@ fn connect(rt: &impl Abort, store: &mut Store, directory: &str) {
 }
 
 #[test]
-fn one_directory_is_connected(rt: HostRuntime) -> Result<(), Fail> {
-    let mut store = stored(&rt, 1, &["A.T"])?;
-    build(&rt, &mut store, "A.B", None)?;
-    build(&rt, &mut store, "SMITH", None)?;
+fn one_directory_is_connected(rt: HostRuntime) {
+    let mut store = stored(&rt, 1, &["A.T"]);
+    builds(&rt, &mut store, "A.B", None, "");
+    builds(&rt, &mut store, "SMITH", None, "");
     assert_eq!(rt; store.connected(), 1);
     for (directory, number) in [("SMITH", 2), ("A.B", 0), ("OPERATOR", 1)] {
         connect(&rt, &mut store, directory);
         assert_eq!(rt; store.connected(), number, "{directory}");
     }
-    Ok(())
 }

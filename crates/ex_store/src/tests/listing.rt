@@ -2,6 +2,7 @@
 
 use crate::{Full, Ready, Row, Store};
 use std::alloc::{AllocError, Global};
+use std::process::Abort;
 
 // A file's full name, with a minus where it is marked as deleted.
 fn put_row(list: &mut String, row: &Row) -> Result<(), AllocError> {
@@ -13,11 +14,7 @@ fn put_row(list: &mut String, row: &Row) -> Result<(), AllocError> {
 }
 
 // The files of a directory, with a space between.
-pub(super) fn names_in(
-    alloc: Global,
-    store: &Store,
-    directory: &str,
-) -> Result<String, AllocError> {
+fn names_in(alloc: Global, store: &Store, directory: &str) -> Result<String, AllocError> {
     let mut list = String::new(alloc);
     for row in &store.rows {
         if row.key.directory.as_str() == directory {
@@ -30,9 +27,20 @@ pub(super) fn names_in(
     Ok(list)
 }
 
-// The files of OPERATOR.
-pub(super) fn names(alloc: Global, store: &Store) -> Result<String, AllocError> {
-    names_in(alloc, store, "OPERATOR")
+// These are the files of OPERATOR.
+pub(super) fn names_are(rt: &(impl Abort + AllocGlobal), store: &Store, wanted: &str) {
+    names_in_are(rt, store, "OPERATOR", wanted);
+}
+
+// These are the files of a directory.
+pub(super) fn names_in_are(
+    rt: &(impl Abort + AllocGlobal),
+    store: &Store,
+    directory: &str,
+    wanted: &str,
+) {
+    let found = names_in(rt.alloc(), store, directory).expect(rt, "memory");
+    assert_eq!(rt; found.as_str(), wanted);
 }
 
 // A file with its moment and its bytes.
@@ -47,7 +55,7 @@ fn put_whole(list: &mut String, row: &Row) -> Result<(), AllocError> {
 }
 
 // All files with their moments and bytes, with a space between.
-pub(super) fn contents(alloc: Global, store: &Store) -> Result<String, AllocError> {
+fn contents(alloc: Global, store: &Store) -> Result<String, AllocError> {
     let mut list = String::new(alloc);
     for row in &store.rows {
         if !list.is_empty() {
@@ -59,7 +67,7 @@ pub(super) fn contents(alloc: Global, store: &Store) -> Result<String, AllocErro
 }
 
 // How many bytes each file has, with a space between.
-pub(super) fn sizes(alloc: Global, store: &Store) -> Result<String, AllocError> {
+fn sizes(alloc: Global, store: &Store) -> Result<String, AllocError> {
     let mut list = String::new(alloc);
     for row in &store.rows {
         if !list.is_empty() {
@@ -69,6 +77,18 @@ pub(super) fn sizes(alloc: Global, store: &Store) -> Result<String, AllocError> 
         write!(list, "{size}")?;
     }
     Ok(list)
+}
+
+// These are the files with their moments and bytes.
+pub(super) fn contents_are(rt: &(impl Abort + AllocGlobal), store: &Store, wanted: &str) {
+    let found = contents(rt.alloc(), store).expect(rt, "memory");
+    assert_eq!(rt; found.as_str(), wanted);
+}
+
+// The files have so many bytes.
+pub(super) fn sizes_are(rt: &(impl Abort + AllocGlobal), store: &Store, wanted: &str) {
+    let found = sizes(rt.alloc(), store).expect(rt, "memory");
+    assert_eq!(rt; found.as_str(), wanted);
 }
 
 fn put_full(list: &mut String, full: Full<'_>) -> Result<(), AllocError> {

@@ -1,12 +1,11 @@
 // Files that are deleted, undeleted and expunged.
 
-use super::listing::names;
-use super::places::{DELETED, EACH, place, place_with, zeros};
-use super::plans::{build, has, stored, write};
+use super::listing::names_are;
+use super::places::{DELETED, EACH, place, place_with};
+use super::plans::{adds, builds, has, stored};
 use crate::{Place, Store};
 use cm_files::Flags;
 use std::process::Abort;
-use std::test::Fail;
 
 fn mark_all(rt: &impl Abort, store: &mut Store, files: &Place) -> u32 {
     assert!(rt;
@@ -43,7 +42,7 @@ pub(super) fn mark(rt: &impl Abort, store: &mut Store, text: &str) -> u32 {
 }
 
 #[test]
-fn what_a_place_means_is_marked(rt: HostRuntime) -> Result<(), Fail> {
+fn what_a_place_means_is_marked(rt: HostRuntime) {
     for (text, flags, count, names_then) in [
         ("A.T", Flags::default(), 1, "A.T.1 A.T.2- B.T.1"),
         ("A.T", EACH, 2, "A.T.1- A.T.2- B.T.1"),
@@ -54,62 +53,54 @@ fn what_a_place_means_is_marked(rt: HostRuntime) -> Result<(), Fail> {
         ("C.T", EACH, 0, "A.T.1 A.T.2 B.T.1"),
         ("<OPERATOR>", EACH, 0, "A.T.1 A.T.2 B.T.1"),
     ] {
-        let mut store = stored(&rt, 0, &["A.T", "A.T", "B.T"])?;
+        let mut store = stored(&rt, 0, &["A.T", "A.T", "B.T"]);
         let files = place_with(&rt, text, flags);
         assert_eq!(rt; mark_all(&rt, &mut store, &files), count, "{text}");
-        assert_eq!(rt; names(rt.alloc(), &store)?.as_str(), names_then, "{text}");
+        names_are(&rt, &store, names_then);
     }
-    Ok(())
 }
 
 #[test]
-fn a_mark_is_cleared(rt: HostRuntime) -> Result<(), Fail> {
+fn a_mark_is_cleared(rt: HostRuntime) {
     for (text, count, names_then) in [
         ("A.T", 1, "A.T.1- A.T.2 A.T.3 B.T.1-"),
         ("A.T.*", 2, "A.T.1 A.T.2 A.T.3 B.T.1-"),
         ("A.T.3", 0, "A.T.1- A.T.2- A.T.3 B.T.1-"),
         ("*.*.-2", 2, "A.T.1 A.T.2- A.T.3 B.T.1"),
     ] {
-        let mut store = stored(&rt, 1, &["A.T", "A.T", "A.T", "B.T"])?;
+        let mut store = stored(&rt, 1, &["A.T", "A.T", "A.T", "B.T"]);
         mark(&rt, &mut store, "B.T");
         let files = place_with(&rt, text, DELETED);
         assert_eq!(rt; unmark_all(&rt, &mut store, &files), count, "{text}");
-        assert_eq!(rt; names(rt.alloc(), &store)?.as_str(), names_then, "{text}");
+        names_are(&rt, &store, names_then);
     }
-    Ok(())
 }
 
 #[test]
-fn pages_are_rounded_up(rt: HostRuntime) -> Result<(), Fail> {
+fn pages_are_rounded_up(rt: HostRuntime) {
     for (size, pages) in [(0, 0), (1, 1), (2_560, 1), (2_561, 2), (65_536, 26)] {
-        let mut store = stored(&rt, 0, &["A.T", "B.T"])?;
-        let bytes = zeros(rt.alloc(), size)?;
-        write(&rt, &mut store, "C.T", bytes, 5)?;
+        let mut store = stored(&rt, 0, &["A.T", "B.T"]);
+        adds(&rt, &mut store, "C.T", size);
         mark(&rt, &mut store, "C.T");
         assert_eq!(rt; expunge(&rt, &mut store, "OPERATOR"), pages, "{size} bytes");
-        assert_eq!(rt; names(rt.alloc(), &store)?.as_str(), "A.T.1 B.T.1");
+        names_are(&rt, &store, "A.T.1 B.T.1");
     }
-    Ok(())
 }
 
 #[test]
-fn one_directory_is_expunged(rt: HostRuntime) -> Result<(), Fail> {
-    let mut store = stored(&rt, 1, &["A.T", "A.T", "A.T", "B.T", "B.T"])?;
-    build(&rt, &mut store, "SMITH", None)?;
+fn one_directory_is_expunged(rt: HostRuntime) {
+    let mut store = stored(&rt, 1, &["A.T", "A.T", "A.T", "B.T", "B.T"]);
+    builds(&rt, &mut store, "SMITH", None, "");
     assert_eq!(rt; expunge(&rt, &mut store, "SMITH"), 0);
-    assert_eq!(rt;
-        names(rt.alloc(), &store)?.as_str(),
-        "A.T.1- A.T.2- A.T.3 B.T.1- B.T.2"
-    );
+    names_are(&rt, &store, "A.T.1- A.T.2- A.T.3 B.T.1- B.T.2");
     assert_eq!(rt; expunge(&rt, &mut store, "OPERATOR"), 3);
-    assert_eq!(rt; names(rt.alloc(), &store)?.as_str(), "A.T.3 B.T.2");
+    names_are(&rt, &store, "A.T.3 B.T.2");
     assert_eq!(rt; expunge(&rt, &mut store, "OPERATOR"), 0);
-    Ok(())
 }
 
 #[test]
-fn the_next_that_a_place_means(rt: HostRuntime) -> Result<(), Fail> {
-    let store = stored(&rt, 1, &["A.T", "A.T", "B.T", "C.T", "C.T"])?;
+fn the_next_that_a_place_means(rt: HostRuntime) {
+    let store = stored(&rt, 1, &["A.T", "A.T", "B.T", "C.T", "C.T"]);
     for (text, deleted, from, next) in [
         ("*.*", false, 0, Some(1)),
         ("*.*", false, 2, Some(2)),
@@ -128,5 +119,4 @@ fn the_next_that_a_place_means(rt: HostRuntime) -> Result<(), Fail> {
             "{text} from {from}"
         );
     }
-    Ok(())
 }

@@ -1,12 +1,10 @@
 // The store as the catalogue that file specifications are looked up in.
 
-use super::places::bytes;
-use super::plans::{build, stored, write};
+use super::plans::{builds, put, stored};
 use super::sample::sample;
 use crate::Store;
 use cm_files::Names;
 use std::process::Abort;
-use std::test::Fail;
 
 // A catalogue has these directories, with so many files each, and this one is connected.
 fn tells<N: Names>(rt: &impl Abort, names: &N, directories: &[(&str, u32)], connected: u16) {
@@ -40,11 +38,11 @@ fn tells_file<N: Names>(
 }
 
 #[test]
-fn a_store_tells_its_files(rt: HostRuntime) -> Result<(), Fail> {
-    let mut store = stored(&rt, 1, &["B.T.7", "A.T", "A.T"])?;
-    build(&rt, &mut store, "ALPHA", None)?;
-    build(&rt, &mut store, "SMITH", None)?;
-    write(&rt, &mut store, "<SMITH>X", bytes(rt.alloc(), "XYZ")?, 5)?;
+fn a_store_tells_its_files(rt: HostRuntime) {
+    let mut store = stored(&rt, 1, &["B.T.7", "A.T", "A.T"]);
+    builds(&rt, &mut store, "ALPHA", None, "");
+    builds(&rt, &mut store, "SMITH", None, "");
+    put(&rt, &mut store, "<SMITH>X", "XYZ", 5);
     tells(
         &rt,
         &store,
@@ -59,7 +57,6 @@ fn a_store_tells_its_files(rt: HostRuntime) -> Result<(), Fail> {
     ] {
         tells_file(&rt, &store, directory, i, wanted);
     }
-    Ok(())
 }
 
 // The moment and the bytes of a file.
@@ -75,14 +72,13 @@ fn holds(rt: &impl Abort, store: &Store, directory: u16, i: u32, moment: u64, te
 }
 
 #[test]
-fn a_store_tells_what_a_file_holds(rt: HostRuntime) -> Result<(), Fail> {
-    let mut store = stored(&rt, 1, &["B.T", "A.T"])?;
-    build(&rt, &mut store, "SMITH", None)?;
-    write(&rt, &mut store, "<SMITH>X", bytes(rt.alloc(), "XYZ")?, 5)?;
+fn a_store_tells_what_a_file_holds(rt: HostRuntime) {
+    let mut store = stored(&rt, 1, &["B.T", "A.T"]);
+    builds(&rt, &mut store, "SMITH", None, "");
+    put(&rt, &mut store, "<SMITH>X", "XYZ", 5);
     for (directory, i, moment, text) in [(0, 0, 20, "A.T"), (0, 1, 10, "B.T"), (1, 0, 5, "XYZ")] {
         holds(&rt, &store, directory, i, moment, text);
     }
-    Ok(())
 }
 
 fn tells_logical<N: Names>(rt: &impl Abort, names: &N, name: &str, directory: Option<u16>) {
@@ -90,8 +86,8 @@ fn tells_logical<N: Names>(rt: &impl Abort, names: &N, name: &str, directory: Op
 }
 
 #[test]
-fn a_store_tells_its_logical_names(rt: HostRuntime) -> Result<(), Fail> {
-    let store = sample(rt.alloc())?;
+fn a_store_tells_its_logical_names(rt: HostRuntime) {
+    let store = sample(rt.alloc()).expect(&rt, "memory");
     for (name, directory) in [
         ("HOME", Some(1)),
         ("home", Some(1)),
@@ -103,5 +99,4 @@ fn a_store_tells_its_logical_names(rt: HostRuntime) -> Result<(), Fail> {
         tells_logical(&rt, &store, name, directory);
     }
     tells(&rt, &store, &[("OPERATOR", 0), ("SMITH", 0)], 0);
-    Ok(())
 }

@@ -1,22 +1,20 @@
 // Plans that are prepared and done.
-ghost use Rattle.std.specs.Prelude.{◌≡◌, true, IfOk};
-ghost use Rattle.std.specs.Option.{option_map_or};
+ghost use Rattle.std.specs.Prelude.{◌≡◌, ◌==◌, ◌&&◌, true, length, nat_lt};
+ghost use Rattle.std.specs.List.{list_all, slice_split};
 ghost use Rattle.cm_files.specs.Catalogue.{is_directory_name, is_upper_name};
-ghost use Rattle.ex_store.specs.Copying.{is_star};
-ghost use Rattle.ex_store.specs.Plan.{IsOneFile, IsTarget, MayPlan, has_plain_kind, has_plain_name, may_be, may_grow, may_number};
+ghost use Rattle.ex_store.specs.Plan.{IsOneFile, IsTarget, MayPlan};
 ghost use Rattle.ex_store.specs.State.{has_directory};
 ghost use Rattle.ex_store.specs.WellFormed.{is_file_name, is_file_type, is_numbered};
 
 use super::listing::pairs;
-use super::places::{bytes, name, place};
+use super::places::{bytes, name, place, zeros};
 use crate::directory::has_directory;
 use crate::{Directory, Place, Plan, RETENTION_LIMIT, Refusal, Store};
 use cm_fields::Gen;
-use cm_files::Flags;
 use cm_text::{NAME_LIMIT, is_name};
-use ex_generations::{Bytes, GENERATION_LIMIT};
+use ex_generations::GENERATION_LIMIT;
+use std::alloc::AllocError;
 use std::process::Abort;
-use std::test::Fail;
 
 fn is_upper_name(text: &[u8]) -> bool
     ensures { result ≡ is_upper_name text.now }
@@ -37,13 +35,23 @@ pub(super) fn is_file_type(text: &[u8]) -> bool
     text.len() <= NAME_LIMIT && is_upper_name(text)
 }
 
-fn is_directory_name(text: &[u8]) -> bool
-    ensures { result ≡ true → is_directory_name text.now ≡ true }
+fn is_part(text: &[u8]) -> bool
+    ensures { result ≡ nat_lt 0 (length text.now) && is_upper_name text.now }
 {
-    text.len() <= NAME_LIMIT
-        && text
-            .split(|byte| *byte == b'.')
-            .all(|part| !part.is_empty() && is_upper_name(part))
+    text.len() > 0 && is_upper_name(text)
+}
+
+// Whether the parts between points are not empty, and made of the bytes of names.
+fn are_parts(text: &[u8]) -> bool
+    ensures { result ≡ list_all (λ part. nat_lt 0 (length part) && is_upper_name part) (slice_split (λ byte. byte == 46) text.now) }
+{
+    text.split(|byte| *byte == b'.').all(|part| is_part(part))
+}
+
+fn is_directory_name(text: &[u8]) -> bool
+    ensures { result ≡ is_directory_name text.now }
+{
+    text.len() <= NAME_LIMIT && are_parts(text)
 }
 
 pub(super) fn is_numbered(generation: u32) -> bool
@@ -118,12 +126,12 @@ fn may_plan(store: &Store, plan: &Plan) -> bool
 }
 
 // Does a plan, and tells its pairs; or tells the code with which it is refused.
-pub(super) fn done(
+fn told(
     rt: &(impl Abort + AllocGlobal),
     store: &mut Store,
     plan: Plan,
     moment: u64,
-) -> Result<String, Fail> {
+) -> Result<String, AllocError> {
     assert!(rt; may_plan(store, &plan), "the plan cannot be prepared");
     match store.prepare(plan, moment) {
         Ok(ready) => {
@@ -131,7 +139,7 @@ pub(super) fn done(
             store.apply(ready);
             Ok(told)
         }
-        Err(Refusal::Code(code)) => Ok(format!(in rt.alloc(); "{code:?}")?),
+        Err(Refusal::Code(code)) => format!(in rt.alloc(); "{code:?}"),
         Err(Refusal::NoMemory) => {
             assert!(rt; false, "there is no memory");
             Ok(String::new(rt.alloc()))
@@ -139,43 +147,114 @@ pub(super) fn done(
     }
 }
 
+// Does a plan, which tells these pairs, or is refused with this code.
+fn tells(
+    rt: &(impl Abort + AllocGlobal),
+    store: &mut Store,
+    plan: Plan,
+    moment: u64,
+    wanted: &str,
+) {
+    let found = told(rt, store, plan, moment).expect(rt, "memory");
+    assert_eq!(rt; found.as_str(), wanted);
+}
+
+// Does a plan, whatever it tells.
+pub(super) fn does(rt: &(impl Abort + AllocGlobal), store: &mut Store, plan: Plan, moment: u64) {
+    told(rt, store, plan, moment).expect(rt, "memory");
+}
+
 // Makes a directory, or has it keep as many generations.
-pub(super) fn build(
+pub(super) fn builds(
     rt: &(impl Abort + AllocGlobal),
     store: &mut Store,
     directory: &str,
     keep: Option<u8>,
-) -> Result<String, Fail> {
+    wanted: &str,
+) {
     let directory = name(rt, directory);
-    done(rt, store, Plan::Build { directory, keep }, 0)
+    tells(rt, store, Plan::Build { directory, keep }, 0, wanted);
 }
 
-// Writes a file.
-pub(super) fn write(
+// Copies files at the moment 99.
+pub(super) fn copies(
+    rt: &(impl Abort + AllocGlobal),
+    store: &mut Store,
+    from: Place,
+    to: &str,
+    wanted: &str,
+) {
+    let to = place(rt, to);
+    tells(rt, store, Plan::Copy { from, to }, 99, wanted);
+}
+
+// Gives files other names.
+pub(super) fn renames(
+    rt: &(impl Abort + AllocGlobal),
+    store: &mut Store,
+    from: Place,
+    to: &str,
+    wanted: &str,
+) {
+    let to = place(rt, to);
+    tells(rt, store, Plan::Rename { from, to }, 99, wanted);
+}
+
+// Puts the bytes of files behind those of one file.
+pub(super) fn appends(
+    rt: &(impl Abort + AllocGlobal),
+    store: &mut Store,
+    from: Place,
+    to: &str,
+    moment: u64,
+    wanted: &str,
+) {
+    let to = place(rt, to);
+    tells(rt, store, Plan::Append { from, to }, moment, wanted);
+}
+
+// Writes a file with so many bytes, at the moment 5.
+pub(super) fn writes(
     rt: &(impl Abort + AllocGlobal),
     store: &mut Store,
     to: &str,
-    bytes: Bytes,
-    moment: u64,
-) -> Result<String, Fail> {
+    size: usize,
+    wanted: &str,
+) {
     let to = place(rt, to);
-    done(rt, store, Plan::Write { to, bytes }, moment)
+    let bytes = zeros(rt.alloc(), size).expect(rt, "memory");
+    tells(rt, store, Plan::Write { to, bytes }, 5, wanted);
+}
+
+// The same, whatever it tells.
+pub(super) fn adds(rt: &(impl Abort + AllocGlobal), store: &mut Store, to: &str, size: usize) {
+    let to = place(rt, to);
+    let bytes = zeros(rt.alloc(), size).expect(rt, "memory");
+    does(rt, store, Plan::Write { to, bytes }, 5);
+}
+
+// Writes a file with the bytes of a text.
+pub(super) fn put(
+    rt: &(impl Abort + AllocGlobal),
+    store: &mut Store,
+    to: &str,
+    text: &str,
+    moment: u64,
+) {
+    let to = place(rt, to);
+    let bytes = bytes(rt.alloc(), text).expect(rt, "memory");
+    does(rt, store, Plan::Write { to, bytes }, moment);
 }
 
 // A store whose directory OPERATOR keeps so many generations, with these files. Each holds its own name, and the
 // moments are 10, 20 and so on.
-pub(super) fn stored(
-    rt: &(impl Abort + AllocGlobal),
-    keep: u8,
-    files: &[&str],
-) -> Result<Store, Fail> {
-    let mut store = Store::new(rt.alloc())?;
-    build(rt, &mut store, "OPERATOR", Some(keep))?;
+pub(super) fn stored(rt: &(impl Abort + AllocGlobal), keep: u8, files: &[&str]) -> Store {
+    let mut store = Store::new(rt.alloc()).expect(rt, "memory");
+    builds(rt, &mut store, "OPERATOR", Some(keep), "");
     let mut moment: u64 = 0;
     for file in files {
         moment = moment.saturating_add(10);
-        let bytes = bytes(rt.alloc(), file)?;
-        write(rt, &mut store, file, bytes, moment)?;
+        put(rt, &mut store, file, file, moment);
     }
-    Ok(store)
+    store
 }

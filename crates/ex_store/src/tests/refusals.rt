@@ -1,14 +1,12 @@
 // Plans that are refused, and what they leave.
 
-use super::listing::names;
-use super::places::{place, zeros};
-use super::plans::{done, stored, write};
-use crate::Plan;
-use std::test::Fail;
+use super::listing::names_are;
+use super::places::place;
+use super::plans::{copies, stored, writes};
 
 #[test]
-fn a_file_that_is_written_wants_a_name(rt: HostRuntime) -> Result<(), Fail> {
-    let mut store = stored(&rt, 0, &[])?;
+fn a_file_that_is_written_wants_a_name(rt: HostRuntime) {
+    let mut store = stored(&rt, 0, &[]);
     for (to, told) in [
         ("<OPERATOR>", "NameNeeded"),
         ("*", "NameNeeded"),
@@ -18,20 +16,14 @@ fn a_file_that_is_written_wants_a_name(rt: HostRuntime) -> Result<(), Fail> {
         ("A", "A..1=>A..1"),
         ("A.", "A..2=>A..2"),
     ] {
-        let empty = zeros(rt.alloc(), 0)?;
-        assert_eq!(rt;
-            write(&rt, &mut store, to, empty, 5)?.as_str(),
-            told,
-            "{to}"
-        );
+        writes(&rt, &mut store, to, 0, told);
     }
-    assert_eq!(rt; names(rt.alloc(), &store)?.as_str(), "A..1 A..2");
-    Ok(())
+    names_are(&rt, &store, "A..1 A..2");
 }
 
 #[test]
-fn a_generation_that_is_there_is_not_written(rt: HostRuntime) -> Result<(), Fail> {
-    let mut store = stored(&rt, 1, &["A.FOR.1", "A.FOR.2"])?;
+fn a_generation_that_is_there_is_not_written(rt: HostRuntime) {
+    let mut store = stored(&rt, 1, &["A.FOR.1", "A.FOR.2"]);
     for (to, told, names_then) in [
         ("A.FOR.1", "FileExists", "A.FOR.1- A.FOR.2"),
         ("A.FOR.2", "FileExists", "A.FOR.1- A.FOR.2"),
@@ -48,19 +40,13 @@ fn a_generation_that_is_there_is_not_written(rt: HostRuntime) -> Result<(), Fail
             "A.FOR.1- A.FOR.2- A.FOR.3- A.FOR.131071",
         ),
     ] {
-        let empty = zeros(rt.alloc(), 0)?;
-        assert_eq!(rt;
-            write(&rt, &mut store, to, empty, 5)?.as_str(),
-            told,
-            "{to}"
-        );
-        assert_eq!(rt; names(rt.alloc(), &store)?.as_str(), names_then, "{to}");
+        writes(&rt, &mut store, to, 0, told);
+        names_are(&rt, &store, names_then);
     }
-    Ok(())
 }
 
 #[test]
-fn a_copy_is_whole_or_not_at_all(rt: HostRuntime) -> Result<(), Fail> {
+fn a_copy_is_whole_or_not_at_all(rt: HostRuntime) {
     for (from, to, told, names_then) in [
         (
             "*.FOR",
@@ -77,13 +63,8 @@ fn a_copy_is_whole_or_not_at_all(rt: HostRuntime) -> Result<(), Fail> {
         ),
         ("X.Y", "A.B", "", "A.FOR.1 B.FOR.1 C.OLD.131071"),
     ] {
-        let mut store = stored(&rt, 0, &["A.FOR.1", "B.FOR.1", "C.OLD.131071"])?;
-        let plan = Plan::Copy {
-            from: place(&rt, from),
-            to: place(&rt, to),
-        };
-        assert_eq!(rt; done(&rt, &mut store, plan, 5)?.as_str(), told, "{from}");
-        assert_eq!(rt; names(rt.alloc(), &store)?.as_str(), names_then, "{from}");
+        let mut store = stored(&rt, 0, &["A.FOR.1", "B.FOR.1", "C.OLD.131071"]);
+        copies(&rt, &mut store, place(&rt, from), to, told);
+        names_are(&rt, &store, names_then);
     }
-    Ok(())
 }

@@ -12,14 +12,16 @@ use crate::{Directory, Key, MOMENT_LIMIT, ROW_LIMIT, Row, STORE_LIMIT, Store};
 use cm_text::Name;
 use ex_generations::{Bytes, FILE_LIMIT};
 use std::process::Abort;
-use std::test::Fail;
 
 fn ascend(rows: &[Row]) -> bool
     ensures { result ≡ ascends by_row rows.now }
 {
     match rows {
-        [] | [_] => true,
-        [first, more @ ..] => first.cmp_with(&more[0]).is_lt() && ascend(more),
+        [] => true,
+        [first, more @ ..] => match more {
+            [] => true,
+            [second, ..] => first.cmp_with(second).is_lt() && ascend(more),
+        },
     }
 }
 
@@ -64,28 +66,29 @@ fn are_rows(directories: &[Directory], rows: &[Row]) -> bool
 }
 
 // A store with these files.
-fn store_of(rt: &(impl Abort + AllocGlobal), rows: Vec<Row>) -> Result<Store, Fail> {
+#[tactic(auto, unfolding(cm_text::specs::Bytes::is_name, cm_text::specs::Bytes::is_word))]
+fn store_of(rt: &(impl Abort + AllocGlobal), rows: Vec<Row>) -> Store {
     let operator = Directory {
         name: Name::new("OPERATOR"),
         keep: 0,
     };
-    let directories = vec![in rt.alloc(); operator]?;
+    let directories = vec![in rt.alloc(); operator].expect(rt, "memory");
     assert!(rt;
         are_rows(&directories, &rows),
         "they are no files of a store"
     );
-    Ok(Store {
+    Store {
         alloc: rt.alloc(),
         directories,
         connected: Name::new("OPERATOR"),
         logical: Vec::new(rt.alloc()),
         rows,
         queue: Vec::new(rt.alloc()),
-    })
+    }
 }
 
 // A store with so many empty generations of A.T.
-pub(super) fn store_with(rt: &(impl Abort + AllocGlobal), count: u32) -> Result<Store, Fail> {
+pub(super) fn store_with(rt: &(impl Abort + AllocGlobal), count: u32) -> Store {
     let mut rows = Vec::new(rt.alloc());
     for i in 0..count {
         let key = Key {
@@ -93,7 +96,8 @@ pub(super) fn store_with(rt: &(impl Abort + AllocGlobal), count: u32) -> Result<
             name: Name::new("A"),
             kind: Name::new("T"),
         };
-        rows.push(Row::new(key, i + 1, 5, Bytes::new(Vec::new(rt.alloc()))))?;
+        let row = Row::new(key, i + 1, 5, Bytes::new(Vec::new(rt.alloc())));
+        rows.push(row).expect(rt, "memory");
     }
     store_of(rt, rows)
 }

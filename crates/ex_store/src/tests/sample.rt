@@ -1,4 +1,5 @@
 // A store with logical names and requests for printing.
+ghost use Rattle.std.specs.Prelude.{◌≡◌, codes};
 
 use crate::{Definition, Directory, FullName, Key, QueueEntry, Queued, Store, form_text};
 use cm_fields::Code;
@@ -6,9 +7,9 @@ use cm_io::NoMemory;
 use cm_text::Name;
 use std::alloc::Global;
 use std::process::Abort;
-use std::test::Fail;
 
 // Directories OPERATOR and SMITH; the logical names HOME for SMITH and SYS for OPERATOR; and two requests.
+#[tactic(auto, unfolding(cm_text::specs::Bytes::is_name, cm_text::specs::Bytes::is_word, cm_text::specs::Bytes::is_text, cm_text::specs::Case::equals, cm_files::specs::LogicalName::is_logical_name))]
 pub(super) fn sample(alloc: Global) -> Result<Store, NoMemory> {
     let operator = Directory {
         name: Name::new("OPERATOR"),
@@ -28,7 +29,10 @@ pub(super) fn sample(alloc: Global) -> Result<Store, NoMemory> {
     };
     let directories = vec![in alloc; operator, smith]?;
     let logical = vec![in alloc; home, sys]?;
-    let queue = vec![in alloc; request("A", 2, None), request("B", 63, Some(47_481))]?;
+    let queue = vec![in alloc;
+        request(Name::new("A"), 2, None),
+        request(Name::new("B"), 63, Some(47_481)),
+    ]?;
     Ok(Store {
         alloc,
         directories,
@@ -39,13 +43,25 @@ pub(super) fn sample(alloc: Global) -> Result<Store, NoMemory> {
     })
 }
 
-// A request to print <SMITH>B.TXT.7, say.
-fn request(name: &str, copies: u8, after: Option<i32>) -> QueueEntry {
+// A request to print <SMITH>A.TXT.7, say.
+fn request(name: Name, copies: u8, after: Option<i32>) -> QueueEntry
+    ensures { result ≡ record {
+      file = record {
+        key = record { directory = codes "SMITH"; name = name; kind = codes "TXT" };
+        generation = 7;
+      };
+      copies = copies;
+      form = 2;
+      after = after;
+      job = codes "JOB-1";
+      note = codes "by noon";
+    } }
+{
     QueueEntry {
         file: FullName {
             key: Key {
                 directory: Name::new("SMITH"),
-                name: Name::new(name),
+                name,
                 kind: Name::new("TXT"),
             },
             generation: 7,
@@ -70,8 +86,8 @@ fn logicals_are(rt: &impl Abort, store: &Store, wanted: &[(&str, u16)]) {
 }
 
 #[test]
-fn a_logical_name_is_taken_away(rt: HostRuntime) -> Result<(), Fail> {
-    let mut store = sample(rt.alloc())?;
+fn a_logical_name_is_taken_away(rt: HostRuntime) {
+    let mut store = sample(rt.alloc()).expect(&rt, "memory");
     logicals_are(&rt, &store, &[("HOME", 1), ("SYS", 0)]);
     assert_eq!(rt; store.undefine("HOMES"), Err(Code::NoDefinition));
     assert_eq!(rt; store.undefine(""), Err(Code::NoDefinition));
@@ -81,7 +97,6 @@ fn a_logical_name_is_taken_away(rt: HostRuntime) -> Result<(), Fail> {
     assert_eq!(rt; store.undefine("HOME"), Err(Code::NoDefinition));
     assert_eq!(rt; store.undefine("Sys"), Ok(()));
     logicals_are(&rt, &store, &[]);
-    Ok(())
 }
 
 // A request of the sample has this name and so many copies, and is printed from this day on.
@@ -96,20 +111,18 @@ fn is_request(rt: &impl Abort, request: &Queued<'_>, name: &str, copies: u8, aft
 }
 
 #[test]
-fn requests_are_told_in_their_order(rt: HostRuntime) -> Result<(), Fail> {
-    let store = sample(rt.alloc())?;
+fn requests_are_told_in_their_order(rt: HostRuntime) {
+    let store = sample(rt.alloc()).expect(&rt, "memory");
     assert_eq!(rt; store.requests(), 2);
     is_request(&rt, &store.request(0), "A", 2, None);
     is_request(&rt, &store.request(1), "B", 63, Some(47_481));
-    Ok(())
 }
 
 #[test]
-fn a_new_store_has_neither(rt: HostRuntime) -> Result<(), Fail> {
-    let mut store = Store::new(rt.alloc())?;
+fn a_new_store_has_neither(rt: HostRuntime) {
+    let mut store = Store::new(rt.alloc()).expect(&rt, "memory");
     assert_eq!(rt; (store.logicals(), store.requests()), (0, 0));
     assert_eq!(rt; store.undefine("SYS"), Err(Code::NoDefinition));
-    Ok(())
 }
 
 #[test]
