@@ -77,10 +77,12 @@ fn copies(
     requires within { list_all (λ at. nat_lt at (length rows.now)) positions.now ≡ true }
     requires few { length positions.now ≤ ROW_LIMIT }
     requires target { IsTarget to.now directories.now }
-    ensures made { IfOk result (IsMade directories.now rows.now
-        (all_copied (keep_of to.now.directory directories.now) moment to.now (elements_at rows.now positions.now) rows.now)) }
-    ensures refused { IfErr result (IsRefused
-        (all_copied (keep_of to.now.directory directories.now) moment to.now (elements_at rows.now positions.now) rows.now)) }
+    ensures made { let sources = elements_at rows.now positions.now in
+        IfOk result (IsMade directories.now rows.now
+        (all_copied (keep_of to.now.directory directories.now) moment to.now sources rows.now)) }
+    ensures refused { let sources = elements_at rows.now positions.now in
+        IfErr result (IsRefused
+        (all_copied (keep_of to.now.directory directories.now) moment to.now sources rows.now)) }
 {
     let keep = keep_of(directories, to.directory.as_bytes());
     let mut course = match Course::new(alloc, rows) {
