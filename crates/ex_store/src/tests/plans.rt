@@ -43,7 +43,8 @@ fn is_part(text: &[u8]) -> bool
 
 // Whether the parts between points are not empty, and made of the bytes of names.
 fn are_parts(text: &[u8]) -> bool
-    ensures { result ≡ list_all (λ part. nat_lt 0 (length part) && is_upper_name part) (slice_split (λ byte. byte == 46) text.now) }
+    ensures { let parts = slice_split (λ byte. byte == 46) text.now in
+        result ≡ list_all (λ part. nat_lt 0 (length part) && is_upper_name part) parts }
 {
     text.split(|byte| *byte == b'.').all(|part| is_part(part))
 }
