@@ -1,5 +1,5 @@
 // Under which generation a file is added, or why it is refused.
-ghost use Rattle.std.specs.Prelude.{◌≡◌, ◌≤◌, length};
+ghost use Rattle.std.specs.Prelude.{◌≡◌, ◌≤◌};
 ghost use Rattle.ex_generations.specs.declared.file.TheConstants.{FILE_LIMIT};
 ghost use Rattle.ex_store.specs.Adding.{admitted_beside, limited, next_of, numbered};
 ghost use Rattle.ex_store.specs.Rows.{files_of};

@@ -1,16 +1,15 @@
 // The bytes of files are put behind those of one file.
-ghost use Rattle.std.specs.Prelude.{◌≡◌, ◌≤◌, true, [], ◌∷◌, ◌++◌, length, nat_lt, IfOk, IfErr, OnOk, None, Some, Ok};
+ghost use Rattle.std.specs.Prelude.{◌≡◌, ◌≤◌, true, length, nat_lt, IfOk, IfErr, None, Ok};
 ghost use Rattle.std.specs.List.{list_all};
 ghost use Rattle.ex_store.specs.declared.limits.TheConstants.{ROW_LIMIT, STORE_LIMIT};
 ghost use Rattle.ex_generations.specs.declared.file.TheConstants.{FILE_LIMIT};
 ghost use Rattle.ex_store.specs.declared.plan.Plan.TheVariants as plans;
-ghost use Rattle.ex_store.specs.declared.ready.Step.TheVariants as steps;
 ghost use Rattle.ex_store.specs.Appending.{appended, bytes_at, fitting, found, opened, pairs_to, poured, steps_of};
 ghost use Rattle.ex_store.specs.Copying.{moment_of};
 ghost use Rattle.ex_store.specs.Plan.{IsOneFile, IsRefused, MayPlan, planned};
 ghost use Rattle.ex_store.specs.Positions.{elements_at};
 ghost use Rattle.ex_store.specs.Ready.{all_stepped, applied, done_on, outcome_of};
-ghost use Rattle.ex_store.specs.Rows.{files_of, full_of, total};
+ghost use Rattle.ex_store.specs.Rows.{files_of, total};
 ghost use Rattle.ex_store.specs.State.{keep_of};
 ghost use Rattle.ex_store.specs.WellFormed.{AreRows, IsWellFormed};
 

@@ -1,12 +1,12 @@
 // Changes of the rows of a store.
 ghost use Rattle.std.specs.Prelude.{◌≡◌, ◌<◌, ◌≤◌, ◌+◌, length, insert, vec_capacity, vec_len, OnSome};
 ghost use Rattle.std.specs.Option.{option_to_list};
-ghost use Rattle.ex_store.specs.Ready.{put_back, stepped, under};
+ghost use Rattle.ex_store.specs.Ready.{put_back, under};
 ghost use Rattle.ex_generations.specs.Generations.{rewritten};
 ghost use Rattle.ex_store.specs.Rows.{added, filled, inserted, kept_newest, retained, row_at, without};
 
 use crate::search::{live, place, position};
-use crate::{FullName, Key, NamePair, Row};
+use crate::{FullName, Key, Row};
 use ex_generations::Bytes;
 
 // Puts a row at a place of a vector that has room for it.

@@ -22,7 +22,6 @@ use crate::search::total;
 use crate::{Directory, Key, NamePair, Place, Ready, Refusal, Row, Step, Store};
 use cm_fields::Code;
 use cm_io::NoMemory;
-use ex_generations::Bytes;
 use std::alloc::Global;
 
 pub(crate) fn moment_of(moment: u64) -> u64

@@ -1,14 +1,9 @@
 // A plan over files, as far as it has come.
-ghost use Rattle.std.specs.Prelude.{◌≡◌, [], ◌∷◌, ◌++◌, map, IfOk, OnOk};
-ghost use Rattle.ex_store.specs.declared.key.NamePair.{NamePair};
-ghost use Rattle.ex_store.specs.declared.ready.Step.TheVariants as steps;
-ghost use Rattle.ex_store.specs.Adding.{new_row};
-ghost use Rattle.ex_store.specs.Rows.{added, blank, full_of};
+ghost use Rattle.std.specs.Prelude.{◌≡◌, [], map, IfOk};
+ghost use Rattle.ex_store.specs.Rows.{blank};
 
-use crate::change::add;
-use crate::{Key, NamePair, Row, Step};
+use crate::{NamePair, Row, Step};
 use cm_io::NoMemory;
-use ex_generations::Bytes;
 use std::alloc::Global;
 
 // What is to be done, from which file to which one each goes, and the rows as they stand then, without their bytes.

@@ -1,5 +1,5 @@
 // Directories and logical names.
-ghost use Rattle.std.specs.Prelude.{◌≡◌, ◌<◌, ◌≤◌, IsTrue, true, length};
+ghost use Rattle.std.specs.Prelude.{◌≡◌, ◌<◌};
 ghost use Rattle.ex_store.specs.State.{has_directory, keep_of, number_of};
 
 use cm_text::Name;

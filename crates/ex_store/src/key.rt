@@ -1,5 +1,5 @@
 // What names a file: its directory, name, type and generation.
-ghost use Rattle.std.specs.Prelude.{◌≡◌, ◌≤◌, length};
+ghost use Rattle.std.specs.Prelude.{◌≡◌};
 ghost use Rattle.ex_store.specs.Lent.{full_name, name_pair};
 ghost use Rattle.ex_store.specs.Rows.{by_full, by_key};
 

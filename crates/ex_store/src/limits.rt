@@ -15,7 +15,7 @@ pub const ROW_LIMIT: usize = 4_096;
 /// The most bytes of all files together.
 pub const STORE_LIMIT: usize = 8_388_608;
 
-/// The last moment that a file has, in seconds since 1-JAN-1970: 1-JAN-2100 and nothing of that day is left out.
+/// The last moment that a file has, in seconds since 1-JAN-1970: the last second of 31-DEC-2099.
 pub const MOMENT_LIMIT: u64 = 4_102_444_799;
 
 /// The most entries of the print queue.
