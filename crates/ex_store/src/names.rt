@@ -1,8 +1,8 @@
 // The store as the catalogue that file specifications are looked up in.
 ghost use Rattle.std.specs.Prelude.{◌≡◌, ◌<◌, true, length, option_map, slice_get, Some};
-ghost use Rattle.cm_files.specs.Catalogue.{ascends};
+ghost use Rattle.cm_files.specs.Catalogue.{ascends, rows_of};
 ghost use Rattle.ex_store.specs.Rows.{by_row, end_in, first_in};
-ghost use Rattle.ex_store.specs.State.{defined, rows_numbered};
+ghost use Rattle.ex_store.specs.State.{catalogue_of, defined, rows_numbered};
 
 use crate::directory::number_of;
 use crate::{Row, Store};
@@ -54,8 +54,8 @@ impl Store {
 
     /// A file of the directory with this number, in ascending order of name, type and generation.
     pub fn file(&self, directory: u16, i: u32) -> &File
-        requires directory { directory < length self.now.state.directories }
-        requires row { i < length (rows_numbered directory self.now.state) }
+        requires directory { directory < length (catalogue_of self.now.state).directories }
+        requires row { i < length (rows_of (catalogue_of self.now.state) directory) }
         ensures { option_map (λ row. row.file) (slice_get (rows_numbered directory self.now.state) i)
             ≡ Some result.now }
     {
