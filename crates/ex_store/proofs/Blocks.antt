@@ -433,26 +433,32 @@ rows_of_name state well n name is = by (slice_get state.directories n) refl is
         rows_at_number state well n directory there ∙ ap (λ each. rows_in each state.rows) same
 
 -- where a row of the directory with a number stands
+pub row_in_stands : (state : State) → IsWellFormed state → (i at : ℕ) (name : List ℕ) (rows : List Row)
+    → i < length (rows_in name state.rows) → at ≡ first_in name state.rows → rows ≡ state.rows
+    → (at + i < length rows) × (slice_get (rows_in name state.rows) i ≡ slice_get rows (at + i)) × (at + i < 4096)
+row_in_stands state well i at name rows within first items =
+    let parts = block name state.rows well.rows.ascend in
+    let bounds = block_within (is_in name) state.rows (rows_in name state.rows) (first_in name state.rows) (end_in name state.rows) parts in
+    let start = bounds.0 in
+    let last = bounds.1 in
+    let few = well.rows.few in
+    let all = ap length items in (
+      omega arith,
+      block_at (is_in name) state.rows (rows_in name state.rows) (first_in name state.rows) (end_in name state.rows) parts i within
+          ∙ ap (λ (k : ℕ). slice_get state.rows (k + i)) (sym first) ∙ ap (λ each. slice_get each (at + i)) (sym items),
+      omega arith,
+    )
+
+-- the same by the number of the directory
 pub row_stands : (state : State) → IsWellFormed state → (n i at : ℕ) (name : List ℕ) (rows : List Row)
     → option_map (λ directory. directory.name) (slice_get state.directories n) ≡ Some name
     → i < length (rows_numbered n state) → at ≡ first_in name state.rows → rows ≡ state.rows
     → (at + i < length rows) × (slice_get (rows_numbered n state) i ≡ slice_get rows (at + i)) × (at + i < 4096)
 row_stands state well n i at name rows is within first items =
     let same = rows_of_name state well n name is in
-    let parts = block name state.rows well.rows.ascend in
-    let bounds = block_within (is_in name) state.rows (rows_in name state.rows) (first_in name state.rows) (end_in name state.rows) parts in
-    let start = bounds.0 in
-    let last = bounds.1 in
-    let few = well.rows.few in
     let sizes = ap length same in
-    let inside : i < length (rows_in name state.rows) = omega arith in
-    let all = ap length items in (
-      omega arith,
-      ap (λ each. slice_get each i) same
-          ∙ block_at (is_in name) state.rows (rows_in name state.rows) (first_in name state.rows) (end_in name state.rows) parts i inside
-          ∙ ap (λ (k : ℕ). slice_get state.rows (k + i)) (sym first) ∙ ap (λ each. slice_get each (at + i)) (sym items),
-      omega arith,
-    )
+    let stands = row_in_stands state well i at name rows (omega arith) first items in
+    (stands.0, ap (λ each. slice_get each i) same ∙ stands.1, stands.2)
 
 -- how many rows the directory with a number has
 pub rows_counted : (state : State) → IsWellFormed state → (n : ℕ) (name : List ℕ)

@@ -1,7 +1,7 @@
 // The store as the catalogue that file specifications are looked up in.
 ghost use Rattle.std.specs.Prelude.{◌≡◌, ◌<◌, true, length, option_map, slice_get, Some};
 ghost use Rattle.cm_files.specs.Catalogue.{ascends, rows_of};
-ghost use Rattle.ex_store.specs.Rows.{by_row, end_in, first_in};
+ghost use Rattle.ex_store.specs.Rows.{by_row, end_in, first_in, rows_in};
 ghost use Rattle.ex_store.specs.State.{catalogue_of, defined, rows_numbered};
 
 use crate::directory::number_of;
@@ -50,6 +50,14 @@ impl Store {
         ensures { slice_get (rows_numbered directory self.now.state) i ≡ Some result.now }
     {
         &self.rows[self.first_row(self.name_of(directory)) + i as usize]
+    }
+
+    /// A file of the directory with this name, in ascending order of name, type and generation.
+    pub fn row_in(&self, directory: &str, i: u32) -> &Row
+        requires { i < length (rows_in directory.now self.now.state.rows) }
+        ensures { slice_get (rows_in directory.now self.now.state.rows) i ≡ Some result.now }
+    {
+        &self.rows[self.first_row(directory.as_bytes()) + i as usize]
     }
 
     /// A file of the directory with this number, in ascending order of name, type and generation.

@@ -28,6 +28,15 @@ pub struct Place {
     pub flags: Flags,
 }
 
+fn copy_of_part(part: &Option<Name>) -> Option<Name>
+    ensures { result ≡ part.now }
+{
+    match part {
+        Some(part) => Some(copy_of(part)),
+        None => None,
+    }
+}
+
 fn part_from(part: &Option<Name>, own: &Name) -> Name
     ensures { result ≡ part_from part.now own.now }
 {
@@ -56,6 +65,19 @@ fn is_star(part: &Option<Name>) -> bool
 }
 
 impl Place {
+    /// A place of its own.
+    pub fn copy(&self) -> Place
+        ensures { result ≡ self.now }
+    {
+        Place {
+            directory: copy_of(&self.directory),
+            name: copy_of_part(&self.name),
+            kind: copy_of_part(&self.kind),
+            generation: self.generation,
+            flags: self.flags,
+        }
+    }
+
     // What files are looked for, with this mark.
     pub(crate) fn sought(&self, deleted: bool) -> Sought<'_>
         ensures { wanted result ≡ wanted_of deleted self.now }
@@ -100,8 +122,8 @@ impl Place {
         }
     }
 
-    // Whether it has no name of its own, or `*` as its name or type.
-    pub(crate) fn lacks_name(&self) -> bool
+    /// Whether it has no name of its own, or `*` as its name or type, so that no file can be written there.
+    pub fn lacks_name(&self) -> bool
         ensures { result ≡ lacks_name self.now }
     {
         self.name.is_none() || is_star(&self.name) || is_star(&self.kind)

@@ -1,0 +1,81 @@
+-- What an answer says of what a command does.
+use Rattle.std.specs.Prelude.{◌≡◌, ℕ, Bool, true, false, List, Option, None, Some}
+use Rattle.cm_files.specs.Catalogue.{is_directory_name}
+use Rattle.cm_io.specs.declared.sink.Put.{Put}
+use Rattle.cm_io.specs.declared.sink.Put.TheVariants.{Done, Failed}
+use Rattle.cm_io.specs.Fault.{Rose}
+use Rattle.cm_io.specs.Told.{Told, add, AddsPart}
+use Rattle.ex_store.specs.Plan.{IsSource, IsTarget}
+use Rattle.ex_store.specs.State.{State, has_directory}
+use Rattle.ex_commands.specs.declared.acted.Acted.{Acted}
+use Rattle.ex_commands.specs.declared.acted.Acted.TheVariants as answers
+use Rattle.ex_commands.specs.declared.command.Command.{Command}
+use Rattle.ex_commands.specs.declared.command.Command.TheVariants as commands
+use Rattle.ex_commands.specs.Act.{Act}
+
+-- it is done: this is its answer, its whole reply is put, and it leaves its state
+pub record IsDone (before now : Told) (act : Act) (left : State) (answer : Acted) : Type 0 where
+  pub answer_is : act.answer ≡ answer
+  pub told : now ≡ add before act.reply
+  pub state : left ≡ act.state
+
+-- memory was wanting where it may be: nothing is put, and nothing changes
+pub record IsLacking (before now : Told) (lacks : Bool) (state left : State) : Type 0 where
+  pub may_lack : lacks ≡ true
+  pub told : now ≡ before
+  pub state : left ≡ state
+
+-- the reply was cut: a part of it is put, and the act leaves its state all the same
+pub record IsCut (before now : Told) (act : Act) (left : State) : Type 0 where
+  pub told : AddsPart before now act.reply
+  pub state : left ≡ act.state
+
+-- what the answer says of an act, given whether memory may be wanting for it
+abbrev pub Answers : Told → Told → Act → Bool → State → State → Acted → Type 0
+Answers before now act lacks state left answers.NoMemory = IsLacking before now lacks state left
+Answers before now act lacks state left answers.Failed = IsCut before now act left
+Answers before now act lacks state left answers.Ok = IsDone before now act left answers.Ok
+Answers before now act lacks state left (answers.Refused code) = IsDone before now act left (answers.Refused code)
+Answers before now act lacks state left answers.Data = IsDone before now act left answers.Data
+Answers before now act lacks state left answers.Logout = IsDone before now act left answers.Logout
+
+-- the answer to an act whose reply was put so
+abbrev pub answer_by : Acted → Put → Acted
+answer_by done Done = done
+answer_by done Failed = answers.Failed
+
+-- the count of faults rose where the reply was cut, and else stayed
+abbrev pub ActCause : ℕ → ℕ → Acted → Type 0
+ActCause before now answers.Failed = Rose before now
+ActCause before now answers.NoMemory = now ≡ before
+ActCause before now answers.Ok = now ≡ before
+ActCause before now (answers.Refused code) = now ≡ before
+ActCause before now answers.Data = now ≡ before
+ActCause before now answers.Logout = now ≡ before
+
+-- the commands that take memory
+abbrev pub may_lack : Command → Bool
+may_lack (commands.Build directory) = true
+may_lack (commands.Copy from to) = true
+may_lack command = false
+
+-- the directory is one of the state
+abbrev pub IsThere : Option (List ℕ) → State → Type 0
+IsThere None state = Unit {0}
+IsThere (Some directory) state = has_directory directory state.directories ≡ true
+
+-- a command that can be done: its directories are there, and its names and numbers have their forms
+abbrev pub MayAct : Command → State → Type 0
+MayAct (commands.Build directory) state = is_directory_name directory ≡ true
+MayAct (commands.Connect directory) state = has_directory directory state.directories ≡ true
+MayAct (commands.Copy from to) state = IsSource from state × IsTarget to state.directories
+MayAct (commands.CopyTty to) state = IsTarget to state.directories
+MayAct (commands.Delete files) state = IsSource files state
+MayAct (commands.Undelete files) state = IsSource files state
+MayAct (commands.Directory files) state = IsSource files state
+MayAct (commands.Expunge directory) state = IsThere directory state
+MayAct commands.Empty state = Unit {0}
+MayAct (commands.Define name) state = Unit {0}
+MayAct (commands.Information what) state = Unit {0}
+MayAct commands.Logout state = Unit {0}
+MayAct commands.Remark state = Unit {0}

@@ -1,0 +1,126 @@
+-- What a confirmed line commands.
+use Rattle.std.specs.Prelude.{ℕ, ◌==◌, Bool, true, false, List, [], if◌then◌else◌, map, take, drop, slice_get, unwrap_or, Option, Some, None, option_map, option_and_then}
+use Rattle.std.specs.Char.{to_ascii_uppercase}
+use Rattle.std.specs.Option.{option_map_or}
+use Rattle.cm_fields.specs.declared.span.Span.{Span}
+use Rattle.cm_fields.specs.declared.value.Value.{Value}
+use Rattle.cm_fields.specs.declared.value.Value.TheVariants as values
+use Rattle.cm_files.specs.declared.flags.Flags.{Flags}
+use Rattle.cm_files.specs.Catalogue.{Catalogue}
+use Rattle.cm_files.specs.Spec.{part}
+use Rattle.cm_blocks.specs.declared.function.Role.TheVariants as roles
+use Rattle.cm_blocks.specs.declared.node.Block.{Block}
+use Rattle.cm_blocks.specs.declared.node.Node.{Node}
+use Rattle.cm_blocks.specs.Grammar.{Graph}
+use Rattle.cm_blocks.specs.Taken.{Taken}
+use Rattle.cm_blocks.specs.Words.{no_flags}
+use Rattle.cm_state.specs.Roles.{field_of}
+use Rattle.ex_grammar.specs.declared.code.TheConstants.{BUILD, CONNECT, COPY, DEFINE, DELETE, DIRECTORY, EXPUNGE, INFORMATION, LOGOUT, REMARK, UNDELETE}
+use Rattle.ex_store.specs.declared.place.Place.{Place}
+use Rattle.ex_commands.specs.declared.command.Command.{Command}
+use Rattle.ex_commands.specs.declared.command.Command.TheVariants as commands
+
+-- a finished line with its fields, the grammar that they are of, and the catalogue that their numbers mean
+pub record Line : Type 0 where
+  pub graph : Graph
+  pub catalogue : Catalogue
+  pub text : List ℕ
+  pub fields : List Taken
+
+-- the node whose chain took a field, and the block
+abbrev pub node_of : Graph → Taken → Option Node
+node_of graph field = slice_get graph.nodes field.node
+
+abbrev pub block_of : Graph → Taken → Option Block
+block_of graph field = option_and_then (λ node. slice_get node.chain field.block) (node_of graph field)
+
+-- the flags under which it was read
+abbrev pub flags_of : Graph → Taken → Flags
+flags_of graph field = option_map_or (λ (block : Block). block.flags) (block_of graph field) no_flags
+
+-- the text that it is a part of: the line, or the default of its node
+abbrev pub said_in : Line → Taken → List ℕ
+said_in line field =
+    if field.defaulted then unwrap_or (option_and_then (λ node. node.default) (node_of line.graph field)) []
+    else line.text
+
+-- a part of a text, in upper case
+abbrev pub upper : List ℕ → Span → List ℕ
+upper text place = map to_ascii_uppercase (part text place)
+
+-- the name of the directory with this number
+abbrev pub directory_name : Catalogue → ℕ → List ℕ
+directory_name c number = unwrap_or (slice_get c.directories number) []
+
+-- the files that a value means: those of the directory that it was resolved to
+abbrev pub place_by : Catalogue → Flags → List ℕ → Value → Option Place
+place_by c flags text (values.File kind spec directory) = Some (record {
+  directory = directory_name c directory;
+  name = option_map (upper text) spec.name;
+  kind = option_map (upper text) spec.kind;
+  generation = spec.generation;
+  flags = flags;
+})
+place_by c flags text value = None
+
+-- the directory that a value names
+abbrev pub directory_by : Catalogue → List ℕ → Value → Option (List ℕ)
+directory_by c text (values.User directory) = Some (directory_name c directory)
+directory_by c text (values.Directory directory) = Some (directory_name c directory)
+directory_by c text (values.NewDirectory place) = Some (upper text place)
+directory_by c text value = None
+
+-- the code of a keyword
+abbrev pub keyword_code : Value → ℕ
+keyword_code (values.Key entry code) = code
+keyword_code value = 0
+
+abbrev pub is_token : Value → Bool
+is_token values.Token = true
+is_token value = false
+
+-- what the field of a role is for a line
+abbrev pub place_in : Line → Option Taken → Option Place
+place_in line =
+    option_and_then (λ field. place_by line.catalogue (flags_of line.graph field) (said_in line field) field.value)
+
+abbrev pub directory_in : Line → Option Taken → Option (List ℕ)
+directory_in line = option_and_then (λ field. directory_by line.catalogue (said_in line field) field.value)
+
+abbrev pub code_in : Option Taken → ℕ
+code_in field = option_map_or (λ (field : Taken). keyword_code field.value) field 0
+
+-- its bytes, in upper case
+abbrev pub name_in : Line → Option Taken → Option (List ℕ)
+name_in line = option_map (λ field. upper (said_in line field) (record { start = field.start; end = field.end }))
+
+-- a command on files, on a directory or on a name; where none is said there is nothing to do
+abbrev pub on : {A : Type 0} → (A → Command) → Option A → Command
+on command said = option_map_or command said commands.Empty
+
+-- from the terminal, or from files
+abbrev pub copies : Line → Option Taken → Option Place → Command
+copies line None to = commands.Empty
+copies line (Some from) to =
+    if is_token from.value then on commands.CopyTty to
+    else on (λ files. on (commands.Copy files) to) (place_in line (Some from))
+
+-- the command that a keyword of this code names, with what its other fields say
+abbrev pub named : Line → ℕ → Command
+named line verb =
+    if verb == BUILD then on commands.Build (directory_in line (field_of roles.Files line.fields))
+    else (if verb == CONNECT then on commands.Connect (directory_in line (field_of roles.Files line.fields))
+    else (if verb == COPY
+    then copies line (field_of roles.Source line.fields) (place_in line (field_of roles.Target line.fields))
+    else (if verb == DEFINE then on commands.Define (name_in line (field_of roles.Value line.fields))
+    else (if verb == DELETE then on commands.Delete (place_in line (field_of roles.Files line.fields))
+    else (if verb == DIRECTORY then on commands.Directory (place_in line (field_of roles.Files line.fields))
+    else (if verb == EXPUNGE then commands.Expunge (directory_in line (field_of roles.Files line.fields))
+    else (if verb == INFORMATION then commands.Information (code_in (field_of roles.What line.fields))
+    else (if verb == LOGOUT then commands.Logout
+    else (if verb == UNDELETE then on commands.Undelete (place_in line (field_of roles.Files line.fields))
+    else (if verb == REMARK then commands.Remark else commands.Empty))))))))))
+
+-- the field of role Verb names the command; a line without fields is empty
+unfoldable pub command_of : Line → Command
+command_of line = option_map_or (λ (verb : Taken). named line (keyword_code verb.value)) (field_of roles.Verb line.fields) commands.Empty

@@ -1,0 +1,5 @@
+pub mod Act
+pub mod Answer
+pub mod Command
+pub mod Replies
+pub mod Typed

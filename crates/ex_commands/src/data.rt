@@ -1,0 +1,130 @@
+// A file that is typed in.
+#![tactic(auto, using(crate::proofs::Parts::pieces))]
+
+ghost use Rattle.std.specs.Prelude.{◌≡◌, ◌≤◌, [], length, vec_capacity, IfOk};
+ghost use Rattle.ex_generations.specs.declared.file.TheConstants.{FILE_LIMIT};
+ghost use Rattle.cm_io.specs.Fault.{PutCause};
+ghost use Rattle.cm_io.specs.Told.{Adds};
+ghost use Rattle.ex_commands.specs.Typed.{Edit, TurnCause, Types, edit, echo_text, turn_of};
+
+use cm_io::{NoMemory, Put, Sink};
+use cm_text::{bell, control_c, end_of_line, rubout};
+use ex_generations::FILE_LIMIT;
+use std::alloc::Global;
+use std::marker::Model;
+
+/// A file that is typed in: its bytes so far, in memory that is reserved for as many as a file may have. Contracts see
+/// the bytes.
+#[derive(Drop)]
+pub struct Data {
+    bytes: Vec<u8>,
+}
+
+impl Model for Data {
+    ghost use Rattle.std.specs.Prelude.{◌≤◌, ℕ, List, length, vec_capacity};
+    ghost use Rattle.ex_generations.specs.declared.file.TheConstants.{FILE_LIMIT};
+
+    ghost Value = { List ℕ };
+
+    ghost view = { λ it. it.bytes.items };
+
+    ghost invariant = { λ it. (length it.bytes.items ≤ FILE_LIMIT) × (FILE_LIMIT ≤ vec_capacity it.bytes) };
+}
+
+/// What a key comes to while a file is typed in.
+#[derive(Clone, Copy, Debug, PartialEq, Eq)]
+pub enum DataTurn {
+    /// The typing goes on.
+    More,
+    /// Control-Z: the file is to be written.
+    Write,
+    /// Control-C: what was typed is dropped.
+    Dropped,
+    /// The sink failed in the midst of what the key shows. The key has had its effect all the same.
+    Failed,
+}
+
+/// What is shown for a key.
+#[derive(Clone, Copy, Debug, PartialEq, Eq)]
+pub enum Echo {
+    /// The byte, TAB as a space.
+    Byte(u8),
+    /// The end of a line.
+    Line,
+    /// The bell.
+    Bell,
+    /// Back over the last byte.
+    Rubout,
+    /// That the file is to be written.
+    Written,
+    /// That what was typed is dropped.
+    Dropped,
+}
+
+impl Data {
+    /// Nothing typed yet, with memory for as many bytes as a file may have.
+    pub fn new(alloc: Global) -> Result<Data, NoMemory>
+        ensures { IfOk result (λ typed. typed ≡ []) }
+    {
+        unreachable!()
+    }
+
+    /// The bytes so far.
+    pub fn bytes(&self) -> &[u8]
+        ensures { result.now ≡ self.now }
+    {
+        &self.bytes
+    }
+
+    // The bytes, in the memory that holds them.
+    pub(crate) fn into_vec(self) -> Vec<u8>
+        ensures { result.items ≡ self }
+    {
+        self.bytes
+    }
+
+    /// Takes one key, and puts what it shows. A text byte or TAB is put in, CR or LF puts in CR and LF; what has no
+    /// room in a file rings the bell and puts nothing in. DEL takes the last byte away, but no end of a line.
+    ///
+    /// The answer is Write exactly at control-Z and Dropped exactly at control-C, behind which there is nothing any
+    /// more; every other key rings the bell. Failed comes only where the sink failed.
+    pub fn key<S: Sink>(&mut self, key: u8, sink: &mut S) -> DataTurn
+        ensures bytes { self.new ≡ (edit self.old key).bytes }
+        ensures typed { Types (S.told sink.old) (S.told sink.new) (edit self.old key) result }
+        ensures later { S.faults sink.old ≤ S.faults sink.new }
+        ensures cause { TurnCause (S.faults sink.old) (S.faults sink.new) result }
+    {
+        let echo = edit(&mut self.bytes, key);
+        match put_echo(echo, sink) {
+            Put::Done => turn_of(echo),
+            Put::Failed => DataTurn::Failed,
+        }
+    }
+}
+
+// What a key does to the bytes, and what is shown for it.
+fn edit(bytes: &mut Vec<u8>, key: u8) -> Echo
+    requires short { length bytes.old.items ≤ FILE_LIMIT }
+    requires room { FILE_LIMIT ≤ vec_capacity bytes.old }
+    ensures edit { record { bytes = bytes.new.items; echo = result } ≡ edit bytes.old.items key }
+    ensures short { length bytes.new.items ≤ FILE_LIMIT }
+    ensures room { FILE_LIMIT ≤ vec_capacity bytes.new }
+{
+    unreachable!()
+}
+
+// Puts what is shown for a key.
+fn put_echo<S: Sink>(echo: Echo, sink: &mut S) -> Put
+    ensures bytes { Adds (S.told sink.old) (S.told sink.new) (echo_text echo) result }
+    ensures later { S.faults sink.old ≤ S.faults sink.new }
+    ensures cause { PutCause (S.faults sink.old) (S.faults sink.new) result }
+{
+    unreachable!()
+}
+
+// What a key comes to that is shown so.
+fn turn_of(echo: Echo) -> DataTurn
+    ensures { result ≡ turn_of echo }
+{
+    unreachable!()
+}

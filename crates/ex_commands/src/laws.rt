@@ -1,0 +1,39 @@
+//! Laws of commands. Each is a function that does nothing, whose contract is the law.
+ghost use Rattle.std.specs.Prelude.{ℕ, List, ◌≡◌};
+ghost use Rattle.cm_blocks.specs.declared.field.Ending.TheVariants as ending;
+ghost use Rattle.cm_blocks.specs.Parse.{IsParse};
+ghost use Rattle.cm_blocks.specs.Setting.{setting};
+ghost use Rattle.cm_blocks.specs.Taken.{Taken};
+ghost use Rattle.cm_fields.specs.declared.code.Code.{Code};
+ghost use Rattle.cm_files.specs.Catalogue.{IsCatalogue};
+ghost use Rattle.cm_state.specs.Echo.{refusal};
+ghost use Rattle.cm_text.specs.Text.{IsLine, finished};
+ghost use Rattle.ex_grammar.specs.declared.node.TheConstants.{COMMANDS};
+ghost use Rattle.ex_grammar.specs.ExecRules.{exec_meanings};
+ghost use Rattle.ex_grammar.specs.Graph.{exec_graph};
+ghost use Rattle.ex_store.specs.State.{State, catalogue_of};
+ghost use Rattle.ex_commands.specs.declared.acted.Acted.TheVariants as answers;
+ghost use Rattle.ex_commands.specs.declared.command.Command.{Command};
+ghost use Rattle.ex_commands.specs.Act.{act_of};
+ghost use Rattle.ex_commands.specs.Answer.{MayAct};
+ghost use Rattle.ex_commands.specs.Command.{command_of};
+
+/// What a line commands can be done: the directories are there, and names and numbers have their forms.
+pub fn a_line_may_act()
+    ensures { (state : State) (line : List ℕ) (fields : List Taken) → IsCatalogue (catalogue_of state)
+        → IsLine line
+        → IsParse (setting exec_graph (catalogue_of state) exec_meanings) COMMANDS (finished line) fields ending.Done
+        → MayAct (command_of (record {
+          graph = exec_graph;
+          catalogue = catalogue_of state;
+          text = finished line;
+          fields = fields;
+        })) state }
+{}
+
+/// A refused command changes nothing, and shows why it is refused.
+pub fn a_refusal_changes_nothing()
+    ensures { (command : Command) (moment : ℕ) (state : State) (code : Code)
+        → (act_of command moment state).answer ≡ answers.Refused code
+        → ((act_of command moment state).state ≡ state) × ((act_of command moment state).reply ≡ refusal code) }
+{}

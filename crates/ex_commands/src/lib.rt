@@ -1,0 +1,23 @@
+//! The commands of the EXEC: what a confirmed line commands, what a command does to a store and shows, and how a file
+//! is typed in.
+#![tactic(auto)]
+
+mod acted;
+mod acts;
+mod command;
+mod data;
+pub mod laws;
+mod line;
+mod lines;
+mod names;
+mod pairs;
+mod plans;
+mod replies;
+#[cfg(test)]
+mod tests;
+
+pub use acted::Acted;
+pub use acts::act;
+pub use command::Command;
+pub use data::{Data, DataTurn};
+pub use plans::write_data;

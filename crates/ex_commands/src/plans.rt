@@ -1,0 +1,90 @@
+// Plans are done, with a line for each pair of files.
+#![tactic(auto, using(crate::proofs::Parts::pieces))]
+
+ghost use Rattle.std.specs.Prelude.{◌≡◌, ◌≤◌, true};
+ghost use Rattle.cm_files.specs.Catalogue.{is_directory_name};
+ghost use Rattle.ex_store.specs.Plan.{IsSource, IsTarget, MayPlan, planned};
+ghost use Rattle.ex_commands.specs.declared.command.Command.TheVariants as commands;
+ghost use Rattle.ex_commands.specs.Act.{act_of, plays, writes};
+ghost use Rattle.ex_commands.specs.Answer.{ActCause, Answers};
+
+use crate::acted::answer_by;
+use crate::acts::refuse;
+use crate::pairs::{Origin, put_pairs};
+use crate::{Acted, Data};
+use cm_io::Sink;
+use cm_text::Name;
+use ex_generations::Bytes;
+use ex_store::{Place, Plan, Refusal, Store};
+
+// Does all of a plan, or nothing where it is refused. Its lines are put before it is done, and then it is done
+// whatever the sink said.
+fn play<S: Sink>(store: &mut Store, plan: Plan, origin: Origin, moment: u64, sink: &mut S) -> Acted
+    requires { MayPlan plan store.old.state }
+    ensures acts { Answers (S.told sink.old) (S.told sink.new)
+        (plays origin (planned plan moment store.old.state) store.old.state) true store.old.state store.new.state
+        result }
+    ensures later { S.faults sink.old ≤ S.faults sink.new }
+    ensures cause { ActCause (S.faults sink.old) (S.faults sink.new) result }
+{
+    match store.prepare(plan, moment) {
+        Ok(ready) => {
+            let put = put_pairs(origin, &ready, sink);
+            store.apply(ready);
+            answer_by(Acted::Ok, put)
+        }
+        Err(Refusal::Code(code)) => refuse(code, sink),
+        Err(Refusal::NoMemory) => Acted::NoMemory,
+    }
+}
+
+/// Makes a directory.
+pub(crate) fn build<S: Sink>(store: &mut Store, directory: &Name, moment: u64, sink: &mut S) -> Acted
+    requires { is_directory_name directory.now ≡ true }
+    ensures acts { Answers (S.told sink.old) (S.told sink.new)
+        (act_of (commands.Build directory.now) moment store.old.state) true store.old.state store.new.state result }
+    ensures later { S.faults sink.old ≤ S.faults sink.new }
+    ensures cause { ActCause (S.faults sink.old) (S.faults sink.new) result }
+{
+    let directory = Name::new(directory.as_str());
+    let plan = Plan::Build {
+        directory,
+        keep: None,
+    };
+    play(store, plan, Origin::Files, moment, sink)
+}
+
+/// Copies files.
+pub(crate) fn copy<S: Sink>(store: &mut Store, from: &Place, to: &Place, moment: u64, sink: &mut S) -> Acted
+    requires from { IsSource from.now store.old.state }
+    requires to { IsTarget to.now store.old.state.directories }
+    ensures acts { Answers (S.told sink.old) (S.told sink.new)
+        (act_of (commands.Copy from.now to.now) moment store.old.state) true store.old.state store.new.state result }
+    ensures later { S.faults sink.old ≤ S.faults sink.new }
+    ensures cause { ActCause (S.faults sink.old) (S.faults sink.new) result }
+{
+    let plan = Plan::Copy {
+        from: from.copy(),
+        to: to.copy(),
+    };
+    play(store, plan, Origin::Files, moment, sink)
+}
+
+/// Writes what was typed in as a file, at a moment, and puts the reply to it.
+///
+/// The answer is Refused(code) exactly where the file is refused with that code; the reason is put, and nothing
+/// changes. With NoMemory nothing is put or changed. Failed comes only where the sink failed: a part of what is to be
+/// put is put, and the file is written, or refused, all the same.
+pub fn write_data<S: Sink>(store: &mut Store, to: &Place, typed: Data, moment: u64, sink: &mut S) -> Acted
+    requires { IsTarget to.now store.old.state.directories }
+    ensures acts { Answers (S.told sink.old) (S.told sink.new) (writes to.now typed moment store.old.state) true
+        store.old.state store.new.state result }
+    ensures later { S.faults sink.old ≤ S.faults sink.new }
+    ensures cause { ActCause (S.faults sink.old) (S.faults sink.new) result }
+{
+    let plan = Plan::Write {
+        to: to.copy(),
+        bytes: Bytes::new(typed.into_vec()),
+    };
+    play(store, plan, Origin::Terminal, moment, sink)
+}
