@@ -36,6 +36,7 @@ pub use limits::{
     AFTER_LIMIT, COPIES_LIMIT, DIRECTORY_LIMIT, FORMS, LOGICAL_LIMIT, MOMENT_LIMIT, QUEUE_LIMIT,
     RETENTION_LIMIT, ROW_LIMIT, STORE_LIMIT,
 };
+pub use marks::page_count;
 pub use place::Place;
 pub use plan::{Plan, Refusal};
 pub use queue::{QueueEntry, Queued, form_text};

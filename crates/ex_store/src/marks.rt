@@ -12,8 +12,9 @@ ghost use Rattle.ex_store.specs.State.{has_directory};
 use crate::{Place, Row, Store};
 use ex_generations::{Bytes, PAGE_BYTES};
 
-// The pages of a file, at most 26.
-fn page_count(bytes: &Bytes) -> u32
+/// How many pages a file with these bytes has, at most 26: a page is 512 words of five characters, 2,560 bytes, and a
+/// part of one counts as a whole one.
+pub fn page_count(bytes: &Bytes) -> u32
     requires { length bytes.now ≤ FILE_LIMIT }
     ensures count { result ≡ page_count (length bytes.now) }
     ensures few { result ≤ 26 }
