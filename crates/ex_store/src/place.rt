@@ -28,6 +28,15 @@ pub struct Place {
     pub flags: Flags,
 }
 
+fn copy_of_part(part: &Option<Name>) -> Option<Name>
+    ensures { result ≡ part.now }
+{
+    match part {
+        Some(part) => Some(copy_of(part)),
+        None => None,
+    }
+}
+
 fn part_from(part: &Option<Name>, own: &Name) -> Name
     ensures { result ≡ part_from part.now own.now }
 {
@@ -56,6 +65,19 @@ fn is_star(part: &Option<Name>) -> bool
 }
 
 impl Place {
+    /// A place of its own.
+    pub fn copy(&self) -> Place
+        ensures { result ≡ self.now }
+    {
+        Place {
+            directory: copy_of(&self.directory),
+            name: copy_of_part(&self.name),
+            kind: copy_of_part(&self.kind),
+            generation: self.generation,
+            flags: self.flags,
+        }
+    }
+
     // What files are looked for, with this mark.
     pub(crate) fn sought(&self, deleted: bool) -> Sought<'_>
         ensures { wanted result ≡ wanted_of deleted self.now }
