@@ -86,13 +86,7 @@ fn renames(
             Err(NoMemory) => return Err(Refusal::NoMemory),
         }
     }
-    let Course { steps, pairs, .. } = course;
-    Ok(Ready {
-        directory: None,
-        keep,
-        steps,
-        pairs,
-    })
+    Ok(course.ready(keep))
 }
 
 impl Store {
