@@ -1,5 +1,5 @@
 // Files are copied.
-ghost use Rattle.std.specs.Prelude.{◌≡◌, ◌≤◌, true, [], ◌∷◌, ◌++◌, length, nat_lt, min, IfOk, IfErr, OnOk, None, Ok};
+ghost use Rattle.std.specs.Prelude.{◌≡◌, ◌≤◌, true, [], ◌∷◌, ◌++◌, length, nat_lt, min, IfOk, IfErr, OnOk, Ok};
 ghost use Rattle.std.specs.List.{list_all};
 ghost use Rattle.ex_store.specs.declared.limits.TheConstants.{ROW_LIMIT};
 ghost use Rattle.ex_store.specs.declared.plan.Plan.TheVariants as plans;
