@@ -31,6 +31,7 @@ is_over state from directories rows given positions same_directories same_rows t
   rows_are = same_rows;
 }
 
+-- what is made of the lists that the code has is the plan, done on the state
 pub made_by : (plan : List Directory → List Row → List Row → Result Outcome Code) (state : State) (from : Place)
     (directories : List Directory) (taken rows : List Row) (change : Change) → IsOver state from directories taken rows
     → IsMade directories rows (plan directories taken rows) change
@@ -40,6 +41,7 @@ made_by plan state from directories taken rows change over made =
     rw (← over.sources_are, ← over.directories_are, ← over.rows_are) made.outcome in
     rw (comes, made.none) refl
 
+-- and what is refused of them, the plan refuses
 pub refused_by : (plan : List Directory → List Row → List Row → Result Outcome Code) (state : State) (from : Place)
     (directories : List Directory) (taken rows : List Row) (refusal : Refusal) → IsOver state from directories taken rows
     → IsRefused (plan directories taken rows) refusal
