@@ -1,11 +1,10 @@
 -- Bytes are put behind those of a file: the rows stay those of a store, and what the plan comes to.
-use Rattle.std.proofs.Common.{◌≡◌, ◌≤◌, ◌+◌, ◌&&◌, nat_le, nat_lt, ℕ, suc, Bool, true, false, cond, List, [], ◌∷◌, ◌++◌, length, slice_get, unwrap_or, Result, Ok, Err, Option, Some, None, IfOk, IfErr, refl, ap, arith, ◌∙◌, subst}
+use Rattle.std.proofs.Common.{◌≡◌, ◌≤◌, ◌+◌, ◌&&◌, nat_le, ℕ, suc, Bool, true, false, cond, List, [], ◌∷◌, ◌++◌, length, slice_get, unwrap_or, Ok, Option, Some, None, refl, ap, arith, ◌∙◌, subst}
 use Rattle.std.specs.List.{list_all}
 use Rattle.std.specs.Option.{option_map_or, option_to_list}
 use Rattle.std.specs.Ordering.{is_lt}
 use Rattle.std.proofs.lemmas.Bool.{and_from, and_parts, le-leb, leb-true, not-true}
 use Rattle.std.proofs.lemmas.List.{length-map}
-use Rattle.cm_fields.specs.declared.code.Code.{Code}
 use Rattle.ex_generations.specs.declared.file.TheConstants.{FILE_LIMIT}
 use Rattle.ex_generations.specs.Generations.{rewritten}
 use Rattle.ex_store.specs.declared.append.Opening.{Opening}
@@ -14,29 +13,22 @@ use Rattle.ex_store.specs.declared.key.FullName.{FullName}
 use Rattle.ex_store.specs.declared.key.NamePair.{NamePair}
 use Rattle.ex_store.specs.declared.limits.TheConstants.{MOMENT_LIMIT, STORE_LIMIT}
 use Rattle.ex_store.specs.declared.place.Place.{Place}
-use Rattle.ex_store.specs.declared.plan.Plan.TheVariants as plans
-use Rattle.ex_store.specs.declared.plan.Refusal.{Refusal}
-use Rattle.ex_store.specs.declared.plan.Refusal.TheVariants as refusals
 use Rattle.ex_store.specs.declared.ready.Step.{Step}
 use Rattle.ex_store.specs.declared.row.Row.{Row}
-use Rattle.ex_store.specs.Adding.{Outcome, admitted, new_row}
+use Rattle.ex_store.specs.Adding.{admitted, new_row}
 use Rattle.ex_store.specs.Appending.{appended, bytes_at, found, opened, opening_of, pairs_to, poured, steps_of, with_opened}
 use Rattle.ex_store.specs.Copying.{moment_of, own_key}
-use Rattle.ex_store.specs.Plan.{IsOneFile, IsRefused, has_plain_kind, has_plain_name, planned, sources, with_rows}
-use Rattle.ex_store.specs.Positions.{elements_at, positions_from}
-use Rattle.ex_store.specs.Ready.{Change, all_stepped, done_on, outcome_of}
+use Rattle.ex_store.specs.Plan.{IsOneFile, has_plain_kind, has_plain_name}
+use Rattle.ex_store.specs.Positions.{elements_at}
+use Rattle.ex_store.specs.Ready.{all_stepped}
 use Rattle.ex_store.specs.Rows.{added, by_row, files_of, filled, full_of, is_full, row_at, total}
-use Rattle.ex_store.specs.Selection.{is_meant}
-use Rattle.ex_store.specs.State.{State, keep_of}
 use Rattle.ex_store.specs.WellFormed.{AreRows, is_file_name, is_file_type, is_row_among}
 use Rattle.ex_store.proofs.Admitting.{admitted_is, and_then_ok, counted_file, rows_added}
 use Rattle.ex_store.proofs.Ascending.{all_above, ascends_sorted, is_sorted, sorted_ascends}
 use Rattle.ex_store.proofs.Copies.{formed, formed_is, moment_within}
-use Rattle.ex_store.proofs.Marking.{positions_fit}
 use Rattle.ex_store.proofs.Pouring.{poured_within}
 use Rattle.ex_store.proofs.Sizes.{total_added, total_cons}
 use Rattle.ex_store.proofs.Sound.{absent_has, by_row_total, is_absent}
-use Rattle.ex_store.proofs.Sources.{elements_filter}
 
 -- the row with another moment and other bytes
 abbrev refilled : ℕ → List ℕ → Row → Row
@@ -257,52 +249,3 @@ few_pairs target rows positions limit pairs is few =
     let counted : length (pairs_to target (elements_at rows positions)) ≡ length (elements_at rows positions) =
     length-map (elements_at rows positions) (λ (source : Row). pair_to target source) in
     rw is (omega (arith, few, length_elements rows positions, counted))
-
--- two facts of what comes of a plan
-both_ok : {A B : Type 0} (P Q R : A → Type 0) → ((x : A) → P x → Q x → R x) → (result : Result A B) → IfOk result P → IfOk result Q → IfOk result R
-both_ok P Q R join (Ok x) first second = join x first second
-both_ok P Q R join (Err e) first second = tt
-
-pub append_within : (state : State) (from : Place) (before : List Row) (given positions : List ℕ) → before ≡ state.rows → given ≡ positions
-    → positions ≡ positions_from (is_meant from.flags.deleted from state) 0 state.rows → list_all (λ at. nat_lt at (length before)) given ≡ true
-append_within state from before given positions same told found =
-    positions_fit (is_meant from.flags.deleted from state) state.rows before given positions same told found
-
--- the sources of the code are those of the plan
-pub sources_are : (state : State) (from : Place) (before : List Row) (given positions : List ℕ) → before ≡ state.rows → given ≡ positions
-    → positions ≡ positions_from (is_meant from.flags.deleted from state) 0 state.rows → elements_at before given ≡ sources from state
-sources_are state from before given positions same told found =
-    rw (told, found, same) (elements_filter (is_meant from.flags.deleted from state) state.rows)
-
--- what the code asks for is the plan
-abbrev asks : ℕ → Place → List Directory → List Row → List Row → Result Outcome Code
-asks moment to directories rows sources = appended (keep_of to.directory directories) moment to sources rows
-
-pub append_planned : (state : State) (from to : Place) (moment : ℕ) (directories : List Directory) (rows : List Row) (from_rows : List Row) (result : Result Change Refusal)
-    → directories ≡ state.directories → rows ≡ state.rows → from_rows ≡ sources from state
-    → IfOk result (λ ready. asks moment to directories rows from_rows ≡ Ok (outcome_of rows ready))
-    → IfOk result (λ ready. ready.directory ≡ None)
-    → IfOk result (λ ready. planned (plans.Append from to) moment state ≡ Ok (done_on state ready))
-unfolding planned
-append_planned state from to moment directories rows from_rows result same are taken comes none =
-    both_ok (λ (ready : Change). asks moment to directories rows from_rows ≡ Ok (outcome_of rows ready)) (λ (ready : Change). ready.directory ≡ None)
-    (λ (ready : Change). with_rows state (asks moment to state.directories state.rows (sources from state)) ≡ Ok (done_on state ready)) each result comes none
-  where
-    each : (ready : Change) → asks moment to directories rows from_rows ≡ Ok (outcome_of rows ready) → ready.directory ≡ None
-        → with_rows state (asks moment to state.directories state.rows (sources from state)) ≡ Ok (done_on state ready)
-    each ready is nothing =
-        let asked : asks moment to state.directories state.rows (sources from state) ≡ Ok (outcome_of state.rows ready) =
-        rw (← taken, ← same, ← are) is in
-        rw nothing (ap (with_rows state) asked)
-
-pub append_refused : (state : State) (from to : Place) (moment : ℕ) (directories : List Directory) (rows : List Row) (from_rows : List Row) (result : Result Change Refusal)
-    → directories ≡ state.directories → rows ≡ state.rows → from_rows ≡ sources from state
-    → IfErr result (IsRefused (asks moment to directories rows from_rows))
-    → IfErr result (IsRefused (planned (plans.Append from to) moment state))
-unfolding planned
-append_refused state from to moment directories rows from_rows (Ok ready) same are taken refused = tt
-append_refused state from to moment directories rows from_rows (Err refusals.NoMemory) same are taken refused = tt
-append_refused state from to moment directories rows from_rows (Err (refusals.Code code)) same are taken refused =
-    let asked : asks moment to state.directories state.rows (sources from state) ≡ Err code =
-    rw (← taken, ← same, ← are) refused in
-    ap (with_rows state) asked

@@ -10,7 +10,7 @@ use Rattle.cm_files.specs.LogicalName.{is_logical_name}
 use Rattle.ex_generations.specs.declared.file.TheConstants.{FILE_LIMIT, GENERATION_LIMIT}
 use Rattle.ex_store.specs.declared.directory.Definition.{Definition}
 use Rattle.ex_store.specs.declared.directory.Directory.{Directory}
-use Rattle.ex_store.specs.declared.limits.TheConstants.{COPIES_LIMIT, DIRECTORY_LIMIT, FORMS, LOGICAL_LIMIT, MOMENT_LIMIT, QUEUE_LIMIT, RETENTION_LIMIT, ROW_LIMIT, STORE_LIMIT}
+use Rattle.ex_store.specs.declared.limits.TheConstants.{AFTER_LIMIT, COPIES_LIMIT, DIRECTORY_LIMIT, FORMS, LOGICAL_LIMIT, MOMENT_LIMIT, QUEUE_LIMIT, RETENTION_LIMIT, ROW_LIMIT, STORE_LIMIT}
 use Rattle.ex_store.specs.declared.queue.QueueEntry.{QueueEntry}
 use Rattle.ex_store.specs.declared.row.Row.{Row}
 use Rattle.ex_store.specs.Rows.{by_row, total}
@@ -46,7 +46,7 @@ is_definition_among directories entry =
 -- a day from 1-JAN-1970 to 31-DEC-2099, or none
 abbrev pub is_day : Option ℤ → Bool
 is_day None = true
-is_day (Some day) = int_le (pos 0) day && int_le day (pos 47481)
+is_day (Some day) = int_le (pos 0) day && int_le day AFTER_LIMIT
 
 -- an entry of the queue for a file of one of these directories, which may be gone
 abbrev pub is_entry_among : List Directory → QueueEntry → Bool

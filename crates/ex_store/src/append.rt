@@ -1,5 +1,5 @@
 // The bytes of files are put behind those of one file.
-ghost use Rattle.std.specs.Prelude.{◌≡◌, ◌≤◌, true, length, nat_lt, IfOk, IfErr, None, Ok};
+ghost use Rattle.std.specs.Prelude.{◌≡◌, ◌≤◌, true, length, nat_lt, IfOk, IfErr, Ok};
 ghost use Rattle.std.specs.List.{list_all};
 ghost use Rattle.ex_store.specs.declared.limits.TheConstants.{ROW_LIMIT, STORE_LIMIT};
 ghost use Rattle.ex_generations.specs.declared.file.TheConstants.{FILE_LIMIT};
@@ -8,7 +8,7 @@ ghost use Rattle.ex_store.specs.Appending.{appended, bytes_at, fitting, found, o
 ghost use Rattle.ex_store.specs.Copying.{moment_of};
 ghost use Rattle.ex_store.specs.Plan.{IsOneFile, IsRefused, MayPlan, planned};
 ghost use Rattle.ex_store.specs.Positions.{elements_at};
-ghost use Rattle.ex_store.specs.Ready.{all_stepped, applied, done_on, outcome_of};
+ghost use Rattle.ex_store.specs.Ready.{IsMade, applied, done_on};
 ghost use Rattle.ex_store.specs.Rows.{files_of, total};
 ghost use Rattle.ex_store.specs.State.{keep_of};
 ghost use Rattle.ex_store.specs.WellFormed.{AreRows, IsWellFormed};
@@ -183,14 +183,12 @@ fn appends(
     requires within { list_all (λ at. nat_lt at (length rows.now)) positions.now ≡ true }
     requires few { length positions.now ≤ ROW_LIMIT }
     requires target { IsOneFile to.now directories.now }
-    ensures ready { IfOk result (λ ready.
-        appended (keep_of to.now.directory directories.now) moment to.now (elements_at rows.now positions.now) rows.now
-        ≡ Ok (outcome_of rows.now ready)) }
-    ensures none { IfOk result (λ ready. ready.directory ≡ None) }
-    ensures sound { IfOk result (λ ready. AreRows directories.now (all_stepped ready.keep rows.now ready.steps)) }
-    ensures refused { IfErr result (IsRefused
-        (appended (keep_of to.now.directory directories.now) moment to.now (elements_at rows.now positions.now)
-        rows.now)) }
+    ensures made { let sources = elements_at rows.now positions.now in
+        IfOk result (IsMade directories.now rows.now
+        (appended (keep_of to.now.directory directories.now) moment to.now sources rows.now)) }
+    ensures refused { let sources = elements_at rows.now positions.now in
+        IfErr result (IsRefused
+        (appended (keep_of to.now.directory directories.now) moment to.now sources rows.now)) }
 {
     let opening = match opened(alloc, rows, to.own_key(), to.generation, moment) {
         Ok(opening) => opening,

@@ -1,5 +1,5 @@
-// Files are copied, or written anew.
-ghost use Rattle.std.specs.Prelude.{◌≡◌, ◌≤◌, true, [], ◌∷◌, ◌++◌, length, nat_lt, min, IfOk, IfErr, OnOk, None, Ok};
+// Files are copied.
+ghost use Rattle.std.specs.Prelude.{◌≡◌, ◌≤◌, true, [], ◌∷◌, ◌++◌, length, nat_lt, min, IfOk, IfErr, OnOk, Ok};
 ghost use Rattle.std.specs.List.{list_all};
 ghost use Rattle.ex_store.specs.declared.limits.TheConstants.{ROW_LIMIT};
 ghost use Rattle.ex_store.specs.declared.plan.Plan.TheVariants as plans;
@@ -102,13 +102,7 @@ fn copies(
             Err(NoMemory) => return Err(Refusal::NoMemory),
         }
     }
-    let Course { steps, pairs, .. } = course;
-    Ok(Ready {
-        directory: None,
-        keep,
-        steps,
-        pairs,
-    })
+    Ok(course.ready(keep))
 }
 
 impl Store {

@@ -1,8 +1,9 @@
 // A plan over files, as far as it has come.
-ghost use Rattle.std.specs.Prelude.{◌≡◌, [], map, IfOk};
+ghost use Rattle.std.specs.Prelude.{◌≡◌, ◌≤◌, [], length, map, IfOk, None};
+ghost use Rattle.ex_store.specs.declared.limits.TheConstants.{ROW_LIMIT};
 ghost use Rattle.ex_store.specs.Rows.{blank};
 
-use crate::{NamePair, Row, Step};
+use crate::{NamePair, Ready, Row, Step};
 use cm_io::NoMemory;
 use std::alloc::Global;
 
@@ -37,5 +38,24 @@ impl Course {
             pairs: Vec::new(alloc),
             played: blanks(alloc, rows)?,
         })
+    }
+
+    // All that is to be done, where so many generations are kept.
+    pub(crate) fn ready(self, keep: u8) -> Ready
+        requires { length self.pairs.items ≤ ROW_LIMIT }
+        ensures { result ≡ record {
+          directory = None;
+          keep = keep;
+          steps = self.steps.items;
+          pairs = self.pairs.items;
+        } }
+    {
+        let Course { steps, pairs, .. } = self;
+        Ready {
+            directory: None,
+            keep,
+            steps,
+            pairs,
+        }
     }
 }

@@ -33,7 +33,7 @@ mod write;
 pub use directory::{Definition, Directory, Logical};
 pub use key::{Full, FullName, Key, NamePair, Pair};
 pub use limits::{
-    COPIES_LIMIT, DIRECTORY_LIMIT, FORMS, LOGICAL_LIMIT, MOMENT_LIMIT, QUEUE_LIMIT,
+    AFTER_LIMIT, COPIES_LIMIT, DIRECTORY_LIMIT, FORMS, LOGICAL_LIMIT, MOMENT_LIMIT, QUEUE_LIMIT,
     RETENTION_LIMIT, ROW_LIMIT, STORE_LIMIT,
 };
 pub use marks::page_count;

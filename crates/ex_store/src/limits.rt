@@ -24,5 +24,8 @@ pub const QUEUE_LIMIT: usize = 64;
 /// The most copies of a request for printing.
 pub const COPIES_LIMIT: u8 = 63;
 
+/// The last day that a file in the print queue can have to wait for, in days since 1-JAN-1970: 31-DEC-2099.
+pub const AFTER_LIMIT: i32 = 47_481;
+
 /// How many forms there are to print on.
 pub const FORMS: u8 = 3;

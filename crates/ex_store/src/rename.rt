@@ -1,5 +1,5 @@
 // Files are given other names.
-ghost use Rattle.std.specs.Prelude.{ℕ, ◌≡◌, ◌≤◌, true, [], ◌∷◌, ◌++◌, length, nat_lt, IfOk, IfErr, OnOk, None, Ok};
+ghost use Rattle.std.specs.Prelude.{ℕ, ◌≡◌, ◌≤◌, true, [], ◌∷◌, ◌++◌, length, nat_lt, IfOk, IfErr, OnOk, Ok};
 ghost use Rattle.std.specs.List.{list_all};
 ghost use Rattle.ex_store.specs.declared.limits.TheConstants.{ROW_LIMIT};
 ghost use Rattle.ex_store.specs.declared.plan.Plan.TheVariants as plans;
@@ -86,13 +86,7 @@ fn renames(
             Err(NoMemory) => return Err(Refusal::NoMemory),
         }
     }
-    let Course { steps, pairs, .. } = course;
-    Ok(Ready {
-        directory: None,
-        keep,
-        steps,
-        pairs,
-    })
+    Ok(course.ready(keep))
 }
 
 impl Store {

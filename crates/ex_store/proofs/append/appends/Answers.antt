@@ -1,4 +1,4 @@
-use Rattle.std.proofs.Common.{◌≡◌, ℕ, List, Ok, ap, sym, ◌∙◌}
+use Rattle.std.proofs.Common.{◌≡◌, ℕ, List, Ok, ap, refl, sym, ◌∙◌}
 use Rattle.ex_store.specs.Appending.{bytes_at, opened, poured}
 use Rattle.ex_store.specs.Copying.{own_key}
 use Rattle.ex_store.specs.Positions.{elements_at}
@@ -22,14 +22,15 @@ pours : (c : goal.After-keep_of)
     → poured (total c.args.rows.now) (bytes_at c.in-Ok.opening.target c.args.rows.now) (elements_at c.args.rows.now c.args.positions.now) ≡ Ok c.in-Ok-poured.bytes
 pours c = rw (← c.bytes_at.ensures, ← c.in-Ok-from_slice.ensures.items) c.in-Ok-poured.ensures.ok
 
-pub returns-in-Ok-steps_of-clause-ready : goal.returns-in-Ok-steps_of-clause-ready
-returns-in-Ok-steps_of-clause-ready c =
+pub returns-in-Ok-steps_of-clause-made : goal.returns-in-Ok-steps_of-clause-made
+returns-in-Ok-steps_of-clause-made c =
     let keep_is : c.keep_of.result ≡ keep_of c.args.to.now.directory c.args.directories.now =
     c.keep_of.ensures ∙ ap (λ (name : List ℕ). keep_of name c.args.directories.now) c.as_bytes.ensures.value in
-    rw (← keep_is) (append_ready c.keep_of.result c.args.moment c.args.to.now c.args.rows.now (elements_at c.args.rows.now c.args.positions.now) c.in-Ok.opening c.in-Ok-poured.bytes
-    c.in-Ok-steps_of.steps.items c.in-Ok-pairs_to.pairs.items (opens c) (pours c) c.in-Ok-steps_of.ensures c.in-Ok-pairs_to.ensures)
-
-pub returns-in-Ok-steps_of-clause-sound : goal.returns-in-Ok-steps_of-clause-sound
-returns-in-Ok-steps_of-clause-sound c =
-    append_sound c.args.directories.now c.keep_of.result c.args.moment c.args.to.now c.args.rows.now (elements_at c.args.rows.now c.args.positions.now) c.in-Ok.opening c.in-Ok-poured.bytes
-    c.in-Ok-steps_of.steps.items c.requires.rows c.requires.target (opens c) (pours c) c.in-Ok-steps_of.ensures
+    record {
+      none = refl;
+      outcome = rw (← keep_is)
+          (append_ready c.keep_of.result c.args.moment c.args.to.now c.args.rows.now (elements_at c.args.rows.now c.args.positions.now) c.in-Ok.opening c.in-Ok-poured.bytes
+          c.in-Ok-steps_of.steps.items c.in-Ok-pairs_to.pairs.items (opens c) (pours c) c.in-Ok-steps_of.ensures c.in-Ok-pairs_to.ensures);
+      sound = append_sound c.args.directories.now c.keep_of.result c.args.moment c.args.to.now c.args.rows.now (elements_at c.args.rows.now c.args.positions.now) c.in-Ok.opening c.in-Ok-poured.bytes
+          c.in-Ok-steps_of.steps.items c.requires.rows c.requires.target (opens c) (pours c) c.in-Ok-steps_of.ensures;
+    }

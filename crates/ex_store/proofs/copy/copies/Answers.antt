@@ -38,9 +38,9 @@ returns-clause-made c =
     let none : drop c.loop-at.at-index c.args.positions.now ≡ [] = drop_of_length-le c.args.positions.now (omega arith) in
     let copying = subst (λ (left : List ℕ). IsCopying c.args.directories.now c.keep_of-keep.result c.args.moment c.args.to.now c.args.rows.now (elements_at c.args.rows.now c.args.positions.now) (elements_at c.args.rows.now left) c.loop-at.course.steps.items c.loop-at.course.pairs.items c.loop-at.course.played.items c.loop-at.bytes) none c.loop-at.invariant.copying in
     let keep_is : c.keep_of-keep.result ≡ keep_of c.args.to.now.directory c.args.directories.now = c.keep_of-keep.ensures ∙ ap (λ (name : List ℕ). keep_of name c.args.directories.now) c.as_bytes.ensures.value in
-    record {
+    rw c.ready.ensures (record {
       none = refl;
       outcome = subst (λ (keep : ℕ). each_in_turn (copied keep c.args.moment c.args.to.now) (elements_at c.args.rows.now c.args.positions.now) (record { rows = c.args.rows.now; pairs = [] }) ≡ Ok (outcome_at c.keep_of-keep.result c.args.rows.now c.loop-at.course.steps.items c.loop-at.course.pairs.items)) keep_is
           (sym copying.on.course);
       sound = copying.on.sound;
-    }
+    })

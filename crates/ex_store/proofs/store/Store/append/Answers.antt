@@ -1,25 +1,47 @@
-use Rattle.std.proofs.Common.{ap, ◌∙◌}
-use Rattle.ex_store.specs.State.{Held}
-use Rattle.ex_store.proofs.Filling.{append_planned, append_refused, append_within, sources_are}
+use Rattle.std.proofs.Common.{ℕ, List, Result, ap, ◌∙◌}
+use Rattle.std.proofs.lemmas.Result.{IfErr-weaker, IfOk-weaker}
+use Rattle.cm_fields.specs.declared.code.Code.{Code}
+use Rattle.ex_store.specs.declared.directory.Directory.{Directory}
+use Rattle.ex_store.specs.declared.place.Place.{Place}
+use Rattle.ex_store.specs.declared.plan.Refusal.{Refusal}
+use Rattle.ex_store.specs.declared.row.Row.{Row}
+use Rattle.ex_store.specs.Adding.{Outcome}
+use Rattle.ex_store.specs.Appending.{appended}
+use Rattle.ex_store.specs.Plan.{planned}
+use Rattle.ex_store.specs.Positions.{elements_at}
+use Rattle.ex_store.specs.Ready.{Change}
+use Rattle.ex_store.specs.Selection.{is_meant}
+use Rattle.ex_store.specs.State.{Held, keep_of}
+use Rattle.ex_store.proofs.Marking.{positions_fit}
+use Rattle.ex_store.proofs.Preparing.{IsOver, is_over, made_by, refused_by}
 use Rattle.ex_store.proofs.store.Store.append.Goals as goal
 
 pub appends-requires-clause-within : goal.appends-requires-clause-within
 appends-requires-clause-within c =
-    append_within c.args.self.now.state c.args.from.now c.deref-2.result.now c.deref-3.result.now c.positions-positions.result.items
+    positions_fit (is_meant c.args.from.now.flags.deleted c.args.from.now c.args.self.now.state) c.args.self.now.state.rows
+    c.deref-2.result.now c.deref-3.result.now c.positions-positions.result.items
     (c.deref-2.ensures.value ∙ ap (λ (held : Held). held.state.rows) c.self.view_is) c.deref-3.ensures.0 c.positions-positions.ensures
 
+over : (c : goal.After-appends) → IsOver c.args.self.now.state c.args.from.now c.deref.result.now (elements_at c.deref-2.result.now c.deref-3.result.now) c.deref-2.result.now
+over c =
+    is_over c.args.self.now.state c.args.from.now c.deref.result.now c.deref-2.result.now c.deref-3.result.now c.positions-positions.result.items
+    (c.deref.ensures.value ∙ ap (λ (held : Held). held.state.directories) c.self.view_is)
+    (c.deref-2.ensures.value ∙ ap (λ (held : Held). held.state.rows) c.self.view_is) c.deref-3.ensures.0 c.positions-positions.ensures
+
+-- an appending, of any directories, sources and rows
+abbrev append : ℕ → Place → List Directory → List Row → List Row → Result Outcome Code
+append moment to directories taken rows = appended (keep_of to.directory directories) moment to taken rows
+
 pub returns-clause-ready : goal.returns-clause-ready
+unfolding planned
 returns-clause-ready c =
-    let rows = c.deref-2.ensures.value ∙ ap (λ (held : Held). held.state.rows) c.self.view_is in
-    append_planned c.args.self.now.state c.args.from.now c.args.to.now c.args.moment c.deref.result.now c.deref-2.result.now _ c.appends.result
-    (c.deref.ensures.value ∙ ap (λ (held : Held). held.state.directories) c.self.view_is) rows
-    (sources_are c.args.self.now.state c.args.from.now c.deref-2.result.now c.deref-3.result.now c.positions-positions.result.items rows c.deref-3.ensures.0 c.positions-positions.ensures)
-    c.appends.ensures.ready c.appends.ensures.none
+    IfOk-weaker c.appends.result _ _ (λ (ready : Change) made.
+    made_by (append c.args.moment c.args.to.now) c.args.self.now.state c.args.from.now c.deref.result.now _ c.deref-2.result.now ready (over c) made)
+    c.appends.ensures.made
 
 pub returns-clause-refused : goal.returns-clause-refused
+unfolding planned
 returns-clause-refused c =
-    let rows = c.deref-2.ensures.value ∙ ap (λ (held : Held). held.state.rows) c.self.view_is in
-    append_refused c.args.self.now.state c.args.from.now c.args.to.now c.args.moment c.deref.result.now c.deref-2.result.now _ c.appends.result
-    (c.deref.ensures.value ∙ ap (λ (held : Held). held.state.directories) c.self.view_is) rows
-    (sources_are c.args.self.now.state c.args.from.now c.deref-2.result.now c.deref-3.result.now c.positions-positions.result.items rows c.deref-3.ensures.0 c.positions-positions.ensures)
+    IfErr-weaker c.appends.result _ _ (λ (refusal : Refusal) refused.
+    refused_by (append c.args.moment c.args.to.now) c.args.self.now.state c.args.from.now c.deref.result.now _ c.deref-2.result.now refusal (over c) refused)
     c.appends.ensures.refused

@@ -1,19 +1,20 @@
-use Rattle.std.proofs.Common.{◌≡◌, filter, ap, ◌∙◌}
+use Rattle.std.proofs.Common.{ℕ, List, Result, ap, ◌∙◌}
 use Rattle.std.proofs.lemmas.Result.{IfErr-weaker, IfOk-weaker}
+use Rattle.cm_fields.specs.declared.code.Code.{Code}
+use Rattle.ex_store.specs.declared.directory.Directory.{Directory}
+use Rattle.ex_store.specs.declared.place.Place.{Place}
 use Rattle.ex_store.specs.declared.plan.Refusal.{Refusal}
+use Rattle.ex_store.specs.declared.row.Row.{Row}
+use Rattle.ex_store.specs.Adding.{Outcome}
+use Rattle.ex_store.specs.Copying.{all_copied}
+use Rattle.ex_store.specs.Plan.{planned}
 use Rattle.ex_store.specs.Positions.{elements_at}
 use Rattle.ex_store.specs.Ready.{Change}
 use Rattle.ex_store.specs.Selection.{is_meant}
-use Rattle.ex_store.specs.State.{Held}
+use Rattle.ex_store.specs.State.{Held, keep_of}
 use Rattle.ex_store.proofs.Marking.{positions_fit}
-use Rattle.ex_store.proofs.Preparing.{made_copy, refused_copy, sources_at}
+use Rattle.ex_store.proofs.Preparing.{IsOver, is_over, made_by, refused_by}
 use Rattle.ex_store.proofs.store.Store.copy.Goals as goal
-
-directories_are : (c : goal.After-copies) → c.deref.result.now ≡ c.args.self.now.state.directories
-directories_are c = c.deref.ensures.value ∙ ap (λ (held : Held). held.state.directories) c.self.view_is
-
-rows_are : (c : goal.After-copies) → c.deref-2.result.now ≡ c.args.self.now.state.rows
-rows_are c = c.deref-2.ensures.value ∙ ap (λ (held : Held). held.state.rows) c.self.view_is
 
 pub copies-requires-clause-within : goal.copies-requires-clause-within
 copies-requires-clause-within c =
@@ -21,20 +22,26 @@ copies-requires-clause-within c =
     c.deref-2.result.now c.deref-3.result.now c.positions-positions.result.items
     (c.deref-2.ensures.value ∙ ap (λ (held : Held). held.state.rows) c.self.view_is) c.deref-3.ensures.0 c.positions-positions.ensures
 
-sources_are : (c : goal.After-copies) → elements_at c.deref-2.result.now c.deref-3.result.now
-    ≡ filter (is_meant c.args.from.now.flags.deleted c.args.from.now c.args.self.now.state) c.args.self.now.state.rows
-sources_are c =
-    sources_at (is_meant c.args.from.now.flags.deleted c.args.from.now c.args.self.now.state) c.args.self.now.state.rows
-    c.deref-2.result.now c.deref-3.result.now c.positions-positions.result.items (rows_are c) c.deref-3.ensures.0 c.positions-positions.ensures
+over : (c : goal.After-copies) → IsOver c.args.self.now.state c.args.from.now c.deref.result.now (elements_at c.deref-2.result.now c.deref-3.result.now) c.deref-2.result.now
+over c =
+    is_over c.args.self.now.state c.args.from.now c.deref.result.now c.deref-2.result.now c.deref-3.result.now c.positions-positions.result.items
+    (c.deref.ensures.value ∙ ap (λ (held : Held). held.state.directories) c.self.view_is)
+    (c.deref-2.ensures.value ∙ ap (λ (held : Held). held.state.rows) c.self.view_is) c.deref-3.ensures.0 c.positions-positions.ensures
+
+-- a copy, of any directories, sources and rows
+abbrev copy : ℕ → Place → List Directory → List Row → List Row → Result Outcome Code
+copy moment to directories taken rows = all_copied (keep_of to.directory directories) moment to taken rows
 
 pub returns-clause-ready : goal.returns-clause-ready
+unfolding planned
 returns-clause-ready c =
     IfOk-weaker c.copies.result _ _ (λ (ready : Change) made.
-    made_copy c.args.self.now.state c.args.from.now c.args.to.now c.args.moment c.deref.result.now c.deref-2.result.now _ ready (directories_are c) (rows_are c) (sources_are c) made)
+    made_by (copy c.args.moment c.args.to.now) c.args.self.now.state c.args.from.now c.deref.result.now _ c.deref-2.result.now ready (over c) made)
     c.copies.ensures.made
 
 pub returns-clause-refused : goal.returns-clause-refused
+unfolding planned
 returns-clause-refused c =
     IfErr-weaker c.copies.result _ _ (λ (refusal : Refusal) refused.
-    refused_copy c.args.self.now.state c.args.from.now c.args.to.now c.args.moment c.deref.result.now c.deref-2.result.now _ refusal (directories_are c) (rows_are c) (sources_are c) refused)
+    refused_by (copy c.args.moment c.args.to.now) c.args.self.now.state c.args.from.now c.deref.result.now _ c.deref-2.result.now refusal (over c) refused)
     c.copies.ensures.refused
