@@ -57,7 +57,7 @@ type_blocks =
     ∷ guide (codes "OF FILES") 24
     ∷ []
 
--- 25 to 27: the end of DIRECTORY and of BUILD, and INFORMATION
+-- 25 to 27: where DIRECTORY and BUILD end, and INFORMATION
 unfoldable pub information_blocks : List Block
 information_blocks =
     confirm
@@ -106,7 +106,7 @@ subcommand_blocks =
     ∷ later
     ∷ []
 
--- nodes 0 to 18: to the directory to connect to, at 18
+-- nodes 0 to 18: up to the directory to connect to
 unfoldable pub first_nodes : List Node
 first_nodes =
     source_nodes

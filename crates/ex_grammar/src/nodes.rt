@@ -30,7 +30,7 @@ pub(crate) fn nodes(alloc: Global) -> Result<Vec<Node>, NoMemory>
     Ok(nodes)
 }
 
-// Nodes 0 to 18: to the directory to connect to.
+// Nodes 0 to 18: up to the directory to connect to.
 #[tactic(auto, unfolding(crate::specs::Graph::first_nodes))]
 fn first_nodes(alloc: Global) -> Result<Vec<Node>, NoMemory>
     ensures { IfOk result (λ nodes. nodes.items ≡ first_nodes) }
@@ -117,7 +117,7 @@ fn type_blocks(alloc: Global) -> Result<Vec<Block>, NoMemory>
     Ok(vec![in alloc; later(), later(), later(), later(), guide("OF FILES", 24)]?)
 }
 
-// 25 to 27: the end of DIRECTORY and of BUILD, and INFORMATION.
+// 25 to 27: where DIRECTORY and BUILD end, and INFORMATION.
 #[tactic(auto, unfolding(crate::specs::Graph::information_blocks))]
 fn information_blocks(alloc: Global) -> Result<Vec<Block>, NoMemory>
     ensures { IfOk result (λ blocks. blocks.items ≡ information_blocks) }
