@@ -1,20 +1,27 @@
 -- The grammar of the EXEC: 51 nodes, each on a line of its own, and two keyword tables.
 use Rattle.std.specs.Prelude.{List, [], ◌∷◌, ◌++◌, codes, map}
-use Rattle.cm_blocks.specs.declared.function.Role.TheVariants.{Verb, What}
+use Rattle.cm_blocks.specs.declared.function.Role.TheVariants.{Verb, What, Source, Files}
 use Rattle.cm_blocks.specs.declared.node.Block.{Block}
 use Rattle.cm_blocks.specs.declared.node.Node.{Node}
 use Rattle.cm_blocks.specs.Grammar.{Graph}
+use Rattle.ex_grammar.specs.declared.node.TheConstants.{LINE_END}
 use Rattle.ex_grammar.specs.declared.tables.TheConstants.{COMMAND_TABLE, TOPIC_TABLE}
 use Rattle.ex_grammar.specs.Tables.{exec_tables}
-use Rattle.ex_grammar.specs.Words.{confirm, directory, either, either_or, guide, hook, keyword, later, only, remark, token, user}
+use Rattle.ex_grammar.specs.Words.{any_file, confirm, directory, either, either_or, guide, hook, in_file, keyword, later, new_directory, only, only_or, out_file, remark, source_token, token, user, wild, wild_all, wild_deleted, wild_from_source, wild_generations}
 
--- 1 to 5: COPY, and the end of a line
-unfoldable pub copy_blocks : List Block
-copy_blocks =
-    later
-    ∷ later
-    ∷ later
-    ∷ later
+-- nodes 0 to 2: where a command begins, and what COPY reads
+unfoldable pub source_nodes : List Node
+source_nodes =
+    either confirm (keyword COMMAND_TABLE Verb)
+    ∷ only (guide (codes "FROM") 2)
+    ∷ either (source_token (codes "TTY:") 3) (in_file wild Source 3)
+    ∷ []
+
+-- 3 to 5: what COPY writes, and the end of a line
+unfoldable pub target_blocks : List Block
+target_blocks =
+    guide (codes "TO") 4
+    ∷ out_file wild_from_source LINE_END
     ∷ confirm
     ∷ []
 
@@ -33,29 +40,28 @@ append_blocks =
 -- 13 to 17: DELETE, UNDELETE, and the guide word of CONNECT
 unfoldable pub delete_blocks : List Block
 delete_blocks =
-    later
-    ∷ later
-    ∷ later
-    ∷ later
+    guide (codes "FILES") 14
+    ∷ in_file wild_generations Files LINE_END
+    ∷ guide (codes "FILES") 16
+    ∷ in_file wild_deleted Files LINE_END
     ∷ guide (codes "TO DIRECTORY") 18
     ∷ []
 
--- 19 to 25: TYPE, TAKE and DIRECTORY
+-- 19 to 23: TYPE, TAKE, and the guide word of DIRECTORY
 unfoldable pub type_blocks : List Block
 type_blocks =
     later
     ∷ later
     ∷ later
     ∷ later
-    ∷ later
-    ∷ later
-    ∷ later
+    ∷ guide (codes "OF FILES") 24
     ∷ []
 
--- 26 and 27: INFORMATION
+-- 25 to 27: where DIRECTORY and BUILD end, and INFORMATION
 unfoldable pub information_blocks : List Block
 information_blocks =
-    guide (codes "ABOUT") 27
+    confirm
+    ∷ guide (codes "ABOUT") 27
     ∷ keyword TOPIC_TABLE What
     ∷ []
 
@@ -69,21 +75,20 @@ define_blocks =
     ∷ confirm
     ∷ []
 
--- 33 to 38: BUILD, EXPUNGE and PRINT
+-- 33 to 35: BUILD, and the guide word of EXPUNGE
 unfoldable pub build_blocks : List Block
 build_blocks =
-    later
-    ∷ later
-    ∷ later
-    ∷ later
-    ∷ later
-    ∷ later
+    guide (codes "DIRECTORY") 34
+    ∷ new_directory 25
+    ∷ guide (codes "DELETED FILES") 36
     ∷ []
 
--- 39 to 44: the switches of PRINT
-unfoldable pub switch_blocks : List Block
-switch_blocks =
+-- 37 to 44: PRINT and its switches
+unfoldable pub print_blocks : List Block
+print_blocks =
     later
+    ∷ later
+    ∷ later
     ∷ later
     ∷ later
     ∷ later
@@ -101,24 +106,27 @@ subcommand_blocks =
     ∷ later
     ∷ []
 
--- nodes 0 to 18: where a command begins, and the directory to connect to at 18
+-- nodes 0 to 18: up to the directory to connect to
 unfoldable pub first_nodes : List Node
 first_nodes =
-    either confirm (keyword COMMAND_TABLE Verb) ∷ []
-    ++ map only copy_blocks
+    source_nodes
+    ++ map only target_blocks
     ++ map only append_blocks
     ++ map only delete_blocks
     ++ either_or user directory (codes "<OPERATOR>") ∷ []
 
--- the nodes, from 0: the text of a remark at 45, and each other behind the first ones with its one block
+-- the nodes, from 0: the files to list at 24, the directory to expunge at 36, the text of a remark at 45, and each
+-- other behind the first ones with its one block
 unfoldable pub exec_nodes : List Node
 exec_nodes =
     first_nodes
     ++ map only type_blocks
+    ++ only_or (any_file wild_all 25) (codes "*.*.*") ∷ []
     ++ map only information_blocks
     ++ map only define_blocks
     ++ map only build_blocks
-    ++ map only switch_blocks
+    ++ either confirm directory ∷ []
+    ++ map only print_blocks
     ++ remark ∷ []
     ++ map only subcommand_blocks
 

@@ -5,7 +5,7 @@ use Rattle.cm_tables.specs.declared.entry.Flag.{Flag}
 use Rattle.cm_tables.specs.declared.entry.Flag.TheVariants.{Invisible, NoRecognise}
 use Rattle.cm_tables.specs.Words.{entry}
 use Rattle.ex_grammar.specs.declared.node.TheConstants.{LINE_END}
-use Rattle.ex_grammar.specs.declared.code.TheConstants.{CONNECT, DEFINE, INFORMATION, LOGOUT, NO_KEYWORD, REMARK, VERSION}
+use Rattle.ex_grammar.specs.declared.code.TheConstants.{BUILD, CONNECT, COPY, DEFINE, DELETE, DIRECTORY, EXPUNGE, INFORMATION, LOGOUT, NO_KEYWORD, REMARK, UNDELETE, VERSION}
 
 -- the same keyword, which takes part in the look-up in this way
 abbrev pub flagged : Entry → Flag → Entry
@@ -13,14 +13,20 @@ flagged keyword flag = record keyword { flag = flag }
 
 unfoldable pub command_entries : List Entry
 command_entries =
-    entry (codes "CONNECT") CONNECT 17
+    entry (codes "BUILD") BUILD 33
+    ∷ entry (codes "CONNECT") CONNECT 17
+    ∷ entry (codes "COPY") COPY 1
     ∷ entry (codes "DEFINE") DEFINE 28
+    ∷ entry (codes "DELETE") DELETE 13
+    ∷ entry (codes "DIRECTORY") DIRECTORY 23
+    ∷ entry (codes "EXPUNGE") EXPUNGE 35
     ∷ entry (codes "INFORMATION") INFORMATION 26
     ∷ flagged (entry (codes "KJOB") LOGOUT LINE_END) Invisible
     ∷ flagged (entry (codes "L") NO_KEYWORD LINE_END) NoRecognise
     ∷ flagged (entry (codes "LO") NO_KEYWORD LINE_END) NoRecognise
     ∷ entry (codes "LOGOUT") LOGOUT LINE_END
     ∷ entry (codes "REMARK") REMARK 45
+    ∷ entry (codes "UNDELETE") UNDELETE 15
     ∷ []
 
 -- what INFORMATION tells about

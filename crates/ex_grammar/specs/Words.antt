@@ -1,11 +1,12 @@
 -- The small words in which nodes are written.
 use Rattle.std.specs.Prelude.{ℕ, true, List, [], ◌∷◌, Some}
-use Rattle.cm_blocks.specs.declared.function.Function.TheVariants.{Key, Noise, Token, User, Directory, Text, Confirm, Hook}
+use Rattle.cm_files.specs.declared.flags.Flags.{Flags}
+use Rattle.cm_blocks.specs.declared.function.Function.TheVariants.{Key, Noise, Token, User, Directory, InFile, OutFile, AnyFile, Text, Confirm, Hook}
 use Rattle.cm_blocks.specs.declared.function.Role.{Role}
 use Rattle.cm_blocks.specs.declared.function.Role.TheVariants as roles
 use Rattle.cm_blocks.specs.declared.node.Block.{Block}
 use Rattle.cm_blocks.specs.declared.node.Node.{Node}
-use Rattle.cm_blocks.specs.Words.{block, node}
+use Rattle.cm_blocks.specs.Words.{block, no_flags, node}
 use Rattle.ex_grammar.specs.declared.node.TheConstants.{LINE_END}
 
 -- the end of the line
@@ -27,6 +28,10 @@ guide word next = block (Noise word) roles.None next
 abbrev pub token : List ℕ → ℕ → Block
 token sign next = block (Token sign) roles.None next
 
+-- a sign that stands for what is read
+abbrev pub source_token : List ℕ → ℕ → Block
+source_token sign next = block (Token sign) roles.Source next
+
 -- what the rule of this id takes
 abbrev pub hook : ℕ → ℕ → Block
 hook id next = block (Hook id) roles.Value next
@@ -39,12 +44,52 @@ user = block User roles.Files LINE_END
 abbrev pub directory : Block
 directory = block Directory roles.Files LINE_END
 
+-- a directory that may be a new one
+abbrev pub new_directory : ℕ → Block
+new_directory next = record (block Directory roles.Files next) { flags = record no_flags { new = true } }
+
+-- wildcards may stand in a file
+abbrev pub wild : Flags
+wild = record no_flags { wild = true }
+
+-- wildcards, and what is not given is that of the source
+abbrev pub wild_from_source : Flags
+wild_from_source = record wild { from_source = true }
+
+-- wildcards, and all generations where none is given
+abbrev pub wild_generations : Flags
+wild_generations = record wild { all_generations = true }
+
+-- the same of the files that are marked deleted
+abbrev pub wild_deleted : Flags
+wild_deleted = record wild_generations { deleted = true }
+
+-- wildcards, and all names, types and generations where none is given
+abbrev pub wild_all : Flags
+wild_all = record wild_generations { default_all = true }
+
+-- files that are read, in this way and for this
+abbrev pub in_file : Flags → Role → ℕ → Block
+in_file flags role next = record (block InFile role next) { flags = flags }
+
+-- the file that is written
+abbrev pub out_file : Flags → ℕ → Block
+out_file flags next = record (block OutFile roles.Target next) { flags = flags }
+
+-- files that a command works on, which need not be there
+abbrev pub any_file : Flags → ℕ → Block
+any_file flags next = record (block AnyFile roles.Files next) { flags = flags }
+
 abbrev pub rest_of_line : Block
 rest_of_line = block Text roles.None LINE_END
 
 -- a node of one block
 abbrev pub only : Block → Node
 only it = node (it ∷ [])
+
+-- a node of one block, for which this text stands where the line ends
+abbrev pub only_or : Block → List ℕ → Node
+only_or it text = record (only it) { default = Some text }
 
 -- a node of two blocks, tried in this order
 abbrev pub either : Block → Block → Node

@@ -10,7 +10,10 @@ mod retention;
 mod rules;
 mod tables;
 
-pub use code::{CONNECT, DEFINE, INFORMATION, LOGOUT, REMARK, VERSION};
+pub use code::{
+    BUILD, CONNECT, COPY, DEFINE, DELETE, DIRECTORY, EXPUNGE, INFORMATION, LOGOUT, REMARK,
+    UNDELETE, VERSION,
+};
 pub use graph::grammar;
 pub use node::COMMANDS;
 pub use rules::{ExecRules, rule_completion, rule_help, rule_verdict};

@@ -1,8 +1,9 @@
 // The small words in which nodes are written, and the nodes that are named.
 ghost use Rattle.std.specs.Prelude.{◌≡◌, ◌≤◌, IfOk, length};
-ghost use Rattle.ex_grammar.specs.Words.{confirm, directory, either, either_or, guide, hook, keyword, later, remark, rest_of_line, token, user};
+ghost use Rattle.ex_grammar.specs.Words.{any_file, confirm, directory, either, either_or, guide, hook, in_file, keyword, later, new_directory, only, only_or, out_file, remark, rest_of_line, source_token, token, user, wild, wild_all, wild_deleted, wild_from_source, wild_generations};
 
 use cm_blocks::{Block, Function, Node, Role};
+use cm_files::Flags;
 use cm_io::NoMemory;
 use cm_text::{NAME_LIMIT, Name};
 use std::alloc::Global;
@@ -48,6 +49,14 @@ pub(crate) fn token(sign: &str, next: u16) -> Block
     Block::new(Function::Token(Name::new(sign)), Role::None, next)
 }
 
+// A sign that stands for what is read.
+pub(crate) fn source_token(sign: &str, next: u16) -> Block
+    requires { length sign.now ≤ NAME_LIMIT }
+    ensures { result ≡ source_token sign.now next }
+{
+    Block::new(Function::Token(Name::new(sign)), Role::Source, next)
+}
+
 // What the rule of this id takes.
 pub(crate) fn hook(id: u8, next: u16) -> Block
     ensures { result ≡ hook id next }
@@ -69,10 +78,123 @@ pub(crate) fn directory() -> Block
     Block::new(Function::Directory, Role::Files, LINE_END)
 }
 
+// A directory that may be a new one.
+pub(crate) fn new_directory(next: u16) -> Block
+    ensures { result ≡ new_directory next }
+{
+    let block = Block::new(Function::Directory, Role::Files, next);
+    Block {
+        flags: Flags {
+            new: true,
+            ..block.flags
+        },
+        ..block
+    }
+}
+
+// Wildcards may stand in a file.
+pub(crate) fn wild() -> Flags
+    ensures { result ≡ wild }
+{
+    Flags {
+        wild: true,
+        ..Flags::default()
+    }
+}
+
+// Wildcards, and what is not given is that of the source.
+pub(crate) fn wild_from_source() -> Flags
+    ensures { result ≡ wild_from_source }
+{
+    Flags {
+        from_source: true,
+        ..wild()
+    }
+}
+
+// Wildcards, and all generations where none is given.
+pub(crate) fn wild_generations() -> Flags
+    ensures { result ≡ wild_generations }
+{
+    Flags {
+        all_generations: true,
+        ..wild()
+    }
+}
+
+// The same of the files that are marked deleted.
+pub(crate) fn wild_deleted() -> Flags
+    ensures { result ≡ wild_deleted }
+{
+    Flags {
+        deleted: true,
+        ..wild_generations()
+    }
+}
+
+// Wildcards, and all names, types and generations where none is given.
+pub(crate) fn wild_all() -> Flags
+    ensures { result ≡ wild_all }
+{
+    Flags {
+        default_all: true,
+        ..wild_generations()
+    }
+}
+
+// Files that are read, in this way and for this.
+pub(crate) fn in_file(flags: Flags, role: Role, next: u16) -> Block
+    ensures { result ≡ in_file flags role next }
+{
+    Block {
+        flags,
+        ..Block::new(Function::InFile, role, next)
+    }
+}
+
+// The file that is written.
+pub(crate) fn out_file(flags: Flags, next: u16) -> Block
+    ensures { result ≡ out_file flags next }
+{
+    Block {
+        flags,
+        ..Block::new(Function::OutFile, Role::Target, next)
+    }
+}
+
+// Files that a command works on, which need not be there.
+pub(crate) fn any_file(flags: Flags, next: u16) -> Block
+    ensures { result ≡ any_file flags next }
+{
+    Block {
+        flags,
+        ..Block::new(Function::AnyFile, Role::Files, next)
+    }
+}
+
 fn rest_of_line() -> Block
     ensures { result ≡ rest_of_line }
 {
     Block::new(Function::Text, Role::None, LINE_END)
+}
+
+// A node of one block.
+pub(crate) fn only(alloc: Global, block: Block) -> Result<Node, NoMemory>
+    ensures { IfOk result (λ node. node ≡ only block) }
+{
+    Ok(Node::new(vec![in alloc; block]?))
+}
+
+// A node of one block, for which this text stands where the line ends.
+pub(crate) fn only_or(alloc: Global, block: Block, text: &str) -> Result<Node, NoMemory>
+    requires { length text.now ≤ NAME_LIMIT }
+    ensures { IfOk result (λ node. node ≡ only_or block text.now) }
+{
+    let node = only(alloc, block)?;
+    Ok(Node {
+        default: Some(Name::new(text)),
+        ..node
+    })
 }
 
 // A node of two blocks, tried in this order.
@@ -103,8 +225,6 @@ pub(crate) fn either_or(
 pub(crate) fn remark(alloc: Global) -> Result<Node, NoMemory>
     ensures { IfOk result (λ node. node ≡ remark) }
 {
-    Ok(Node {
-        raw: true,
-        ..Node::new(vec![in alloc; rest_of_line()]?)
-    })
+    let node = only(alloc, rest_of_line())?;
+    Ok(Node { raw: true, ..node })
 }

@@ -1,10 +1,12 @@
 // The nodes of the EXEC's grammar, by the numbers that the log gives.
 ghost use Rattle.std.specs.Prelude.{◌≡◌, ◌++◌, IfOk, map};
-ghost use Rattle.ex_grammar.specs.Graph.{append_blocks, build_blocks, copy_blocks, define_blocks, delete_blocks, information_blocks, subcommand_blocks, switch_blocks, type_blocks, exec_nodes, first_nodes};
+ghost use Rattle.ex_grammar.specs.Graph.{append_blocks, build_blocks, define_blocks, delete_blocks, information_blocks, print_blocks, subcommand_blocks, target_blocks, type_blocks, exec_nodes, first_nodes, source_nodes};
 ghost use Rattle.ex_grammar.specs.Words.{only};
 
 use crate::node::{
-    confirm, directory, either, either_or, guide, hook, keyword, later, remark, token, user,
+    LINE_END, any_file, confirm, directory, either, either_or, guide, hook, in_file, keyword,
+    later, new_directory, only, only_or, out_file, remark, source_token, token, user, wild,
+    wild_all, wild_deleted, wild_from_source, wild_generations,
 };
 use crate::tables::{COMMAND_TABLE, TOPIC_TABLE};
 use cm_blocks::{Block, Node, Role};
@@ -17,26 +19,41 @@ pub(crate) fn nodes(alloc: Global) -> Result<Vec<Node>, NoMemory>
 {
     let mut nodes = first_nodes(alloc)?;
     push_each(&mut nodes, alloc, type_blocks(alloc)?)?;
+    nodes.push(only_or(alloc, any_file(wild_all(), 25), "*.*.*")?)?;
     push_each(&mut nodes, alloc, information_blocks(alloc)?)?;
     push_each(&mut nodes, alloc, define_blocks(alloc)?)?;
     push_each(&mut nodes, alloc, build_blocks(alloc)?)?;
-    push_each(&mut nodes, alloc, switch_blocks(alloc)?)?;
+    nodes.push(either(alloc, confirm(), directory())?)?;
+    push_each(&mut nodes, alloc, print_blocks(alloc)?)?;
     nodes.push(remark(alloc)?)?;
     push_each(&mut nodes, alloc, subcommand_blocks(alloc)?)?;
     Ok(nodes)
 }
 
-// Nodes 0 to 18: where a command begins, and the directory to connect to.
+// Nodes 0 to 18: up to the directory to connect to.
 #[tactic(auto, unfolding(crate::specs::Graph::first_nodes))]
 fn first_nodes(alloc: Global) -> Result<Vec<Node>, NoMemory>
     ensures { IfOk result (λ nodes. nodes.items ≡ first_nodes) }
 {
-    let mut nodes = Vec::new(alloc);
-    nodes.push(either(alloc, confirm(), keyword(COMMAND_TABLE, Role::Verb))?)?;
-    push_each(&mut nodes, alloc, copy_blocks(alloc)?)?;
+    let mut nodes = source_nodes(alloc)?;
+    push_each(&mut nodes, alloc, target_blocks(alloc)?)?;
     push_each(&mut nodes, alloc, append_blocks(alloc)?)?;
     push_each(&mut nodes, alloc, delete_blocks(alloc)?)?;
     nodes.push(either_or(alloc, user(), directory(), "<OPERATOR>")?)?;
+    Ok(nodes)
+}
+
+// Nodes 0 to 2: where a command begins, and what COPY reads.
+#[tactic(auto, unfolding(crate::specs::Graph::source_nodes))]
+fn source_nodes(alloc: Global) -> Result<Vec<Node>, NoMemory>
+    ensures { IfOk result (λ nodes. nodes.items ≡ source_nodes) }
+{
+    let terminal = source_token("TTY:", 3);
+    let file = in_file(wild(), Role::Source, 3);
+    let mut nodes = Vec::new(alloc);
+    nodes.push(either(alloc, confirm(), keyword(COMMAND_TABLE, Role::Verb))?)?;
+    nodes.push(only(alloc, guide("FROM", 2))?)?;
+    nodes.push(either(alloc, terminal, file)?)?;
     Ok(nodes)
 }
 
@@ -45,17 +62,21 @@ fn push_each(nodes: &mut Vec<Node>, alloc: Global, blocks: Vec<Block>) -> Result
     ensures { IfOk result (λ _. nodes.new.items ≡ nodes.old.items ++ map only blocks.items) }
 {
     for block in blocks {
-        nodes.push(Node::new(vec![in alloc; block]?))?;
+        nodes.push(only(alloc, block)?)?;
     }
     Ok(())
 }
 
-// 1 to 5: COPY, and the end of a line.
-#[tactic(auto, unfolding(crate::specs::Graph::copy_blocks))]
-fn copy_blocks(alloc: Global) -> Result<Vec<Block>, NoMemory>
-    ensures { IfOk result (λ blocks. blocks.items ≡ copy_blocks) }
+// 3 to 5: what COPY writes, and the end of a line.
+#[tactic(auto, unfolding(crate::specs::Graph::target_blocks))]
+fn target_blocks(alloc: Global) -> Result<Vec<Block>, NoMemory>
+    ensures { IfOk result (λ blocks. blocks.items ≡ target_blocks) }
 {
-    Ok(vec![in alloc; later(), later(), later(), later(), confirm()]?)
+    Ok(vec![in alloc;
+        guide("TO", 4),
+        out_file(wild_from_source(), LINE_END),
+        confirm(),
+    ]?)
 }
 
 // 6 to 12: APPEND and RENAME.
@@ -80,36 +101,32 @@ fn delete_blocks(alloc: Global) -> Result<Vec<Block>, NoMemory>
     ensures { IfOk result (λ blocks. blocks.items ≡ delete_blocks) }
 {
     Ok(vec![in alloc;
-        later(),
-        later(),
-        later(),
-        later(),
+        guide("FILES", 14),
+        in_file(wild_generations(), Role::Files, LINE_END),
+        guide("FILES", 16),
+        in_file(wild_deleted(), Role::Files, LINE_END),
         guide("TO DIRECTORY", 18),
     ]?)
 }
 
-// 19 to 25: TYPE, TAKE and DIRECTORY.
+// 19 to 23: TYPE, TAKE, and the guide word of DIRECTORY.
 #[tactic(auto, unfolding(crate::specs::Graph::type_blocks))]
 fn type_blocks(alloc: Global) -> Result<Vec<Block>, NoMemory>
     ensures { IfOk result (λ blocks. blocks.items ≡ type_blocks) }
 {
-    Ok(vec![in alloc;
-        later(),
-        later(),
-        later(),
-        later(),
-        later(),
-        later(),
-        later(),
-    ]?)
+    Ok(vec![in alloc; later(), later(), later(), later(), guide("OF FILES", 24)]?)
 }
 
-// 26 and 27: INFORMATION.
+// 25 to 27: where DIRECTORY and BUILD end, and INFORMATION.
 #[tactic(auto, unfolding(crate::specs::Graph::information_blocks))]
 fn information_blocks(alloc: Global) -> Result<Vec<Block>, NoMemory>
     ensures { IfOk result (λ blocks. blocks.items ≡ information_blocks) }
 {
-    Ok(vec![in alloc; guide("ABOUT", 27), keyword(TOPIC_TABLE, Role::What)]?)
+    Ok(vec![in alloc;
+        confirm(),
+        guide("ABOUT", 27),
+        keyword(TOPIC_TABLE, Role::What),
+    ]?)
 }
 
 // 28 to 32: DEFINE.
@@ -126,20 +143,33 @@ fn define_blocks(alloc: Global) -> Result<Vec<Block>, NoMemory>
     ]?)
 }
 
-// 33 to 38: BUILD, EXPUNGE and PRINT.
+// 33 to 35: BUILD, and the guide word of EXPUNGE.
 #[tactic(auto, unfolding(crate::specs::Graph::build_blocks))]
 fn build_blocks(alloc: Global) -> Result<Vec<Block>, NoMemory>
     ensures { IfOk result (λ blocks. blocks.items ≡ build_blocks) }
 {
-    Ok(vec![in alloc; later(), later(), later(), later(), later(), later()]?)
+    Ok(vec![in alloc;
+        guide("DIRECTORY", 34),
+        new_directory(25),
+        guide("DELETED FILES", 36),
+    ]?)
 }
 
-// 39 to 44: the switches of PRINT.
-#[tactic(auto, unfolding(crate::specs::Graph::switch_blocks))]
-fn switch_blocks(alloc: Global) -> Result<Vec<Block>, NoMemory>
-    ensures { IfOk result (λ blocks. blocks.items ≡ switch_blocks) }
+// 37 to 44: PRINT and its switches.
+#[tactic(auto, unfolding(crate::specs::Graph::print_blocks))]
+fn print_blocks(alloc: Global) -> Result<Vec<Block>, NoMemory>
+    ensures { IfOk result (λ blocks. blocks.items ≡ print_blocks) }
 {
-    Ok(vec![in alloc; later(), later(), later(), later(), later(), later()]?)
+    Ok(vec![in alloc;
+        later(),
+        later(),
+        later(),
+        later(),
+        later(),
+        later(),
+        later(),
+        later(),
+    ]?)
 }
 
 // 46 to 50: the subcommands of DIRECTORY and BUILD.

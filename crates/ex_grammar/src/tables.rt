@@ -2,7 +2,10 @@
 ghost use Rattle.std.specs.Prelude.{◌≡◌, IfOk};
 ghost use Rattle.ex_grammar.specs.Tables.{command_entries, exec_tables, flagged, topic_entries};
 
-use crate::code::{CONNECT, DEFINE, INFORMATION, LOGOUT, NO_KEYWORD, REMARK, VERSION};
+use crate::code::{
+    BUILD, CONNECT, COPY, DEFINE, DELETE, DIRECTORY, EXPUNGE, INFORMATION, LOGOUT, NO_KEYWORD,
+    REMARK, UNDELETE, VERSION,
+};
 use crate::node::LINE_END;
 use cm_io::NoMemory;
 use cm_tables::{Entry, Flag, Table};
@@ -40,14 +43,20 @@ fn command_entries(alloc: Global) -> Result<Vec<Entry>, NoMemory>
     ensures { IfOk result (λ entries. entries.items ≡ command_entries) }
 {
     Ok(vec![in alloc;
+        Entry::new("BUILD", BUILD, 33),
         Entry::new("CONNECT", CONNECT, 17),
+        Entry::new("COPY", COPY, 1),
         Entry::new("DEFINE", DEFINE, 28),
+        Entry::new("DELETE", DELETE, 13),
+        Entry::new("DIRECTORY", DIRECTORY, 23),
+        Entry::new("EXPUNGE", EXPUNGE, 35),
         Entry::new("INFORMATION", INFORMATION, 26),
         flagged(Entry::new("KJOB", LOGOUT, LINE_END), Flag::Invisible),
         flagged(Entry::new("L", NO_KEYWORD, LINE_END), Flag::NoRecognise),
         flagged(Entry::new("LO", NO_KEYWORD, LINE_END), Flag::NoRecognise),
         Entry::new("LOGOUT", LOGOUT, LINE_END),
         Entry::new("REMARK", REMARK, 45),
+        Entry::new("UNDELETE", UNDELETE, 15),
     ]?)
 }
 

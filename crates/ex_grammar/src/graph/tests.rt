@@ -1,13 +1,17 @@
 // The grammar, node by node and entry by entry.
 use crate::tables::tables;
-use crate::{COMMANDS, CONNECT, DEFINE, INFORMATION, LOGOUT, REMARK, VERSION, grammar};
-use cm_blocks::{Block, Function, Role};
+use crate::{
+    BUILD, COMMANDS, CONNECT, COPY, DEFINE, DELETE, DIRECTORY, EXPUNGE, INFORMATION, LOGOUT,
+    REMARK, UNDELETE, VERSION, grammar,
+};
+use cm_blocks::{Function, Role};
+use cm_files::Flags;
 use cm_tables::Flag;
 use std::test::Fail;
 
 // The nodes whose command is not built yet.
 fn is_later(number: u16) -> bool {
-    matches!(number, 1..=4 | 6..=16 | 19..=25 | 33..=44 | 46..=50)
+    matches!(number, 6..=12 | 19..=22 | 37..=44 | 46..=50)
 }
 
 // The name of what a block reads, the text of it, and the number of a table or a hook.
@@ -18,6 +22,9 @@ fn parts(function: &Function) -> (&'static str, &str, u16) {
         Function::Token(sign) => ("Token", sign.as_str(), 0),
         Function::User => ("User", "", 0),
         Function::Directory => ("Directory", "", 0),
+        Function::InFile => ("InFile", "", 0),
+        Function::OutFile => ("OutFile", "", 0),
+        Function::AnyFile => ("AnyFile", "", 0),
         Function::Text => ("Text", "", 0),
         Function::Confirm => ("Confirm", "", 0),
         Function::Hook(id) => ("Hook", "", u16::from(*id)),
@@ -25,14 +32,41 @@ fn parts(function: &Function) -> (&'static str, &str, u16) {
     }
 }
 
-fn has_plain_flags(block: &Block) -> bool {
-    let flags = block.flags;
-    !flags.wild
-        && !flags.all_generations
-        && !flags.deleted
-        && !flags.default_all
-        && !flags.from_source
-        && !flags.new
+// How the block at this position of this node reads files and directories.
+fn flags_of(number: u16, position: usize) -> Flags {
+    let none = Flags::default();
+    let wild = Flags { wild: true, ..none };
+    let all = Flags {
+        all_generations: true,
+        ..wild
+    };
+    match (number, position) {
+        (2, 1) => wild,
+        (4, 0) => Flags {
+            from_source: true,
+            ..wild
+        },
+        (14, 0) => all,
+        (16, 0) => Flags {
+            deleted: true,
+            ..all
+        },
+        (24, 0) => Flags {
+            default_all: true,
+            ..all
+        },
+        (34, 0) => Flags { new: true, ..none },
+        _ => none,
+    }
+}
+
+// What stands for the field of this node where the line ends.
+fn default_of(number: u16) -> Option<&'static str> {
+    match number {
+        18 => Some("<OPERATOR>"),
+        24 => Some("*.*.*"),
+        _ => None,
+    }
 }
 
 #[test]
@@ -45,7 +79,7 @@ fn each_node_has_its_shape(rt: HostRuntime) -> Result<(), Fail> {
         let blocks = node.chain.as_slice();
         assert_eq!(rt;
             blocks.len(),
-            if matches!(number, COMMANDS | 18) {
+            if matches!(number, COMMANDS | 2 | 18 | 36) {
                 2
             } else {
                 1
@@ -54,11 +88,11 @@ fn each_node_has_its_shape(rt: HostRuntime) -> Result<(), Fail> {
         );
         assert_eq!(rt; node.raw, number == 45, "{number}");
         match &node.default {
-            Some(text) => assert_eq!(rt; (number, text.as_str()), (18, "<OPERATOR>")),
-            None => assert!(rt; number != 18),
+            Some(text) => assert_eq!(rt; Some(text.as_str()), default_of(number), "{number}"),
+            None => assert!(rt; default_of(number).is_none(), "{number}"),
         }
-        for block in blocks {
-            assert!(rt; has_plain_flags(block), "{number}");
+        for (position, block) in blocks.iter().enumerate() {
+            assert_eq!(rt; block.flags, flags_of(number, position), "{number}");
             assert!(rt; block.help.is_none(), "{number}");
         }
         if is_later(number) {
@@ -77,10 +111,22 @@ fn each_block_that_is_built_reads_its_field(rt: HostRuntime) -> Result<(), Fail>
     for (number, position, name, text, named, role, next) in [
         (0, 0, "Confirm", "", 0, Role::None, 5),
         (0, 1, "Key", "", 0, Role::Verb, 5),
+        (1, 0, "Noise", "FROM", 0, Role::None, 2),
+        (2, 0, "Token", "TTY:", 0, Role::Source, 3),
+        (2, 1, "InFile", "", 0, Role::Source, 3),
+        (3, 0, "Noise", "TO", 0, Role::None, 4),
+        (4, 0, "OutFile", "", 0, Role::Target, 5),
         (5, 0, "Confirm", "", 0, Role::None, 5),
+        (13, 0, "Noise", "FILES", 0, Role::None, 14),
+        (14, 0, "InFile", "", 0, Role::Files, 5),
+        (15, 0, "Noise", "FILES", 0, Role::None, 16),
+        (16, 0, "InFile", "", 0, Role::Files, 5),
         (17, 0, "Noise", "TO DIRECTORY", 0, Role::None, 18),
         (18, 0, "User", "", 0, Role::Files, 5),
         (18, 1, "Directory", "", 0, Role::Files, 5),
+        (23, 0, "Noise", "OF FILES", 0, Role::None, 24),
+        (24, 0, "AnyFile", "", 0, Role::Files, 25),
+        (25, 0, "Confirm", "", 0, Role::None, 5),
         (26, 0, "Noise", "ABOUT", 0, Role::None, 27),
         (27, 0, "Key", "", 1, Role::What, 5),
         (28, 0, "Noise", "LOGICAL NAME", 0, Role::None, 29),
@@ -88,6 +134,11 @@ fn each_block_that_is_built_reads_its_field(rt: HostRuntime) -> Result<(), Fail>
         (30, 0, "Token", ":", 0, Role::None, 31),
         (31, 0, "Noise", "AS", 0, Role::None, 32),
         (32, 0, "Confirm", "", 0, Role::None, 5),
+        (33, 0, "Noise", "DIRECTORY", 0, Role::None, 34),
+        (34, 0, "Directory", "", 0, Role::Files, 25),
+        (35, 0, "Noise", "DELETED FILES", 0, Role::None, 36),
+        (36, 0, "Confirm", "", 0, Role::None, 5),
+        (36, 1, "Directory", "", 0, Role::Files, 5),
         (45, 0, "Text", "", 0, Role::None, 5),
     ] {
         assert!(rt; number < 51, "{number}");
@@ -109,21 +160,27 @@ fn each_entry_has_its_code(rt: HostRuntime) -> Result<(), Fail> {
     let tables = tables(rt.alloc())?;
     assert_eq!(rt; tables.len(), 2);
     for (table, position, text, flag, code, next) in [
-        (0, 0, b"CONNECT".as_slice(), Flag::Plain, 3, 17),
-        (0, 1, b"DEFINE", Flag::Plain, 5, 28),
-        (0, 2, b"INFORMATION", Flag::Plain, 9, 26),
-        (0, 3, b"KJOB".as_slice(), Flag::Invisible, 10, 5),
-        (0, 4, b"L".as_slice(), Flag::NoRecognise, 0, 5),
-        (0, 5, b"LO".as_slice(), Flag::NoRecognise, 0, 5),
-        (0, 6, b"LOGOUT".as_slice(), Flag::Plain, 10, 5),
-        (0, 7, b"REMARK".as_slice(), Flag::Plain, 12, 45),
+        (0, 0, b"BUILD".as_slice(), Flag::Plain, 2, 33),
+        (0, 1, b"CONNECT".as_slice(), Flag::Plain, 3, 17),
+        (0, 2, b"COPY".as_slice(), Flag::Plain, 4, 1),
+        (0, 3, b"DEFINE".as_slice(), Flag::Plain, 5, 28),
+        (0, 4, b"DELETE".as_slice(), Flag::Plain, 6, 13),
+        (0, 5, b"DIRECTORY".as_slice(), Flag::Plain, 7, 23),
+        (0, 6, b"EXPUNGE".as_slice(), Flag::Plain, 8, 35),
+        (0, 7, b"INFORMATION".as_slice(), Flag::Plain, 9, 26),
+        (0, 8, b"KJOB".as_slice(), Flag::Invisible, 10, 5),
+        (0, 9, b"L".as_slice(), Flag::NoRecognise, 0, 5),
+        (0, 10, b"LO".as_slice(), Flag::NoRecognise, 0, 5),
+        (0, 11, b"LOGOUT".as_slice(), Flag::Plain, 10, 5),
+        (0, 12, b"REMARK".as_slice(), Flag::Plain, 12, 45),
+        (0, 13, b"UNDELETE".as_slice(), Flag::Plain, 16, 15),
         (1, 0, b"VERSION".as_slice(), Flag::Plain, 4, 5),
     ] {
         assert!(rt; table < tables.len(), "{table} {position}");
         let entries = tables[table].entries();
         assert_eq!(rt;
             entries.len(),
-            if table == 0 { 8 } else { 1 },
+            if table == 0 { 14 } else { 1 },
             "{table} {position}"
         );
         assert!(rt; position < entries.len(), "{table} {position}");
@@ -140,8 +197,21 @@ fn each_entry_has_its_code(rt: HostRuntime) -> Result<(), Fail> {
 #[test]
 fn each_name_has_its_number(rt: HostRuntime) {
     assert_eq!(rt; COMMANDS, 0);
+    assert_eq!(rt; VERSION, 4);
     assert_eq!(rt;
-        [VERSION, CONNECT, DEFINE, INFORMATION, LOGOUT, REMARK],
-        [4, 3, 5, 9, 10, 12]
+        [
+            BUILD,
+            CONNECT,
+            COPY,
+            DEFINE,
+            DELETE,
+            DIRECTORY,
+            EXPUNGE,
+            INFORMATION,
+            LOGOUT,
+            REMARK,
+            UNDELETE
+        ],
+        [2, 3, 4, 5, 6, 7, 8, 9, 10, 12, 16]
     );
 }
