@@ -16,6 +16,7 @@ pub mod laws;
 mod limits;
 mod marks;
 mod names;
+mod parts;
 mod place;
 mod plan;
 mod prepare;
@@ -36,6 +37,7 @@ pub use limits::{
     COPIES_LIMIT, DIRECTORY_LIMIT, FORMS, LOGICAL_LIMIT, MOMENT_LIMIT, QUEUE_LIMIT,
     RETENTION_LIMIT, ROW_LIMIT, STORE_LIMIT,
 };
+pub use parts::Parts;
 pub use place::Place;
 pub use plan::{Plan, Refusal};
 pub use queue::{QueueEntry, Queued, form_text};
