@@ -3,8 +3,10 @@ use Rattle.ex_store.specs.declared.key.Full.{Full}
 use Rattle.ex_store.specs.declared.key.FullName.{FullName}
 use Rattle.ex_store.specs.declared.key.NamePair.{NamePair}
 use Rattle.ex_store.specs.declared.key.Pair.{Pair}
+use Rattle.ex_store.specs.declared.parts.Parts.{Parts}
 use Rattle.ex_store.specs.declared.queue.QueueEntry.{QueueEntry}
 use Rattle.ex_store.specs.declared.queue.Queued.{Queued}
+use Rattle.ex_store.specs.State.{State}
 
 abbrev pub full_name : Full → FullName
 full_name full =
@@ -28,4 +30,14 @@ queue_entry queued =
       after = queued.after;
       job = queued.job.now;
       note = queued.note.now;
+    }
+
+abbrev pub state_of : Parts → State
+state_of parts =
+    record {
+      directories = parts.directories.now;
+      connected = parts.connected.now;
+      logical = parts.logical.now;
+      rows = parts.rows.now;
+      queue = parts.queue.now;
     }

@@ -16,6 +16,7 @@ pub mod laws;
 mod limits;
 mod marks;
 mod names;
+mod parts;
 mod place;
 mod plan;
 mod prepare;
@@ -37,6 +38,7 @@ pub use limits::{
     RETENTION_LIMIT, ROW_LIMIT, STORE_LIMIT,
 };
 pub use marks::page_count;
+pub use parts::Parts;
 pub use place::Place;
 pub use plan::{Plan, Refusal};
 pub use queue::{QueueEntry, Queued, form_text};
