@@ -1,0 +1,6 @@
+//! The image: the text of a state of the file machine. It is written to a file of a host, and takes no memory.
+#![tactic(auto)]
+
+mod line;
+mod lines;
+mod target;
