@@ -3,4 +3,5 @@
 
 mod line;
 mod lines;
+mod records;
 mod target;
