@@ -58,4 +58,4 @@ content_text entry bytes = []
 
 -- the text of a record: its line, a line feed, and what stands behind it
 abbrev pub record_text : Entry × List ℕ → List ℕ
-record_text record_of = line_text record_of.0 ++ 10 ∷ content_text record_of.0 record_of.1
+record_text (entry, bytes) = line_text entry ++ 10 ∷ content_text entry bytes

@@ -70,7 +70,7 @@ fn put_files<T: Target>(rows: &[Row], queue: &[QueueEntry], target: &mut T) -> P
 }
 
 // Appends all records.
-fn put_all<T: Target>(parts: &Parts<'_>, target: &mut T) -> Put
+pub(crate) fn put_all<T: Target>(parts: &Parts<'_>, target: &mut T) -> Put
     requires opened { IsTrue (T.outside target.old).is_open }
     requires forms { list_all (λ entry. nat_lt entry.form FORMS) parts.now.queue.now ≡ true }
     ensures { Appends T.tells (T.outside target.old) (T.outside target.new) (image_text (state_of parts.now)) result }

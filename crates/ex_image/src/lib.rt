@@ -8,3 +8,6 @@ mod records;
 mod target;
 
 pub use image::encode;
+
+#[cfg(test)]
+mod tests;

@@ -14,6 +14,7 @@ pub(crate) const LINE_ROOM: usize = 400;
 
 // The most bytes of a field with the space before it: of a text or a number, and of a file.
 const FIELD_LIMIT: usize = NAME_LIMIT + 1;
+
 const FILE_FIELD_LIMIT: usize = 3 * FIELD_LIMIT;
 
 /// A line of an image, kept in the value itself. Contracts see its bytes.
