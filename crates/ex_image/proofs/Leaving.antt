@@ -1,0 +1,66 @@
+-- Records that are appended one by one: of the whole some bytes are appended, and the rest is left.
+use Rattle.std.proofs.Common.{◌≡◌, ◌+◌, ◌<◌, ℕ, Bool, true, List, [], ◌∷◌, ◌++◌, IsTrue, length, drop, map, get_or, refl, sym, ap, subst, ◌∙◌, append_assoc}
+use Rattle.std.proofs.lemmas.List.{append-nil, drop_more}
+use Rattle.std.proofs.lemmas.List.Folds.{list_all_at}
+use Rattle.std.specs.List.{flat_map, list_all}
+use Rattle.cm_io.specs.declared.sink.Put.TheVariants.{Done, Failed}
+use Rattle.ex_image.specs.Record.{Entry, record_text}
+use Rattle.ex_image.specs.Writing.{Appends, Outside}
+use Rattle.ex_image.proofs.Appending.{appends_both, appends_early, appends_none}
+
+-- of the whole these bytes are appended, and the rest is left
+pub record Leaves (tells : Bool) (before now : Outside) (rest whole : List ℕ) : Type 0 where
+  pub written : List ℕ
+  pub appended : Appends tells before now written Done
+  pub joined : written ++ rest ≡ whole
+
+-- before the first record all is left
+pub leaves_all : (tells : Bool) (before : Outside) (whole : List ℕ) → IsTrue before.is_open
+    → Leaves tells before before whole whole
+leaves_all tells before whole opened =
+    record { written = []; appended = appends_none tells before opened; joined = refl }
+
+-- where nothing is left, the whole is appended
+pub leaves_none : (tells : Bool) (before now : Outside) (whole : List ℕ) → Leaves tells before now [] whole
+    → Appends tells before now whole Done
+leaves_none tells before now whole left =
+    subst (λ bytes. Appends tells before now bytes Done) (sym (append-nil left.written) ∙ left.joined) left.appended
+
+-- a piece more is appended
+pub leaves_less : (tells : Bool) (before now later : Outside) (rest piece more whole : List ℕ)
+    → Leaves tells before now rest whole → rest ≡ piece ++ more → Appends tells now later piece Done
+    → Leaves tells before later more whole
+leaves_less tells before now later rest piece more whole left splits put = record {
+  written = left.written ++ piece;
+  appended = appends_both tells before now later left.written piece Done left.appended put;
+  joined =
+      append_assoc left.written piece more ∙ ap (λ bytes. left.written ++ bytes) (sym splits) ∙ left.joined;
+}
+
+-- where a part of a piece is appended, a part of the whole is
+pub leaves_part : (tells : Bool) (before now later : Outside) (rest piece more whole : List ℕ)
+    → Leaves tells before now rest whole → rest ≡ piece ++ more → Appends tells now later piece Failed
+    → Appends tells before later whole Failed
+leaves_part tells before now later rest piece more whole left splits put =
+    let joined : (left.written ++ piece) ++ more ≡ whole =
+    append_assoc left.written piece more ∙ ap (λ bytes. left.written ++ bytes) (sym splits) ∙ left.joined in
+    subst (λ bytes. Appends tells before later bytes Failed) joined
+    (appends_early tells before later (left.written ++ piece) more
+    (appends_both tells before now later left.written piece Failed left.appended put))
+
+-- the records of these parts, from one on, begin with its own
+pub record_here : {A : Type 0} (entry : A → Entry × List ℕ) (parts : List A) (i : ℕ) (part : A)
+    → i < length parts → part ≡ get_or parts i part
+    → flat_map record_text (map entry (drop i parts))
+    ≡ record_text (entry part) ++ flat_map record_text (map entry (drop (i + 1) parts))
+record_here {A} entry parts i part within is =
+    subst (λ (first : A). flat_map record_text (map entry (drop i parts))
+    ≡ record_text (entry first) ++ flat_map record_text (map entry (drop (i + 1) parts))) (sym is)
+    (ap (λ (rest : List A). flat_map record_text (map entry rest)) (drop_more parts i part within))
+
+-- behind its line, the bytes of a file and a line feed
+pub file_joined : (line text held bytes : List ℕ) → line ≡ text ++ 10 ∷ [] → held ≡ bytes
+    → (line ++ held) ++ 10 ∷ [] ≡ text ++ 10 ∷ (bytes ++ 10 ∷ [])
+file_joined line text held bytes is holds =
+    append_assoc line held (10 ∷ []) ∙ ap (λ line. line ++ (held ++ 10 ∷ [])) is
+    ∙ append_assoc text (10 ∷ []) (held ++ 10 ∷ []) ∙ ap (λ bytes. text ++ 10 ∷ (bytes ++ 10 ∷ [])) holds

@@ -1,0 +1,61 @@
+-- The records of an image, and the text of each: a line, and behind the line of a file its bytes.
+use Rattle.std.specs.Prelude.{ℕ, ℤ, Bool, true, false, List, [], ◌∷◌, ◌++◌, Option, Some, None, codes}
+use Rattle.std.specs.Fmt.{decimal, signed_decimal}
+use Rattle.std.specs.List.{join_with_byte}
+use Rattle.ex_store.specs.declared.key.FullName.{FullName}
+use Rattle.ex_store.specs.declared.queue.QueueEntry.{QueueEntry}
+use Rattle.ex_store.specs.declared.row.Row.{Row}
+use Rattle.ex_store.specs.Forms.{form_text}
+use Rattle.ex_store.specs.Rows.{full_of}
+
+-- what a line says: the head; a directory and how many generations it keeps; the connected directory; a logical name
+-- and its directory; a file, of whose bytes the line says only how many they are; an entry of the print queue; the end
+pub data Entry : Type 0 where
+  Head : Entry
+  Directory : List ℕ → ℕ → Entry
+  Connected : List ℕ → Entry
+  Logical : List ℕ → List ℕ → Entry
+  File : Row → ℕ → Entry
+  Request : QueueEntry → Entry
+  End : Entry
+
+-- fields with one space between
+abbrev pub fields : List (List ℕ) → List ℕ
+fields = join_with_byte 32
+
+-- name, type and generation with points between
+abbrev pub file_text : FullName → List ℕ
+file_text full = join_with_byte 46 (full.key.name ∷ full.key.kind ∷ decimal full.generation ∷ [])
+
+-- whether a file is marked as deleted
+abbrev pub mark_text : Bool → List ℕ
+mark_text true = codes "D"
+mark_text false = codes "U"
+
+-- the day before which nothing is printed, by its number, or a hyphen where there is none
+abbrev pub after_text : Option ℤ → List ℕ
+after_text None = codes "-"
+after_text (Some day) = signed_decimal day
+
+-- the line of a record, without the line feed that ends it
+abbrev pub line_text : Entry → List ℕ
+line_text Head = codes "EXEC20 1"
+line_text (Directory name keep) = fields (codes "D" ∷ name ∷ decimal keep ∷ [])
+line_text (Connected name) = fields (codes "C" ∷ name ∷ [])
+line_text (Logical name directory) = fields (codes "L" ∷ name ∷ directory ∷ [])
+line_text (File row size) =
+    fields (codes "F" ∷ row.key.directory ∷ file_text (full_of row) ∷ mark_text row.file.deleted
+    ∷ decimal row.file.moment ∷ decimal size ∷ [])
+line_text (Request entry) =
+    fields (codes "Q" ∷ entry.file.key.directory ∷ file_text entry.file ∷ decimal entry.copies
+    ∷ form_text entry.form ∷ after_text entry.after ∷ entry.job ∷ entry.note ∷ [])
+line_text End = codes "E"
+
+-- what stands behind the line: the bytes of a file and a line feed
+abbrev pub content_text : Entry → List ℕ → List ℕ
+content_text (File row size) bytes = bytes ++ 10 ∷ []
+content_text entry bytes = []
+
+-- the text of a record: its line, a line feed, and what stands behind it
+abbrev pub record_text : Entry × List ℕ → List ℕ
+record_text (entry, bytes) = line_text entry ++ 10 ∷ content_text entry bytes

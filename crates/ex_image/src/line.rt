@@ -1,0 +1,122 @@
+// A line of an image under way.
+ghost use Rattle.std.specs.Prelude.{◌≡◌, ◌+◌, ◌<◌, ◌≤◌, ℕ, List, [], ◌∷◌, ◌++◌, length};
+ghost use Rattle.std.specs.Fmt.{decimal};
+ghost use Rattle.ex_image.specs.Record.{after_text, file_text};
+
+use arrayvec::ArrayString;
+use cm_text::NAME_LIMIT;
+use ex_store::Key;
+use itoa::Buffer;
+use std::marker::Model;
+
+/// Room for the longest line, that of an entry of the print queue, with numbers of any size.
+pub(crate) const LINE_ROOM: usize = 400;
+
+// The most bytes of a field with the space before it: of a text or a number, and of a file.
+const FIELD_LIMIT: usize = NAME_LIMIT + 1;
+
+const FILE_FIELD_LIMIT: usize = 3 * FIELD_LIMIT;
+
+/// A line of an image, kept in the value itself. Contracts see its bytes.
+#[derive(Drop)]
+pub(crate) struct Line {
+    text: ArrayString<LINE_ROOM>,
+}
+
+impl Model for Line {
+    ghost Value = { List ℕ };
+
+    ghost view = { λ line. line.text.bytes };
+}
+
+impl Line {
+    /// The line that begins with this text.
+    pub(crate) fn new(text: &str) -> Line
+        requires { length text.now ≤ NAME_LIMIT }
+        ensures { result ≡ text.now }
+    {
+        let mut line = ArrayString::new();
+        line.push_str(text);
+        Line { text: line }
+    }
+
+    // Puts a text behind the line.
+    fn push(&mut self, text: &str)
+        requires short { length text.now ≤ NAME_LIMIT }
+        requires room { length self.old + NAME_LIMIT ≤ LINE_ROOM }
+        ensures bytes { self.new ≡ self.old ++ text.now }
+        ensures len { length self.new ≤ length self.old + NAME_LIMIT }
+    {
+        self.text.push_str(text);
+    }
+
+    // Puts the digits of a number behind the line.
+    fn push_number(&mut self, number: u64)
+        requires { length self.old + NAME_LIMIT ≤ LINE_ROOM }
+        ensures bytes { self.new ≡ self.old ++ decimal number }
+        ensures len { length self.new ≤ length self.old + NAME_LIMIT }
+    {
+        self.push(Buffer::new().format(number));
+    }
+
+    /// Puts a space and a text behind the line.
+    pub(crate) fn field(&mut self, text: &str)
+        requires short { length text.now ≤ NAME_LIMIT }
+        requires room { length self.old + FIELD_LIMIT ≤ LINE_ROOM }
+        ensures bytes { self.new ≡ self.old ++ 32 ∷ text.now }
+        ensures len { length self.new ≤ length self.old + FIELD_LIMIT }
+    {
+        self.text.push(' ');
+        self.push(text);
+    }
+
+    /// Puts a space and a number behind the line.
+    pub(crate) fn number(&mut self, number: u64)
+        requires { length self.old + FIELD_LIMIT ≤ LINE_ROOM }
+        ensures bytes { self.new ≡ self.old ++ 32 ∷ decimal number }
+        ensures len { length self.new ≤ length self.old + FIELD_LIMIT }
+    {
+        self.text.push(' ');
+        self.push_number(number);
+    }
+
+    /// Puts a space and a day behind the line, or a hyphen where there is none.
+    pub(crate) fn after(&mut self, after: Option<i32>)
+        requires { length self.old + FIELD_LIMIT ≤ LINE_ROOM }
+        ensures bytes { self.new ≡ self.old ++ 32 ∷ after_text after }
+        ensures len { length self.new ≤ length self.old + FIELD_LIMIT }
+    {
+        match after {
+            Some(day) => self.field(Buffer::new().format(day)),
+            None => self.field("-"),
+        }
+    }
+
+    /// Puts a space and the name, type and generation of a file behind the line.
+    pub(crate) fn file(&mut self, key: &Key, generation: u32)
+        requires { length self.old + FILE_FIELD_LIMIT ≤ LINE_ROOM }
+        ensures bytes { self.new ≡ self.old ++ 32 ∷ file_text (record { key = key.now; generation = generation }) }
+        ensures len { length self.new ≤ length self.old + FILE_FIELD_LIMIT }
+    {
+        self.field(key.name.as_str());
+        self.text.push('.');
+        self.push(key.kind.as_str());
+        self.text.push('.');
+        self.push_number(u64::from(generation));
+    }
+
+    /// Ends the line.
+    pub(crate) fn end(&mut self)
+        requires { length self.old < LINE_ROOM }
+        ensures { self.new ≡ self.old ++ 10 ∷ [] }
+    {
+        self.text.push('\n');
+    }
+
+    /// The bytes of the line.
+    pub(crate) fn as_bytes(&self) -> &[u8]
+        ensures { result.now ≡ self.now }
+    {
+        self.text.as_str().as_bytes()
+    }
+}
