@@ -17,6 +17,7 @@ abbrev pub StopCause : Counts → Counts → Stop → Type 0
 StopCause a b stop.LoggedOut = b ≡ a
 StopCause a b stop.KeysEnded = b ≡ a
 StopCause a b stop.KeyLimit = b ≡ a
+StopCause a b stop.NoMemory = b ≡ a
 StopCause a b stop.ReadFailed = Rose a.keys b.keys × (b ≡ record a { keys = b.keys })
 StopCause a b stop.ScreenFailed = Rose a.screen b.screen × (b ≡ record a { screen = b.screen })
 StopCause a b stop.LogFailed = Rose a.log b.log × (b ≡ record a { log = b.log })
@@ -30,8 +31,8 @@ EndCause a b status.ReadFault = Rose a.keys b.keys × (b.log ≡ a.log)
 EndCause a b status.WriteFault =
     (b.keys ≡ a.keys) × ((Rose a.screen b.screen × (b.log ≡ a.log)) ⊎ Rose a.log b.log)
 EndCause a b status.Usage = ⊥
+EndCause a b status.NoMemory = (b.keys ≡ a.keys) × (b.log ≡ a.log)
 EndCause a b status.HostFault = ⊥
-EndCause a b status.NoMemory = ⊥
 
 -- the counts of screen, log and keys, by the status
 abbrev pub StatusCause : Counts → Counts → Status → Type 0

@@ -1,12 +1,12 @@
 pub mod Cause
-pub mod Command
 pub mod Cut
 pub mod End
 pub mod Form
-pub mod Image
 pub mod Messages
 pub mod Run
+pub mod Saving
 pub mod Scene
 pub mod Setting
 pub mod Step
 pub mod Stop
+pub mod World

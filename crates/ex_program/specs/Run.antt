@@ -1,115 +1,99 @@
--- The run of the program: a fold over the keys, each of which meets the whole line as it then stands.
-use Rattle.std.specs.Prelude.{ℕ, ◌+◌, Bool, true, false, List, [], ◌∷◌, ◌++◌, None, if◌then◌else◌}
+-- The run of the program: a fold over the keys, each of which meets the whole line, or the whole file, as it then
+-- stands.
+use Rattle.std.specs.Prelude.{ℕ, ◌+◌, Bool, false, List, [], ◌∷◌, ◌++◌, Option, None, Some, codes, if◌then◌else◌}
 use Rattle.cm_text.specs.Shown.{end_of_line}
-use Rattle.cm_io.specs.Clock.{later_moments}
-use Rattle.cm_line.specs.Keys.{class_of}
+use Rattle.cm_io.specs.Pieces.{hex}
 use Rattle.cm_blocks.specs.Kept.{cost}
 use Rattle.cm_state.specs.declared.prompt.Prompt.TheVariants.{Main}
-use Rattle.cm_state.specs.declared.turn.Turn.{Turn}
-use Rattle.cm_state.specs.declared.turn.Turn.TheVariants as turn
 use Rattle.cm_state.specs.Echo.{echo, prompt_text}
-use Rattle.cm_state.specs.Edit.{edited}
-use Rattle.cm_state.specs.Held.{Held, at_start, met_line, text_of}
+use Rattle.cm_state.specs.Held.{met_line, text_of}
 use Rattle.cm_state.specs.Log.{log_line}
-use Rattle.cm_state.specs.Turn.{turn_of}
-use Rattle.ex_grammar.specs.declared.node.TheConstants.{COMMANDS}
-use Rattle.ex_program.specs.Command.{command_of, reply}
+use Rattle.ex_commands.specs.Typed.{echo_text, edit, turn_of}
+use Rattle.ex_commands.specs.declared.data.DataTurn.{DataTurn}
 use Rattle.ex_program.specs.Setting.{exec_setting}
-use Rattle.ex_program.specs.declared.command.Command.{Command}
-use Rattle.ex_program.specs.declared.command.Command.TheVariants.{Empty, Connect, Define, Information, Logout, Remark}
+use Rattle.ex_program.specs.World.{World, data_prompt, data_reply, data_wants, key_turn, turn_prompt, turn_reply, turn_wants, with_key, world_after_data, world_after_turn}
+use Rattle.ex_program.specs.declared.course.Typing.{Typing}
 
--- what a run goes on from: the session, the moments to come, and whether LOGOUT has acted
-pub record World : Type 0 where
-  pub session : Held
-  pub moments : List ℕ
-  pub ended : Bool
+-- the file that is typed in has taken a key, and what the key comes to
+abbrev pub with_data : Typing → ℕ → Typing
+with_data typing key = record typing { data = (edit typing.data key).bytes }
 
--- a run begins at the first prompt
-abbrev pub starting : List ℕ → World
-starting moments = record { session = at_start COMMANDS Main None; moments = moments; ended = false }
+abbrev pub data_turn : Typing → ℕ → DataTurn
+data_turn typing key = turn_of (edit typing.data key).echo
 
--- the next line begins; what is kept for control-H stays
-abbrev pub next_line : World → World
-next_line world = record world { session = at_start COMMANDS Main world.session.kept }
+-- what a key shows first, by whether a file is typed in
+abbrev pub echo_by : World → ℕ → Option Typing → List ℕ
+echo_by world key None = echo (exec_setting world.state) world.session key
+echo_by world key (Some typing) = echo_text (edit typing.data key).echo
 
--- a moment is taken
-abbrev next_time : World → World
-next_time world = record world { moments = later_moments world.moments }
+unfoldable pub key_echo : World → ℕ → List ℕ
+key_echo world key = echo_by world key world.typing
 
--- a command takes a moment; LOGOUT ends the run, and behind any other the next line begins
-abbrev pub world_after_command : World → Command → World
-world_after_command world Empty = next_line (next_time world)
-world_after_command world (Connect directory) = next_line (next_time world)
-world_after_command world Define = next_line (next_time world)
-world_after_command world (Information what) = next_line (next_time world)
-world_after_command world Logout = record (next_time world) { ended = true }
-world_after_command world Remark = next_line (next_time world)
+-- the reply that it has, where it has one
+abbrev pub reply_by : World → ℕ → Option Typing → List ℕ
+reply_by world key None = turn_reply (with_key world key) (key_turn world key)
+reply_by world key (Some typing) = data_reply world (with_data typing key) (data_turn typing key)
 
--- the prompt of the next line, of which there is none after LOGOUT
-abbrev pub command_prompt : Command → List ℕ
-command_prompt Empty = prompt_text Main
-command_prompt (Connect directory) = prompt_text Main
-command_prompt Define = prompt_text Main
-command_prompt (Information what) = prompt_text Main
-command_prompt Logout = []
-command_prompt Remark = prompt_text Main
+unfoldable pub key_reply : World → ℕ → List ℕ
+key_reply world key = reply_by world key world.typing
 
--- what a key that came to this leads to; only a confirmed line acts
-unfoldable pub world_after_turn : World → Turn → World
-world_after_turn world turn.Edited = world
-world_after_turn world turn.Confirmed = world_after_command world (command_of world.session.fields)
-world_after_turn world (turn.Refused fault) = next_line world
-world_after_turn world turn.Abandoned = next_line world
-world_after_turn world turn.Failed = world
+-- and the prompt behind that
+abbrev pub prompt_by : World → ℕ → Option Typing → List ℕ
+prompt_by world key None = turn_prompt (with_key world key) (key_turn world key)
+prompt_by world key (Some typing) = data_prompt (data_turn typing key)
 
--- the reply of the line that acts
-unfoldable pub turn_reply : World → Turn → List ℕ
-turn_reply world turn.Edited = []
-turn_reply world turn.Confirmed = reply (command_of world.session.fields)
-turn_reply world (turn.Refused fault) = []
-turn_reply world turn.Abandoned = []
-turn_reply world turn.Failed = []
+unfoldable pub key_prompt : World → ℕ → List ℕ
+key_prompt world key = prompt_by world key world.typing
 
--- the prompt of the line that begins
-unfoldable pub turn_prompt : World → Turn → List ℕ
-turn_prompt world turn.Edited = []
-turn_prompt world turn.Confirmed = command_prompt (command_of world.session.fields)
-turn_prompt world (turn.Refused fault) = prompt_text Main
-turn_prompt world turn.Abandoned = prompt_text Main
-turn_prompt world turn.Failed = []
-
--- what a key that came to this shows behind its echo
-abbrev pub turn_bytes : World → Turn → List ℕ
-turn_bytes world turn = turn_reply world turn ++ turn_prompt world turn
-
--- the session has taken a key
-abbrev pub with_key : World → ℕ → World
-with_key world key = record world { session = edited exec_setting world.session key }
-
--- what the key comes to
-abbrev pub key_turn : World → ℕ → Turn
-key_turn world key = turn_of (class_of key) (with_key world key).session.ending
-
--- what the key shows behind its echo
+-- what it shows behind its echo
 abbrev pub key_bytes : World → ℕ → List ℕ
-key_bytes world key = turn_bytes (with_key world key) (key_turn world key)
+key_bytes world key = key_reply world key ++ key_prompt world key
 
--- the world after a key, what the key shows, and what it logs; after LOGOUT nothing more
+-- what it is logged as
+unfoldable pub data_log : ℕ → List ℕ
+data_log key = hex key ++ (codes " data" ++ 10 ∷ [])
+
+abbrev pub log_by : World → ℕ → Option Typing → List ℕ
+log_by world key None = log_line key (with_key world key).session
+log_by world key (Some typing) = data_log key
+
+unfoldable pub key_log : World → ℕ → List ℕ
+key_log world key = log_by world key world.typing
+
+-- whether memory may be wanting at it
+abbrev pub wants_by : World → ℕ → Option Typing → Bool
+wants_by world key None = turn_wants (with_key world key) (key_turn world key)
+wants_by world key (Some typing) = data_wants (data_turn typing key)
+
+unfoldable pub key_wants : World → ℕ → Bool
+key_wants world key = wants_by world key world.typing
+
+-- where it leads
+abbrev pub leads_by : World → ℕ → Option Typing → World
+leads_by world key None = world_after_turn (with_key world key) (key_turn world key)
+leads_by world key (Some typing) = world_after_data world (with_data typing key) (data_turn typing key)
+
+unfoldable pub key_leads : World → ℕ → World
+key_leads world key = leads_by world key world.typing
+
+-- what the trials of the line cost that it leaves, given those of the line that it met; of a file nothing is tried
+abbrev pub cost_by : World → ℕ → Option Typing → ℕ
+cost_by world key None =
+    cost (exec_setting world.state) world.session.node (met_line world.session) (text_of (with_key world key).session)
+cost_by world key (Some typing) = 0
+
+-- the world after a key, what the key shows, logs and costs; after LOGOUT nothing more
 unfoldable pub step : World → ℕ → World
-step world key = if world.ended then world else world_after_turn (with_key world key) (key_turn world key)
+step world key = if world.ended then world else key_leads world key
 
 unfoldable pub shows : World → ℕ → List ℕ
-shows world key = if world.ended then [] else echo exec_setting world.session key ++ key_bytes world key
+shows world key = if world.ended then [] else key_echo world key ++ key_bytes world key
 
 unfoldable pub logs : Bool → World → ℕ → List ℕ
-logs writes world key =
-    if world.ended then [] else (if writes then log_line key (with_key world key).session else [])
+logs writes world key = if world.ended then [] else (if writes then key_log world key else [])
 
--- what the trials of the line cost that a key leaves, given those of the line that it met
 unfoldable pub key_cost : World → ℕ → ℕ
-key_cost world key =
-    if world.ended then 0
-    else cost exec_setting world.session.node (met_line world.session) (text_of (with_key world key).session)
+key_cost world key = if world.ended then 0 else cost_by world key world.typing
 
 -- the same over keys in order
 abbrev pub world_after : World → List ℕ → World

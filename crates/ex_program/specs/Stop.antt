@@ -5,8 +5,8 @@ use Rattle.cm_io.specs.Told.{Told, add, AddsPart}
 use Rattle.cm_io.specs.Fault.{Rose}
 use Rattle.ex_program.specs.Cut.{PromptCut, RunCut, run_echo}
 use Rattle.ex_program.specs.Messages.{message}
-use Rattle.ex_program.specs.Scene.{AtKey, LoggedOut, ReadOut, Scene, Taken, Tried, has_ended, outputs_at, world_at}
-use Rattle.ex_program.specs.Step.{LogCut}
+use Rattle.ex_program.specs.Scene.{AtKey, LoggedOut, ReadOut, Scene, Taken, Tried, has_ended, left_at, outputs_at, world_at}
+use Rattle.ex_program.specs.Step.{Lacked, LogCut}
 use Rattle.ex_program.specs.declared.run.TheConstants.{KEY_LIMIT}
 use Rattle.ex_program.specs.declared.status.Status.{Status}
 use Rattle.ex_program.specs.declared.status.Status.TheVariants as status
@@ -30,7 +30,10 @@ Stops writes a b stop.KeyLimit =
 Stops writes a b stop.ScreenFailed = PromptCut a b ⊎ ((at : AtKey a b) × RunCut writes a b at)
 Stops writes a b stop.LogFailed =
     (at : AtKey a b) × (b.screen ≡ add a.screen (run_echo a b at))
-    × LogCut writes (world_at a at.before) at.key (outputs_at writes a at.before).log b.log b.moments
+    × LogCut writes (world_at a at.before) at.key (outputs_at writes a at.before).log b.log (left_at b)
+Stops writes a b stop.NoMemory =
+    (at : AtKey a b) × (b.screen ≡ add a.screen (run_echo a b at))
+    × Lacked writes (world_at a at.before) at.key (outputs_at writes a at.before).log b.log (left_at b)
 
 -- the status is this one, or HostFault in its place
 abbrev pub IsOr : Status → Status → Type 0
@@ -42,14 +45,13 @@ IsEnd status.Done = Unit {0}
 IsEnd status.ReadFault = Unit {0}
 IsEnd status.WriteFault = Unit {0}
 IsEnd status.KeyLimit = Unit {0}
+IsEnd status.NoMemory = Unit {0}
 IsEnd status.Usage = ⊥
 IsEnd status.HostFault = ⊥
-IsEnd status.NoMemory = ⊥
 
 -- what a run past its first prompt comes to
 abbrev pub IsRun : Status → Type 0
 IsRun status.Usage = ⊥
-IsRun status.NoMemory = ⊥
 IsRun result = Unit {0}
 
 -- what the end of a run shows, by how it stopped; a screen that failed is given no more
@@ -63,6 +65,8 @@ Closes stop.ReadFailed before now f g result =
     IsOr result status.ReadFault × Tried before now f g [] (end_of_line ++ message result)
 Closes stop.KeyLimit before now f g result =
     IsOr result status.KeyLimit × Tried before now f g [] (end_of_line ++ message result)
+Closes stop.NoMemory before now f g result =
+    IsOr result status.NoMemory × Tried before now f g [] (end_of_line ++ message result)
 Closes stop.ScreenFailed before now f g result =
     IsOr result status.WriteFault × (now ≡ before) × (g ≡ f)
 Closes stop.LogFailed before now f g result =

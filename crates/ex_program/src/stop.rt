@@ -13,4 +13,6 @@ pub enum Stop {
     ScreenFailed,
     /// The log failed.
     LogFailed,
+    /// Memory was wanting.
+    NoMemory,
 }
