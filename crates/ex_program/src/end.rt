@@ -2,11 +2,11 @@
 #![tactic(auto, using(crate::proofs::Parts::pieces))]
 
 ghost use Rattle.std.specs.Prelude.{◌≡◌, ◌≤◌, ◌++◌, [], IsTrue};
-ghost use Rattle.cm_io.specs.Fault.{PutCause};
 ghost use Rattle.cm_io.specs.Host.{KeepsOthers};
 ghost use Rattle.cm_text.specs.Shown.{end_of_line};
+ghost use Rattle.ex_image.specs.Image.{image_text};
 ghost use Rattle.ex_program.specs.Cause.{HostCause};
-ghost use Rattle.ex_program.specs.Image.{Keeps, Saves, image};
+ghost use Rattle.ex_program.specs.Saving.{Keeps};
 ghost use Rattle.ex_program.specs.Messages.{IsSilent, message};
 ghost use Rattle.ex_program.specs.Scene.{Tried};
 ghost use Rattle.ex_program.specs.Stop.{Closes, IsEnd, IsOr};
@@ -15,31 +15,8 @@ use crate::Status;
 use crate::stop::Stop;
 use cm_io::{Host, Put, Sink, put_line};
 use cm_text::end_of_line;
-
-#[tactic(auto, unfolding(crate::specs::Image::image))]
-fn image() -> &'static [u8]
-    ensures { result.now ≡ image }
-{
-    b"EXEC20 1\nD OPERATOR 1\nC OPERATOR\nE\n"
-}
-
-/// Writes the image to a file. Where the host fails, the file is absent, as before, or holds a prefix of it.
-pub(crate) fn save<H: Host>(out: &str, host: &mut H) -> Put
-    ensures saved { IsTrue H.tells → Saves (H.files host.old out.now) (H.files host.new out.now) result }
-    ensures others { IsTrue H.tells → KeepsOthers out.now (H.files host.old) (H.files host.new) }
-    ensures later { H.faults host.old ≤ H.faults host.new }
-    ensures cause { PutCause (H.faults host.old) (H.faults host.new) result }
-{
-    if let Put::Failed = host.create(out) {
-        return Put::Failed;
-    }
-    let written = host.write(image());
-    let closed = host.close();
-    match written {
-        Put::Done => closed,
-        Put::Failed => Put::Failed,
-    }
-}
+use ex_image::encode;
+use ex_store::Store;
 
 /// Shows the message of a status, where it has one. A screen that fails here changes nothing.
 pub(crate) fn show_message<S: Sink>(status: Status, screen: &mut S)
@@ -54,24 +31,26 @@ pub(crate) fn show_message<S: Sink>(status: Status, screen: &mut S)
     put_line(status.message().as_bytes(), screen);
 }
 
-/// Writes the image to a file. HostFault takes the place of the status where the host fails.
-pub(crate) fn keep<H: Host>(status: Status, out: &str, host: &mut H) -> Status
+/// Writes the image of a store to a file. HostFault takes the place of the status where the host fails.
+pub(crate) fn keep<H: Host>(status: Status, store: &Store, out: &str, host: &mut H) -> Status
     requires { IsEnd status }
     ensures status { IsOr result status }
-    ensures kept { IsTrue H.tells → Keeps (H.files host.old out.now) (H.files host.new out.now) result }
+    ensures kept { IsTrue H.tells → Keeps (image_text store.now.state)
+        (H.files host.old out.now) (H.files host.new out.now) result }
     ensures others { IsTrue H.tells → KeepsOthers out.now (H.files host.old) (H.files host.new) }
     ensures later { H.faults host.old ≤ H.faults host.new }
     ensures cause { HostCause (H.faults host.old) (H.faults host.new) result }
 {
-    match save(out, host) {
+    match encode(store, host, out) {
         Put::Done => status,
         Put::Failed => Status::HostFault,
     }
 }
 
-/// Writes the image to a file, and shows the message of the status that it comes to.
+/// Writes the image of a store to a file, and shows the message of the status that it comes to.
 pub(crate) fn finish<H: Host, S: Sink>(
     status: Status,
+    store: &Store,
     out: &str,
     host: &mut H,
     screen: &mut S,
@@ -83,20 +62,22 @@ pub(crate) fn finish<H: Host, S: Sink>(
     ensures later { S.faults screen.old ≤ S.faults screen.new }
     ensures quiet { IsSilent result → S.faults screen.new ≡ S.faults screen.old }
 
-    ensures kept { IsTrue H.tells → Keeps (H.files host.old out.now) (H.files host.new out.now) result }
+    ensures kept { IsTrue H.tells → Keeps (image_text store.now.state)
+        (H.files host.old out.now) (H.files host.new out.now) result }
     ensures others { IsTrue H.tells → KeepsOthers out.now (H.files host.old) (H.files host.new) }
     ensures host_later { H.faults host.old ≤ H.faults host.new }
     ensures host_cause { HostCause (H.faults host.old) (H.faults host.new) result }
 {
-    let status = keep(status, out, host);
+    let status = keep(status, store, out, host);
     show_message(status, screen);
     status
 }
 
-/// Ends the line that is open, writes the image to a file, and shows the message of the status that it
+/// Ends the line that is open, writes the image of a store to a file, and shows the message of the status that it
 /// comes to. A screen that fails is given no more.
 pub(crate) fn halt<H: Host, S: Sink>(
     status: Status,
+    store: &Store,
     out: &str,
     host: &mut H,
     screen: &mut S,
@@ -107,53 +88,63 @@ pub(crate) fn halt<H: Host, S: Sink>(
         (S.faults screen.old) (S.faults screen.new) [] (end_of_line ++ message result) }
     ensures later { S.faults screen.old ≤ S.faults screen.new }
 
-    ensures kept { IsTrue H.tells → Keeps (H.files host.old out.now) (H.files host.new out.now) result }
+    ensures kept { IsTrue H.tells → Keeps (image_text store.now.state)
+        (H.files host.old out.now) (H.files host.new out.now) result }
     ensures others { IsTrue H.tells → KeepsOthers out.now (H.files host.old) (H.files host.new) }
     ensures host_later { H.faults host.old ≤ H.faults host.new }
     ensures host_cause { HostCause (H.faults host.old) (H.faults host.new) result }
 {
     match screen.put(end_of_line()) {
-        Put::Done => finish(status, out, host, screen),
-        Put::Failed => keep(status, out, host),
+        Put::Done => finish(status, store, out, host, screen),
+        Put::Failed => keep(status, store, out, host),
     }
 }
 
 /// Ends a run that stopped so.
-pub(crate) fn close<H: Host, S: Sink>(stop: Stop, out: &str, host: &mut H, screen: &mut S) -> Status
+pub(crate) fn close<H: Host, S: Sink>(
+    stop: Stop,
+    store: &Store,
+    out: &str,
+    host: &mut H,
+    screen: &mut S,
+) -> Status
     ensures closes { Closes stop (S.told screen.old) (S.told screen.new)
         (S.faults screen.old) (S.faults screen.new) result }
     ensures later { S.faults screen.old ≤ S.faults screen.new }
     ensures quiet { result ≡ Status.Done → S.faults screen.new ≡ S.faults screen.old }
 
-    ensures kept { IsTrue H.tells → Keeps (H.files host.old out.now) (H.files host.new out.now) result }
+    ensures kept { IsTrue H.tells → Keeps (image_text store.now.state)
+        (H.files host.old out.now) (H.files host.new out.now) result }
     ensures others { IsTrue H.tells → KeepsOthers out.now (H.files host.old) (H.files host.new) }
     ensures host_later { H.faults host.old ≤ H.faults host.new }
     ensures host_cause { HostCause (H.faults host.old) (H.faults host.new) result }
 {
     match stop {
-        Stop::LoggedOut => finish(Status::Done, out, host, screen),
-        Stop::KeysEnded => end_line(out, host, screen),
-        Stop::ReadFailed => halt(Status::ReadFault, out, host, screen),
-        Stop::KeyLimit => halt(Status::KeyLimit, out, host, screen),
-        Stop::ScreenFailed => keep(Status::WriteFault, out, host),
-        Stop::LogFailed => finish(Status::WriteFault, out, host, screen),
+        Stop::LoggedOut => finish(Status::Done, store, out, host, screen),
+        Stop::KeysEnded => end_line(store, out, host, screen),
+        Stop::ReadFailed => halt(Status::ReadFault, store, out, host, screen),
+        Stop::KeyLimit => halt(Status::KeyLimit, store, out, host, screen),
+        Stop::ScreenFailed => keep(Status::WriteFault, store, out, host),
+        Stop::NoMemory => halt(Status::NoMemory, store, out, host, screen),
+        Stop::LogFailed => finish(Status::WriteFault, store, out, host, screen),
     }
 }
 
 // Ends a run whose keys were read to their end: ends the line that is open, which may fail.
-fn end_line<H: Host, S: Sink>(out: &str, host: &mut H, screen: &mut S) -> Status
+fn end_line<H: Host, S: Sink>(store: &Store, out: &str, host: &mut H, screen: &mut S) -> Status
     ensures closes { Closes Stop.KeysEnded (S.told screen.old) (S.told screen.new)
         (S.faults screen.old) (S.faults screen.new) result }
     ensures later { S.faults screen.old ≤ S.faults screen.new }
     ensures quiet { result ≡ Status.Done → S.faults screen.new ≡ S.faults screen.old }
 
-    ensures kept { IsTrue H.tells → Keeps (H.files host.old out.now) (H.files host.new out.now) result }
+    ensures kept { IsTrue H.tells → Keeps (image_text store.now.state)
+        (H.files host.old out.now) (H.files host.new out.now) result }
     ensures others { IsTrue H.tells → KeepsOthers out.now (H.files host.old) (H.files host.new) }
     ensures host_later { H.faults host.old ≤ H.faults host.new }
     ensures host_cause { HostCause (H.faults host.old) (H.faults host.new) result }
 {
     match screen.put(end_of_line()) {
-        Put::Done => finish(Status::Done, out, host, screen),
-        Put::Failed => keep(Status::WriteFault, out, host),
+        Put::Done => finish(Status::Done, store, out, host, screen),
+        Put::Failed => keep(Status::WriteFault, store, out, host),
     }
 }

@@ -34,8 +34,8 @@ pub fn each_reply_is_shown()
 pub fn a_cut_run_is_a_prefix()
     ensures { (writes : Bool) → (a b : Scene) → Ran writes a b Status.WriteFault
         → (taken : List ℕ) × (taken ++ b.keys ≡ a.keys)
-        × AddsPart a.screen b.screen (run_shown (starting a.moments) taken)
-        × AddsPart a.log b.log (bytes_logged writes (starting a.moments) taken) }
+        × AddsPart a.screen b.screen (run_shown (start_of a) taken)
+        × AddsPart a.log b.log (bytes_logged writes (start_of a) taken) }
 {}
 
 /// The counter rises by exactly what the trials of the keys taken cost, whatever the status is, and with a log
@@ -43,7 +43,7 @@ pub fn a_cut_run_is_a_prefix()
 pub fn the_counter_is_exact()
     ensures { (writes : Bool) → (a b : Scene) → (result : Status) → Ran writes a b result
         → (taken : List ℕ) × (taken ++ b.keys ≡ a.keys)
-        × (b.steps ≡ a.steps + total (starting a.moments) taken) }
+        × (b.steps ≡ a.steps + total (start_of a) taken) }
 {}
 
 /// A failed screen is given no more, no message either: it holds a prefix of what the keys taken show,
@@ -51,8 +51,8 @@ pub fn the_counter_is_exact()
 pub fn a_failed_screen_is_given_no_more()
     ensures { (writes : Bool) → (a b : Scene) → ScreenCut writes a b
         → (taken : List ℕ) × (taken ++ b.keys ≡ a.keys)
-        × AddsPart a.screen b.screen (run_shown (starting a.moments) taken)
-        × AddsPart a.log b.log (bytes_logged writes (starting a.moments) taken) }
+        × AddsPart a.screen b.screen (run_shown (start_of a) taken)
+        × AddsPart a.log b.log (bytes_logged writes (start_of a) taken) }
 {}
 
 /// A read fault stays a read fault: with WriteFault the count of the keys' faults is as it was.
@@ -76,7 +76,7 @@ pub fn no_key_is_thrown_away()
         → IsQuiet a.log_faults b.log_faults
         → (given part : List ℕ) → a.screen ≡ Bytes given → b.screen ≡ Bytes (given ++ part)
         → (before : List ℕ) → (key : ℕ) → (rest : List ℕ) → before ++ key ∷ rest ≡ a.keys
-        → length part < length (run_keys (starting a.moments) (before ++ key ∷ []))
+        → length part < length (run_keys (start_of a) (before ++ key ∷ []))
         → (more : List ℕ) × (more ++ rest ≡ b.keys) }
 {}
 
@@ -86,7 +86,7 @@ pub fn the_limit_of_keys_stays()
     ensures { (writes : Bool) → (a b : Scene) → Ran writes a b Status.WriteFault
         → IsQuiet a.log_faults b.log_faults
         → (taken rest : List ℕ) → taken ++ rest ≡ a.keys → length taken ≡ KEY_LIMIT
-        → AddsPart a.screen b.screen (run_keys (starting a.moments) taken) }
+        → AddsPart a.screen b.screen (run_keys (start_of a) taken) }
 {}
 
 /// The image is not written before the run: a host fault where no key was taken, and nothing else failed,

@@ -1,38 +1,40 @@
 // The run over the keys.
-ghost use Rattle.std.specs.Prelude.{◌≡◌, ◌≤◌, IsTrue};
+ghost use Rattle.std.specs.Prelude.{◌≡◌, ◌≤◌, None, IsTrue};
 ghost use Rattle.cm_hooks.specs.Ties.{Ties, count};
 ghost use Rattle.cm_blocks.specs.Grammar.{hook_count};
-ghost use Rattle.cm_blocks.specs.Setting.{setting};
 ghost use Rattle.ex_grammar.specs.ExecRules.{exec_meanings};
+ghost use Rattle.ex_grammar.specs.Graph.{exec_graph};
 ghost use Rattle.ex_program.specs.Cause.{StopCause};
-ghost use Rattle.ex_program.specs.Setting.{exec_setting};
 ghost use Rattle.ex_program.specs.Stop.{Stops};
 
+use crate::course::Course;
+use crate::line_key::prompt_line;
 use crate::setting::Setting;
-use crate::step::{Step, next_line, take_key};
+use crate::step::{Step, take_key};
 use crate::stop::Stop;
 use cm_blocks::Steps;
 use cm_io::{Clock, Got, Put, Sink, Source};
-use cm_state::Session;
 use std::sync::ledger::Ledger;
 
 /// The most keys that a run takes.
 pub const KEY_LIMIT: u32 = 16_777_216;
 
-/// Shows the first prompt and takes the keys in turn, until LOGOUT has acted, no key is left, as many are
-/// taken as a run takes, or the outside fails. Nothing is asked of the outside behind a call that failed.
+/// Shows the first prompt and takes the keys in turn, until LOGOUT has acted, no key is left, as many are taken as a run
+/// takes, the outside fails, or memory is wanting. Nothing is asked of the outside behind a call that failed.
 pub(crate) fn run<K: Source, S: Sink, W: Sink, C: Clock, L: Ledger>(
     writes: bool,
     under: &Setting<'_>,
+    course: &mut Course,
     keys: &mut K,
     screen: &mut S,
     log: &mut W,
     clock: &mut C,
     steps: &mut Steps<L>,
 ) -> Stop
-    requires exec { setting under.now.grammar under.now.names exec_meanings ≡ exec_setting }
+    requires exec { under.now.grammar ≡ exec_graph }
     requires ties { Ties exec_meanings under.now.hooks.now }
     requires hooks { hook_count under.now.grammar ≤ count under.now.hooks.now }
+    requires kept { course.old.session.kept ≡ None }
     ensures stops { IsTrue K.tells → IsTrue C.tells → Stops writes
         (record {
           screen = S.told screen.old;
@@ -43,6 +45,7 @@ pub(crate) fn run<K: Source, S: Sink, W: Sink, C: Clock, L: Ledger>(
           keys_faults = K.faults keys.old;
           moments = C.left clock.old;
           steps = steps.old;
+          state = course.old.store.state;
         })
         (record {
           screen = S.told screen.new;
@@ -53,6 +56,7 @@ pub(crate) fn run<K: Source, S: Sink, W: Sink, C: Clock, L: Ledger>(
           keys_faults = K.faults keys.new;
           moments = C.left clock.new;
           steps = steps.new;
+          state = course.new.store.state;
         })
         result }
     ensures cause { StopCause
@@ -63,8 +67,7 @@ pub(crate) fn run<K: Source, S: Sink, W: Sink, C: Clock, L: Ledger>(
     ensures log_later { W.faults log.old ≤ W.faults log.new }
     ensures keys_later { K.faults keys.old ≤ K.faults keys.new }
 {
-    let mut session = Session::new();
-    if let Put::Failed = next_line(&mut session, screen) {
+    if let Put::Failed = prompt_line(course, screen) {
         return Stop::ScreenFailed;
     }
     for _turn in 0..KEY_LIMIT {
@@ -73,11 +76,12 @@ pub(crate) fn run<K: Source, S: Sink, W: Sink, C: Clock, L: Ledger>(
             Got::End => return Stop::KeysEnded,
             Got::Failed => return Stop::ReadFailed,
         };
-        match take_key(writes, key, under, &mut session, screen, log, clock, steps) {
+        match take_key(writes, key, under, course, screen, log, clock, steps) {
             Step::More => {}
             Step::Over => return Stop::LoggedOut,
             Step::ScreenFailed => return Stop::ScreenFailed,
             Step::LogFailed => return Stop::LogFailed,
+            Step::NoMemory => return Stop::NoMemory,
         }
     }
     Stop::KeyLimit
