@@ -16,15 +16,15 @@ use Rattle.ex_program.specs.declared.course.Typing.{Typing}
 
 -- the file that is typed in has taken a key, and what the key comes to
 abbrev pub with_data : Typing → ℕ → Typing
-with_data typing key = record typing { data = (edit typing.data key).bytes }
+with_data typing key = record typing { typed = (edit typing.typed key).bytes }
 
 abbrev pub data_turn : Typing → ℕ → DataTurn
-data_turn typing key = turn_of (edit typing.data key).echo
+data_turn typing key = turn_of (edit typing.typed key).echo
 
 -- what a key shows first, by whether a file is typed in
 abbrev pub echo_by : World → ℕ → Option Typing → List ℕ
 echo_by world key None = echo (exec_setting world.state) world.session key
-echo_by world key (Some typing) = echo_text (edit typing.data key).echo
+echo_by world key (Some typing) = echo_text (edit typing.typed key).echo
 
 unfoldable pub key_echo : World → ℕ → List ℕ
 key_echo world key = echo_by world key world.typing

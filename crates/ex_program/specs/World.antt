@@ -88,7 +88,7 @@ target_of command = None
 
 -- nothing of it is typed yet
 abbrev pub typing_to : ℕ → Place → Typing
-typing_to moment to = record { to = to; moment = moment; data = [] }
+typing_to moment to = record { to = to; moment = moment; typed = [] }
 
 -- a command took a moment and left this state
 abbrev pub acted_in : World → State → World
@@ -163,18 +163,18 @@ key_turn world key = turn_of (class_of key) (with_key world key).session.ending
 
 -- the bytes of a file so far
 abbrev pub with_bytes : World → Typing → List ℕ → World
-with_bytes world typing bytes = record world { typing = Some (record typing { data = bytes }) }
+with_bytes world typing bytes = record world { typing = Some (record typing { typed = bytes }) }
 
 -- what was typed in is written, at the moment of its line
 abbrev pub write_at : World → Typing → Act
-write_at world typing = writes typing.to typing.data typing.moment world.state
+write_at world typing = writes typing.to typing.typed typing.moment world.state
 
 -- what a key of a file that is typed in leads to, by what it comes to; only control-Z writes it
 unfoldable pub world_after_data : World → Typing → DataTurn → World
-world_after_data world typing data_turn.More = with_bytes world typing typing.data
+world_after_data world typing data_turn.More = with_bytes world typing typing.typed
 world_after_data world typing data_turn.Write = next_line (record world { state = (write_at world typing).state })
 world_after_data world typing data_turn.Dropped = next_line world
-world_after_data world typing data_turn.Failed = with_bytes world typing typing.data
+world_after_data world typing data_turn.Failed = with_bytes world typing typing.typed
 
 -- the reply to it, and the prompt of the line that begins
 unfoldable pub data_reply : World → Typing → DataTurn → List ℕ

@@ -12,7 +12,7 @@ pub struct Typing {
     /// The moment of its line.
     pub moment: u64,
     /// What was typed so far.
-    pub data: Data,
+    pub typed: Data,
 }
 
 /// What a run goes on from, apart from what is outside.

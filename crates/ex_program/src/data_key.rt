@@ -1,17 +1,20 @@
 // What a key does to a file that is being typed in.
 #![tactic(auto, using(crate::proofs::Parts::pieces))]
 
-ghost use Rattle.std.specs.Prelude.{◌≡◌, ◌≤◌, ◌++◌, [], ℕ, List, Some, if◌then◌else◌};
+ghost use Rattle.std.specs.Prelude.{◌≡◌, ◌≤◌, ◌++◌, [], ℕ, List, true, Some, IsTrue, is_some, if◌then◌else◌};
 ghost use Rattle.cm_io.specs.Told.{Adds};
 ghost use Rattle.cm_io.specs.Fault.{PutCause};
+ghost use Rattle.cm_state.specs.Echo.{prompt_text};
+ghost use Rattle.ex_store.specs.Plan.{IsTarget};
 ghost use Rattle.ex_program.specs.Run.{data_log};
 ghost use Rattle.ex_program.specs.Step.{Does, LogCause, ScreenCause, Took};
-ghost use Rattle.ex_program.specs.World.{IsAtKey, data_prompt, data_reply, data_wants, going, world_after_data};
+ghost use Rattle.ex_program.specs.World.{IsAtKey, data_prompt, data_reply, data_wants, going, next_line, world_after_data, write_at};
 
 use crate::course::{Course, Typing};
 use crate::line_key::begin_line;
 use crate::step::Step;
 use cm_io::{Put, Sink, put_hex};
+use cm_state::Prompt;
 use ex_commands::{Acted, DataTurn, write_data};
 
 /// Takes one key for the file that is being typed in.
@@ -61,7 +64,7 @@ fn type_key<S: Sink, W: Sink>(
     ensures log_cause { LogCause (W.faults log.old) (W.faults log.new) result }
 {
     let mut typing = typing;
-    let turn = typing.data.key(key, screen);
+    let turn = typing.typed.key(key, screen);
     if let DataTurn::Failed = turn {
         return Step::ScreenFailed;
     }
@@ -138,8 +141,8 @@ fn write<S: Sink>(typing: Typing, course: &mut Course, screen: &mut S) -> Step
     ensures later { S.faults screen.old ≤ S.faults screen.new }
     ensures cause { ScreenCause (S.faults screen.old) (S.faults screen.new) result }
 {
-    let Typing { to, moment, data } = typing;
-    match write_data(&mut course.store, &to, data, moment, screen) {
+    let Typing { to, moment, typed } = typing;
+    match write_data(&mut course.store, &to, typed, moment, screen) {
         Acted::Ok => begin_line(course, screen),
         Acted::Refused(_) => begin_line(course, screen),
         Acted::Data => begin_line(course, screen),

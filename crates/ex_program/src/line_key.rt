@@ -1,7 +1,7 @@
 // What a key does to the line, and what a line that is confirmed does.
 #![tactic(auto, using(crate::proofs::Parts::pieces))]
 
-ghost use Rattle.std.specs.Prelude.{◌≡◌, ◌≤◌, ◌+◌, [], ℕ, Bool, List, None, IsTrue, if◌then◌else◌, option_map};
+ghost use Rattle.std.specs.Prelude.{◌≡◌, ◌≤◌, ◌+◌, ◌++◌, [], ℕ, Bool, List, None, IsTrue, if◌then◌else◌, option_map};
 ghost use Rattle.cm_io.specs.Told.{Adds, Told};
 ghost use Rattle.cm_io.specs.Fault.{PutCause};
 ghost use Rattle.cm_line.specs.Keys.{class_of};
@@ -205,13 +205,13 @@ fn begin_typing(command: &Command, moment: u64, alloc: Global, course: &mut Cour
     ensures ready { result ≡ Step.More → IsAtKey course.new }
 {
     if let Command::CopyTty { to } = command {
-        let Ok(data) = Data::new(alloc) else {
+        let Ok(typed) = Data::new(alloc) else {
             return Step::NoMemory;
         };
         course.typing = Some(Typing {
             to: to.copy(),
             moment,
-            data,
+            typed,
         });
     }
     Step::More
