@@ -11,10 +11,11 @@ pub const IMAGE: &[u8] = b"EXEC20 1\nD OPERATOR 1\nC OPERATOR\nE\n";
 // What the host has before a run, under the name IN.
 pub const BEFORE: &[u8] = b"before";
 
-// What a run is given behind its words, and what of it fails. The moments are 1, 2, 3 and so on.
+// What a run is given behind its words, and what of it fails.
 #[derive(Clone, Copy)]
 pub struct Given<'a> {
     pub keys: &'a [u8],
+    pub moments: &'a [u64],
     pub failing_get: Option<u32>,
     pub screen_room: u32,
     pub log_room: u32,
@@ -22,14 +23,15 @@ pub struct Given<'a> {
     pub failing_calls: &'a [u32],
 }
 
-// These keys, and nothing that fails.
+// These keys, at the moments 1, 2, 3 and so on, and nothing that fails.
 pub(crate) fn over(keys: &[u8]) -> Given<'_> {
     Given {
         keys,
+        moments: &[1, 2, 3, 4, 5, 6, 7, 8],
         failing_get: None,
         screen_room: 4096,
         log_room: 4096,
-        file_room: 64,
+        file_room: 512,
         failing_calls: &[],
     }
 }
@@ -76,7 +78,7 @@ pub(crate) fn outcome_by(
             given.file_room,
             given.failing_calls,
         )?,
-        clock: MemClock::new(alloc, &[1, 2, 3, 4, 5, 6])?,
+        clock: MemClock::new(alloc, given.moments)?,
     };
     outcome.status = run_with_rules::<MemHost, MemSource, MemSink, MemSink, MemClock, Brand>(
         runtime,

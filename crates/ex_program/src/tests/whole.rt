@@ -34,9 +34,9 @@ fn shows_the_prompt_and_the_end(rt: HostRuntime) -> Result<(), Fail> {
             1,
         ),
         done(
-            b"L\r\x08",
-            b"@L\r\n?Ambiguous keyword\r\n@\r\n",
-            Log::Whole(b"4c 1 O\n0d 1 F2.0@0\n08 0 O\n"),
+            b"D\r\x08",
+            b"@D\r\n?Ambiguous keyword\r\n@\r\n",
+            Log::Whole(b"44 1 O\n0d 1 F2.0@0\n08 0 O\n"),
             1,
         ),
         done(
@@ -107,17 +107,19 @@ fn connects_to_what_is_there(rt: HostRuntime) -> Result<(), Fail> {
             Log::End(b"\n0d 7 D 0.1k3@0-7 17.0n0@7-7 18.1D@7-7=\n"),
             2,
         ),
-        // CONNECT is the one command that begins so.
+        // CONNECT is the one command that begins so, and COPY begins as far.
         done(
-            b"C\r",
-            b"@C\r\n@\r\n",
-            Log::Whole(b"43 1 O\n0d 1 D 0.1k3@0-1 17.0n0@1-1 18.1D@1-1=\n"),
+            b"CON\r",
+            b"@CON\r\n@\r\n",
+            Log::Whole(
+                b"43 1 O\n4f 2 O\n4e 3 O\n0d 3 D 0.1k3@0-3 17.0n0@3-3 18.1D@3-3=\n",
+            ),
             2,
         ),
         done(
-            b"CO operator\r",
-            b"@CO operator\r\n@\r\n",
-            Log::End(b"\n0d 11 D 0.1k3@0-2 17.0n0@3-3 18.0u@3-11\n"),
+            b"CO\rCON operator\r",
+            b"@CO\r\n?Ambiguous keyword\r\n@CON operator\r\n@\r\n",
+            Log::End(b"\n0d 12 D 0.1k3@0-3 17.0n0@4-4 18.0u@4-12\n"),
             2,
         ),
         done(

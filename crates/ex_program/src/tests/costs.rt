@@ -1,0 +1,26 @@
+// What lines of the EXEC's grammar cost to parse, by example.
+ghost use Rattle.std.specs.Prelude.{◌≡◌, ◌∷◌, ◌++◌, [], codes};
+ghost use Rattle.cm_blocks.specs.Kept.{cost};
+ghost use Rattle.ex_grammar.specs.declared.node.TheConstants.{COMMANDS};
+ghost use Rattle.ex_store.specs.State.{State};
+ghost use Rattle.ex_program.specs.Run.{total};
+ghost use Rattle.ex_program.specs.Setting.{exec_setting};
+ghost use Rattle.ex_program.specs.World.{starting};
+
+// The counter takes no bytes, so that no run can show it. Whatever the files are:
+//
+// - A byte more of a file costs its own trial alone, 3 for two bytes that want more; keyword and guide word are kept.
+// - The same afresh: besides, 2 for the end of the line, 5 for the keyword and 2 for the guide word.
+// - `DIR`, a blank and DEL: 4, 5 and 6 for the letters, 8 for the blank, which ends the keyword, and 6 for DEL, which
+//   opens it again.
+fn lines_cost_their_trials()
+    ensures { (state : State)
+        → (cost (exec_setting state) COMMANDS (codes "DIR A") (codes "DIR AB") ≡ 3)
+        × (cost (exec_setting state) COMMANDS [] (codes "DIR AB") ≡ 12)
+        × (total (starting state []) (codes "DIR " ++ 127 ∷ []) ≡ 29) }
+{}
+
+#[test]
+fn counts_what_lines_cost() {
+    lines_cost_their_trials();
+}
