@@ -27,6 +27,9 @@ pub record IsRead (line : Row → List ℕ) (files : Place) (state : State) (fro
 pub is_read : (line : Row → List ℕ) (files : Place) (state : State) (from at : ℕ) (row : Row) (name : List ℕ) → IsNext files state from at
     → name ≡ files.directory → slice_get (rows_in name state.rows) at ≡ Some row → IsRead line files state from at row
 is_read line files state from at row name next same there =
+    let found : slice_get (rows_in files.directory state.rows) at ≡ Some row =
+    ap (λ each. slice_get (rows_in each state.rows) at) (sym same) ∙ there in
+    let known = next.is_there in
     let here : row ≡ next.row = cc in
     record {
       moment = subst (λ (each : Row). each.file.moment ≤ MOMENT_LIMIT) (sym here) next.moment;
