@@ -1,5 +1,7 @@
 pub mod Act
 pub mod Answer
 pub mod Command
+pub mod Files
 pub mod Replies
+pub mod Texts
 pub mod Typed

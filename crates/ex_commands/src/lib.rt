@@ -15,6 +15,7 @@ mod plans;
 mod replies;
 #[cfg(test)]
 mod tests;
+mod texts;
 
 pub use acted::Acted;
 pub use acts::act;
