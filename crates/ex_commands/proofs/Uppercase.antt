@@ -60,3 +60,22 @@ pub default_is_ascii : (graph : Graph) (place : ℕ) (node : Node) (text : List 
     → slice_get graph.nodes place ≡ Some node → node.default ≡ Some text → IsAscii text
 default_is_ascii graph place node text none found is =
     shown_is_ascii text (sym (ap (λ (default : Option (List ℕ)). option_map_or is_shown default true) is) ∙ default_shown graph place node none found)
+
+-- one byte more of a text in upper case
+pub upper_more : (text : List ℕ) (i byte : ℕ) → i < length text → byte ≡ get_or text i byte
+    → map to_ascii_uppercase (take (i + 1) text) ≡ map to_ascii_uppercase (take i text) ++ to_ascii_uppercase byte ∷ []
+upper_more [] i byte below is = absurd (omega arith)
+upper_more (first ∷ more) zero byte below is = ap (λ (b : ℕ). to_ascii_uppercase b ∷ []) (sym is)
+upper_more (first ∷ more) (suc i) byte below is =
+    let step : suc i + 1 ≡ suc (i + 1) = omega arith in
+    ap (λ (n : ℕ). map to_ascii_uppercase (take n (first ∷ more))) step
+    ∙ ap (λ (rest : List ℕ). to_ascii_uppercase first ∷ rest) (upper_more more i byte (omega arith) is)
+
+pub upper_all : (text : List ℕ) (i : ℕ) → length text ≤ i → map to_ascii_uppercase (take i text) ≡ map to_ascii_uppercase text
+upper_all text i all = ap (map to_ascii_uppercase) (take_all i text all)
+
+pub upper_size : (text : List ℕ) (i : ℕ) → length (map to_ascii_uppercase (take i text)) ≤ length text
+upper_size [] zero = omega arith
+upper_size [] (suc i) = omega arith
+upper_size (byte ∷ text) zero = omega arith
+upper_size (byte ∷ text) (suc i) = let rest = upper_size text i in omega arith
