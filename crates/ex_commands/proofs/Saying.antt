@@ -85,10 +85,10 @@ never_read atom spec is = cc
 pub parts_are_short : (atom : List ℕ) (spec : Spec) → read_spec atom ≡ Ok spec → HasShortParts spec
 parts_are_short atom spec =
     elim (parts_of atom) as (λ found. by_parts atom found ≡ Ok spec → HasShortParts spec) [
-      None ↦ never_read atom spec
-    | Some parts ↦ by_long parts.device parts.directory parts.name parts.kind
-        (generation_of (part_or_nothing atom parts.generation)) spec
-        (is_long parts.device || is_long parts.directory || is_long parts.name || is_long parts.kind) refl
+      | None ↦ never_read atom spec
+      | Some parts ↦ by_long parts.device parts.directory parts.name parts.kind
+          (generation_of (part_or_nothing atom parts.generation)) spec
+          (is_long parts.device || is_long parts.directory || is_long parts.name || is_long parts.kind) refl
     ]
 
 -- a part stays as short where it is moved

@@ -125,46 +125,50 @@ field_of_choice false place taken field is = cc
 typed_field : (number start : ℕ) (walked : Walk) (field : Taken) → typed number start walked ≡ chain.Field field
     → (it : IsField number false walked start field) × (field.end ≡ it.end)
 typed_field number start (Takes block role next value looked end) field is =
-    let same = field_of_choice (is_confirm value) end _ field is in
-    (record {
-      taken = block;
-      role = role;
-      next = next;
-      value = value;
-      looked = looked;
-      end = end;
-      is = refl;
-      node_is = sym (ap (λ (taken : Taken). taken.node) same);
-      block_is = sym (ap (λ (taken : Taken). taken.block) same);
-      value_is = sym (ap (λ (taken : Taken). taken.value) same);
-      start_is = sym (ap (λ (taken : Taken). taken.start) same);
-      defaulted_is = sym (ap (λ (taken : Taken). taken.defaulted) same);
-      role_is = sym (ap (λ (taken : Taken). taken.role) same);
-      next_is = sym (ap (λ (taken : Taken). taken.next) same);
-    }, sym (ap (λ (taken : Taken). taken.end) same))
+    let same = field_of_choice (is_confirm value) end _ field is in (
+      record {
+        taken = block;
+        role = role;
+        next = next;
+        value = value;
+        looked = looked;
+        end = end;
+        is = refl;
+        node_is = sym (ap (λ (taken : Taken). taken.node) same);
+        block_is = sym (ap (λ (taken : Taken). taken.block) same);
+        value_is = sym (ap (λ (taken : Taken). taken.value) same);
+        start_is = sym (ap (λ (taken : Taken). taken.start) same);
+        defaulted_is = sym (ap (λ (taken : Taken). taken.defaulted) same);
+        role_is = sym (ap (λ (taken : Taken). taken.role) same);
+        next_is = sym (ap (λ (taken : Taken). taken.next) same);
+      },
+      sym (ap (λ (taken : Taken). taken.end) same),
+    )
 typed_field number start (Wants block) field is = cc
 typed_field number start (Fails code) field is = cc
 
 default_field : (number start : ℕ) (walked : Walk) (field : Taken) → defaulted number start walked ≡ chain.Field field
     → (it : IsField number true walked start field) × (field.end ≡ start)
 default_field number start (Takes block role next value looked end) field is =
-    let same = field_of_choice (is_confirm value) start _ field is in
-    (record {
-      taken = block;
-      role = role;
-      next = next;
-      value = value;
-      looked = looked;
-      end = end;
-      is = refl;
-      node_is = sym (ap (λ (taken : Taken). taken.node) same);
-      block_is = sym (ap (λ (taken : Taken). taken.block) same);
-      value_is = sym (ap (λ (taken : Taken). taken.value) same);
-      start_is = sym (ap (λ (taken : Taken). taken.start) same);
-      defaulted_is = sym (ap (λ (taken : Taken). taken.defaulted) same);
-      role_is = sym (ap (λ (taken : Taken). taken.role) same);
-      next_is = sym (ap (λ (taken : Taken). taken.next) same);
-    }, sym (ap (λ (taken : Taken). taken.end) same))
+    let same = field_of_choice (is_confirm value) start _ field is in (
+      record {
+        taken = block;
+        role = role;
+        next = next;
+        value = value;
+        looked = looked;
+        end = end;
+        is = refl;
+        node_is = sym (ap (λ (taken : Taken). taken.node) same);
+        block_is = sym (ap (λ (taken : Taken). taken.block) same);
+        value_is = sym (ap (λ (taken : Taken). taken.value) same);
+        start_is = sym (ap (λ (taken : Taken). taken.start) same);
+        defaulted_is = sym (ap (λ (taken : Taken). taken.defaulted) same);
+        role_is = sym (ap (λ (taken : Taken). taken.role) same);
+        next_is = sym (ap (λ (taken : Taken). taken.next) same);
+      },
+      sym (ap (λ (taken : Taken). taken.end) same),
+    )
 default_field number start (Wants block) field is = cc
 default_field number start (Fails code) field is = cc
 

@@ -28,6 +28,7 @@ use ex_store::Place;
 impl Command {
     /// What the line that a session holds commands. The line is finished, and its parse from the first node of the
     /// EXEC's grammar on, under these names, is held and done.
+    #[tactic(auto, unfolding(crate::specs::Command::command_of))]
     pub fn of<N: Names>(session: &Session<ExecRules>, grammar: &Grammar, names: &N) -> Command
         requires exec { grammar.now ≡ exec_graph }
         requires parse { IsParse (setting exec_graph (N.catalogue names.now) exec_meanings) COMMANDS
@@ -66,28 +67,33 @@ fn is_token(value: &Value) -> bool
 }
 
 // The command that the keyword of this code names, with what its other fields say.
-fn named<N: Names>(
-    verb: u16,
-    session: &Session<ExecRules>,
-    grammar: &Grammar,
-    names: &N,
-) -> Command
+fn named<N: Names>(verb: u16, session: &Session<ExecRules>, grammar: &Grammar, names: &N) -> Command
     requires { HasShortNames session.now.fields }
     ensures { result ≡ named (line_of grammar.now (N.catalogue names.now) session.now) verb }
 {
     let files = session.field_of(Role::Files);
     match verb {
-        BUILD => directory_in(files, session, grammar, names)
-            .map_or(Command::Empty, |directory| Command::Build { directory }),
-        CONNECT => directory_in(files, session, grammar, names)
-            .map_or(Command::Empty, |directory| Command::Connect { directory }),
+        BUILD => directory_in(files, session, grammar, names).map_or(
+            Command::Empty,
+            |directory| Command::Build { directory },
+        ),
+        CONNECT => directory_in(files, session, grammar, names).map_or(
+            Command::Empty,
+            |directory| Command::Connect { directory },
+        ),
         COPY => copies(session, grammar, names),
-        DEFINE => name_in(session.field_of(Role::Value), session, grammar)
-            .map_or(Command::Empty, |name| Command::Define { name }),
-        DELETE => place_in(files, session, grammar, names)
-            .map_or(Command::Empty, |files| Command::Delete { files }),
-        DIRECTORY => place_in(files, session, grammar, names)
-            .map_or(Command::Empty, |files| Command::Directory { files }),
+        DEFINE => name_in(session.field_of(Role::Value), session, grammar).map_or(
+            Command::Empty,
+            |name| Command::Define { name },
+        ),
+        DELETE => place_in(files, session, grammar, names).map_or(
+            Command::Empty,
+            |files| Command::Delete { files },
+        ),
+        DIRECTORY => place_in(files, session, grammar, names).map_or(
+            Command::Empty,
+            |files| Command::Directory { files },
+        ),
         EXPUNGE => Command::Expunge {
             directory: directory_in(files, session, grammar, names),
         },
@@ -95,8 +101,10 @@ fn named<N: Names>(
             what: code_in(session.field_of(Role::What)),
         },
         LOGOUT => Command::Logout,
-        UNDELETE => place_in(files, session, grammar, names)
-            .map_or(Command::Empty, |files| Command::Undelete { files }),
+        UNDELETE => place_in(files, session, grammar, names).map_or(
+            Command::Empty,
+            |files| Command::Undelete { files },
+        ),
         REMARK => Command::Remark,
         _ => Command::Empty,
     }
@@ -144,7 +152,7 @@ fn place_in<N: Names>(
     names: &N,
 ) -> Option<Place>
     requires { IsSaidIn (option_copied field) }
-    ensures { result ≡ place_in (line_of grammar.now (N.catalogue names.now) session.now) (option_copied field) }
+    ensures { result ≡ place_in (line_of grammar.now (N.catalogue names.now) session.now) (option_copied field.entry) }
 {
     match field {
         Some(field) => place_by(
@@ -165,7 +173,7 @@ fn directory_in<N: Names>(
     names: &N,
 ) -> Option<Name>
     requires { IsSaidIn (option_copied field) }
-    ensures { result ≡ directory_in (line_of grammar.now (N.catalogue names.now) session.now) (option_copied field) }
+    ensures { result ≡ directory_in (line_of grammar.now (N.catalogue names.now) session.now) (option_copied field.entry) }
 {
     match field {
         Some(field) => directory_by(names, said_in(field, session, grammar), field.value()),
@@ -174,13 +182,9 @@ fn directory_in<N: Names>(
 }
 
 // The bytes of a field, in upper case.
-fn name_in(
-    field: Option<&Field>,
-    session: &Session<ExecRules>,
-    grammar: &Grammar,
-) -> Option<Name>
+fn name_in(field: Option<&Field>, session: &Session<ExecRules>, grammar: &Grammar) -> Option<Name>
     requires { IsNameIn (option_copied field) }
-    ensures { result ≡ option_map (name_of grammar.now (text_of session.now)) (option_copied field) }
+    ensures { result ≡ option_map (name_of grammar.now (text_of session.now)) (option_copied field.entry) }
 {
     match field {
         Some(field) => {
@@ -196,7 +200,7 @@ fn name_in(
 
 // The code of a field's keyword.
 fn code_in(field: Option<&Field>) -> u16
-    ensures { result ≡ code_in (option_copied field) }
+    ensures { result ≡ code_in (option_copied field.entry) }
 {
     match field {
         Some(field) => keyword_code(field.value()),

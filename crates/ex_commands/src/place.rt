@@ -138,7 +138,9 @@ pub(crate) fn place_by<N: Names>(
 {
     match value {
         Value::File {
-            spec, directory, ..
+            spec,
+            directory,
+            ..
         } => Some(Place {
             directory: directory_name(names, *directory),
             name: upper_or_none(text, spec.name),
