@@ -3,5 +3,6 @@ pub mod Answer
 pub mod Command
 pub mod Files
 pub mod Replies
+pub mod Said
 pub mod Texts
 pub mod Typed

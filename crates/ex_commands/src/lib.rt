@@ -11,7 +11,9 @@ mod line;
 mod lines;
 mod names;
 mod pairs;
+mod place;
 mod plans;
+mod probe;
 mod replies;
 #[cfg(test)]
 mod tests;
