@@ -165,7 +165,7 @@ fn connected(store: &Store) -> Name
     ensures name { result ≡ store.now.state.connected }
     ensures there { has_directory result store.now.state.directories ≡ true }
 {
-    Name::new(store.directory(store.connected()))
+    Name::new(store.parts().connected.as_str())
 }
 
 // Removes the marked files of a directory, and of the connected one where none is said.
