@@ -1,2 +1,4 @@
 // What no clause says: worked examples.
+mod acts;
 mod line;
+mod stored;
