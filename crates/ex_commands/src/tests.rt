@@ -1,1 +1,3 @@
 // What no clause says: worked examples.
+
+mod typed;
