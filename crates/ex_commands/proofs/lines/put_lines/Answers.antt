@@ -17,24 +17,24 @@ loop-at-init g c = record {
 
 pub row_in-row-requires : goal.row_in-row-requires
 row_in-row-requires g c =
-    next_within c.args.files.now c.args.store.now.state _ _ _ c.in-Some.ensures c.as_str-row.ensures.value
+    next_within c.args.files.now c.args.store.now.state _ _ _ c.in-Some.ensures c.as_str.ensures.value
 
 pub put_row-requires : goal.put_row-requires
 put_row-requires g c =
     let read = is_read (line_of c.args.lines) c.args.files.now c.args.store.now.state _ _ _ _ c.in-Some.ensures
-    c.as_str-row.ensures.value c.row_in-row.ensures in
+    c.as_str.ensures.value c.row_in-row.ensures in
     record { moment = read.moment; short = read.short }
 
 pub returns-in-Failed-clause-bytes : goal.returns-in-Failed-clause-bytes
 returns-in-Failed-clause-bytes g c =
     let read = is_read (line_of c.args.lines) c.args.files.now c.args.store.now.state _ _ _ _ c.in-Some.ensures
-    c.as_str-row.ensures.value c.row_in-row.ensures in
+    c.as_str.ensures.value c.row_in-row.ensures in
     putting_part _ _ _ _ _ _ _ c.loop-at.invariant.putting read.lines c.in-Failed.ensures.bytes
 
 pub loop-at-preserved : goal.loop-at-preserved
 loop-at-preserved g c =
     let read = is_read (line_of c.args.lines) c.args.files.now c.args.store.now.state _ _ _ _ c.in-Some.ensures
-    c.as_str-row.ensures.value c.row_in-row.ensures in
+    c.as_str.ensures.value c.row_in-row.ensures in
     let few = c.in-Some.ensures.few in
     record {
       putting = putting_more _ _ _ _ _ _ _ c.loop-at.invariant.putting read.lines c.in_default-put_row.ensures.bytes;
