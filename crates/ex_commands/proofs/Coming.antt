@@ -61,13 +61,13 @@ comes (commands.Undelete files) moment state = done refl
 -- a refused act changes nothing, and shows why it is refused
 refused_stays : (command : Command) (state : State) (act : Act) → Comes command state act → (code : Code)
     → act.answer ≡ answers.Refused code → (act.state ≡ state) × (act.reply ≡ refusal code)
-refused_stays command state act (done is) code as = absurd (cc)
-refused_stays command state act (refused other is) code as =
-    let both : answers.Refused other ≡ answers.Refused code = sym (ap (λ (act : Act). act.answer) is) ∙ as in
+refused_stays command state act (done is) code says = absurd (cc)
+refused_stays command state act (refused other is) code says =
+    let both : answers.Refused other ≡ answers.Refused code = sym (ap (λ (act : Act). act.answer) is) ∙ says in
     let same : other ≡ code = cc in
     (ap (λ (act : Act). act.state) is, ap (λ (act : Act). act.reply) is ∙ ap refusal same)
-refused_stays command state act (begun to of is) code as = absurd (cc)
-refused_stays command state act (ended of is) code as = absurd (cc)
+refused_stays command state act (begun to named is) code says = absurd (cc)
+refused_stays command state act (ended named is) code says = absurd (cc)
 
 pub refusal_stays : (command : Command) (moment : ℕ) (state : State) (code : Code)
     → (act_of command moment state).answer ≡ answers.Refused code
@@ -78,11 +78,11 @@ refusal_stays command moment state =
 -- LOGOUT alone ends the run
 of_logout : (command : Command) (state : State) (act : Act) → Comes command state act → act.answer ≡ answers.Logout
     → command ≡ commands.Logout
-of_logout command state act (done is) as = absurd (cc)
-of_logout command state act (refused code is) as =
-    let both : answers.Refused code ≡ answers.Logout = sym (ap (λ (act : Act). act.answer) is) ∙ as in absurd (cc)
-of_logout command state act (begun to of is) as = absurd (cc)
-of_logout command state act (ended of is) as = of
+of_logout command state act (done is) says = absurd (cc)
+of_logout command state act (refused code is) says =
+    let both : answers.Refused code ≡ answers.Logout = sym (ap (λ (act : Act). act.answer) is) ∙ says in absurd (cc)
+of_logout command state act (begun to named is) says = absurd (cc)
+of_logout command state act (ended named is) says = named
 
 logout_ends : (moment : ℕ) (state : State) → (act_of commands.Logout moment state).answer ≡ answers.Logout
 unfolding act_of
@@ -90,18 +90,19 @@ logout_ends moment state = refl
 
 pub ends_by_logout : (command : Command) (moment : ℕ) (state : State)
     → ((act_of command moment state).answer ≡ answers.Logout) ↔ (command ≡ commands.Logout)
-ends_by_logout command moment state =
-    (of_logout command state (act_of command moment state) (comes command moment state),
-    λ of. ap (λ (command : Command). (act_of command moment state).answer) of ∙ logout_ends moment state)
+ends_by_logout command moment state = (
+  of_logout command state (act_of command moment state) (comes command moment state),
+  λ named. ap (λ (command : Command). (act_of command moment state).answer) named ∙ logout_ends moment state,
+)
 
 -- COPY TTY: alone begins to type a file in
 of_copy : (command : Command) (state : State) (act : Act) → Comes command state act → act.answer ≡ answers.Data
     → (to : Place) × (command ≡ commands.CopyTty to)
-of_copy command state act (done is) as = absurd (cc)
-of_copy command state act (refused code is) as =
-    let both : answers.Refused code ≡ answers.Data = sym (ap (λ (act : Act). act.answer) is) ∙ as in absurd (cc)
-of_copy command state act (begun to of is) as = (to, of)
-of_copy command state act (ended of is) as = absurd (cc)
+of_copy command state act (done is) says = absurd (cc)
+of_copy command state act (refused code is) says =
+    let both : answers.Refused code ≡ answers.Data = sym (ap (λ (act : Act). act.answer) is) ∙ says in absurd (cc)
+of_copy command state act (begun to named is) says = (to, named)
+of_copy command state act (ended named is) says = absurd (cc)
 
 pub begins_by_copy : (command : Command) (moment : ℕ) (state : State)
     → (act_of command moment state).answer ≡ answers.Data → (to : Place) × (command ≡ commands.CopyTty to)

@@ -27,6 +27,7 @@ use ex_store::{Place, Store};
 /// changes. It is Data for COPY TTY: that is not refused, whose file is typed in next, and Logout for LOGOUT. NoMemory
 /// comes only for BUILD and COPY, and nothing is put or changed. Failed comes only where the sink failed: a part of
 /// what is to be put is put, and the command has acted all the same.
+#[tactic(auto, using(crate::proofs::Parts::pieces), unfolding(crate::specs::Act::act_of))]
 pub fn act<S: Sink>(store: &mut Store, command: &Command, moment: u64, sink: &mut S) -> Acted
     requires { MayAct command.now store.old.state }
     ensures acts { Answers (S.told sink.old) (S.told sink.new) (act_of command.now moment store.old.state)

@@ -283,13 +283,7 @@ fn the_run_ends_with_no_marked_file(rt: HostRuntime) {
 }
 
 // On a store with A.TXT.1, a command whose reply is cut for want of room: what is shown, and the files that are left.
-fn is_cut(
-    rt: &(impl Abort + AllocGlobal),
-    command: &Command,
-    room: u32,
-    shown: &str,
-    files: &str,
-) {
+fn is_cut(rt: &(impl Abort + AllocGlobal), command: &Command, room: u32, shown: &str, files: &str) {
     let mut store = stored(rt, 1);
     does(rt, &mut store, command, 0, room, Acted::Failed, shown);
     files_are(rt, &store, files);
@@ -318,7 +312,13 @@ fn a_cut_reply_undoes_no_command(rt: HostRuntime) {
 
 #[test]
 fn a_cut_refusal_changes_nothing(rt: HostRuntime) {
-    is_cut(&rt, &copy_onto(Gen::Number(1)), 4, "?Fil", "<OPERATOR>A.TXT.1");
+    is_cut(
+        &rt,
+        &copy_onto(Gen::Number(1)),
+        4,
+        "?Fil",
+        "<OPERATOR>A.TXT.1",
+    );
     let begin = Command::CopyTty { to: any_file() };
     is_cut(&rt, &begin, 0, "", "<OPERATOR>A.TXT.1");
 }
@@ -337,12 +337,7 @@ fn a_listing_is_cut(rt: HostRuntime) {
 }
 
 // A.TXT is deleted, and then a command whose reply is cut removes it all the same.
-fn is_cut_and_removes(
-    rt: &(impl Abort + AllocGlobal),
-    command: &Command,
-    room: u32,
-    shown: &str,
-) {
+fn is_cut_and_removes(rt: &(impl Abort + AllocGlobal), command: &Command, room: u32, shown: &str) {
     let mut store = stored(rt, 1);
     let delete = Command::Delete { files: file() };
     let line = " <OPERATOR>A.TXT.1 [OK]\r\n";
