@@ -37,10 +37,7 @@ fn play<S: Sink>(store: &mut Store, plan: Plan, origin: Origin, moment: u64, sin
 }
 
 /// Makes a directory.
-<<<<<<< HEAD
 #[tactic(auto, unfolding(crate::specs::Act::act_of))]
-=======
->>>>>>> hc4
 pub(crate) fn build<S: Sink>(
     store: &mut Store,
     directory: &Name,
@@ -62,10 +59,7 @@ pub(crate) fn build<S: Sink>(
 }
 
 /// Copies files.
-<<<<<<< HEAD
 #[tactic(auto, unfolding(crate::specs::Act::act_of))]
-=======
->>>>>>> hc4
 pub(crate) fn copy<S: Sink>(
     store: &mut Store,
     from: &Place,
@@ -92,10 +86,7 @@ pub(crate) fn copy<S: Sink>(
 /// The answer is Refused(code) exactly where the file is refused with that code; the reason is put, and nothing
 /// changes. With NoMemory nothing is put or changed. Failed comes only where the sink failed: a part of what is to be
 /// put is put, and the file is written, or refused, all the same.
-<<<<<<< HEAD
 #[tactic(auto, unfolding(crate::specs::Act::writes))]
-=======
->>>>>>> hc4
 pub fn write_data<S: Sink>(
     store: &mut Store,
     to: &Place,
