@@ -1,5 +1,8 @@
 pub mod Act
 pub mod Answer
 pub mod Command
+pub mod Files
 pub mod Replies
+pub mod Said
+pub mod Texts
 pub mod Typed

@@ -15,14 +15,19 @@ use Rattle.ex_commands.specs.declared.lines.Lines.{Lines}
 use Rattle.ex_commands.specs.declared.lines.Lines.TheVariants.{Marked, Listed}
 use Rattle.ex_commands.specs.declared.pairs.Origin.{Origin}
 use Rattle.ex_commands.specs.declared.pairs.Origin.TheVariants.{Files, Terminal}
+use Rattle.ex_commands.specs.Texts.{arrow, dot, done_mark, farewell, files_counted, from_terminal, left_angle, pages_freed, right_angle, right_bracket, space, structure, total_of, version}
+
+-- NAME.TYPE
+unfoldable pub key_text : Key → List ℕ
+key_text key = key.name ++ dot ++ key.kind
 
 -- NAME.TYPE.GENERATION
 unfoldable pub file_text : FullName → List ℕ
-file_text full = full.key.name ++ codes "." ++ full.key.kind ++ codes "." ++ decimal full.generation
+file_text full = key_text full.key ++ dot ++ decimal full.generation
 
 -- <DIRECTORY>
 unfoldable pub directory_text : List ℕ → List ℕ
-directory_text directory = codes "<" ++ directory ++ codes ">"
+directory_text directory = left_angle ++ directory ++ right_angle
 
 -- the full name, <DIRECTORY>NAME.TYPE.GENERATION
 unfoldable pub full_text : FullName → List ℕ
@@ -30,14 +35,18 @@ full_text full = directory_text full.key.directory ++ file_text full
 
 -- what stands behind what is done
 unfoldable pub done_text : List ℕ
-done_text = codes " [OK]" ++ end_of_line
+done_text = done_mark ++ end_of_line
+
+-- what a file is done with stands behind this
+unfoldable pub source_text : FullName → List ℕ
+source_text source = space ++ full_text source ++ arrow
 
 -- from a file to another, or from the terminal to a file
 unfoldable pub pair_line : NamePair → List ℕ
-pair_line pair = codes " " ++ full_text pair.source ++ codes " => " ++ full_text pair.target ++ done_text
+pair_line pair = source_text pair.source ++ full_text pair.target ++ done_text
 
 unfoldable pub typed_line : NamePair → List ℕ
-typed_line pair = codes " TTY: => " ++ full_text pair.target ++ done_text
+typed_line pair = from_terminal ++ full_text pair.target ++ done_text
 
 -- by where it comes from
 abbrev pub origin_line : Origin → NamePair → List ℕ
@@ -46,20 +55,26 @@ origin_line Terminal pair = typed_line pair
 
 -- a file that is marked, or whose mark is taken away
 unfoldable pub marked_line : Row → List ℕ
-marked_line row = codes " " ++ full_text (full_of row) ++ done_text
+marked_line row = space ++ full_text (full_of row) ++ done_text
 
 -- a day has 86,400 seconds
 abbrev pub day_of : ℕ → List ℕ
 day_of moment = day_text (pos (moment / 86400))
 
--- how many pages and bytes a file has, and the day of its moment
-unfoldable pub measures_text : File → List ℕ
-measures_text file =
-    decimal (page_count (length file.bytes)) ++ codes " " ++ decimal (length file.bytes) ++ codes " " ++ day_of file.moment
+-- how many pages and bytes a file has
+unfoldable pub sizes_text : File → List ℕ
+sizes_text file = decimal (page_count (length file.bytes)) ++ space ++ decimal (length file.bytes)
 
--- a file in a listing
+-- and the day of its moment
+unfoldable pub measures_text : File → List ℕ
+measures_text file = sizes_text file ++ space ++ day_of file.moment
+
+-- a file in a listing: its name, and the rest of its line
+unfoldable pub listed_name : Row → List ℕ
+listed_name row = space ++ file_text (full_of row) ++ space
+
 unfoldable pub listed_line : Row → List ℕ
-listed_line row = codes " " ++ file_text (full_of row) ++ codes " " ++ measures_text row.file ++ end_of_line
+listed_line row = listed_name row ++ measures_text row.file ++ end_of_line
 
 -- the line of a file, by what it tells
 abbrev pub line_of : Lines → Row → List ℕ
@@ -68,23 +83,25 @@ line_of Listed row = listed_line row
 
 -- the head of a listing, and how many files stand in it
 unfoldable pub heading : List ℕ → List ℕ
-heading directory = codes "   PS:" ++ directory_text directory ++ end_of_line
+heading directory = structure ++ directory_text directory ++ end_of_line
 
 unfoldable pub total_line : ℕ → List ℕ
-total_line count = codes " Total of " ++ decimal count ++ codes " files" ++ end_of_line
+total_line count = total_of ++ decimal count ++ files_counted ++ end_of_line
 
 -- the files of a directory, listed
 unfoldable pub listing : List ℕ → List Row → List ℕ
 listing directory rows = heading directory ++ flat_map (line_of Listed) rows ++ total_line (length rows)
 
--- the pages that were freed in a directory
+-- in which directory pages were freed, and how many
+unfoldable pub freed_in : List ℕ → List ℕ
+freed_in directory = space ++ directory_text directory ++ pages_freed
+
 unfoldable pub freed_line : List ℕ → ℕ → List ℕ
-freed_line directory pages =
-    codes " " ++ directory_text directory ++ codes " [Pages freed: " ++ decimal pages ++ codes "]" ++ end_of_line
+freed_line directory pages = freed_in directory ++ decimal pages ++ right_bracket ++ end_of_line
 
 -- what INFORMATION tells of the version, and what LOGOUT shows
 unfoldable pub version_line : List ℕ
-version_line = codes " EXEC20 1" ++ end_of_line
+version_line = version ++ end_of_line
 
 unfoldable pub farewell_line : List ℕ
-farewell_line = codes "Logged out" ++ end_of_line
+farewell_line = farewell ++ end_of_line

@@ -27,6 +27,7 @@ use ex_store::{Place, Store};
 /// changes. It is Data for COPY TTY: that is not refused, whose file is typed in next, and Logout for LOGOUT. NoMemory
 /// comes only for BUILD and COPY, and nothing is put or changed. Failed comes only where the sink failed: a part of
 /// what is to be put is put, and the command has acted all the same.
+#[tactic(auto, using(crate::proofs::Parts::pieces), unfolding(crate::specs::Act::act_of))]
 pub fn act<S: Sink>(store: &mut Store, command: &Command, moment: u64, sink: &mut S) -> Acted
     requires { MayAct command.now store.old.state }
     ensures acts { Answers (S.told sink.old) (S.told sink.new) (act_of command.now moment store.old.state)
@@ -69,6 +70,7 @@ pub(crate) fn refuse<S: Sink>(code: Code, sink: &mut S) -> Acted
 }
 
 // Connects to a directory, and shows nothing.
+#[tactic(auto, using(crate::proofs::Parts::pieces), unfolding(crate::specs::Act::act_of))]
 fn connect<S: Sink>(store: &mut Store, directory: &Name, sink: &mut S) -> Acted
     requires { has_directory directory.now store.old.state.directories ≡ true }
     ensures acts { (moment : ℕ) → Answers (S.told sink.old) (S.told sink.new)
@@ -165,14 +167,14 @@ fn connected(store: &Store) -> Name
     ensures name { result ≡ store.now.state.connected }
     ensures there { has_directory result store.now.state.directories ≡ true }
 {
-    Name::new(store.directory(store.connected()))
+    Name::new(store.parts().connected.as_str())
 }
 
 // Removes the marked files of a directory, and of the connected one where none is said.
 fn expunge_or_connected<S: Sink>(store: &mut Store, directory: Option<&Name>, sink: &mut S) -> Acted
     requires { IsThere (option_copied directory) store.old.state }
     ensures acts { Answers (S.told sink.old) (S.told sink.new)
-        (expunges (unwrap_or (option_copied directory) store.old.state.connected) store.old.state) false
+        (expunges (unwrap_or (option_copied directory.entry) store.old.state.connected) store.old.state) false
         store.old.state store.new.state result }
     ensures later { S.faults sink.old ≤ S.faults sink.new }
     ensures cause { ActCause (S.faults sink.old) (S.faults sink.new) result }

@@ -1,17 +1,25 @@
 // A file that is typed in.
-#![tactic(auto, using(crate::proofs::Parts::pieces))]
-
-ghost use Rattle.std.specs.Prelude.{◌≡◌, ◌≤◌, [], length, vec_capacity, IfOk};
+ghost use Rattle.std.specs.Prelude.{◌≡◌, ◌-◌, ◌≤◌, [], length, slice_get, vec_capacity, IfOk};
 ghost use Rattle.ex_generations.specs.declared.file.TheConstants.{FILE_LIMIT};
 ghost use Rattle.cm_io.specs.Fault.{PutCause};
 ghost use Rattle.cm_io.specs.Told.{Adds};
-ghost use Rattle.ex_commands.specs.Typed.{Edit, TurnCause, Types, edit, echo_text, turn_of};
+ghost use Rattle.cm_state.specs.Echo.{screen_byte};
+ghost use Rattle.ex_commands.specs.Typed.{TurnCause, Types, adding, echo_text, edit, rubbing, turn_of};
 
-use cm_io::{NoMemory, Put, Sink};
+use cm_io::{NoMemory, Put, Sink, put_line};
 use cm_text::{bell, control_c, end_of_line, rubout};
 use ex_generations::FILE_LIMIT;
 use std::alloc::Global;
 use std::marker::Model;
+
+// Control-C, which drops what was typed.
+const CONTROL_C: u8 = 3;
+
+// Control-Z, which writes the file.
+const CONTROL_Z: u8 = 26;
+
+// DEL, which takes the last byte away.
+const DELETE: u8 = 127;
 
 /// A file that is typed in: its bytes so far, in memory that is reserved for as many as a file may have. Contracts see
 /// the bytes.
@@ -46,7 +54,7 @@ pub enum DataTurn {
 
 /// What is shown for a key.
 #[derive(Clone, Copy, Debug, PartialEq, Eq)]
-pub enum Echo {
+pub(crate) enum Echo {
     /// The byte, TAB as a space.
     Byte(u8),
     /// The end of a line.
@@ -66,7 +74,9 @@ impl Data {
     pub fn new(alloc: Global) -> Result<Data, NoMemory>
         ensures { IfOk result (λ typed. typed ≡ []) }
     {
-        unreachable!()
+        Ok(Data {
+            bytes: Vec::with_capacity(alloc, FILE_LIMIT)?,
+        })
     }
 
     /// The bytes so far.
@@ -102,7 +112,39 @@ impl Data {
     }
 }
 
+// Puts bytes in, where a file has room for them.
+fn add(bytes: &mut Vec<u8>, more: &[u8], echo: Echo) -> Echo
+    requires short { length bytes.old.items ≤ FILE_LIMIT }
+    requires room { FILE_LIMIT ≤ vec_capacity bytes.old }
+    ensures edit { record { bytes = bytes.new.items; echo = result } ≡ adding bytes.old.items more.now echo }
+    ensures short { length bytes.new.items ≤ FILE_LIMIT }
+    ensures room { FILE_LIMIT ≤ vec_capacity bytes.new }
+{
+    if bytes.len() + more.len() > FILE_LIMIT {
+        return Echo::Bell;
+    }
+    let _ = bytes.extend_from_slice(more);
+    echo
+}
+
+// Takes the last byte away, but no end of a line.
+fn rub(bytes: &mut Vec<u8>) -> Echo
+    ensures edit { record { bytes = bytes.new.items; echo = result }
+        ≡ rubbing bytes.old.items (slice_get bytes.old.items (length bytes.old.items - 1)) }
+    ensures short { length bytes.new.items ≤ length bytes.old.items }
+    ensures room { vec_capacity bytes.new ≡ vec_capacity bytes.old }
+{
+    match bytes.last() {
+        None | Some(&b'\n') => Echo::Bell,
+        Some(_) => {
+            bytes.pop();
+            Echo::Rubout
+        }
+    }
+}
+
 // What a key does to the bytes, and what is shown for it.
+#[tactic(auto, unfolding(crate::specs::Typed::edit))]
 fn edit(bytes: &mut Vec<u8>, key: u8) -> Echo
     requires short { length bytes.old.items ≤ FILE_LIMIT }
     requires room { FILE_LIMIT ≤ vec_capacity bytes.old }
@@ -110,21 +152,53 @@ fn edit(bytes: &mut Vec<u8>, key: u8) -> Echo
     ensures short { length bytes.new.items ≤ FILE_LIMIT }
     ensures room { FILE_LIMIT ≤ vec_capacity bytes.new }
 {
-    unreachable!()
+    match key {
+        b'\t' | b' '..=b'~' => add(bytes, &[key], Echo::Byte(key)),
+        b'\r' | b'\n' => add(bytes, b"\r\n", Echo::Line),
+        DELETE => rub(bytes),
+        CONTROL_Z => Echo::Written,
+        CONTROL_C => {
+            bytes.clear();
+            Echo::Dropped
+        }
+        _ => Echo::Bell,
+    }
+}
+
+// A TAB is shown as one space.
+fn screen_byte(byte: u8) -> u8
+    ensures { result ≡ screen_byte byte }
+{
+    if byte == b'\t' { b' ' } else { byte }
 }
 
 // Puts what is shown for a key.
+#[tactic(auto, unfolding(crate::specs::Typed::echo_text))]
 fn put_echo<S: Sink>(echo: Echo, sink: &mut S) -> Put
     ensures bytes { Adds (S.told sink.old) (S.told sink.new) (echo_text echo) result }
     ensures later { S.faults sink.old ≤ S.faults sink.new }
     ensures cause { PutCause (S.faults sink.old) (S.faults sink.new) result }
 {
-    unreachable!()
+    match echo {
+        Echo::Byte(byte) => sink.put(&[screen_byte(byte)]),
+        Echo::Line => sink.put(end_of_line()),
+        Echo::Bell => sink.put(bell()),
+        Echo::Rubout => sink.put(rubout()),
+        Echo::Written => put_line(b"^Z", sink),
+        Echo::Dropped => put_line(control_c(), sink),
+    }
 }
 
 // What a key comes to that is shown so.
 fn turn_of(echo: Echo) -> DataTurn
     ensures { result ≡ turn_of echo }
 {
-    unreachable!()
+    match echo {
+        Echo::Byte(_) => DataTurn::More,
+        Echo::Line => DataTurn::More,
+        Echo::Bell => DataTurn::More,
+        Echo::Rubout => DataTurn::More,
+        Echo::Written => DataTurn::Write,
+        Echo::Dropped => DataTurn::Dropped,
+    }
 }

@@ -1,5 +1,5 @@
 //! Laws of commands. Each is a function that does nothing, whose contract is the law.
-ghost use Rattle.std.specs.Prelude.{ℕ, List, ◌≡◌};
+ghost use Rattle.std.specs.Prelude.{ℕ, List, ◌≡◌, ◌↔◌};
 ghost use Rattle.cm_blocks.specs.declared.field.Ending.TheVariants as ending;
 ghost use Rattle.cm_blocks.specs.Parse.{IsParse};
 ghost use Rattle.cm_blocks.specs.Setting.{setting};
@@ -10,9 +10,11 @@ ghost use Rattle.cm_state.specs.Echo.{refusal};
 ghost use Rattle.ex_grammar.specs.declared.node.TheConstants.{COMMANDS};
 ghost use Rattle.ex_grammar.specs.ExecRules.{exec_meanings};
 ghost use Rattle.ex_grammar.specs.Graph.{exec_graph};
+ghost use Rattle.ex_store.specs.declared.place.Place.{Place};
 ghost use Rattle.ex_store.specs.State.{State, catalogue_of};
 ghost use Rattle.ex_commands.specs.declared.acted.Acted.TheVariants as answers;
 ghost use Rattle.ex_commands.specs.declared.command.Command.{Command};
+ghost use Rattle.ex_commands.specs.declared.command.Command.TheVariants as commands;
 ghost use Rattle.ex_commands.specs.Act.{act_of};
 ghost use Rattle.ex_commands.specs.Answer.{MayAct};
 ghost use Rattle.ex_commands.specs.Command.{command_of};
@@ -34,4 +36,16 @@ pub fn a_refusal_changes_nothing()
     ensures { (command : Command) (moment : ℕ) (state : State) (code : Code)
         → (act_of command moment state).answer ≡ answers.Refused code
         → ((act_of command moment state).state ≡ state) × ((act_of command moment state).reply ≡ refusal code) }
+{}
+
+/// LOGOUT alone ends the run.
+pub fn only_logout_ends_the_run()
+    ensures { (command : Command) (moment : ℕ) (state : State)
+        → ((act_of command moment state).answer ≡ answers.Logout) ↔ (command ≡ commands.Logout) }
+{}
+
+/// A file is typed in behind COPY TTY: alone.
+pub fn only_copy_from_the_terminal_begins_a_file()
+    ensures { (command : Command) (moment : ℕ) (state : State)
+        → (act_of command moment state).answer ≡ answers.Data → (to : Place) × (command ≡ commands.CopyTty to) }
 {}

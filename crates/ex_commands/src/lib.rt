@@ -11,10 +11,13 @@ mod line;
 mod lines;
 mod names;
 mod pairs;
+mod place;
 mod plans;
+mod probe;
 mod replies;
 #[cfg(test)]
 mod tests;
+mod texts;
 
 pub use acted::Acted;
 pub use acts::act;

@@ -1,6 +1,4 @@
 // Plans are done, with a line for each pair of files.
-#![tactic(auto, using(crate::proofs::Parts::pieces))]
-
 ghost use Rattle.std.specs.Prelude.{◌≡◌, ◌≤◌, true};
 ghost use Rattle.cm_files.specs.Catalogue.{is_directory_name};
 ghost use Rattle.ex_store.specs.Plan.{IsSource, IsTarget, MayPlan, planned};
@@ -39,7 +37,13 @@ fn play<S: Sink>(store: &mut Store, plan: Plan, origin: Origin, moment: u64, sin
 }
 
 /// Makes a directory.
-pub(crate) fn build<S: Sink>(store: &mut Store, directory: &Name, moment: u64, sink: &mut S) -> Acted
+#[tactic(auto, unfolding(crate::specs::Act::act_of))]
+pub(crate) fn build<S: Sink>(
+    store: &mut Store,
+    directory: &Name,
+    moment: u64,
+    sink: &mut S,
+) -> Acted
     requires { is_directory_name directory.now ≡ true }
     ensures acts { Answers (S.told sink.old) (S.told sink.new)
         (act_of (commands.Build directory.now) moment store.old.state) true store.old.state store.new.state result }
@@ -55,7 +59,14 @@ pub(crate) fn build<S: Sink>(store: &mut Store, directory: &Name, moment: u64, s
 }
 
 /// Copies files.
-pub(crate) fn copy<S: Sink>(store: &mut Store, from: &Place, to: &Place, moment: u64, sink: &mut S) -> Acted
+#[tactic(auto, unfolding(crate::specs::Act::act_of))]
+pub(crate) fn copy<S: Sink>(
+    store: &mut Store,
+    from: &Place,
+    to: &Place,
+    moment: u64,
+    sink: &mut S,
+) -> Acted
     requires from { IsSource from.now store.old.state }
     requires to { IsTarget to.now store.old.state.directories }
     ensures acts { Answers (S.told sink.old) (S.told sink.new)
@@ -75,7 +86,14 @@ pub(crate) fn copy<S: Sink>(store: &mut Store, from: &Place, to: &Place, moment:
 /// The answer is Refused(code) exactly where the file is refused with that code; the reason is put, and nothing
 /// changes. With NoMemory nothing is put or changed. Failed comes only where the sink failed: a part of what is to be
 /// put is put, and the file is written, or refused, all the same.
-pub fn write_data<S: Sink>(store: &mut Store, to: &Place, typed: Data, moment: u64, sink: &mut S) -> Acted
+#[tactic(auto, unfolding(crate::specs::Act::writes))]
+pub fn write_data<S: Sink>(
+    store: &mut Store,
+    to: &Place,
+    typed: Data,
+    moment: u64,
+    sink: &mut S,
+) -> Acted
     requires { IsTarget to.now store.old.state.directories }
     ensures acts { Answers (S.told sink.old) (S.told sink.new) (writes to.now typed moment store.old.state) true
         store.old.state store.new.state result }

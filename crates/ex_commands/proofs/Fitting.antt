@@ -1,0 +1,281 @@
+-- What the blocks of the EXEC's grammar read, by what their fields are for.
+use Rattle.std.proofs.Common.{◌≡◌, ℕ, zero, suc, ◌+◌, ◌≤◌, ◌||◌, ◌&&◌, ◌==◌, Bool, true, false, not, nat_le, if◌then◌else◌, List, [], ◌∷◌, length, take, drop, Option, Some, None, slice_get, Result, Ok, Err, refl, ap, sym, subst, ◌∙◌, arith}
+use Rattle.std.specs.List.{list_all, prefix_len}
+use Rattle.std.proofs.lemmas.List.{length-take}
+use Rattle.std.proofs.lemmas.List.Sums.{prefix_len-le-length}
+use Rattle.std.proofs.lemmas.Bool.{and_parts}
+use Rattle.std.proofs.lemmas.Bool.Decides.{nat_tests}
+use Rattle.cm_text.specs.Bytes.{is_name}
+use Rattle.cm_text.specs.declared.name.TheConstants.{NAME_LIMIT}
+use Rattle.cm_fields.specs.declared.code.Code.TheVariants.{NoField}
+use Rattle.cm_fields.specs.declared.trial.Try.TheVariants.{Accept}
+use Rattle.cm_fields.specs.declared.value.FileKind.TheVariants.{In, Out, Any}
+use Rattle.cm_fields.specs.declared.value.Value.{Value}
+use Rattle.cm_fields.specs.declared.value.Value.TheVariants as values
+use Rattle.cm_files.specs.declared.flags.Flags.{Flags}
+use Rattle.cm_files.specs.Catalogue.{Catalogue}
+use Rattle.cm_files.specs.Fields.{directory_of, file_of, has_colon_behind, is_file, is_plain_path, user_of}
+use Rattle.cm_files.specs.LogicalName.{begins_with_letter, is_logical_name}
+use Rattle.cm_hooks.specs.declared.answer.Answer.{Answer}
+use Rattle.cm_hooks.specs.declared.answer.Answer.TheVariants.{Yes, No}
+use Rattle.cm_hooks.specs.Field.{hook_of, judged}
+use Rattle.cm_blocks.specs.declared.field.Ending.{Ending}
+use Rattle.cm_blocks.specs.declared.function.Function.{Function}
+use Rattle.cm_blocks.specs.declared.function.Function.TheVariants.{Key, Switch, Noise, Number, Word, Quoted, Token, User, Directory, InFile, OutFile, AnyFile, Text, Comma, Confirm, Hook}
+use Rattle.cm_blocks.specs.declared.function.Role.{Role}
+use Rattle.cm_blocks.specs.declared.function.Role.TheVariants as roles
+use Rattle.cm_blocks.specs.declared.node.Block.{Block}
+use Rattle.cm_blocks.specs.declared.node.Node.{Node}
+use Rattle.cm_blocks.specs.Parse.{Follow, IsParse}
+use Rattle.cm_blocks.specs.Setting.{Setting, setting}
+use Rattle.cm_blocks.specs.Taken.{Taken}
+use Rattle.cm_blocks.specs.Trial.{trial}
+use Rattle.cm_state.specs.Roles.{field_of, is_role}
+use Rattle.ex_grammar.specs.ExecRules.{exec_meanings, logical_verdict, rule_verdict}
+use Rattle.ex_grammar.specs.Graph.{append_blocks, build_blocks, define_blocks, delete_blocks, exec_graph, exec_nodes, first_nodes, information_blocks, print_blocks, source_nodes, subcommand_blocks, target_blocks, type_blocks}
+use Rattle.ex_grammar.specs.declared.node.TheConstants.{COMMANDS}
+use Rattle.ex_commands.specs.Said.{HasShortNames, IsNameIn, IsSaid, IsSaidIn}
+use Rattle.ex_commands.proofs.Saying.{directory_said, file_said, run_of, token_says, user_says}
+use Rattle.ex_commands.proofs.Trying.{IsTried, StandsIn, first_tried}
+
+-- what is read from: the terminal, or files that are there
+abbrev pub reads_source : Function → Bool
+reads_source (Token text) = true
+reads_source InFile = true
+reads_source function = false
+
+abbrev pub reads_target : Function → Bool
+reads_target OutFile = true
+reads_target function = false
+
+-- what a command works on: files, users or directories
+abbrev pub reads_files : Function → Bool
+reads_files InFile = true
+reads_files AnyFile = true
+reads_files User = true
+reads_files Directory = true
+reads_files function = false
+
+-- what names files, users or directories
+abbrev pub reads_places : Function → Bool
+reads_places function = reads_source function || reads_target function || reads_files function
+
+-- a logical name
+abbrev pub reads_value : Function → Bool
+reads_value (Hook id) = id == 0
+reads_value function = false
+
+-- a function that a field of this role may have
+abbrev pub fits_role : Role → Function → Bool
+fits_role roles.Source function = reads_source function
+fits_role roles.Target function = reads_target function
+fits_role roles.Files function = reads_files function
+fits_role roles.Value function = reads_value function
+fits_role role function = true
+
+abbrev pub fits : Block → Bool
+fits block = fits_role block.role block.function
+
+abbrev pub node_fits : Node → Bool
+node_fits node = list_all fits node.chain
+
+pub nodes_fit : list_all node_fits exec_graph.nodes ≡ true
+unfolding exec_graph exec_nodes first_nodes source_nodes target_blocks append_blocks delete_blocks type_blocks information_blocks define_blocks build_blocks print_blocks subcommand_blocks
+nodes_fit = refl
+
+-- what all elements pass each passes
+pub all_pass_at : {A : Type 0} (test : A → Bool) (all : List A) (place : ℕ) (it : A) → list_all test all ≡ true
+    → slice_get all place ≡ Some it → test it ≡ true
+all_pass_at test [] place it passes is = cc
+all_pass_at {A} test (first ∷ more) zero it passes is =
+    let same : first ≡ it = cc in ap test (sym same) ∙ (and_parts (test first) (list_all test more) passes).0
+all_pass_at test (first ∷ more) (suc place) it passes is =
+    all_pass_at test more place it (and_parts (test first) (list_all test more) passes).1 is
+
+-- a field's block fits its role
+pub field_fits : (c : Catalogue) (text : List ℕ) (field : Taken)
+    → (tried : IsTried (setting exec_graph c exec_meanings) text field) → fits_role field.role tried.block.function ≡ true
+field_fits c text field tried =
+    let node = all_pass_at node_fits exec_graph.nodes field.node tried.node nodes_fit tried.node_is in
+    ap (λ (role : Role). fits_role role tried.block.function) tried.role
+    ∙ all_pass_at fits tried.node.chain field.block tried.block node tried.block_is
+
+-- a role by its number
+source_fits : (role : Role) (function : Function) → is_role roles.Source role ≡ true → fits_role role function ≡ true
+    → reads_source function ≡ true
+source_fits roles.Source function same fits = fits
+source_fits role function same fits = cc
+
+target_fits : (role : Role) (function : Function) → is_role roles.Target role ≡ true → fits_role role function ≡ true
+    → reads_target function ≡ true
+target_fits roles.Target function same fits = fits
+target_fits role function same fits = cc
+
+files_fits : (role : Role) (function : Function) → is_role roles.Files role ≡ true → fits_role role function ≡ true
+    → reads_files function ≡ true
+files_fits roles.Files function same fits = fits
+files_fits role function same fits = cc
+
+value_fits : (role : Role) (function : Function) → is_role roles.Value role ≡ true → fits_role role function ≡ true
+    → reads_value function ≡ true
+value_fits roles.Value function same fits = fits
+value_fits role function same fits = cc
+
+-- the fields of a parse by their roles, and what their blocks read
+pub record IsRead (c : Catalogue) (text : List ℕ) (reads : Function → Bool) (field : Taken) : Type 0 where
+  pub tried : IsTried (setting exec_graph c exec_meanings) text field
+  pub by_function : reads tried.block.function ≡ true
+
+read_by : (c : Catalogue) (text : List ℕ) (fields : List Taken) (ends : Ending) (role : Role) (reads : Function → Bool)
+    → ((other : Role) (function : Function) → is_role role other ≡ true → fits_role other function ≡ true → reads function ≡ true)
+    → IsParse (setting exec_graph c exec_meanings) COMMANDS text fields ends
+    → (field : Taken) → field_of role fields ≡ Some field → IsRead c text reads field
+read_by c text fields ends role reads fitting parse field is =
+    let found = first_tried (setting exec_graph c exec_meanings) text COMMANDS 0 (λ (field : Taken). is_role role field.role) fields field parse.follow is in
+    record {
+      tried = found.0;
+      by_function = fitting field.role found.0.block.function found.1 (field_fits c text field found.0);
+    }
+
+pub source_read : (c : Catalogue) (text : List ℕ) (fields : List Taken) (ends : Ending)
+    → IsParse (setting exec_graph c exec_meanings) COMMANDS text fields ends
+    → (field : Taken) → field_of roles.Source fields ≡ Some field → IsRead c text reads_source field
+source_read c text fields ends = read_by c text fields ends roles.Source reads_source source_fits
+
+pub target_read : (c : Catalogue) (text : List ℕ) (fields : List Taken) (ends : Ending)
+    → IsParse (setting exec_graph c exec_meanings) COMMANDS text fields ends
+    → (field : Taken) → field_of roles.Target fields ≡ Some field → IsRead c text reads_target field
+target_read c text fields ends = read_by c text fields ends roles.Target reads_target target_fits
+
+pub files_read : (c : Catalogue) (text : List ℕ) (fields : List Taken) (ends : Ending)
+    → IsParse (setting exec_graph c exec_meanings) COMMANDS text fields ends
+    → (field : Taken) → field_of roles.Files fields ≡ Some field → IsRead c text reads_files field
+files_read c text fields ends = read_by c text fields ends roles.Files reads_files files_fits
+
+pub value_read : (c : Catalogue) (text : List ℕ) (fields : List Taken) (ends : Ending)
+    → IsParse (setting exec_graph c exec_meanings) COMMANDS text fields ends
+    → (field : Taken) → field_of roles.Value fields ≡ Some field → IsRead c text reads_value field
+value_read c text fields ends = read_by c text fields ends roles.Value reads_value value_fits
+
+-- what such a function accepts has short parts
+trial_said : (s : Setting) (function : Function) (flags : Flags) (rest : List ℕ) (at : ℕ) (value : Value) (looked end : ℕ)
+    → reads_places function ≡ true
+    → trial s function flags rest at ≡ Accept value looked end → IsSaid value
+unfolding trial
+trial_said s (Token text) flags rest at value looked end reads is =
+    subst IsSaid (sym (token_says text rest at value looked end is)) tt
+trial_said s User flags rest at value looked end reads is =
+    let run = run_of is_plain_path (user_of s.catalogue (has_colon_behind rest)) rest at value looked end is in
+    subst IsSaid (sym (user_says s.catalogue (has_colon_behind rest) _ value run.decided).2) tt
+trial_said s Directory flags rest at value looked end reads is =
+    let run = run_of is_file (directory_of flags.new s.catalogue at) rest at value looked end is in
+    directory_said flags.new s.catalogue at _ value run.decided
+trial_said s InFile flags rest at value looked end reads is =
+    let run = run_of is_file (file_of s.catalogue In flags at) rest at value looked end is in
+    file_said s.catalogue In flags at _ value run.decided
+trial_said s OutFile flags rest at value looked end reads is =
+    let run = run_of is_file (file_of s.catalogue Out flags at) rest at value looked end is in
+    file_said s.catalogue Out flags at _ value run.decided
+trial_said s AnyFile flags rest at value looked end reads is =
+    let run = run_of is_file (file_of s.catalogue Any flags at) rest at value looked end is in
+    file_said s.catalogue Any flags at _ value run.decided
+trial_said s function flags rest at value looked end reads is = cc
+
+-- a logical name is no longer than a name
+logical_short : (run : List ℕ) → is_logical_name run ≡ true → length run ≤ NAME_LIMIT
+unfolding is_logical_name
+logical_short run is = grind (arith, nat_tests)
+
+hook_short : (run : List ℕ) (value : Value) → hook_of rule_verdict 0 run ≡ Ok value → length run ≤ NAME_LIMIT
+unfolding hook_of
+hook_short run value is = by (length run == 0) is
+  where
+    judges : (test : Bool) → is_logical_name run ≡ test → judged 0 (if test then Yes (length run) else No) ≡ Ok value
+        → length run ≤ NAME_LIMIT
+    judges true test is = logical_short run test
+    judges false test is = cc
+
+    by : (test : Bool) → (if test then Err NoField else judged 0 (logical_verdict run)) ≡ Ok value → length run ≤ NAME_LIMIT
+    by true is = cc
+    by false is = judges (is_logical_name run) refl is
+
+value_size : (c : Catalogue) (function : Function) (flags : Flags) (rest : List ℕ) (at : ℕ) (value : Value) (looked end : ℕ)
+    → reads_value function ≡ true → trial (setting exec_graph c exec_meanings) function flags rest at ≡ Accept value looked end
+    → end ≤ at + NAME_LIMIT
+unfolding trial
+value_size c (Hook id) flags rest at value looked end reads is =
+    let first : id ≡ 0 = grind (arith, nat_tests) in
+    let run = run_of is_name (hook_of rule_verdict id) rest at value looked end is in
+    let judged : hook_of rule_verdict 0 (take (prefix_len is_name rest) rest) ≡ Ok value =
+    ap (λ (n : ℕ). hook_of rule_verdict n (take (prefix_len is_name rest) rest)) (sym first) ∙ run.decided in
+    let short = hook_short (take (prefix_len is_name rest) rest) value judged in
+    let most = prefix_len-le-length is_name rest in
+    let size = length-take (prefix_len is_name rest) rest in
+    let last = run.last in
+    omega arith
+value_size c function flags rest at value looked end reads is = cc
+
+-- where a field of that size stands
+place_short : (test : Bool) (default : Option (List ℕ)) (text : List ℕ) (field : Taken) (said : List ℕ) (at end : ℕ)
+    → StandsIn test default text field said at end → end ≤ at + NAME_LIMIT → field.end ≤ field.start + NAME_LIMIT
+place_short false default text field said at end stands short = (let first = stands.1 in let last = stands.2 in omega arith)
+place_short true default text field said at end stands short = (let last = stands.3 in omega arith)
+
+-- of all that is read as a name
+field_said : (c : Catalogue) (text : List ℕ) (field : Taken) (reads : Function → Bool)
+    → ((function : Function) → reads function ≡ true → reads_places function ≡ true)
+    → IsRead c text reads field → IsSaid field.value
+field_said c text field reads named read =
+    let tried = read.tried in
+    trial_said (setting exec_graph c exec_meanings) tried.block.function tried.block.flags (drop tried.at tried.said) tried.at field.value
+    tried.looked tried.end (named tried.block.function read.by_function) tried.accepts
+
+value_short : (c : Catalogue) (text : List ℕ) (field : Taken) → IsRead c text reads_value field → field.end ≤ field.start + NAME_LIMIT
+value_short c text field read =
+    let tried = read.tried in
+    place_short field.defaulted tried.node.default text field tried.said tried.at tried.end tried.stands
+    (value_size c tried.block.function tried.block.flags (drop tried.at tried.said) tried.at field.value tried.looked tried.end read.by_function tried.accepts)
+
+source_names : (function : Function) → reads_source function ≡ true → reads_places function ≡ true
+source_names (Token text) reads = refl
+source_names InFile reads = refl
+source_names function reads = cc
+
+target_names : (function : Function) → reads_target function ≡ true → reads_places function ≡ true
+target_names OutFile reads = refl
+target_names function reads = cc
+
+files_names : (function : Function) → reads_files function ≡ true → reads_places function ≡ true
+files_names InFile reads = refl
+files_names AnyFile reads = refl
+files_names User reads = refl
+files_names Directory reads = refl
+files_names function reads = cc
+
+-- of a field that may not be there
+said_in : (fields : List Taken) (role : Role) → ((field : Taken) → field_of role fields ≡ Some field → IsSaid field.value)
+    → IsSaidIn (field_of role fields)
+said_in fields role said = by (field_of role fields) refl
+  where
+    by : (found : Option Taken) → field_of role fields ≡ found → IsSaidIn found
+    by None found = tt
+    by (Some field) found = said field found
+
+name_in : (fields : List Taken) (role : Role)
+    → ((field : Taken) → field_of role fields ≡ Some field → field.end ≤ field.start + NAME_LIMIT)
+    → IsNameIn (field_of role fields)
+name_in fields role said = by (field_of role fields) refl
+  where
+    by : (found : Option Taken) → field_of role fields ≡ found → IsNameIn found
+    by None found = tt
+    by (Some field) found = said field found
+
+-- what is read as a name in a line of the grammar is no longer than one
+pub names_are_short : (c : Catalogue) (text : List ℕ) (fields : List Taken) (ends : Ending)
+    → IsParse (setting exec_graph c exec_meanings) COMMANDS text fields ends → HasShortNames fields
+names_are_short c text fields ends parse = record {
+  source = said_in fields roles.Source (λ field is. field_said c text field reads_source source_names (source_read c text fields ends parse field is));
+  target = said_in fields roles.Target (λ field is. field_said c text field reads_target target_names (target_read c text fields ends parse field is));
+  files = said_in fields roles.Files (λ field is. field_said c text field reads_files files_names (files_read c text fields ends parse field is));
+  value = name_in fields roles.Value (λ field is. value_short c text field (value_read c text fields ends parse field is));
+}

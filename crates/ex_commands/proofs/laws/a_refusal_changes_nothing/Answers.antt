@@ -1,0 +1,5 @@
+use Rattle.ex_commands.proofs.Coming.{refusal_stays}
+use Rattle.ex_commands.proofs.laws.a_refusal_changes_nothing.Goals as goal
+
+pub returns : goal.returns
+returns c = refusal_stays

@@ -1,0 +1,53 @@
+-- What the parts of a line have that names are made of.
+use Rattle.std.specs.Prelude.{ℕ, ◌+◌, ◌≤◌, if◌then◌else◌, List, [], Option, Some, None, IfSome, option_and_then, unwrap_or}
+use Rattle.cm_text.specs.declared.name.TheConstants.{NAME_LIMIT}
+use Rattle.cm_fields.specs.declared.value.Span.{Span}
+use Rattle.cm_fields.specs.declared.value.Value.{Value}
+use Rattle.cm_fields.specs.declared.value.Value.TheVariants as values
+use Rattle.cm_files.specs.Catalogue.{Catalogue}
+use Rattle.cm_blocks.specs.declared.function.Role.TheVariants as roles
+use Rattle.cm_blocks.specs.Grammar.{Graph}
+use Rattle.cm_blocks.specs.Taken.{Taken}
+use Rattle.cm_state.specs.Held.{Held, text_of}
+use Rattle.cm_state.specs.Roles.{field_of}
+use Rattle.ex_commands.specs.Command.{Line, node_of, upper}
+
+-- the line that a session holds
+abbrev pub line_of : Graph → Catalogue → Held → Line
+line_of graph catalogue held =
+    record { graph = graph; catalogue = catalogue; text = text_of held; fields = held.fields }
+
+-- the text that stands for a field where the line ends before it
+abbrev pub default_of : Graph → Taken → List ℕ
+default_of graph field = unwrap_or (option_and_then (λ node. node.default) (node_of graph field)) []
+
+-- the text that a field is a part of, and its bytes in upper case, by the text of the line
+abbrev pub said_of : Graph → List ℕ → Taken → List ℕ
+said_of graph text field = if field.defaulted then default_of graph field else text
+
+abbrev pub name_of : Graph → List ℕ → Taken → List ℕ
+name_of graph text field = upper (said_of graph text field) (record { start = field.start; end = field.end })
+
+-- a part that is given is no longer than a name
+abbrev pub IsShort : Option Span → Type 0
+IsShort None = Unit {0}
+IsShort (Some place) = place.end ≤ place.start + NAME_LIMIT
+
+-- so are the parts that a value names
+abbrev pub IsSaid : Value → Type 0
+IsSaid (values.File kind spec directory) = IsShort spec.name × IsShort spec.kind
+IsSaid (values.NewDirectory place) = place.end ≤ place.start + NAME_LIMIT
+IsSaid value = Unit {0}
+
+abbrev pub IsSaidIn : Option Taken → Type 0
+IsSaidIn field = IfSome field (λ it. IsSaid it.value)
+
+abbrev pub IsNameIn : Option Taken → Type 0
+IsNameIn field = IfSome field (λ it. it.end ≤ it.start + NAME_LIMIT)
+
+-- the parts of a line that are read as names are no longer than one
+pub record HasShortNames (fields : List Taken) : Type 0 where
+  pub source : IsSaidIn (field_of roles.Source fields)
+  pub target : IsSaidIn (field_of roles.Target fields)
+  pub files : IsSaidIn (field_of roles.Files fields)
+  pub value : IsNameIn (field_of roles.Value fields)

@@ -1,0 +1,167 @@
+// What the fields of a line name: files, directories and names.
+ghost use Rattle.std.specs.Prelude.{◌≡◌, ◌≤◌, ◌+◌, option_copied};
+ghost use Rattle.std.specs.Option.{option_map};
+ghost use Rattle.std.specs.Str.{IsAscii};
+ghost use Rattle.cm_text.specs.declared.name.TheConstants.{NAME_LIMIT};
+ghost use Rattle.cm_files.specs.Spec.{part};
+ghost use Rattle.cm_state.specs.Held.{text_of};
+ghost use Rattle.ex_commands.specs.Command.{block_of, directory_by, directory_name, flags_of, node_of, place_by, upper};
+ghost use Rattle.ex_commands.specs.Said.{IsSaid, IsShort, default_of, said_of};
+
+use cm_blocks::{Block, Field, Grammar, Node};
+use cm_fields::{Span, Value};
+use cm_files::{Flags, Names};
+use cm_state::Session;
+use cm_text::Name;
+use ex_grammar::ExecRules;
+use ex_store::Place;
+
+// The node whose chain took a field.
+fn node_of<'a>(field: &Field, grammar: &'a Grammar) -> Option<&'a Node>
+    ensures { option_copied result ≡ node_of grammar.now field.now }
+{
+    if field.node() < grammar.nodes() {
+        Some(grammar.node(field.node()))
+    } else {
+        None
+    }
+}
+
+// The block that took it.
+fn block_of<'a>(field: &Field, grammar: &'a Grammar) -> Option<&'a Block>
+    ensures { option_copied result ≡ block_of grammar.now field.now }
+{
+    match node_of(field, grammar) {
+        Some(node) => node.chain.as_slice().get(usize::from(field.block())),
+        None => None,
+    }
+}
+
+// The flags under which a field was read.
+pub(crate) fn flags_of(field: &Field, grammar: &Grammar) -> Flags
+    ensures { result ≡ flags_of grammar.now field.now }
+{
+    match block_of(field, grammar) {
+        Some(block) => block.flags,
+        None => Flags::default(),
+    }
+}
+
+// The text that stands for a field where the line ends before it.
+fn default_of<'a>(field: &Field, grammar: &'a Grammar) -> &'a [u8]
+    ensures value { result.now ≡ default_of grammar.now field.now }
+    ensures ascii { IsAscii result.now }
+{
+    grammar.has_no_fault();
+    match node_of(field, grammar) {
+        Some(node) => match &node.default {
+            Some(text) => text.as_bytes(),
+            None => b"",
+        },
+        None => b"",
+    }
+}
+
+// The text that a field is a part of: the line, or the default of its node.
+pub(crate) fn said_in<'a>(
+    field: &Field,
+    session: &'a Session<ExecRules>,
+    grammar: &'a Grammar,
+) -> &'a [u8]
+    ensures value { result.now ≡ said_of grammar.now (text_of session.now) field.now }
+    ensures ascii { IsAscii result.now }
+{
+    if field.defaulted() {
+        default_of(field, grammar)
+    } else {
+        session.text()
+    }
+}
+
+// A part of a text.
+fn part(text: &[u8], place: Span) -> &[u8]
+    requires { IsAscii text.now }
+    ensures value { result.now ≡ part text.now place }
+    ensures ascii { IsAscii result.now }
+{
+    let rest = &text[usize::from(place.start).min(text.len())..];
+    &rest[..usize::from(place.end.saturating_sub(place.start)).min(rest.len())]
+}
+
+// A part of a text, in upper case.
+#[tactic(auto, using(crate::proofs::Uppercase::upper_more, crate::proofs::Uppercase::upper_all, crate::proofs::Uppercase::upper_is_ascii, crate::proofs::Uppercase::part_within))]
+pub(crate) fn upper(text: &[u8], place: Span) -> Name
+    requires ascii { IsAscii text.now }
+    requires short { place.end ≤ place.start + NAME_LIMIT }
+    ensures { result ≡ upper text.now place }
+{
+    let mut name = Name::new("");
+    for byte in part(text, place) {
+        name.push(byte.to_ascii_uppercase());
+    }
+    name
+}
+
+// The same of a part that may not be given.
+fn upper_or_none(text: &[u8], place: Option<Span>) -> Option<Name>
+    requires ascii { IsAscii text.now }
+    requires short { IsShort place }
+    ensures { result ≡ option_map (upper text.now) place }
+{
+    match place {
+        Some(place) => Some(upper(text, place)),
+        None => None,
+    }
+}
+
+// The name of the directory with this number.
+fn directory_name<N: Names>(names: &N, number: u16) -> Name
+    ensures { result ≡ directory_name (N.catalogue names.now) number }
+{
+    if number < names.directories() {
+        Name::new(names.directory(number))
+    } else {
+        Name::new("")
+    }
+}
+
+// The files that a value means: those of the directory that it was resolved to.
+pub(crate) fn place_by<N: Names>(
+    names: &N,
+    flags: Flags,
+    text: &[u8],
+    value: &Value,
+) -> Option<Place>
+    requires ascii { IsAscii text.now }
+    requires said { IsSaid value.now }
+    ensures { result ≡ place_by (N.catalogue names.now) flags text.now value.now }
+{
+    match value {
+        Value::File {
+            spec,
+            directory,
+            ..
+        } => Some(Place {
+            directory: directory_name(names, *directory),
+            name: upper_or_none(text, spec.name),
+            kind: upper_or_none(text, spec.kind),
+            generation: spec.generation,
+            flags,
+        }),
+        _ => None,
+    }
+}
+
+// The directory that a value names.
+pub(crate) fn directory_by<N: Names>(names: &N, text: &[u8], value: &Value) -> Option<Name>
+    requires ascii { IsAscii text.now }
+    requires said { IsSaid value.now }
+    ensures { result ≡ directory_by (N.catalogue names.now) text.now value.now }
+{
+    match value {
+        Value::User(directory) => Some(directory_name(names, *directory)),
+        Value::Directory(directory) => Some(directory_name(names, *directory)),
+        Value::NewDirectory(place) => Some(upper(text, *place)),
+        _ => None,
+    }
+}

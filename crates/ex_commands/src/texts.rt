@@ -1,0 +1,115 @@
+// The fixed texts of what commands show.
+ghost use Rattle.std.specs.Prelude.{◌≡◌};
+ghost use Rattle.ex_commands.specs.Texts.{arrow, done_mark, dot, farewell, files_counted, from_terminal, left_angle, pages_freed, right_angle, right_bracket, space, structure, total_of, version};
+
+/// Between two parts of a line.
+#[tactic(auto, unfolding(crate::specs::Texts::space))]
+pub(crate) fn space() -> &'static [u8]
+    ensures { result.now ≡ space }
+{
+    b" "
+}
+
+/// Before a type, and before a generation.
+#[tactic(auto, unfolding(crate::specs::Texts::dot))]
+pub(crate) fn dot() -> &'static [u8]
+    ensures { result.now ≡ dot }
+{
+    b"."
+}
+
+/// Before the name of a directory.
+#[tactic(auto, unfolding(crate::specs::Texts::left_angle))]
+pub(crate) fn left_angle() -> &'static [u8]
+    ensures { result.now ≡ left_angle }
+{
+    b"<"
+}
+
+/// Behind the name of a directory.
+#[tactic(auto, unfolding(crate::specs::Texts::right_angle))]
+pub(crate) fn right_angle() -> &'static [u8]
+    ensures { result.now ≡ right_angle }
+{
+    b">"
+}
+
+/// From one file to another.
+#[tactic(auto, unfolding(crate::specs::Texts::arrow))]
+pub(crate) fn arrow() -> &'static [u8]
+    ensures { result.now ≡ arrow }
+{
+    b" => "
+}
+
+/// From the terminal to a file.
+#[tactic(auto, unfolding(crate::specs::Texts::from_terminal))]
+pub(crate) fn from_terminal() -> &'static [u8]
+    ensures { result.now ≡ from_terminal }
+{
+    b" TTY: => "
+}
+
+/// That it is done.
+#[tactic(auto, unfolding(crate::specs::Texts::done_mark))]
+pub(crate) fn done_mark() -> &'static [u8]
+    ensures { result.now ≡ done_mark }
+{
+    b" [OK]"
+}
+
+/// The structure that all directories are on, before the directory of a listing.
+#[tactic(auto, unfolding(crate::specs::Texts::structure))]
+pub(crate) fn structure() -> &'static [u8]
+    ensures { result.now ≡ structure }
+{
+    b"   PS:"
+}
+
+/// Before the number of files in a listing.
+#[tactic(auto, unfolding(crate::specs::Texts::total_of))]
+pub(crate) fn total_of() -> &'static [u8]
+    ensures { result.now ≡ total_of }
+{
+    b" Total of "
+}
+
+/// Behind the number of files in a listing.
+#[tactic(auto, unfolding(crate::specs::Texts::files_counted))]
+pub(crate) fn files_counted() -> &'static [u8]
+    ensures { result.now ≡ files_counted }
+{
+    b" files"
+}
+
+/// Before the number of pages that were freed.
+#[tactic(auto, unfolding(crate::specs::Texts::pages_freed))]
+pub(crate) fn pages_freed() -> &'static [u8]
+    ensures { result.now ≡ pages_freed }
+{
+    b" [Pages freed: "
+}
+
+/// Behind the number of pages that were freed.
+#[tactic(auto, unfolding(crate::specs::Texts::right_bracket))]
+pub(crate) fn right_bracket() -> &'static [u8]
+    ensures { result.now ≡ right_bracket }
+{
+    b"]"
+}
+
+/// The program and its version.
+#[tactic(auto, unfolding(crate::specs::Texts::version))]
+pub(crate) fn version() -> &'static [u8]
+    ensures { result.now ≡ version }
+{
+    b" EXEC20 1"
+}
+
+/// What stands at the end of the run.
+#[tactic(auto, unfolding(crate::specs::Texts::farewell))]
+pub(crate) fn farewell() -> &'static [u8]
+    ensures { result.now ≡ farewell }
+{
+    b"Logged out"
+}
