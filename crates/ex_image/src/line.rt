@@ -8,15 +8,16 @@ use cm_text::NAME_LIMIT;
 use ex_store::Key;
 use std::marker::Model;
 
-/// Room for the longest line, that of an entry of the print queue, with numbers of any size.
-pub(crate) const LINE_ROOM: usize = 400;
+// Room for the longest line, that of an entry of the print queue, with each of its fields as long as any may be.
+const LINE_ROOM: usize = 400;
 
 // The most decimal digits that a number of 64 bits has.
 const DIGIT_LIMIT: usize = 20;
 
-// The most bytes of a field with the space before it: of a text or a number, and of a file.
+// The most bytes of a text or a number, with the space before it.
 const FIELD_LIMIT: usize = NAME_LIMIT + 1;
 
+// The most bytes of a file's name, type and generation, with the space and the points before them.
 const FILE_FIELD_LIMIT: usize = 3 * FIELD_LIMIT;
 
 /// A line of an image, kept in the value itself. Contracts see its bytes.
