@@ -1,13 +1,11 @@
 -- Pieces that are appended to the open file of a host, one behind the other.
-use Rattle.std.proofs.Common.{◌≡◌, ◌≢◌, ◌≤◌, ℕ, Bool, List, [], ◌++◌, Option, Some, None, IsTrue, refl, sym, ap, subst, ◌∙◌, arith, append_assoc}
+use Rattle.std.proofs.Common.{◌≡◌, ℕ, Bool, List, [], ◌++◌, Option, Some, None, IsTrue, refl, sym, ap, subst, ◌∙◌, arith, append_assoc}
 use Rattle.std.proofs.lemmas.List.{append-nil}
 use Rattle.std.specs.Option.{option_map}
-use Rattle.cm_io.specs.Fault.{PutCause, Rose}
-use Rattle.cm_io.specs.Host.{AppendsPart, Files, KeepsOthers, Writes}
-use Rattle.cm_io.specs.Told.{IsPart}
+use Rattle.cm_io.specs.Fault.{PutCause}
+use Rattle.cm_io.specs.Host.{Writes}
 use Rattle.cm_io.specs.declared.sink.Put.{Put}
 use Rattle.cm_io.specs.declared.sink.Put.TheVariants.{Done, Failed}
-use Rattle.cm_io.proofs.Adding.{rose_early, rose_late}
 use Rattle.ex_image.specs.Writing.{Appends, Outside}
 
 -- what is appended to a file, if it is there

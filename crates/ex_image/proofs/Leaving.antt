@@ -1,8 +1,7 @@
 -- Records that are appended one by one: of the whole some bytes are appended, and the rest is left.
-use Rattle.std.proofs.Common.{◌≡◌, ◌+◌, ◌<◌, ℕ, Bool, true, List, [], ◌∷◌, ◌++◌, IsTrue, length, drop, map, get_or, refl, sym, ap, subst, ◌∙◌, append_assoc}
+use Rattle.std.proofs.Common.{◌≡◌, ◌+◌, ◌<◌, ℕ, Bool, List, [], ◌∷◌, ◌++◌, IsTrue, length, drop, map, get_or, refl, sym, ap, subst, ◌∙◌, append_assoc}
 use Rattle.std.proofs.lemmas.List.{append-nil, drop_more}
-use Rattle.std.proofs.lemmas.List.Folds.{list_all_at}
-use Rattle.std.specs.List.{flat_map, list_all}
+use Rattle.std.specs.List.{flat_map}
 use Rattle.cm_io.specs.declared.sink.Put.TheVariants.{Done, Failed}
 use Rattle.ex_image.specs.Record.{Entry, record_text}
 use Rattle.ex_image.specs.Writing.{Appends, Outside}

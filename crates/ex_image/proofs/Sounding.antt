@@ -1,11 +1,14 @@
 -- Each part of a store is as a store has it.
-use Rattle.std.proofs.Common.{◌≡◌, Bool, true, ◌&&◌, nat_lt, List, [], ◌∷◌, refl}
+use Rattle.std.proofs.Common.{◌≡◌, Bool, true, ◌&&◌, nat_lt, List, [], ◌∷◌, refl, subst, sym}
 use Rattle.std.proofs.lemmas.Bool.{and_from, and_parts}
 use Rattle.std.specs.List.{list_all}
 use Rattle.ex_store.specs.declared.directory.Directory.{Directory}
 use Rattle.ex_store.specs.declared.limits.TheConstants.{FORMS}
 use Rattle.ex_store.specs.declared.queue.QueueEntry.{QueueEntry}
-use Rattle.ex_store.specs.WellFormed.{is_entry_among}
+use Rattle.ex_store.specs.declared.parts.Parts.{Parts}
+use Rattle.ex_store.specs.Lent.{state_of}
+use Rattle.ex_store.specs.State.{State}
+use Rattle.ex_store.specs.WellFormed.{IsWellFormed, is_entry_among}
 
 -- a test that holds of any holds of all
 pub all_hold : {A : Type 0} (parts : List A) → list_all (λ part. true) parts ≡ true
@@ -22,9 +25,16 @@ form_of : (directories : List Directory) (entry : QueueEntry) → is_entry_among
     → nat_lt entry.form FORMS ≡ true
 form_of directories entry within = search (first_holds, second_holds) depth 14
 
--- the entries of the print queue are for forms that there are
-pub forms_there : (directories : List Directory) (queue : List QueueEntry)
+-- the entries of a print queue are for forms that there are
+forms_there : (directories : List Directory) (queue : List QueueEntry)
     → list_all (is_entry_among directories) queue ≡ true → list_all (λ entry. nat_lt entry.form FORMS) queue ≡ true
 forms_there directories [] within = refl
 forms_there directories (entry ∷ more) within =
     and_from _ _ (form_of directories entry (first_holds _ _ within)) (forms_there directories more (second_holds _ _ within))
+
+-- and so are those of a store
+pub forms_of_parts : (parts : Parts) (state : State) → state_of parts ≡ state → IsWellFormed state
+    → list_all (λ entry. nat_lt entry.form FORMS) parts.queue.now ≡ true
+forms_of_parts parts state is formed =
+    subst (λ (state : State). list_all (λ entry. nat_lt entry.form FORMS) state.queue ≡ true) (sym is)
+    (forms_there state.directories state.queue formed.queue_within)

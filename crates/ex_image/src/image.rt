@@ -81,9 +81,10 @@ pub(crate) fn put_all<T: Target>(parts: &Parts<'_>, target: &mut T) -> Put
     put_files(parts.rows, parts.queue, target)
 }
 
-/// Writes the image of a store to a file of a host: a line for each directory, the connected one, each logical name,
-/// each file, behind which its bytes stand, and each entry of the print queue. It takes no memory. After Failed the
-/// file is absent, as before, or holds a prefix of the image, and no file is open.
+/// Writes the image of a store to a file of a host: a head, a line for each directory, for the connected one, for each
+/// logical name, for each file, with its bytes behind it, and for each entry of the print queue, and an end. It takes
+/// no memory. Where the host fails, the file is absent, as before, or holds a prefix of the image.
+#[tactic(auto, using(cm_io::proofs::Adding::rose_early, cm_io::proofs::Adding::rose_late, crate::proofs::Sounding::forms_of_parts,))]
 pub fn encode<H: Host>(store: &Store, host: &mut H, name: &str) -> Put
     ensures saved { IsTrue H.tells
         → Saves (image_text store.now.state) (H.files host.old name.now) (H.files host.new name.now) result }

@@ -1,20 +1,23 @@
 // A line of an image under way.
 ghost use Rattle.std.specs.Prelude.{◌≡◌, ◌+◌, ◌<◌, ◌≤◌, ℕ, List, [], ◌∷◌, ◌++◌, length};
-ghost use Rattle.std.specs.Fmt.{decimal};
+ghost use Rattle.std.specs.Fmt.{decimal, signed_decimal};
 ghost use Rattle.ex_image.specs.Record.{after_text, file_text};
 
 use arrayvec::ArrayString;
 use cm_text::NAME_LIMIT;
 use ex_store::Key;
-use itoa::Buffer;
 use std::marker::Model;
 
-/// Room for the longest line, that of an entry of the print queue, with numbers of any size.
-pub(crate) const LINE_ROOM: usize = 400;
+// Room for the longest line, that of an entry of the print queue, with each of its fields as long as any may be.
+const LINE_ROOM: usize = 400;
 
-// The most bytes of a field with the space before it: of a text or a number, and of a file.
+// The most decimal digits that a number of 64 bits has.
+const DIGIT_LIMIT: usize = 20;
+
+// The most bytes of a text or a number, with the space before it.
 const FIELD_LIMIT: usize = NAME_LIMIT + 1;
 
+// The most bytes of a file's name, type and generation, with the space and the points before them.
 const FILE_FIELD_LIMIT: usize = 3 * FIELD_LIMIT;
 
 /// A line of an image, kept in the value itself. Contracts see its bytes.
@@ -50,13 +53,36 @@ impl Line {
         self.text.push_str(text);
     }
 
+    // Puts a digit behind the line.
+    fn push_digit(&mut self, digit: u64)
+        requires digit { digit < 10 }
+        requires room { length self.old < LINE_ROOM }
+        ensures { self.new ≡ self.old ++ (48 + digit) ∷ [] }
+    {
+        self.text.push(char::from(b'0' + digit as u8));
+    }
+
+    // Puts the digits of a number behind the line, where there is room for just these.
+    #[tactic(auto, using(std::proofs::lemmas::Fmt::decimal_digit, std::proofs::lemmas::Fmt::decimal_step, crate::proofs::Digits::length_decimal_step,))]
+    fn push_digits(&mut self, number: u64)
+        requires { length self.old + length (decimal number) ≤ LINE_ROOM }
+        ensures { self.new ≡ self.old ++ decimal number }
+    {
+        if number < 10 {
+            self.push_digit(number);
+        } else {
+            self.push_digits(number / 10);
+            self.push_digit(number % 10);
+        }
+    }
+
     // Puts the digits of a number behind the line.
     fn push_number(&mut self, number: u64)
-        requires { length self.old + NAME_LIMIT ≤ LINE_ROOM }
+        requires { length self.old + DIGIT_LIMIT ≤ LINE_ROOM }
         ensures bytes { self.new ≡ self.old ++ decimal number }
-        ensures len { length self.new ≤ length self.old + NAME_LIMIT }
+        ensures len { length self.new ≤ length self.old + DIGIT_LIMIT }
     {
-        self.push(Buffer::new().format(number));
+        self.push_digits(number);
     }
 
     /// Puts a space and a text behind the line.
@@ -80,14 +106,29 @@ impl Line {
         self.push_number(number);
     }
 
-    /// Puts a space and a day behind the line, or a hyphen where there is none.
+    // Puts a space and the number of a day behind the line.
+    fn day(&mut self, day: i32)
+        requires { length self.old + FIELD_LIMIT ≤ LINE_ROOM }
+        ensures bytes { self.new ≡ self.old ++ 32 ∷ signed_decimal day }
+        ensures len { length self.new ≤ length self.old + FIELD_LIMIT }
+    {
+        self.text.push(' ');
+        if day < 0 {
+            self.text.push('-');
+            self.push_number(u64::from(day.unsigned_abs()));
+        } else {
+            self.push_number(u64::from(day.unsigned_abs()));
+        }
+    }
+
+    /// Puts a space and the number of a day behind the line, or a hyphen where there is none.
     pub(crate) fn after(&mut self, after: Option<i32>)
         requires { length self.old + FIELD_LIMIT ≤ LINE_ROOM }
         ensures bytes { self.new ≡ self.old ++ 32 ∷ after_text after }
         ensures len { length self.new ≤ length self.old + FIELD_LIMIT }
     {
         match after {
-            Some(day) => self.field(Buffer::new().format(day)),
+            Some(day) => self.day(day),
             None => self.field("-"),
         }
     }

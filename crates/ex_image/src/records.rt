@@ -16,7 +16,7 @@ pub(crate) trait Record {
     /// What its line says, and the bytes behind the line.
     ghost entry: { Self → Entry × List ℕ };
 
-    /// Whether it is as a store has it.
+    /// What a store sees to and its line asks: that an entry of the print queue is for a form that there is.
     ghost is_sound: { Self → Bool };
 
     /// Appends its record to the open file. After Failed a prefix of it is appended.

@@ -1,6 +1,6 @@
 // What stands in the file where the host fails.
 
-use super::given::{IMAGE, store, written};
+use super::given::{IMAGE, NEW_IMAGE, store, written};
 use cm_io::Put;
 use ex_store::Store;
 use std::test::Fail;
@@ -53,13 +53,12 @@ fn where_the_file_is_not_created_it_is_as_before(rt: HostRuntime) -> Result<(), 
 #[test]
 fn a_part_stands_where_there_is_no_room(rt: HostRuntime) -> Result<(), Fail> {
     let store = Store::new(rt.alloc())?;
-    let image = b"EXEC20 1\nD OPERATOR 1\nC OPERATOR\nE\n";
     for room in 0..35 {
         let (put, host) = written(rt.alloc(), &store, "IN", room, &[])?;
         assert_eq!(rt; put, Put::Failed, "{room}");
         let part = host.output().unwrap_or(b"none");
         assert!(rt; part.len() <= room as usize, "{room}");
-        assert!(rt; image.starts_with(part), "{room}");
+        assert!(rt; NEW_IMAGE.starts_with(part), "{room}");
         assert_eq!(rt; host.file("IN"), Some(b"old".as_slice()));
     }
     Ok(())

@@ -73,7 +73,10 @@ pub(super) fn store(rt: &(impl Abort + AllocGlobal)) -> Result<Store, NoMemory> 
     Ok(store)
 }
 
-// Its image, 96 bytes.
+// The image of a new store, 35 bytes.
+pub(super) const NEW_IMAGE: &[u8] = b"EXEC20 1\nD OPERATOR 1\nC OPERATOR\nE\n";
+
+// The image of that store, 96 bytes.
 pub(super) const IMAGE: &[u8] = b"EXEC20 1\nD OPERATOR 1\nD SMITH 1\nC SMITH\n\
     F SMITH A.TXT.1 D 7 8\none\ntwo\n\nF SMITH A.TXT.2 U 8 0\n\nE\n";
 

@@ -1,6 +1,6 @@
 // Stores that are written whole.
 
-use super::given::{IMAGE, store, written};
+use super::given::{IMAGE, NEW_IMAGE, store, written};
 use cm_io::Put;
 use ex_store::Store;
 use std::test::Fail;
@@ -10,10 +10,7 @@ fn a_new_store_has_35_bytes(rt: HostRuntime) -> Result<(), Fail> {
     let store = Store::new(rt.alloc())?;
     let (put, host) = written(rt.alloc(), &store, "IN", 35, &[])?;
     assert_eq!(rt; put, Put::Done);
-    assert_eq!(rt;
-        host.output(),
-        Some(b"EXEC20 1\nD OPERATOR 1\nC OPERATOR\nE\n".as_slice())
-    );
+    assert_eq!(rt; host.output(), Some(NEW_IMAGE));
     assert_eq!(rt; host.file("IN"), Some(b"old".as_slice()));
     Ok(())
 }

@@ -159,7 +159,9 @@ fn tells_that_the_host_failed(rt: HostRuntime) -> Result<(), Fail> {
     let cases = [
         host_fault(failing(&[0]), screen, None, b"", 2),
         host_fault(failing(&[1]), screen, Some(b""), b"", 2),
-        host_fault(failing(&[2]), screen, Some(IMAGE), b"", 2),
+        // Behind the file's creation and the writing of its four lines comes its closing.
+        host_fault(failing(&[2]), screen, Some(b"EXEC20 1\n"), b"", 2),
+        host_fault(failing(&[5]), screen, Some(IMAGE), b"", 2),
         host_fault(
             Given {
                 file_room: 10,
