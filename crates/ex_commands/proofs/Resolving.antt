@@ -61,7 +61,7 @@ found_within : (code : Code) (found : Option ℕ) (count directory : ℕ) → or
 found_within code None count directory is within = cc
 found_within code (Some first) count directory is within = let same : first ≡ directory = cc in within (ap (λ (n : ℕ). Some n) same)
 
-connected : (c : Catalogue) → IsCatalogue c → (directory : ℕ) → Ok {E = Code} c.connected ≡ Ok directory → directory < length c.directories
+connected : (c : Catalogue) → IsCatalogue c → (directory : ℕ) → ◌≡◌ {A = Result ℕ Code} (Ok c.connected) (Ok directory) → directory < length c.directories
 connected c is_catalogue directory is =
     let same : c.connected ≡ directory = cc in subst (λ (n : ℕ). n < length c.directories) same is_catalogue.connected_within
 
