@@ -1,1 +1,2 @@
 // What no clause says: worked examples.
+mod replies;
