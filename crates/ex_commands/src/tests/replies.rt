@@ -115,6 +115,7 @@ fn write(
 }
 
 #[test]
+#[tactic(auto, unfolding(cm_text::specs::Bytes::is_name, cm_text::specs::Bytes::is_word))]
 fn lines_of_pairs(rt: HostRuntime) {
     let mut screen = screen(&rt);
     let mut store = Store::new(rt.alloc()).expect(&rt, "memory");
@@ -151,6 +152,7 @@ fn marks(rt: &(impl Abort + AllocGlobal), store: &Store, files: &Place, wanted: 
 }
 
 #[test]
+#[tactic(auto, unfolding(cm_text::specs::Bytes::is_name, cm_text::specs::Bytes::is_word))]
 fn lines_of_files(rt: HostRuntime) {
     let mut screen = screen(&rt);
     let mut store = Store::new(rt.alloc()).expect(&rt, "memory");
@@ -177,6 +179,7 @@ fn lines_of_files(rt: HostRuntime) {
 }
 
 #[test]
+#[tactic(auto, unfolding(cm_text::specs::Bytes::is_name, cm_text::specs::Bytes::is_word))]
 fn a_marked_file_is_not_listed(rt: HostRuntime) {
     let mut screen = screen(&rt);
     let mut store = Store::new(rt.alloc()).expect(&rt, "memory");
