@@ -1,4 +1,4 @@
-use Rattle.std.proofs.Common.{◌≡◌, Bool, true, false, ◌||◌, refl, ap, ◌∙◌}
+use Rattle.std.proofs.Common.{◌≡◌, Bool, true, false, ◌||◌, refl, ap}
 use Rattle.cm_text.specs.Bytes.{is_name, is_word}
 use Rattle.ex_store.specs.State.{State}
 use Rattle.ex_commands.proofs.tests.replies.place.Goals as goal
