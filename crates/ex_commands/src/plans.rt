@@ -37,7 +37,6 @@ fn play<S: Sink>(store: &mut Store, plan: Plan, origin: Origin, moment: u64, sin
 }
 
 /// Makes a directory.
-<<<<<<< HEAD
 #[tactic(auto, unfolding(crate::specs::Act::act_of))]
 pub(crate) fn build<S: Sink>(
     store: &mut Store,
@@ -45,9 +44,6 @@ pub(crate) fn build<S: Sink>(
     moment: u64,
     sink: &mut S,
 ) -> Acted
-=======
-pub(crate) fn build<S: Sink>(store: &mut Store, directory: &Name, moment: u64, sink: &mut S) -> Acted
->>>>>>> hc4
     requires { is_directory_name directory.now ≡ true }
     ensures acts { Answers (S.told sink.old) (S.told sink.new)
         (act_of (commands.Build directory.now) moment store.old.state) true store.old.state store.new.state result }
@@ -63,7 +59,6 @@ pub(crate) fn build<S: Sink>(store: &mut Store, directory: &Name, moment: u64, s
 }
 
 /// Copies files.
-<<<<<<< HEAD
 #[tactic(auto, unfolding(crate::specs::Act::act_of))]
 pub(crate) fn copy<S: Sink>(
     store: &mut Store,
@@ -72,9 +67,6 @@ pub(crate) fn copy<S: Sink>(
     moment: u64,
     sink: &mut S,
 ) -> Acted
-=======
-pub(crate) fn copy<S: Sink>(store: &mut Store, from: &Place, to: &Place, moment: u64, sink: &mut S) -> Acted
->>>>>>> hc4
     requires from { IsSource from.now store.old.state }
     requires to { IsTarget to.now store.old.state.directories }
     ensures acts { Answers (S.told sink.old) (S.told sink.new)
@@ -94,7 +86,6 @@ pub(crate) fn copy<S: Sink>(store: &mut Store, from: &Place, to: &Place, moment:
 /// The answer is Refused(code) exactly where the file is refused with that code; the reason is put, and nothing
 /// changes. With NoMemory nothing is put or changed. Failed comes only where the sink failed: a part of what is to be
 /// put is put, and the file is written, or refused, all the same.
-<<<<<<< HEAD
 #[tactic(auto, unfolding(crate::specs::Act::writes))]
 pub fn write_data<S: Sink>(
     store: &mut Store,
@@ -103,9 +94,6 @@ pub fn write_data<S: Sink>(
     moment: u64,
     sink: &mut S,
 ) -> Acted
-=======
-pub fn write_data<S: Sink>(store: &mut Store, to: &Place, typed: Data, moment: u64, sink: &mut S) -> Acted
->>>>>>> hc4
     requires { IsTarget to.now store.old.state.directories }
     ensures acts { Answers (S.told sink.old) (S.told sink.new) (writes to.now typed moment store.old.state) true
         store.old.state store.new.state result }
