@@ -3,7 +3,6 @@
 
 ghost use Rattle.std.specs.Prelude.{ℕ, Bool, false, true, ◌≡◌, ◌≤◌, unwrap_or};
 ghost use Rattle.std.specs.Option.{option_copied};
-ghost use Rattle.cm_io.specs.Fault.{PutCause};
 ghost use Rattle.ex_store.specs.Plan.{IsSource, sources};
 ghost use Rattle.ex_commands.specs.declared.command.Command.TheVariants as commands;
 ghost use Rattle.ex_store.specs.State.{State, has_directory};
