@@ -15,7 +15,6 @@ use crate::plans::{build, copy};
 use crate::replies::{put_farewell, put_freed, put_refusal, put_told};
 use crate::{Acted, Command};
 use cm_fields::Code;
-use cm_files::Names;
 use cm_io::{Put, Sink};
 use cm_text::Name;
 use ex_store::{Place, Store};
