@@ -147,7 +147,10 @@ fn marks(rt: &(impl Abort + AllocGlobal), store: &Store, files: &Place, wanted: 
     requires { IsSource files.now store.now.state }
 {
     let mut screen = screen(rt);
-    assert_eq!(rt; put_lines(store, files, Lines::Marked, &mut screen), Put::Done);
+    assert_eq!(rt;
+        put_lines(store, files, Lines::Marked, &mut screen),
+        Put::Done
+    );
     assert_eq!(rt; screen.bytes(), wanted);
 }
 
