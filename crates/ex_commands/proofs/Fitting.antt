@@ -236,7 +236,7 @@ value_short c text field read =
     place_short field.defaulted tried.node.default text field tried.said tried.at tried.end tried.stands
     (value_size c tried.block.function tried.block.flags (drop tried.at tried.said) tried.at field.value tried.looked tried.end read.by_function tried.accepts)
 
-source_names : (function : Function) → reads_source function ≡ true → reads_places function ≡ true
+pub source_names : (function : Function) → reads_source function ≡ true → reads_places function ≡ true
 source_names (Token text) reads = refl
 source_names InFile reads = refl
 source_names function reads = cc
@@ -245,7 +245,7 @@ target_names : (function : Function) → reads_target function ≡ true → read
 target_names OutFile reads = refl
 target_names function reads = cc
 
-files_names : (function : Function) → reads_files function ≡ true → reads_places function ≡ true
+pub files_names : (function : Function) → reads_files function ≡ true → reads_places function ≡ true
 files_names InFile reads = refl
 files_names AnyFile reads = refl
 files_names User reads = refl

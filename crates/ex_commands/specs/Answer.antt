@@ -20,10 +20,10 @@ pub record IsDone (before now : Told) (act : Act) (left : State) (answer : Acted
   pub state : left ≡ act.state
 
 -- memory was wanting where it may be: nothing is put, and nothing changes
-pub record IsLacking (before now : Told) (lacks : Bool) (state left : State) : Type 0 where
+pub record IsLacking (before now : Told) (lacks : Bool) (start left : State) : Type 0 where
   pub may_lack : lacks ≡ true
   pub told : now ≡ before
-  pub state : left ≡ state
+  pub state : left ≡ start
 
 -- the reply was cut: a part of it is put, and the act leaves its state all the same
 pub record IsCut (before now : Told) (act : Act) (left : State) : Type 0 where
