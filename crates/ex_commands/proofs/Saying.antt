@@ -137,7 +137,7 @@ parts_are_short atom spec =
       | Some parts ↦ by_long parts.device parts.directory parts.name parts.kind
           (generation_of (part_or_nothing atom parts.generation)) spec
           (is_long parts.device || is_long parts.directory || is_long parts.name || is_long parts.kind)
-        (generation_fits (part_or_nothing atom parts.generation)) refl
+          (generation_fits (part_or_nothing atom parts.generation)) refl
     ]
 
 -- a part stays as short where it is moved

@@ -194,9 +194,12 @@ first_field c text at field is =
     sym tried.node_is ∙ ap (λ (n : ℕ). slice_get exec_graph.nodes n) number ∙ first_node in
     let same : tried.node ≡ either confirm (keyword command_table roles.Verb) = cc in
     let found : slice_get (confirm ∷ keyword command_table roles.Verb ∷ []) field.block ≡ Some tried.block =
-    ap (λ (node : Node). slice_get node.chain field.block) (sym same) ∙ tried.block_is in
-    (tried.block, tried.role, tried.next,
-    by field.block tried.block tried.block.flags (drop tried.at tried.said) tried.at tried.looked tried.end found tried.accepts)
+    ap (λ (node : Node). slice_get node.chain field.block) (sym same) ∙ tried.block_is in (
+      tried.block,
+      tried.role,
+      tried.next,
+      by field.block tried.block tried.block.flags (drop tried.at tried.said) tried.at tried.looked tried.end found tried.accepts,
+    )
   where
     by : (place : ℕ) (block : Block) (flags : Flags) (rest : List ℕ) (at looked end : ℕ)
         → slice_get (confirm ∷ keyword command_table roles.Verb ∷ []) place ≡ Some block
