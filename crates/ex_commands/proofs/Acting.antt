@@ -1,7 +1,6 @@
 -- What a line commands can be done.
-use Rattle.std.proofs.Common.{◌≡◌, ℕ, ◌+◌, ◌||◌, ◌==◌, Bool, true, false, if◌then◌else◌, List, drop, Option, Some, None, option_and_then, slice_get, refl, ap, sym, subst, ◌∙◌, arith}
+use Rattle.std.proofs.Common.{◌≡◌, ℕ, ◌||◌, ◌==◌, Bool, true, false, if◌then◌else◌, List, drop, Option, Some, None, option_and_then, slice_get, refl, ap, sym, ◌∙◌}
 use Rattle.std.specs.Option.{option_map_or}
-use Rattle.std.proofs.lemmas.Bool.Decides.{nat_tests}
 use Rattle.cm_text.specs.Text.{finished}
 use Rattle.cm_fields.proofs.Holding.{holds_of_choice}
 use Rattle.cm_files.specs.Catalogue.{IsCatalogue, is_directory_name}
@@ -23,11 +22,11 @@ use Rattle.ex_store.specs.State.{State, catalogue_of, has_directory}
 use Rattle.ex_commands.specs.declared.command.Command.{Command}
 use Rattle.ex_commands.specs.declared.command.Command.TheVariants as commands
 use Rattle.ex_commands.specs.Answer.{IsThere, MayAct}
-use Rattle.ex_commands.specs.Command.{Line, code_in, command_of, copies, directory_in, flags_of, is_token, keyword_code, name_in, named, on, place_in}
-use Rattle.ex_commands.proofs.Fitting.{IsRead, files_names, files_read, reads_files, reads_places, reads_source, source_names, source_read, target_read}
-use Rattle.ex_commands.proofs.Targets.{directory_formed, directory_there, field_meant, field_target, is_new, place_there, trial_old}
+use Rattle.ex_commands.specs.Command.{Line, command_of, copies, directory_in, flags_of, is_token, keyword_code, named, on, place_in}
+use Rattle.ex_commands.proofs.Fitting.{files_names, files_read, reads_files, reads_source, source_names, source_read, target_read}
+use Rattle.ex_commands.proofs.Targets.{directory_formed, directory_there, field_meant, field_target, place_there, trial_old}
 use Rattle.ex_commands.proofs.Trying.{IsTried}
-use Rattle.ex_commands.proofs.Verbs.{IsOld, names_old, old_directory}
+use Rattle.ex_commands.proofs.Verbs.{names_old, old_directory}
 
 -- a line of the grammar over the catalogue of a state
 abbrev line_over : State → List ℕ → List Taken → Line

@@ -1,13 +1,12 @@
 -- Parts of a text in upper case, and the texts that they are parts of.
-use Rattle.std.proofs.Common.{◌≡◌, ℕ, zero, suc, ◌+◌, ◌-◌, ◌<◌, ◌≤◌, ◌&&◌, min, Bool, true, false, cond, List, [], ◌∷◌, ◌++◌, length, take, drop, map, Option, Some, None, slice_get, get_or, refl, ap, sym, subst, ◌∙◌, arith, length-drop}
+use Rattle.std.proofs.Common.{◌≡◌, ℕ, zero, suc, ◌+◌, ◌-◌, ◌<◌, ◌≤◌, true, List, [], ◌∷◌, ◌++◌, length, take, drop, map, Option, Some, None, slice_get, get_or, ap, sym, ◌∙◌, arith}
 use Rattle.std.specs.Char.{to_ascii_uppercase}
-use Rattle.std.specs.List.{list_all, slice_index}
+use Rattle.std.specs.List.{list_all}
 use Rattle.std.specs.Option.{option_map_or}
 use Rattle.std.specs.Str.{IsAscii}
 use Rattle.std.proofs.lemmas.Bool.{and_parts}
 use Rattle.std.proofs.lemmas.Bool.Decides.{nat_tests}
-use Rattle.std.proofs.lemmas.List.{drop_all, length-take, take_all}
-use Rattle.std.proofs.lemmas.Str.{IsAscii-drop, IsAscii-take}
+use Rattle.std.proofs.lemmas.List.{length-take, take_all}
 use Rattle.cm_fields.specs.declared.value.Span.{Span}
 use Rattle.cm_files.specs.Spec.{part}
 use Rattle.cm_blocks.specs.declared.node.Node.{Node}

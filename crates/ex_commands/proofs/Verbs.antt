@@ -1,8 +1,7 @@
 -- Behind CONNECT and EXPUNGE a directory is named that is there.
-use Rattle.std.proofs.Common.{◌≡◌, ◌⊎◌, inl, inr, ℕ, zero, suc, ◌+◌, ◌||◌, ◌&&◌, ◌==◌, Bool, true, false, not, if◌then◌else◌, List, [], ◌∷◌, length, drop, take, Option, Some, None, slice_get, Result, Ok, Err, refl, ap, sym, subst, ◌∙◌, arith}
+use Rattle.std.proofs.Common.{◌≡◌, ◌⊎◌, inl, inr, ℕ, zero, suc, ◌+◌, ◌||◌, ◌&&◌, ◌==◌, Bool, true, false, not, if◌then◌else◌, List, [], ◌∷◌, drop, take, Option, Some, slice_get, Result, Ok, Err, refl, ap, sym, subst, ◌∙◌, arith}
 use Rattle.std.specs.List.{find, list_all, prefix_len}
 use Rattle.std.proofs.lemmas.Bool.{and_parts}
-use Rattle.std.proofs.lemmas.Bool.Decides.{nat_tests}
 use Rattle.cm_text.specs.Bytes.{is_word}
 use Rattle.cm_tables.specs.declared.entry.Entry.{Entry}
 use Rattle.cm_fields.specs.declared.code.Code.{Code}
@@ -14,7 +13,6 @@ use Rattle.cm_files.specs.Catalogue.{Catalogue}
 use Rattle.cm_blocks.specs.declared.field.Ending.{Ending}
 use Rattle.cm_blocks.specs.declared.function.Function.{Function}
 use Rattle.cm_blocks.specs.declared.function.Function.TheVariants as functions
-use Rattle.cm_blocks.specs.declared.function.Role.{Role}
 use Rattle.cm_blocks.specs.declared.function.Role.TheVariants as roles
 use Rattle.cm_blocks.specs.declared.node.Block.{Block}
 use Rattle.cm_blocks.specs.declared.node.Node.{Node}
@@ -23,7 +21,7 @@ use Rattle.cm_blocks.specs.Chain.{chain_at}
 use Rattle.cm_blocks.specs.Grammar.{Graph}
 use Rattle.cm_blocks.specs.Keyword.{code_at, entry_position, key_value}
 use Rattle.cm_blocks.specs.Parse.{Follow, IsParse}
-use Rattle.cm_blocks.specs.Setting.{Setting, setting}
+use Rattle.cm_blocks.specs.Setting.{setting}
 use Rattle.cm_blocks.specs.Taken.{Taken}
 use Rattle.cm_blocks.specs.Trial.{entry_next, keyword_next, next_of, table_of, trial}
 use Rattle.cm_state.specs.Roles.{field_of, is_role}
@@ -36,7 +34,6 @@ use Rattle.ex_grammar.specs.declared.node.TheConstants.{COMMANDS}
 use Rattle.ex_commands.specs.Command.{keyword_code}
 use Rattle.ex_commands.proofs.Fitting.{all_pass_at}
 use Rattle.ex_commands.proofs.Saying.{run_of}
-use Rattle.ex_commands.proofs.Targets.{is_new, trial_old}
 use Rattle.ex_commands.proofs.Trying.{IsTried, chain_number, chain_tried}
 
 -- the table of the commands
