@@ -1,20 +1,17 @@
 -- The parts of a specification, and the same parts of the text that it stands in.
-use Rattle.std.proofs.Common.{◌≡◌, ℕ, zero, suc, ◌+◌, ◌-◌, ◌<◌, ◌≤◌, ◌&&◌, ◌==◌, Bool, true, false, nat_lt, if◌then◌else◌, List, [], ◌∷◌, ◌++◌, length, take, drop, Option, Some, None, option_map, option_and_then, slice_get, unwrap_or, Ok, refl, ap, sym, subst, ◌∙◌, arith, length-drop, length-append}
+use Rattle.std.proofs.Common.{◌≡◌, ℕ, zero, suc, ◌+◌, ◌-◌, ◌<◌, ◌≤◌, ◌&&◌, ◌==◌, Bool, true, false, nat_lt, if◌then◌else◌, List, [], ◌∷◌, length, take, drop, Option, Some, None, option_map, option_and_then, slice_get, unwrap_or, Ok, refl, ap, sym, subst, ◌∙◌, arith, length-drop, length-append}
 use Rattle.std.specs.List.{list_all, prefix_len}
-use Rattle.std.proofs.lemmas.Bool.{and_parts}
 use Rattle.std.proofs.lemmas.Bool.Decides.{nat_tests}
 use Rattle.std.proofs.lemmas.List.{drop-drop, drop-take, length-take, take-take}
 use Rattle.std.proofs.lemmas.List.Sums.{prefix_len-le-length}
 use Rattle.cm_text.specs.Text.{finished}
-use Rattle.cm_text.specs.declared.name.TheConstants.{NAME_LIMIT}
 use Rattle.cm_fields.specs.declared.value.Span.{Span}
 use Rattle.cm_fields.specs.declared.value.Spec.{Spec}
 use Rattle.cm_fields.specs.Try.{span}
 use Rattle.cm_files.specs.Fields.{moved}
-use Rattle.cm_files.specs.Spec.{are_parts, directory_read, is_long, is_path, is_pattern, name_read, nothing_read, part, part_read, pointed_read, read_spec, stands_at}
+use Rattle.cm_files.specs.Spec.{are_parts, directory_read, is_path, is_pattern, name_read, nothing_read, part, part_read, pointed_read, read_spec, stands_at}
 use Rattle.cm_files.proofs.Fronts.{part_more}
-use Rattle.cm_files.proofs.Typed.{ReadAs, pointed_of, read_of}
-use Rattle.cm_blocks.specs.Grammar.{Graph}
+use Rattle.cm_files.proofs.Typed.{read_of}
 use Rattle.cm_blocks.specs.Setting.{Setting}
 use Rattle.cm_blocks.specs.Taken.{Taken}
 use Rattle.ex_commands.specs.Said.{said_of}

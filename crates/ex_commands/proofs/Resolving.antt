@@ -1,6 +1,6 @@
 -- The directories that files, directories and users mean are those of the catalogue.
-use Rattle.std.proofs.Common.{◌≡◌, ℕ, zero, suc, ◌+◌, ◌<◌, ◌||◌, ◌&&◌, Bool, true, false, not, nat_lt, cond, if◌then◌else◌, List, [], ◌∷◌, length, map, codes, Option, Some, None, option_map, slice_get, unwrap_or, Result, Ok, Err, refl, ap, sym, subst, ◌∙◌, arith}
-use Rattle.std.specs.List.{find, list_all, list_any, position_from}
+use Rattle.std.proofs.Common.{◌≡◌, ℕ, zero, suc, ◌+◌, ◌<◌, ◌||◌, ◌&&◌, Bool, true, false, not, nat_lt, cond, if◌then◌else◌, List, [], ◌∷◌, length, map, codes, Option, Some, None, option_map, slice_get, unwrap_or, Result, Ok, Err, refl, ap, subst, arith}
+use Rattle.std.specs.List.{find, list_all, position_from}
 use Rattle.std.proofs.lemmas.Bool.{and_parts}
 use Rattle.std.proofs.lemmas.Bool.Decides.{nat_tests}
 use Rattle.std.proofs.lemmas.Slice.Eq.{bytes_eq-Decides}
@@ -14,15 +14,13 @@ use Rattle.cm_files.specs.declared.flags.Flags.{Flags}
 use Rattle.cm_files.specs.declared.row.LogicalName.{LogicalName}
 use Rattle.cm_files.specs.Catalogue.{Catalogue, IsCatalogue, is_directory_name, is_logical, is_upper_name, logical_of, rows_of}
 use Rattle.cm_files.specs.Fields.{is_user_named, user_named}
-use Rattle.cm_files.specs.LogicalName.{is_logical_name}
-use Rattle.cm_files.specs.Resolve.{by_device, by_directory, directory_named, has_bad_wild, is_bad_generation, is_in, is_named, lacks_name, or_refused, refuse, resolve, then_in, wanted_by}
+use Rattle.cm_files.specs.Resolve.{by_device, by_directory, directory_named, has_bad_wild, is_bad_generation, is_in, is_named, lacks_name, or_refused, resolve, wanted_by}
 use Rattle.cm_files.specs.Selection.{selects}
 use Rattle.cm_files.specs.Spec.{part}
 use Rattle.ex_store.specs.declared.directory.Directory.{Directory}
 use Rattle.ex_store.specs.State.{State, catalogue_of, has_directory}
 use Rattle.ex_store.specs.State as states
 use Rattle.ex_commands.specs.Command.{directory_name}
-use Rattle.ex_commands.proofs.Fitting.{all_pass_at}
 use Rattle.ex_commands.proofs.Saying.{passed, then_parts}
 
 -- where the first is that passes

@@ -1,5 +1,5 @@
 -- What the trials of files, directories and users accept, and that its parts are no longer than a name.
-use Rattle.std.proofs.Common.{◌≡◌, ℕ, ◌+◌, ◌≤◌, ◌||◌, ◌&&◌, ◌==◌, Bool, true, false, not, nat_le, nat_lt, if◌then◌else◌, List, codes, length, take, Option, Some, None, option_map, is_some, is_none, Result, Ok, Err, refl, ap, sym, subst, ◌∙◌, arith}
+use Rattle.std.proofs.Common.{◌≡◌, ℕ, ◌+◌, ◌||◌, ◌&&◌, ◌==◌, Bool, true, false, not, nat_le, nat_lt, if◌then◌else◌, List, codes, length, take, Option, Some, None, option_map, is_some, is_none, Result, Ok, Err, refl, ap, sym, subst, ◌∙◌, arith}
 use Rattle.std.specs.Char.{is_ascii_digit}
 use Rattle.std.specs.Str.Parse.{digits_value}
 use Rattle.std.specs.List.{common_prefix_len, list_all, prefix_len}
@@ -9,7 +9,6 @@ use Rattle.cm_text.specs.Case.{equals}
 use Rattle.cm_fields.specs.declared.code.Code.{Code}
 use Rattle.cm_fields.specs.declared.code.Code.TheVariants.{NoDirectory, NotToken, NoUser, SpecShape, WildHere}
 use Rattle.cm_fields.specs.declared.trial.Try.TheVariants.{Accept, More, Refuse}
-use Rattle.cm_fields.specs.declared.trial.Try.{Try}
 use Rattle.cm_fields.specs.declared.value.FileKind.{FileKind}
 use Rattle.cm_fields.specs.declared.value.Gen.{Gen}
 use Rattle.cm_fields.specs.declared.value.Gen.TheVariants as generations
@@ -26,7 +25,7 @@ use Rattle.cm_files.specs.declared.generation.TheConstants.{GENERATION_LIMIT}
 use Rattle.cm_files.specs.Catalogue.{Catalogue}
 use Rattle.cm_files.specs.Fields.{directory_of, directory_read, file_of, file_read, file_in, is_plain_path, moved, moved_spec, new_directory, old_directory, user_of, user_or_refused, user_named}
 use Rattle.cm_files.specs.Resolve.{by_device, by_directory, has_wild, refuse, resolve, then_in}
-use Rattle.cm_files.specs.Spec.{by_parts, generation_of, is_long, numbered, part_or_nothing, parts_of, read_spec, with_generation}
+use Rattle.cm_files.specs.Spec.{by_parts, generation_of, is_long, numbered, part_or_nothing, parts_of, read_spec}
 use Rattle.ex_commands.specs.Said.{IsSaid, IsShort}
 
 -- an accepted run is decided by its bytes, and ends behind them
@@ -137,7 +136,7 @@ parts_are_short atom spec =
       | Some parts ↦ by_long parts.device parts.directory parts.name parts.kind
           (generation_of (part_or_nothing atom parts.generation)) spec
           (is_long parts.device || is_long parts.directory || is_long parts.name || is_long parts.kind)
-        (generation_fits (part_or_nothing atom parts.generation)) refl
+          (generation_fits (part_or_nothing atom parts.generation)) refl
     ]
 
 -- a part stays as short where it is moved

@@ -1,7 +1,7 @@
 -- What the fields of a line mean: directories that are there, names of new ones, and where a file may be put.
-use Rattle.std.proofs.Common.{◌≡◌, ℕ, ◌+◌, ◌-◌, ◌<◌, ◌≤◌, ◌||◌, ◌&&◌, ◌==◌, Bool, true, false, not, nat_lt, nat_le, List, codes, length, take, drop, Option, Some, None, option_map, Result, Ok, Err, refl, ap, sym, subst, ◌∙◌, arith}
+use Rattle.std.proofs.Common.{◌≡◌, ℕ, ◌<◌, ◌≤◌, ◌||◌, ◌&&◌, ◌==◌, Bool, true, false, not, nat_lt, nat_le, List, codes, length, take, drop, Option, Some, None, option_map, Ok, refl, ap, sym, subst, ◌∙◌, arith}
 use Rattle.std.specs.Char.{to_ascii_uppercase}
-use Rattle.std.specs.List.{list_all, list_any, prefix_len}
+use Rattle.std.specs.List.{list_any, prefix_len}
 use Rattle.std.proofs.lemmas.Bool.{and_from, or_parts}
 use Rattle.std.proofs.lemmas.Bool.Decides.{nat_tests}
 use Rattle.std.proofs.lemmas.List.{length-map}
@@ -18,21 +18,19 @@ use Rattle.cm_fields.specs.declared.value.Span.{Span}
 use Rattle.cm_fields.specs.declared.value.Spec.{Spec}
 use Rattle.cm_fields.specs.declared.value.Value.{Value}
 use Rattle.cm_fields.specs.declared.value.Value.TheVariants as values
-use Rattle.cm_fields.specs.Try.{by_run}
 use Rattle.cm_files.specs.declared.flags.Flags.{Flags}
 use Rattle.cm_files.specs.Catalogue.{Catalogue, IsCatalogue, is_directory_name, is_upper_name}
 use Rattle.cm_files.specs.Fields.{directory_of, file_of, has_colon_behind, is_file, is_plain_path, moved, moved_spec, user_of}
 use Rattle.cm_files.specs.Pattern.{is_wild}
-use Rattle.cm_files.specs.Resolve.{by_device, has_bad_copy, has_wild, has_wild_and_more, is_all, is_bad_generation, resolve}
+use Rattle.cm_files.specs.Resolve.{by_device, has_bad_copy, has_wild, has_wild_and_more, is_all, is_bad_generation}
 use Rattle.cm_files.specs.Spec.{is_long, part, read_spec}
 use Rattle.cm_blocks.specs.declared.function.Function.{Function}
 use Rattle.cm_blocks.specs.declared.function.Function.TheVariants as functions
-use Rattle.cm_blocks.specs.Setting.{Setting, setting}
+use Rattle.cm_blocks.specs.Setting.{setting}
 use Rattle.cm_blocks.specs.Taken.{Taken}
 use Rattle.cm_blocks.specs.Trial.{trial}
 use Rattle.ex_grammar.specs.ExecRules.{exec_meanings}
 use Rattle.ex_grammar.specs.Graph.{exec_graph}
-use Rattle.ex_store.specs.declared.directory.Directory.{Directory}
 use Rattle.ex_store.specs.declared.place.Place.{Place}
 use Rattle.ex_store.specs.Copying.{is_star}
 use Rattle.ex_store.specs.Plan.{IsTarget, may_be, may_number}
@@ -44,7 +42,7 @@ use Rattle.ex_commands.proofs.Capitals.{plain_names, plain_paths, star_stays, up
 use Rattle.ex_commands.proofs.Fitting.{IsRead, reads_places, reads_target}
 use Rattle.ex_commands.proofs.Places.{said_part, spec_directory, spec_kind, spec_name}
 use Rattle.ex_commands.proofs.Resolving.{device_directory_within, name_of_directory, resolves, state_has, user_within}
-use Rattle.ex_commands.proofs.Saying.{HasShortParts, IsRun, SaysDirectory, directory_says, file_says, fits_number, parts_are_short, run_of, token_says, user_says}
+use Rattle.ex_commands.proofs.Saying.{SaysDirectory, directory_says, file_says, fits_number, parts_are_short, run_of, token_says, user_says}
 use Rattle.ex_commands.proofs.Trying.{IsTried}
 
 -- the bytes that a run of a field's text has, and its parts as parts of the text that the field is said in

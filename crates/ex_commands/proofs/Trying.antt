@@ -1,6 +1,6 @@
 -- The block whose trial took a field, and the text that it was tried on.
-use Rattle.std.proofs.Common.{◌≡◌, ℕ, zero, suc, ◌+◌, max, Bool, true, false, if◌then◌else◌, List, [], ◌∷◌, length, drop, Option, Some, None, slice_get, refl, ap, sym, subst, ◌∙◌, arith}
-use Rattle.std.specs.List.{AllByRecursion, find}
+use Rattle.std.proofs.Common.{◌≡◌, ℕ, suc, ◌+◌, max, Bool, true, false, if◌then◌else◌, List, [], ◌∷◌, drop, Option, Some, None, slice_get, refl, ap, sym, subst, ◌∙◌, arith}
+use Rattle.std.specs.List.{find}
 use Rattle.cm_text.specs.Text.{finished}
 use Rattle.cm_fields.specs.declared.code.Code.{Code}
 use Rattle.cm_fields.specs.declared.code.Code.TheVariants.{NotConfirmed}
@@ -10,16 +10,15 @@ use Rattle.cm_fields.specs.declared.value.Value.{Value}
 use Rattle.cm_fields.specs.Skip.{skip}
 use Rattle.cm_blocks.specs.declared.chain.Walk.{Walk}
 use Rattle.cm_blocks.specs.declared.chain.Walk.TheVariants.{Takes, Wants, Fails}
-use Rattle.cm_blocks.specs.declared.field.Chain.{Chain}
 use Rattle.cm_blocks.specs.declared.field.Chain.TheVariants as chain
 use Rattle.cm_blocks.specs.declared.function.Role.{Role}
 use Rattle.cm_blocks.specs.declared.node.Block.{Block}
 use Rattle.cm_blocks.specs.declared.node.Node.{Node}
-use Rattle.cm_blocks.specs.Chain.{at_node, by_default, chain_at, code_of, default_place, default_rest, defaulted, is_confirm, is_line_end, on_default, on_text, or_later, past_skip, typed, walk}
+use Rattle.cm_blocks.specs.Chain.{at_node, by_default, chain_at, default_place, default_rest, defaulted, is_confirm, is_line_end, on_default, on_text, past_skip, typed, walk}
 use Rattle.cm_blocks.specs.Parse.{Follow}
 use Rattle.cm_blocks.specs.Setting.{Setting}
 use Rattle.cm_blocks.specs.Taken.{Taken}
-use Rattle.cm_blocks.specs.Trial.{looked_of, next_of, trial}
+use Rattle.cm_blocks.specs.Trial.{next_of, trial}
 use Rattle.cm_blocks.proofs.Keeping.{walk_step}
 
 -- where a field stands whose trial was of a text from a place on: in the line, or in the default of its node, which
