@@ -7,7 +7,6 @@ ghost use Rattle.cm_blocks.specs.Taken.{Taken};
 ghost use Rattle.cm_fields.specs.declared.code.Code.{Code};
 ghost use Rattle.cm_files.specs.Catalogue.{IsCatalogue};
 ghost use Rattle.cm_state.specs.Echo.{refusal};
-ghost use Rattle.cm_text.specs.Text.{IsLine, finished};
 ghost use Rattle.ex_grammar.specs.declared.node.TheConstants.{COMMANDS};
 ghost use Rattle.ex_grammar.specs.ExecRules.{exec_meanings};
 ghost use Rattle.ex_grammar.specs.Graph.{exec_graph};
@@ -22,13 +21,12 @@ ghost use Rattle.ex_commands.specs.Command.{command_of};
 
 /// What a line commands can be done: the directories are there, and names and numbers have their forms.
 pub fn a_line_may_act()
-    ensures { (state : State) (line : List ℕ) (fields : List Taken) → IsCatalogue (catalogue_of state)
-        → IsLine line
-        → IsParse (setting exec_graph (catalogue_of state) exec_meanings) COMMANDS (finished line) fields ending.Done
+    ensures { (state : State) (text : List ℕ) (fields : List Taken) → IsCatalogue (catalogue_of state)
+        → IsParse (setting exec_graph (catalogue_of state) exec_meanings) COMMANDS text fields ending.Done
         → MayAct (command_of (record {
           graph = exec_graph;
           catalogue = catalogue_of state;
-          text = finished line;
+          text = text;
           fields = fields;
         })) state }
 {}
