@@ -9,14 +9,12 @@ use Rattle.ex_store.specs.declared.directory.Definition.{Definition}
 use Rattle.ex_store.specs.declared.place.Place.{Place}
 use Rattle.ex_store.specs.declared.row.Row.{Row}
 use Rattle.ex_store.specs.Copying.{lacks_name}
-use Rattle.ex_store.specs.Rows.{pages_marked}
 use Rattle.ex_store.specs.State.{State, defined, undefined}
 use Rattle.ex_store.proofs.Naming.{nothing_undefined}
 use Rattle.ex_commands.specs.declared.acted.Acted.{Acted}
 use Rattle.ex_commands.specs.declared.acted.Acted.TheVariants as answers
-use Rattle.ex_commands.specs.Act.{Act, begins, does, expunges, lists, refuses, undefines, without_marked}
+use Rattle.ex_commands.specs.Act.{Act, begins, does, lists, refuses, undefines}
 use Rattle.ex_commands.specs.Answer.{Answers, answer_by}
-use Rattle.ex_commands.specs.Replies.{freed_line}
 
 -- the one of two acts that a test chooses
 chosen : (P : Act → Type 0) (test : Bool) (one other : Act) → test ≡ true → P one → P (cond test one other)

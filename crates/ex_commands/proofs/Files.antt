@@ -1,5 +1,5 @@
 -- The files that a place means are found one after the other.
-use Rattle.std.proofs.Common.{◌≡◌, ℕ, zero, suc, ◌+◌, ◌<◌, ◌≤◌, Bool, true, false, cond, List, [], ◌∷◌, length, drop, filter, slice_get, Option, Some, None, refl, ap, arith, ◌∙◌, sym}
+use Rattle.std.proofs.Common.{◌≡◌, ℕ, zero, suc, ◌+◌, Bool, true, false, cond, List, [], ◌∷◌, length, drop, filter, slice_get, Option, Some, None, refl, ap, arith, ◌∙◌, sym}
 use Rattle.std.specs.List.{position_from}
 use Rattle.std.proofs.lemmas.Bool.{leb-true}
 use Rattle.std.proofs.lemmas.List.{drop-drop}
@@ -7,7 +7,6 @@ use Rattle.std.proofs.lemmas.Option.{slice_get_within}
 use Rattle.ex_generations.specs.declared.file.TheConstants.{FILE_LIMIT}
 use Rattle.ex_store.specs.declared.limits.TheConstants.{MOMENT_LIMIT}
 use Rattle.ex_store.specs.declared.place.Place.{Place}
-use Rattle.ex_store.specs.declared.row.Row.{Row}
 use Rattle.ex_store.specs.Plan.{sources}
 use Rattle.ex_store.specs.Rows.{is_in, rows_in}
 use Rattle.ex_store.specs.Selection.{is_meant}
@@ -17,7 +16,7 @@ use Rattle.ex_store.proofs.Ascending.{all_filter}
 use Rattle.ex_store.proofs.Copies.{formed}
 use Rattle.ex_store.proofs.Elements.{all_at}
 use Rattle.ex_store.proofs.Selecting.{block_few, meant_in}
-use Rattle.ex_commands.specs.Files.{IsNext, IsNumber, files_from}
+use Rattle.ex_commands.specs.Files.{IsNumber, files_from}
 
 -- what passes a test is looked for among what passes a wider one
 filter_inside : {X : Type 0} (inside test : X → Bool) → ((x : X) → test x ≡ true → inside x ≡ true) → (xs : List X)

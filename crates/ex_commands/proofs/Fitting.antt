@@ -1,5 +1,5 @@
 -- What the blocks of the EXEC's grammar read, by what their fields are for.
-use Rattle.std.proofs.Common.{◌≡◌, ℕ, zero, suc, ◌+◌, ◌≤◌, ◌||◌, ◌&&◌, ◌==◌, Bool, true, false, not, nat_le, if◌then◌else◌, List, [], ◌∷◌, length, take, drop, Option, Some, None, slice_get, Result, Ok, Err, refl, ap, sym, subst, ◌∙◌, arith}
+use Rattle.std.proofs.Common.{◌≡◌, ℕ, zero, suc, ◌+◌, ◌≤◌, ◌||◌, ◌==◌, Bool, true, false, if◌then◌else◌, List, [], ◌∷◌, length, take, drop, Option, Some, None, slice_get, Ok, Err, refl, ap, sym, subst, ◌∙◌, arith}
 use Rattle.std.specs.List.{list_all, prefix_len}
 use Rattle.std.proofs.lemmas.List.{length-take}
 use Rattle.std.proofs.lemmas.List.Sums.{prefix_len-le-length}
@@ -11,22 +11,20 @@ use Rattle.cm_fields.specs.declared.code.Code.TheVariants.{NoField}
 use Rattle.cm_fields.specs.declared.trial.Try.TheVariants.{Accept}
 use Rattle.cm_fields.specs.declared.value.FileKind.TheVariants.{In, Out, Any}
 use Rattle.cm_fields.specs.declared.value.Value.{Value}
-use Rattle.cm_fields.specs.declared.value.Value.TheVariants as values
 use Rattle.cm_files.specs.declared.flags.Flags.{Flags}
 use Rattle.cm_files.specs.Catalogue.{Catalogue}
 use Rattle.cm_files.specs.Fields.{directory_of, file_of, has_colon_behind, is_file, is_plain_path, user_of}
-use Rattle.cm_files.specs.LogicalName.{begins_with_letter, is_logical_name}
-use Rattle.cm_hooks.specs.declared.answer.Answer.{Answer}
+use Rattle.cm_files.specs.LogicalName.{is_logical_name}
 use Rattle.cm_hooks.specs.declared.answer.Answer.TheVariants.{Yes, No}
 use Rattle.cm_hooks.specs.Field.{hook_of, judged}
 use Rattle.cm_blocks.specs.declared.field.Ending.{Ending}
 use Rattle.cm_blocks.specs.declared.function.Function.{Function}
-use Rattle.cm_blocks.specs.declared.function.Function.TheVariants.{Key, Switch, Noise, Number, Word, Quoted, Token, User, Directory, InFile, OutFile, AnyFile, Text, Comma, Confirm, Hook}
+use Rattle.cm_blocks.specs.declared.function.Function.TheVariants.{Token, User, Directory, InFile, OutFile, AnyFile, Hook}
 use Rattle.cm_blocks.specs.declared.function.Role.{Role}
 use Rattle.cm_blocks.specs.declared.function.Role.TheVariants as roles
 use Rattle.cm_blocks.specs.declared.node.Block.{Block}
 use Rattle.cm_blocks.specs.declared.node.Node.{Node}
-use Rattle.cm_blocks.specs.Parse.{Follow, IsParse}
+use Rattle.cm_blocks.specs.Parse.{IsParse}
 use Rattle.cm_blocks.specs.Setting.{Setting, setting}
 use Rattle.cm_blocks.specs.Taken.{Taken}
 use Rattle.cm_blocks.specs.Trial.{trial}
@@ -236,7 +234,7 @@ value_short c text field read =
     place_short field.defaulted tried.node.default text field tried.said tried.at tried.end tried.stands
     (value_size c tried.block.function tried.block.flags (drop tried.at tried.said) tried.at field.value tried.looked tried.end read.by_function tried.accepts)
 
-source_names : (function : Function) → reads_source function ≡ true → reads_places function ≡ true
+pub source_names : (function : Function) → reads_source function ≡ true → reads_places function ≡ true
 source_names (Token text) reads = refl
 source_names InFile reads = refl
 source_names function reads = cc
@@ -245,7 +243,7 @@ target_names : (function : Function) → reads_target function ≡ true → read
 target_names OutFile reads = refl
 target_names function reads = cc
 
-files_names : (function : Function) → reads_files function ≡ true → reads_places function ≡ true
+pub files_names : (function : Function) → reads_files function ≡ true → reads_places function ≡ true
 files_names InFile reads = refl
 files_names AnyFile reads = refl
 files_names User reads = refl

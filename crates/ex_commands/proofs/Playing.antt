@@ -1,5 +1,5 @@
 -- A plan that is done with a line for each pair of files, and one that is refused.
-use Rattle.std.proofs.Common.{◌≡◌, ◌∙◌, Bool, true, List, ℕ, Result, Ok, Err, refl, ap, subst}
+use Rattle.std.proofs.Common.{◌≡◌, ◌∙◌, true, List, ℕ, Result, Ok, Err, refl, ap, subst}
 use Rattle.std.specs.List.{flat_map}
 use Rattle.cm_fields.specs.declared.code.Code.{Code}
 use Rattle.cm_io.specs.declared.sink.Put.{Put}

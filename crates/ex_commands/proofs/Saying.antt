@@ -1,14 +1,17 @@
 -- What the trials of files, directories and users accept, and that its parts are no longer than a name.
-use Rattle.std.proofs.Common.{◌≡◌, ℕ, ◌+◌, ◌≤◌, ◌||◌, ◌&&◌, ◌==◌, Bool, true, false, not, nat_lt, if◌then◌else◌, List, length, take, Option, Some, None, option_map, is_some, is_none, Result, Ok, Err, refl, ap, sym, subst, ◌∙◌, arith}
+use Rattle.std.proofs.Common.{◌≡◌, ℕ, ◌+◌, ◌||◌, ◌&&◌, ◌==◌, Bool, true, false, not, nat_le, nat_lt, if◌then◌else◌, List, codes, length, take, Option, Some, None, option_map, is_some, is_none, Result, Ok, Err, refl, ap, sym, subst, ◌∙◌, arith}
+use Rattle.std.specs.Char.{is_ascii_digit}
+use Rattle.std.specs.Str.Parse.{digits_value}
 use Rattle.std.specs.List.{common_prefix_len, list_all, prefix_len}
 use Rattle.std.proofs.lemmas.Bool.{or_parts}
 use Rattle.std.proofs.lemmas.Bool.Decides.{nat_tests}
+use Rattle.cm_text.specs.Case.{equals}
 use Rattle.cm_fields.specs.declared.code.Code.{Code}
 use Rattle.cm_fields.specs.declared.code.Code.TheVariants.{NoDirectory, NotToken, NoUser, SpecShape, WildHere}
 use Rattle.cm_fields.specs.declared.trial.Try.TheVariants.{Accept, More, Refuse}
-use Rattle.cm_fields.specs.declared.trial.Try.{Try}
 use Rattle.cm_fields.specs.declared.value.FileKind.{FileKind}
 use Rattle.cm_fields.specs.declared.value.Gen.{Gen}
+use Rattle.cm_fields.specs.declared.value.Gen.TheVariants as generations
 use Rattle.cm_fields.specs.declared.value.Span.{Span}
 use Rattle.cm_fields.specs.declared.value.Spec.{Spec}
 use Rattle.cm_fields.specs.declared.value.Value.{Value}
@@ -18,10 +21,11 @@ use Rattle.cm_fields.specs.Try.{by_run, said}
 use Rattle.cm_files.specs.declared.flags.Flags.{Flags}
 use Rattle.cm_files.specs.declared.spec.SpecFault.{SpecFault}
 use Rattle.cm_files.specs.declared.spec.SpecFault.TheVariants.{GenRange, NameLong}
+use Rattle.cm_files.specs.declared.generation.TheConstants.{GENERATION_LIMIT}
 use Rattle.cm_files.specs.Catalogue.{Catalogue}
 use Rattle.cm_files.specs.Fields.{directory_of, directory_read, file_of, file_read, file_in, is_plain_path, moved, moved_spec, new_directory, old_directory, user_of, user_or_refused, user_named}
 use Rattle.cm_files.specs.Resolve.{by_device, by_directory, has_wild, refuse, resolve, then_in}
-use Rattle.cm_files.specs.Spec.{by_parts, generation_of, is_long, part_or_nothing, parts_of, read_spec, with_generation}
+use Rattle.cm_files.specs.Spec.{by_parts, generation_of, is_long, numbered, part_or_nothing, parts_of, read_spec}
 use Rattle.ex_commands.specs.Said.{IsSaid, IsShort}
 
 -- an accepted run is decided by its bytes, and ends behind them
@@ -51,11 +55,52 @@ run_of is_part decide rest at value looked end is = by (prefix_len is_part rest 
     by true test is = cc
     by false test is = decided test (decide (take (prefix_len is_part rest) rest)) refl is
 
--- the parts of a specification that is read are no longer than names
+-- a generation that a number means is one that may be
+abbrev pub fits_number : Gen → Bool
+fits_number (generations.Number number) = nat_lt 0 number && nat_le number GENERATION_LIMIT
+fits_number generation = true
+
+number_fits : (value : ℕ) (generation : Gen) → numbered value ≡ Some generation → fits_number generation ≡ true
+number_fits value generation is = by (value == 0) refl (nat_le value GENERATION_LIMIT) refl is
+  where
+    by : (none : Bool) → (value == 0) ≡ none → (few : Bool) → nat_le value GENERATION_LIMIT ≡ few
+        → (if none then Some generations.Highest else (if few then Some (generations.Number value) else None)) ≡ Some generation
+        → fits_number generation ≡ true
+    by true none few fits is = let same : generations.Highest ≡ generation = cc in subst (λ (it : Gen). fits_number it ≡ true) same refl
+    by false none true fits is =
+        let same : generations.Number value ≡ generation = cc in
+        let some : nat_lt 0 value ≡ true = grind (arith, nat_tests) in
+        subst (λ (it : Gen). fits_number it ≡ true) same (rw (some, fits) refl)
+    by false none false fits is = cc
+
+generation_fits : (text : List ℕ) (generation : Gen) → generation_of text ≡ Some generation → fits_number generation ≡ true
+unfolding generation_of
+generation_fits text generation is =
+    by (length text == 0) (equals text (codes "*") || equals text (codes "-3")) (equals text (codes "-1")) (equals text (codes "-2"))
+    (list_all is_ascii_digit text) is
+  where
+    plain : (it : Gen) → fits_number it ≡ true → Some it ≡ Some generation → fits_number generation ≡ true
+    plain it fits is = let same : it ≡ generation = cc in subst (λ (it : Gen). fits_number it ≡ true) same fits
+
+    by : (missing all next lowest digits : Bool)
+        → (if missing then Some generations.Missing
+        else (if all then Some generations.All
+        else (if next then Some generations.Next
+        else (if lowest then Some generations.Lowest
+        else (if digits then numbered (digits_value 10 text) else None))))) ≡ Some generation → fits_number generation ≡ true
+    by true all next lowest digits is = plain generations.Missing refl is
+    by false true next lowest digits is = plain generations.All refl is
+    by false false true lowest digits is = plain generations.Next refl is
+    by false false false true digits is = plain generations.Lowest refl is
+    by false false false false true is = number_fits (digits_value 10 text) generation is
+    by false false false false false is = cc
+
+-- the parts of a specification that is read are no longer than names, and its generation is one that may be
 pub record HasShortParts (spec : Spec) : Type 0 where
   pub directory : is_long spec.directory ≡ false
   pub name : is_long spec.name ≡ false
   pub kind : is_long spec.kind ≡ false
+  pub generation : fits_number spec.generation ≡ true
 
 abbrev made : Option Span → Option Span → Option Span → Option Span → Option Gen → Result Spec SpecFault
 made device directory name kind None = Err GenRange
@@ -63,21 +108,23 @@ made device directory name kind (Some generation) =
     Ok (record { device = device; directory = directory; name = name; kind = kind; generation = generation })
 
 made_short : (device directory name kind : Option Span) (generation : Option Gen) (spec : Spec) → is_long directory ≡ false
-    → is_long name ≡ false → is_long kind ≡ false → made device directory name kind generation ≡ Ok spec → HasShortParts spec
-made_short device directory name kind None spec first second third is = cc
-made_short device directory name kind (Some generation) spec first second third is =
+    → is_long name ≡ false → is_long kind ≡ false → ((it : Gen) → generation ≡ Some it → fits_number it ≡ true)
+    → made device directory name kind generation ≡ Ok spec → HasShortParts spec
+made_short device directory name kind None spec first second third fits is = cc
+made_short device directory name kind (Some generation) spec first second third fits is =
     let same : ◌≡◌ {A = Spec} (record { device = device; directory = directory; name = name; kind = kind; generation = generation }) spec = cc in
-    subst HasShortParts same (record { directory = first; name = second; kind = third })
+    subst HasShortParts same (record { directory = first; name = second; kind = third; generation = fits generation refl })
 
 by_long : (device directory name kind : Option Span) (generation : Option Gen) (spec : Spec) (long : Bool)
+    → ((it : Gen) → generation ≡ Some it → fits_number it ≡ true)
     → (is_long device || is_long directory || is_long name || is_long kind) ≡ long
     → (if long then Err NameLong else made device directory name kind generation) ≡ Ok spec → HasShortParts spec
-by_long device directory name kind generation spec true long is = cc
-by_long device directory name kind generation spec false long is =
+by_long device directory name kind generation spec true fits long is = cc
+by_long device directory name kind generation spec false fits long is =
     let all = or_parts (is_long device || is_long directory || is_long name) (is_long kind) long in
     let three = or_parts (is_long device || is_long directory) (is_long name) all.0 in
     let two = or_parts (is_long device) (is_long directory) three.0 in
-    made_short device directory name kind generation spec two.1 three.1 all.1 is
+    made_short device directory name kind generation spec two.1 three.1 all.1 fits is
 
 never_read : (atom : List ℕ) (spec : Spec) → by_parts atom None ≡ Ok spec → HasShortParts spec
 never_read atom spec is = cc
@@ -88,7 +135,8 @@ parts_are_short atom spec =
       | None ↦ never_read atom spec
       | Some parts ↦ by_long parts.device parts.directory parts.name parts.kind
           (generation_of (part_or_nothing atom parts.generation)) spec
-          (is_long parts.device || is_long parts.directory || is_long parts.name || is_long parts.kind) refl
+          (is_long parts.device || is_long parts.directory || is_long parts.name || is_long parts.kind)
+          (generation_fits (part_or_nothing atom parts.generation)) refl
     ]
 
 -- a part stays as short where it is moved
@@ -129,11 +177,11 @@ file_said c kind flags at run value is =
     subst IsSaid (sym of.value_is) (short_moved at of.spec.name short.name, short_moved at of.spec.kind short.kind)
 
 -- what a run that is a directory says: that of a number, or a new one by its name
-abbrev pub SaysDirectory : Catalogue → ℕ → List ℕ → Spec → ℕ → Value → Type 0
-SaysDirectory c at run spec meant (values.Directory directory) = by_directory c run spec.directory meant ≡ Ok directory
-SaysDirectory c at run spec meant (values.NewDirectory place) =
-    (part : Span) × (spec.directory ≡ Some part) × (place ≡ moved at part)
-SaysDirectory c at run spec meant value = ⊥
+abbrev pub SaysDirectory : Bool → Catalogue → ℕ → List ℕ → Spec → ℕ → Value → Type 0
+SaysDirectory new c at run spec meant (values.Directory directory) = by_directory c run spec.directory meant ≡ Ok directory
+SaysDirectory new c at run spec meant (values.NewDirectory place) =
+    (part : Span) × (spec.directory ≡ Some part) × (place ≡ moved at part) × (new ≡ true)
+SaysDirectory new c at run spec meant value = ⊥
 
 pub record IsDirectoryOf (new : Bool) (c : Catalogue) (at : ℕ) (run : List ℕ) (value : Value) : Type 0 where
   pub spec : Spec
@@ -141,7 +189,7 @@ pub record IsDirectoryOf (new : Bool) (c : Catalogue) (at : ℕ) (run : List ℕ
   pub read : read_spec run ≡ Ok spec
   pub wild : has_wild run spec.directory ≡ false
   pub device : by_device c run spec.device ≡ Ok meant
-  pub says : SaysDirectory c at run spec meant value
+  pub says : SaysDirectory new c at run spec meant value
 
 -- what is not refused
 pub passed : {X : Type 0} (test : Bool) (code : Code) (next : Result X Code) (it : X) → refuse test code next ≡ Ok it
@@ -154,22 +202,22 @@ pub then_parts : {X : Type 0} (first : Result ℕ Code) (next : ℕ → Result X
 then_parts (Ok directory) next it is = (directory, refl, is)
 then_parts (Err code) next it is = cc
 
-new_says : (c : Catalogue) (at : ℕ) (run : List ℕ) (spec : Spec) (meant : ℕ) (value : Value)
-    → new_directory at spec.directory ≡ Ok value → SaysDirectory c at run spec meant value
-new_says c at run spec meant value is = by spec.directory refl is
+new_says : (new : Bool) → new ≡ true → (c : Catalogue) (at : ℕ) (run : List ℕ) (spec : Spec) (meant : ℕ) (value : Value)
+    → new_directory at spec.directory ≡ Ok value → SaysDirectory new c at run spec meant value
+new_says new is_new c at run spec meant value is = by spec.directory refl is
   where
-    by : (place : Option Span) → spec.directory ≡ place → new_directory at place ≡ Ok value → SaysDirectory c at run spec meant value
+    by : (place : Option Span) → spec.directory ≡ place → new_directory at place ≡ Ok value → SaysDirectory new c at run spec meant value
     by None place is = cc
     by (Some part) place is =
         let same : values.NewDirectory (moved at part) ≡ value = cc in
-        subst (SaysDirectory c at run spec meant) same (part, place, refl)
+        subst (SaysDirectory new c at run spec meant) same (part, place, refl, is_new)
 
-old_says : (c : Catalogue) (at : ℕ) (run : List ℕ) (spec : Spec) (meant : ℕ) (value : Value)
-    → then_in (by_directory c run spec.directory meant) old_directory ≡ Ok value → SaysDirectory c at run spec meant value
-old_says c at run spec meant value is =
+old_says : (new : Bool) (c : Catalogue) (at : ℕ) (run : List ℕ) (spec : Spec) (meant : ℕ) (value : Value)
+    → then_in (by_directory c run spec.directory meant) old_directory ≡ Ok value → SaysDirectory new c at run spec meant value
+old_says new c at run spec meant value is =
     let parts = then_parts (by_directory c run spec.directory meant) old_directory value is in
     let same : values.Directory parts.0 ≡ value = (let last = parts.2 in cc) in
-    subst (SaysDirectory c at run spec meant) same parts.1
+    subst (SaysDirectory new c at run spec meant) same parts.1
 
 pub directory_says : (new : Bool) (c : Catalogue) (at : ℕ) (run : List ℕ) (value : Value)
     → directory_of new c at run ≡ Ok value → IsDirectoryOf new c at run value
@@ -179,11 +227,11 @@ directory_says new c at run value is =
     (passed (not new && nat_lt 0 (length run) && list_all is_plain_path run) NoDirectory
     (directory_read new c at run (read_spec run)) value is).1
   where
-    chosen : (spec : Spec) (meant : ℕ) (test : Bool)
+    chosen : (spec : Spec) (meant : ℕ) (test : Bool) → new ≡ test
         → (if test then new_directory at spec.directory else then_in (by_directory c run spec.directory meant) old_directory) ≡ Ok value
-        → SaysDirectory c at run spec meant value
-    chosen spec meant true is = new_says c at run spec meant value is
-    chosen spec meant false is = old_says c at run spec meant value is
+        → SaysDirectory new c at run spec meant value
+    chosen spec meant true is_new is = new_says new is_new c at run spec meant value is
+    chosen spec meant false is_old is = old_says new c at run spec meant value is
 
     by : (read : Result Spec SpecFault) → read_spec run ≡ read → directory_read new c at run read ≡ Ok value
         → IsDirectoryOf new c at run value
@@ -198,7 +246,7 @@ directory_says new c at run value is =
           read = read;
           wild = second.0;
           device = third.1;
-          says = chosen spec third.0 new third.2;
+          says = chosen spec third.0 new refl third.2;
         }
 
 pub directory_said : (new : Bool) (c : Catalogue) (at : ℕ) (run : List ℕ) (value : Value)
@@ -214,7 +262,7 @@ directory_said new c at run value is =
         subst (λ (it : Span). IsShort (Some it)) (sym same)
         (short_moved at (Some part) (ap is_long (sym is) ∙ short))
 
-    by : (spec : Spec) (meant : ℕ) → is_long spec.directory ≡ false → (value : Value) → SaysDirectory c at run spec meant value
+    by : (spec : Spec) (meant : ℕ) → is_long spec.directory ≡ false → (value : Value) → SaysDirectory new c at run spec meant value
         → IsSaid value
     by spec meant short (values.NewDirectory place) says = moved_short says.0 place spec.directory short says.1 says.2
     by spec meant short (values.Directory directory) says = tt

@@ -1,6 +1,6 @@
 -- The block whose trial took a field, and the text that it was tried on.
-use Rattle.std.proofs.Common.{◌≡◌, ℕ, zero, suc, ◌+◌, max, Bool, true, false, if◌then◌else◌, List, [], ◌∷◌, length, drop, Option, Some, None, slice_get, refl, ap, sym, subst, ◌∙◌, arith}
-use Rattle.std.specs.List.{AllByRecursion, find}
+use Rattle.std.proofs.Common.{◌≡◌, ℕ, suc, ◌+◌, max, Bool, true, false, if◌then◌else◌, List, [], ◌∷◌, drop, Option, Some, None, slice_get, refl, ap, sym, subst, ◌∙◌, arith}
+use Rattle.std.specs.List.{find}
 use Rattle.cm_text.specs.Text.{finished}
 use Rattle.cm_fields.specs.declared.code.Code.{Code}
 use Rattle.cm_fields.specs.declared.code.Code.TheVariants.{NotConfirmed}
@@ -10,16 +10,15 @@ use Rattle.cm_fields.specs.declared.value.Value.{Value}
 use Rattle.cm_fields.specs.Skip.{skip}
 use Rattle.cm_blocks.specs.declared.chain.Walk.{Walk}
 use Rattle.cm_blocks.specs.declared.chain.Walk.TheVariants.{Takes, Wants, Fails}
-use Rattle.cm_blocks.specs.declared.field.Chain.{Chain}
 use Rattle.cm_blocks.specs.declared.field.Chain.TheVariants as chain
 use Rattle.cm_blocks.specs.declared.function.Role.{Role}
 use Rattle.cm_blocks.specs.declared.node.Block.{Block}
 use Rattle.cm_blocks.specs.declared.node.Node.{Node}
-use Rattle.cm_blocks.specs.Chain.{at_node, by_default, chain_at, code_of, default_place, default_rest, defaulted, is_confirm, is_line_end, on_default, on_text, or_later, past_skip, typed, walk}
+use Rattle.cm_blocks.specs.Chain.{at_node, by_default, chain_at, default_place, default_rest, defaulted, is_confirm, is_line_end, on_default, on_text, past_skip, typed, walk}
 use Rattle.cm_blocks.specs.Parse.{Follow}
 use Rattle.cm_blocks.specs.Setting.{Setting}
 use Rattle.cm_blocks.specs.Taken.{Taken}
-use Rattle.cm_blocks.specs.Trial.{looked_of, next_of, trial}
+use Rattle.cm_blocks.specs.Trial.{next_of, trial}
 use Rattle.cm_blocks.proofs.Keeping.{walk_step}
 
 -- where a field stands whose trial was of a text from a place on: in the line, or in the default of its node, which
@@ -172,15 +171,20 @@ default_field number start (Takes block role next value looked end) field is =
 default_field number start (Wants block) field is = cc
 default_field number start (Fails code) field is = cc
 
+-- a field is one of the node that is sought
+record IsTriedAt (s : Setting) (text : List ℕ) (number : ℕ) (field : Taken) : Type 0 where
+  tried : IsTried s text field
+  number_is : field.node ≡ number
+
 -- what a walk over a text took is tried there
 tried : (s : Setting) (text : List ℕ) (number : ℕ) (node : Node) (said : List ℕ) (at start : ℕ) (defaulted : Bool) (field : Taken)
     → slice_get s.graph.nodes number ≡ Some node
     → (it : IsField number defaulted (walk s (drop at said) at 0 0 NotConfirmed node.chain) start field)
-    → StandsIn defaulted node.default text field said at it.end → IsTried s text field
+    → StandsIn defaulted node.default text field said at it.end → IsTriedAt s text number field
 tried s text number node said at start defaulted field node_is it stands =
     let found = walk_found s (drop at said) at 0 0 NotConfirmed node.chain it.taken it.role it.next it.value it.looked it.end it.is in
     let place : field.block ≡ found.place = (let a = found.number_is in let b = it.block_is in omega arith) in
-    record {
+    let trial : IsTried s text field = record {
       node = node;
       block = found.block;
       said = said;
@@ -193,18 +197,19 @@ tried s text number node said at start defaulted field node_is it stands =
       next = it.next_is ∙ found.next_is ∙ ap (next_of s.graph found.block) (sym it.value_is);
       accepts = found.accepts ∙ ap (λ (value : Value). Accept value found.looked it.end) (sym it.value_is);
       stands = subst (λ (test : Bool). StandsIn test node.default text field said at it.end) (sym it.defaulted_is) stands;
-    }
+    } in
+    record { tried = trial; number_is = it.node_is }
 
 text_tried : (s : Setting) (number : ℕ) (node : Node) (text : List ℕ) (start : ℕ) (field : Taken)
     → slice_get s.graph.nodes number ≡ Some node → (on_text s number node (drop start text) start).chain ≡ chain.Field field
-    → IsTried s text field
+    → IsTriedAt s text number field
 text_tried s number node text start field node_is is =
     let it = typed_field number start (walk s (drop start text) start 0 0 NotConfirmed node.chain) field is in
     tried s text number node text start start false field node_is it.0 (refl, sym it.0.start_is, sym it.1)
 
 default_tried : (s : Setting) (number : ℕ) (node : Node) (text word : List ℕ) (start : ℕ) (field : Taken)
     → slice_get s.graph.nodes number ≡ Some node → node.default ≡ Some word
-    → (on_default s number node start word).chain ≡ chain.Field field → IsTried s text field
+    → (on_default s number node start word).chain ≡ chain.Field field → IsTriedAt s text number field
 default_tried s number node text word start field node_is default_is is =
     let it = default_field number start
     (walk s (default_rest node.raw word) (default_place node.raw word) 0 0 NotConfirmed node.chain) field is in
@@ -213,33 +218,41 @@ default_tried s number node text word start field node_is default_is is =
 
 choice_tried : (s : Setting) (number : ℕ) (node : Node) (text : List ℕ) (start : ℕ) (default : Option (List ℕ)) (field : Taken)
     → slice_get s.graph.nodes number ≡ Some node → node.default ≡ default
-    → (by_default s number node (drop start text) start default).chain ≡ chain.Field field → IsTried s text field
+    → (by_default s number node (drop start text) start default).chain ≡ chain.Field field → IsTriedAt s text number field
 choice_tried s number node text start None field node_is default_is is = text_tried s number node text start field node_is is
 choice_tried s number node text start (Some word) field node_is default_is is = by (is_line_end (drop start text)) is
   where
     by : (test : Bool)
         → (if test then on_default s number node start word else on_text s number node (drop start text) start).chain ≡ chain.Field field
-        → IsTried s text field
+        → IsTriedAt s text number field
     by true is = default_tried s number node text word start field node_is default_is is
     by false is = text_tried s number node text start field node_is is
 
 skip_tried : (s : Setting) (number : ℕ) (node : Node) (text : List ℕ) (at : ℕ) (found : Option ℕ) (field : Taken)
     → slice_get s.graph.nodes number ≡ Some node → (past_skip s number node text at found).chain ≡ chain.Field field
-    → IsTried s text field
+    → IsTriedAt s text number field
 skip_tried s number node text at None field node_is is = cc
 skip_tried s number node text at (Some start) field node_is is =
     choice_tried s number node text start node.default field node_is refl is
 
 -- a field that a chain takes
-pub chain_tried : (s : Setting) (number : ℕ) (text : List ℕ) (at : ℕ) (field : Taken)
-    → (chain_at s number text at).chain ≡ chain.Field field → IsTried s text field
+chain_tried_at : (s : Setting) (number : ℕ) (text : List ℕ) (at : ℕ) (field : Taken)
+    → (chain_at s number text at).chain ≡ chain.Field field → IsTriedAt s text number field
 unfolding chain_at
-chain_tried s number text at field is = by (slice_get s.graph.nodes number) refl is
+chain_tried_at s number text at field is = by (slice_get s.graph.nodes number) refl is
   where
     by : (found : Option Node) → slice_get s.graph.nodes number ≡ found
-        → (at_node s number text at found).chain ≡ chain.Field field → IsTried s text field
+        → (at_node s number text at found).chain ≡ chain.Field field → IsTriedAt s text number field
     by None found is = cc
     by (Some node) found is = skip_tried s number node text at (skip node.raw text at) field found is
+
+pub chain_tried : (s : Setting) (number : ℕ) (text : List ℕ) (at : ℕ) (field : Taken)
+    → (chain_at s number text at).chain ≡ chain.Field field → IsTried s text field
+chain_tried s number text at field is = (chain_tried_at s number text at field is).tried
+
+pub chain_number : (s : Setting) (number : ℕ) (text : List ℕ) (at : ℕ) (field : Taken)
+    → (chain_at s number text at).chain ≡ chain.Field field → field.node ≡ number
+chain_number s number text at field is = (chain_tried_at s number text at field is).number_is
 
 -- the first field that passes a test
 pub first_tried : (s : Setting) (text : List ℕ) (node at : ℕ) (test : Taken → Bool) (fields : List Taken) (field : Taken)

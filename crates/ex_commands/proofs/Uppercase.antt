@@ -1,13 +1,12 @@
 -- Parts of a text in upper case, and the texts that they are parts of.
-use Rattle.std.proofs.Common.{◌≡◌, ℕ, zero, suc, ◌+◌, ◌-◌, ◌<◌, ◌≤◌, ◌&&◌, min, Bool, true, false, cond, List, [], ◌∷◌, ◌++◌, length, take, drop, map, Option, Some, None, slice_get, get_or, refl, ap, sym, subst, ◌∙◌, arith, length-drop}
+use Rattle.std.proofs.Common.{◌≡◌, ℕ, zero, suc, ◌+◌, ◌-◌, ◌<◌, ◌≤◌, true, List, [], ◌∷◌, ◌++◌, length, take, drop, map, Option, Some, None, slice_get, get_or, ap, sym, ◌∙◌, arith}
 use Rattle.std.specs.Char.{to_ascii_uppercase}
-use Rattle.std.specs.List.{list_all, slice_index}
+use Rattle.std.specs.List.{list_all}
 use Rattle.std.specs.Option.{option_map_or}
 use Rattle.std.specs.Str.{IsAscii}
 use Rattle.std.proofs.lemmas.Bool.{and_parts}
 use Rattle.std.proofs.lemmas.Bool.Decides.{nat_tests}
-use Rattle.std.proofs.lemmas.List.{drop_all, length-take, take_all}
-use Rattle.std.proofs.lemmas.Str.{IsAscii-drop, IsAscii-take}
+use Rattle.std.proofs.lemmas.List.{length-take, take_all}
 use Rattle.cm_fields.specs.declared.value.Span.{Span}
 use Rattle.cm_files.specs.Spec.{part}
 use Rattle.cm_blocks.specs.declared.node.Node.{Node}
@@ -15,31 +14,7 @@ use Rattle.cm_blocks.specs.Fault.{grammar_fault, is_shown, is_shown_byte}
 use Rattle.cm_blocks.specs.Grammar.{Graph}
 use Rattle.cm_blocks.proofs.Wells.{default_shown}
 
--- a part that is cut at the ends of the text
-pub part_cut : (text : List ℕ) (place : Span)
-    → take (min (place.end - place.start) (length (drop (min place.start (length text)) text))) (drop (min place.start (length text)) text)
-    ≡ part text place
-part_cut text place = take_min (place.end - place.start) _ ∙ ap (take (place.end - place.start)) (drop_min place.start text)
-  where
-    take_min : (size : ℕ) (rest : List ℕ) → take (min size (length rest)) rest ≡ take size rest
-    take_min zero rest = let none : min 0 (length rest) ≡ 0 = omega arith in ap (λ (n : ℕ). take n rest) none
-    take_min (suc size) [] = let none : min (suc size) 0 ≡ 0 = omega arith in ap (λ (n : ℕ). take {A = ℕ} n []) none
-    take_min (suc size) (byte ∷ rest) =
-        let one : min (suc size) (length (byte ∷ rest)) ≡ suc (min size (length rest)) = omega arith in
-        ap (λ (n : ℕ). take n (byte ∷ rest)) one
-        ∙ ap (λ (text : List ℕ). byte ∷ text) (take_min size rest)
-
-    drop_min : (size : ℕ) (rest : List ℕ) → drop (min size (length rest)) rest ≡ drop size rest
-    drop_min zero rest = let none : min 0 (length rest) ≡ 0 = omega arith in ap (λ (n : ℕ). drop n rest) none
-    drop_min (suc size) [] = let none : min (suc size) 0 ≡ 0 = omega arith in ap (λ (n : ℕ). drop {A = ℕ} n []) none
-    drop_min (suc size) (byte ∷ rest) =
-        let one : min (suc size) (length (byte ∷ rest)) ≡ suc (min size (length rest)) = omega arith in
-        ap (λ (n : ℕ). drop n (byte ∷ rest)) one
-        ∙ drop_min size rest
-
-pub part_is_ascii : (text : List ℕ) (place : Span) → IsAscii text → IsAscii (part text place)
-part_is_ascii text place is = IsAscii-take (drop place.start text) (place.end - place.start) (IsAscii-drop text place.start is)
-
+-- a part has no more bytes than there are between its places
 pub part_within : (text : List ℕ) (place : Span) → length (part text place) ≤ place.end - place.start
 part_within text place = let size = length-take (place.end - place.start) (drop place.start text) in omega arith
 
@@ -73,9 +48,3 @@ upper_more (first ∷ more) (suc i) byte below is =
 
 pub upper_all : (text : List ℕ) (i : ℕ) → length text ≤ i → map to_ascii_uppercase (take i text) ≡ map to_ascii_uppercase text
 upper_all text i all = ap (map to_ascii_uppercase) (take_all i text all)
-
-pub upper_size : (text : List ℕ) (i : ℕ) → length (map to_ascii_uppercase (take i text)) ≤ length text
-upper_size [] zero = omega arith
-upper_size [] (suc i) = omega arith
-upper_size (byte ∷ text) zero = omega arith
-upper_size (byte ∷ text) (suc i) = let rest = upper_size text i in omega arith

@@ -1,5 +1,5 @@
 -- What a command does: what it shows, the state that it leaves, and what it answers.
-use Rattle.std.specs.Prelude.{ℕ, ◌==◌, Bool, true, false, List, [], ◌∷◌, unwrap_or, if◌then◌else◌, Option, None, Result, Ok, Err}
+use Rattle.std.specs.Prelude.{ℕ, ◌==◌, Bool, true, false, List, [], ◌∷◌, unwrap_or, if◌then◌else◌, None, Result, Ok, Err}
 use Rattle.std.specs.List.{flat_map}
 use Rattle.cm_fields.specs.declared.code.Code.{Code}
 use Rattle.cm_fields.specs.declared.code.Code.TheVariants.{NameNeeded, NoDefinition, NoMatch}

@@ -1,5 +1,5 @@
 -- What a confirmed line commands.
-use Rattle.std.specs.Prelude.{ℕ, ◌==◌, Bool, true, false, List, [], if◌then◌else◌, map, take, drop, slice_get, unwrap_or, Option, Some, None, option_map, option_and_then}
+use Rattle.std.specs.Prelude.{ℕ, ◌==◌, Bool, true, false, List, [], if◌then◌else◌, map, slice_get, unwrap_or, Option, Some, None, option_map, option_and_then}
 use Rattle.std.specs.Char.{to_ascii_uppercase}
 use Rattle.std.specs.Option.{option_map_or}
 use Rattle.cm_fields.specs.declared.value.Span.{Span}

@@ -1,5 +1,5 @@
 -- What commands show, line by line.
-use Rattle.std.specs.Prelude.{ℕ, ◌/◌, pos, List, ◌++◌, length, codes}
+use Rattle.std.specs.Prelude.{ℕ, ◌/◌, pos, List, ◌++◌, length}
 use Rattle.std.specs.Fmt.{decimal}
 use Rattle.std.specs.List.{flat_map}
 use Rattle.cm_text.specs.Shown.{end_of_line}
@@ -33,15 +33,15 @@ directory_text directory = left_angle ++ directory ++ right_angle
 unfoldable pub full_text : FullName → List ℕ
 full_text full = directory_text full.key.directory ++ file_text full
 
--- what stands behind what is done
+-- what stands behind what is done, ` [OK]`
 unfoldable pub done_text : List ℕ
 done_text = done_mark ++ end_of_line
 
--- what a file is done with stands behind this
+-- a file that is taken, and that another is made of it
 unfoldable pub source_text : FullName → List ℕ
 source_text source = space ++ full_text source ++ arrow
 
--- from a file to another, or from the terminal to a file
+-- from a file to another, ` SOURCE => TARGET [OK]`, or from the terminal to a file, ` TTY: => TARGET [OK]`
 unfoldable pub pair_line : NamePair → List ℕ
 pair_line pair = source_text pair.source ++ full_text pair.target ++ done_text
 
@@ -53,7 +53,7 @@ abbrev pub origin_line : Origin → NamePair → List ℕ
 origin_line Files pair = pair_line pair
 origin_line Terminal pair = typed_line pair
 
--- a file that is marked, or whose mark is taken away
+-- a file that is marked, or whose mark is taken away, ` FILE [OK]`
 unfoldable pub marked_line : Row → List ℕ
 marked_line row = space ++ full_text (full_of row) ++ done_text
 
@@ -61,18 +61,19 @@ marked_line row = space ++ full_text (full_of row) ++ done_text
 abbrev pub day_of : ℕ → List ℕ
 day_of moment = day_text (pos (moment / 86400))
 
--- how many pages and bytes a file has
+-- how many pages and how many bytes a file has
 unfoldable pub sizes_text : File → List ℕ
 sizes_text file = decimal (page_count (length file.bytes)) ++ space ++ decimal (length file.bytes)
 
--- and the day of its moment
+-- how many pages and bytes a file has, and the day of its moment
 unfoldable pub measures_text : File → List ℕ
 measures_text file = sizes_text file ++ space ++ day_of file.moment
 
--- a file in a listing: its name, and the rest of its line
+-- the beginning of a file's line in a listing
 unfoldable pub listed_name : Row → List ℕ
 listed_name row = space ++ file_text (full_of row) ++ space
 
+-- a file in a listing, ` NAME.TYPE.GENERATION PAGES BYTES DAY`
 unfoldable pub listed_line : Row → List ℕ
 listed_line row = listed_name row ++ measures_text row.file ++ end_of_line
 
@@ -81,7 +82,7 @@ abbrev pub line_of : Lines → Row → List ℕ
 line_of Marked row = marked_line row
 line_of Listed row = listed_line row
 
--- the head of a listing, and how many files stand in it
+-- the head of a listing, `   PS:<DIRECTORY>`, and how many files stand in it, ` Total of COUNT files`
 unfoldable pub heading : List ℕ → List ℕ
 heading directory = structure ++ directory_text directory ++ end_of_line
 
@@ -92,10 +93,11 @@ total_line count = total_of ++ decimal count ++ files_counted ++ end_of_line
 unfoldable pub listing : List ℕ → List Row → List ℕ
 listing directory rows = heading directory ++ flat_map (line_of Listed) rows ++ total_line (length rows)
 
--- in which directory pages were freed, and how many
+-- in which directory pages were freed
 unfoldable pub freed_in : List ℕ → List ℕ
 freed_in directory = space ++ directory_text directory ++ pages_freed
 
+-- the pages that were freed in a directory, ` <DIRECTORY> [Pages freed: COUNT]`
 unfoldable pub freed_line : List ℕ → ℕ → List ℕ
 freed_line directory pages = freed_in directory ++ decimal pages ++ right_bracket ++ end_of_line
 

@@ -3,7 +3,6 @@
 
 ghost use Rattle.std.specs.Prelude.{ℕ, Bool, false, true, ◌≡◌, ◌≤◌, unwrap_or};
 ghost use Rattle.std.specs.Option.{option_copied};
-ghost use Rattle.cm_io.specs.Fault.{PutCause};
 ghost use Rattle.ex_store.specs.Plan.{IsSource, sources};
 ghost use Rattle.ex_commands.specs.declared.command.Command.TheVariants as commands;
 ghost use Rattle.ex_store.specs.State.{State, has_directory};
@@ -16,7 +15,6 @@ use crate::plans::{build, copy};
 use crate::replies::{put_farewell, put_freed, put_refusal, put_told};
 use crate::{Acted, Command};
 use cm_fields::Code;
-use cm_files::Names;
 use cm_io::{Put, Sink};
 use cm_text::Name;
 use ex_store::{Place, Store};

@@ -13,7 +13,6 @@ mod names;
 mod pairs;
 mod place;
 mod plans;
-mod probe;
 mod replies;
 #[cfg(test)]
 mod tests;

@@ -38,6 +38,7 @@ fn next_file(store: &Store, files: &Place, from: u32) -> Option<u32>
     requires { IsSource files.now store.now.state }
     ensures { IsNumber files.now store.now.state from result }
 {
+    // A use of the parts, for the proof: what a store holds is well formed.
     let _ = store.parts();
     store.select(files, files.flags.deleted, from)
 }

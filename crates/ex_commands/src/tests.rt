@@ -2,5 +2,6 @@
 
 mod acts;
 mod line;
+mod replies;
 mod stored;
 mod typed;

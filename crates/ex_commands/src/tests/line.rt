@@ -7,19 +7,19 @@ ghost use Rattle.cm_hooks.specs.Ties.{Ties, count};
 ghost use Rattle.cm_state.specs.Held.{IsReady, text_of};
 ghost use Rattle.ex_grammar.specs.ExecRules.{exec_meanings, rule_completion, rule_help, rule_verdict};
 ghost use Rattle.ex_grammar.specs.Graph.{exec_graph};
-ghost use Rattle.ex_store.specs.State.{catalogue_of};
+ghost use Rattle.ex_store.specs.State.{catalogue_of, has_directory};
 
 use crate::Command;
 use cm_blocks::{Ending, Grammar, Steps};
 use cm_fields::Gen;
 use cm_files::Flags;
 use cm_hooks::{Answer, Hook, Hooks, Tail};
-use cm_io::MemSink;
+use cm_io::{MemSink, NoMemory};
 use cm_state::Session;
 use cm_text::Name;
 use ex_generations::Bytes;
 use ex_grammar::{ExecRules, grammar, rule_completion, rule_help, rule_verdict};
-use ex_store::{Place, Plan, Store};
+use ex_store::{Directory, Place, Plan, Store};
 use std::alloc::{AllocError, Global};
 use std::marker::Brand;
 use std::process::Abort;
@@ -66,7 +66,7 @@ fn file() -> Place {
 
 // A store with that file, which may be marked as deleted.
 #[tactic(auto, unfolding(cm_text::specs::Bytes::is_name, cm_text::specs::Bytes::is_word))]
-fn store(alloc: Global) -> Result<Store, Fail> {
+fn store(rt: &impl Abort, alloc: Global) -> Result<Store, NoMemory> {
     let mut store = Store::new(alloc)?;
     let plan = Plan::Write {
         to: Place {
@@ -78,9 +78,27 @@ fn store(alloc: Global) -> Result<Store, Fail> {
         },
         bytes: Bytes::new(Vec::new(alloc)),
     };
-    let ready = store.prepare(plan, 1).ok().ok_or("the first file")?;
-    store.apply(ready);
+    match store.prepare(plan, 1) {
+        Ok(ready) => store.apply(ready),
+        Err(_) => panic!(rt; "the file is refused"),
+    }
     Ok(store)
+}
+
+fn has_directory(directories: &[Directory], name: &[u8]) -> bool
+    ensures { result ≡ has_directory name.now directories.now }
+{
+    directories
+        .iter()
+        .any(|directory| directory.name.as_bytes() == name)
+}
+
+// Marks that file as deleted.
+fn delete(rt: &impl Abort, store: &mut Store) {
+    let files = file();
+    assert!(rt; has_directory(store.parts().directories, files.directory.as_bytes()));
+    let marked = store.mark(&files);
+    assert_eq!(rt; marked, 1);
 }
 
 // Takes one key, which leaves the node.
@@ -228,7 +246,7 @@ fn try_lines<L: Ledger, A: Abort>(
 
 #[test]
 fn a_line_names_its_command(rt: HostRuntime) -> Result<(), Fail> {
-    let store = store(rt.alloc())?;
+    let store = store(&rt, rt.alloc())?;
     let cases = [
         ("", "Empty"),
         ("BUILD <X>", "Build X"),
@@ -250,7 +268,7 @@ fn a_line_names_its_command(rt: HostRuntime) -> Result<(), Fail> {
 
 #[test]
 fn a_line_means_files(rt: HostRuntime) -> Result<(), Fail> {
-    let store = store(rt.alloc())?;
+    let store = store(&rt, rt.alloc())?;
     let cases = [
         ("copy tty: a.txt", "CopyTty <OPERATOR>A.TXT Missing ws"),
         ("COPY TTY:X", "CopyTty <OPERATOR>X.- Missing ws"),
@@ -267,8 +285,8 @@ fn a_line_means_files(rt: HostRuntime) -> Result<(), Fail> {
 
 #[test]
 fn a_line_means_deleted_files(rt: HostRuntime) -> Result<(), Fail> {
-    let mut store = store(rt.alloc())?;
-    store.mark(&file());
+    let mut store = store(&rt, rt.alloc())?;
+    delete(&rt, &mut store);
     let cases = [("UNDELETE A.*", "Undelete <OPERATOR>A.* Missing wad")];
     try_lines::<Brand, _>(&rt, &rt, Blank::new(1), &store, &cases)
 }

@@ -1,4 +1,3 @@
-use Rattle.std.proofs.Common.{refl}
 use Rattle.ex_commands.proofs.Playing.{play_done, play_refused}
 use Rattle.ex_commands.proofs.plans.play.Goals as goal
 

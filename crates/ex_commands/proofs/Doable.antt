@@ -1,0 +1,168 @@
+-- What a line commands can be done.
+use Rattle.std.proofs.Common.{◌≡◌, ℕ, ◌||◌, ◌==◌, Bool, true, false, if◌then◌else◌, List, drop, Option, Some, None, option_and_then, slice_get, refl, ap, sym, ◌∙◌}
+use Rattle.std.specs.Option.{option_map_or}
+use Rattle.cm_fields.proofs.Holding.{holds_of_choice}
+use Rattle.cm_files.specs.Catalogue.{IsCatalogue, is_directory_name}
+use Rattle.cm_blocks.specs.declared.field.Ending.{Ending}
+use Rattle.cm_blocks.specs.declared.function.Role.TheVariants as roles
+use Rattle.cm_blocks.specs.Parse.{IsParse}
+use Rattle.cm_blocks.specs.declared.node.Block.{Block}
+use Rattle.cm_blocks.specs.declared.node.Node.{Node}
+use Rattle.cm_blocks.specs.Setting.{Setting, setting}
+use Rattle.cm_blocks.specs.Taken.{Taken}
+use Rattle.cm_state.specs.Roles.{field_of}
+use Rattle.ex_grammar.specs.ExecRules.{exec_meanings}
+use Rattle.ex_grammar.specs.Graph.{exec_graph}
+use Rattle.ex_grammar.specs.declared.code.TheConstants.{BUILD, CONNECT, COPY, DEFINE, DELETE, DIRECTORY, EXPUNGE, INFORMATION, LOGOUT, REMARK, UNDELETE}
+use Rattle.ex_grammar.specs.declared.node.TheConstants.{COMMANDS}
+use Rattle.ex_store.specs.declared.place.Place.{Place}
+use Rattle.ex_store.specs.Plan.{IsSource, IsTarget}
+use Rattle.ex_store.specs.State.{State, catalogue_of, has_directory}
+use Rattle.ex_commands.specs.declared.command.Command.{Command}
+use Rattle.ex_commands.specs.declared.command.Command.TheVariants as commands
+use Rattle.ex_commands.specs.Answer.{IsThere, MayAct}
+use Rattle.ex_commands.specs.Command.{Line, command_of, copies, directory_in, flags_of, is_token, keyword_code, named, on, place_in}
+use Rattle.ex_commands.proofs.Fitting.{files_names, files_read, reads_files, reads_source, source_names, source_read, target_read}
+use Rattle.ex_commands.proofs.Targets.{directory_formed, directory_there, field_meant, field_target, place_there, trial_old}
+use Rattle.ex_commands.proofs.Trying.{IsTried}
+use Rattle.ex_commands.proofs.Verbs.{names_old, old_directory}
+
+-- a line of the grammar over the catalogue of a state
+abbrev line_over : State → List ℕ → List Taken → Line
+line_over state text fields = record { graph = exec_graph; catalogue = catalogue_of state; text = text; fields = fields }
+
+-- the premise of all that follows
+record IsTyped (state : State) (text : List ℕ) (fields : List Taken) : Type 0 where
+  lawful : IsCatalogue (catalogue_of state)
+  ends : Ending
+  parse : IsParse (setting exec_graph (catalogue_of state) exec_meanings) COMMANDS text fields ends
+
+-- a command on what may be said
+on_may : {A : Type 0} (state : State) (command : A → Command) (said : Option A)
+    → ((it : A) → said ≡ Some it → MayAct (command it) state) → MayAct (on command said) state
+on_may state command None may = tt
+on_may state command (Some it) may = may it refl
+
+-- a field that is there, of a role
+of_field : {A : Type 0} (field : Option Taken) (mean : Taken → Option A) (it : A) → option_and_then mean field ≡ Some it
+    → (found : Taken) × (field ≡ Some found) × (mean found ≡ Some it)
+of_field None mean it is = cc
+of_field (Some found) mean it is = (found, refl, is)
+
+-- the files of a line are in a directory that is there
+files_there : (state : State) (text : List ℕ) (fields : List Taken) → IsTyped state text fields → (place : Place)
+    → place_in (line_over state text fields) (field_of roles.Files fields) ≡ Some place → IsSource place state
+files_there state text fields typed place is =
+    let it = of_field (field_of roles.Files fields) _ place is in
+    let read = files_read (catalogue_of state) text fields typed.ends typed.parse it.0 it.1 in
+    place_there state _ _ it.0.value place (field_meant (catalogue_of state) typed.lawful text it.0 reads_files files_names read) it.2
+
+source_there : (state : State) (text : List ℕ) (fields : List Taken) → IsTyped state text fields → (field : Taken) (place : Place)
+    → field_of roles.Source fields ≡ Some field → place_in (line_over state text fields) (Some field) ≡ Some place → IsSource place state
+source_there state text fields typed field place found is =
+    let read = source_read (catalogue_of state) text fields typed.ends typed.parse field found in
+    place_there state _ _ field.value place (field_meant (catalogue_of state) typed.lawful text field reads_source source_names read) is
+
+target_there : (state : State) (text : List ℕ) (fields : List Taken) → IsTyped state text fields → (place : Place)
+    → place_in (line_over state text fields) (field_of roles.Target fields) ≡ Some place → IsTarget place state.directories
+target_there state text fields typed place is =
+    let it = of_field (field_of roles.Target fields) _ place is in
+    let read = target_read (catalogue_of state) text fields typed.ends typed.parse it.0 it.1 in
+    field_target state typed.lawful text it.0 (flags_of exec_graph it.0) place read it.2
+
+-- the directory of BUILD has a name that it may have
+build_may : (state : State) (text : List ℕ) (fields : List Taken) → IsTyped state text fields → (name : List ℕ)
+    → directory_in (line_over state text fields) (field_of roles.Files fields) ≡ Some name → is_directory_name name ≡ true
+build_may state text fields typed name is =
+    let it = of_field (field_of roles.Files fields) _ name is in
+    let read = files_read (catalogue_of state) text fields typed.ends typed.parse it.0 it.1 in
+    directory_formed state typed.lawful _ it.0.value name (field_meant (catalogue_of state) typed.lawful text it.0 reads_files files_names read) it.2
+
+-- a field is of one block
+same_block : (s : Setting) (text : List ℕ) (field : Taken) (first second : IsTried s text field) → first.block ≡ second.block
+same_block s text field first second =
+    let node : Some first.node ≡ Some second.node = sym first.node_is ∙ second.node_is in
+    let same : first.node ≡ second.node = cc in
+    let block : Some first.block ≡ Some second.block =
+    sym first.block_is ∙ ap (λ (node : Node). slice_get node.chain field.block) same ∙ second.block_is in
+    cc
+
+-- that of CONNECT and EXPUNGE is there
+old_may : (state : State) (text : List ℕ) (fields : List Taken) → IsTyped state text fields → (verb : Taken)
+    → field_of roles.Verb fields ≡ Some verb → names_old (keyword_code verb.value) ≡ true → (name : List ℕ)
+    → directory_in (line_over state text fields) (field_of roles.Files fields) ≡ Some name → has_directory name state.directories ≡ true
+old_may state text fields typed verb verb_is old name is =
+    let it = of_field (field_of roles.Files fields) _ name is in
+    let read = files_read (catalogue_of state) text fields typed.ends typed.parse it.0 it.1 in
+    let behind = old_directory (catalogue_of state) text fields typed.ends verb it.0 typed.parse verb_is old it.1 in
+    let tried = read.tried in
+    let same = same_block (setting exec_graph (catalogue_of state) exec_meanings) text it.0 tried behind.tried in
+    let plain = trial_old (catalogue_of state) tried.block.function tried.block.flags (drop tried.at tried.said) tried.at it.0.value tried.looked tried.end
+    (files_names tried.block.function read.by_function) (ap (λ (block : Block). block.flags.new) same ∙ behind.old) tried.accepts in
+    directory_there state _ it.0.value name plain
+    (field_meant (catalogue_of state) typed.lawful text it.0 reads_files files_names read) it.2
+
+-- COPY
+copies_may : (state : State) (text : List ℕ) (fields : List Taken) → IsTyped state text fields
+    → MayAct (copies (line_over state text fields) (field_of roles.Source fields)
+    (place_in (line_over state text fields) (field_of roles.Target fields))) state
+copies_may state text fields typed = by (field_of roles.Source fields) refl
+  where
+    by : (from : Option Taken) → field_of roles.Source fields ≡ from
+        → MayAct (copies (line_over state text fields) from (place_in (line_over state text fields) (field_of roles.Target fields))) state
+    by None found = tt
+    by (Some from) found =
+        holds_of_choice (λ (command : Command). MayAct command state) (is_token from.value) _ _
+        (λ token. on_may state commands.CopyTty (place_in (line_over state text fields) (field_of roles.Target fields))
+        (λ place is. target_there state text fields typed place is))
+        (λ files. on_may state (λ (files : Place). on (commands.Copy files) (place_in (line_over state text fields) (field_of roles.Target fields)))
+        (place_in (line_over state text fields) (Some from))
+        (λ source source_is. on_may state (commands.Copy source) (place_in (line_over state text fields) (field_of roles.Target fields))
+        (λ place is. (source_there state text fields typed from source found source_is, target_there state text fields typed place is))))
+
+connects : (code : ℕ) → (code == CONNECT) ≡ true → names_old code ≡ true
+connects code is = rw is refl
+
+expunges : (code : ℕ) → (code == EXPUNGE) ≡ true → names_old code ≡ true
+expunges code is = by (code == CONNECT) (code == EXPUNGE) is
+  where
+    by : (a b : Bool) → b ≡ true → (a || b) ≡ true
+    by true b is = refl
+    by false b is = is
+
+there_may : (state : State) (said : Option (List ℕ)) → ((name : List ℕ) → said ≡ Some name → has_directory name state.directories ≡ true)
+    → IsThere said state
+there_may state None may = tt
+there_may state (Some name) may = may name refl
+
+-- the command of a keyword
+named_may : (state : State) (text : List ℕ) (fields : List Taken) → IsTyped state text fields → (verb : Taken)
+    → field_of roles.Verb fields ≡ Some verb → MayAct (named (line_over state text fields) (keyword_code verb.value)) state
+named_may state text fields typed verb verb_is =
+    choose BUILD _ _ (λ is. on_may state commands.Build _ (build_may state text fields typed))
+    (choose CONNECT _ _ (λ is. on_may state commands.Connect _ (old_may state text fields typed verb verb_is (connects _ is)))
+    (choose COPY _ _ (λ is. copies_may state text fields typed)
+    (choose DEFINE _ _ (λ is. on_may state commands.Define _ (λ it found. tt))
+    (choose DELETE _ _ (λ is. on_may state commands.Delete _ (files_there state text fields typed))
+    (choose DIRECTORY _ _ (λ is. on_may state commands.Directory _ (files_there state text fields typed))
+    (choose EXPUNGE _ _ (λ is. there_may state _ (old_may state text fields typed verb verb_is (expunges _ is)))
+    (choose INFORMATION _ _ (λ is. tt)
+    (choose LOGOUT _ _ (λ is. tt)
+    (choose UNDELETE _ _ (λ is. on_may state commands.Undelete _ (files_there state text fields typed))
+    (choose REMARK _ _ (λ is. tt) tt))))))))))
+  where
+    choose : (wanted : ℕ) (first later : Command) → ((keyword_code verb.value == wanted) ≡ true → MayAct first state) → MayAct later state
+        → MayAct (if keyword_code verb.value == wanted then first else later) state
+    choose wanted first later may rest =
+        holds_of_choice (λ (command : Command). MayAct command state) (keyword_code verb.value == wanted) first later may (λ other. rest)
+
+pub line_may_act : (state : State) (text : List ℕ) (fields : List Taken) (ends : Ending) → IsCatalogue (catalogue_of state)
+    → IsParse (setting exec_graph (catalogue_of state) exec_meanings) COMMANDS text fields ends
+    → MayAct (command_of (line_over state text fields)) state
+unfolding command_of
+line_may_act state text fields ends lawful parse = by (field_of roles.Verb fields) refl
+  where
+    by : (verb : Option Taken) → field_of roles.Verb fields ≡ verb
+        → MayAct (option_map_or (λ (verb : Taken). named (line_over state text fields) (keyword_code verb.value)) verb commands.Empty) state
+    by None is = tt
+    by (Some verb) is = named_may state text fields (record { lawful = lawful; ends = ends; parse = parse }) verb is

@@ -1,0 +1,6 @@
+use Rattle.cm_blocks.specs.declared.field.Ending.TheVariants as ending
+use Rattle.ex_commands.proofs.Doable.{line_may_act}
+use Rattle.ex_commands.proofs.laws.a_line_may_act.Goals as goal
+
+pub returns : goal.returns
+returns c = λ state text fields lawful parse. line_may_act state text fields ending.Done lawful parse
