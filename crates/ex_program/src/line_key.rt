@@ -1,7 +1,7 @@
 // What a key does to the line, and what a line that is confirmed does.
 #![tactic(auto, using(crate::proofs::Parts::pieces))]
 
-ghost use Rattle.std.specs.Prelude.{◌≡◌, ◌≤◌, ◌+◌, ◌++◌, [], ℕ, Bool, List, None, IsTrue, if◌then◌else◌, option_map};
+ghost use Rattle.std.specs.Prelude.{◌≡◌, ◌≤◌, ◌+◌, ◌++◌, [], ℕ, Bool, List, None, IsTrue, if◌then◌else◌, is_some, option_map};
 ghost use Rattle.cm_io.specs.Told.{Adds, Told};
 ghost use Rattle.cm_io.specs.Fault.{PutCause};
 ghost use Rattle.cm_line.specs.Keys.{class_of};
@@ -197,7 +197,7 @@ fn obey<S: Sink, C: Clock>(
 
 // Begins to type in the file of a command.
 fn begin_typing(command: &Command, moment: u64, alloc: Global, course: &mut Course) -> Step
-    requires line { course.old.typing ≡ None }
+    requires file { IsTrue (is_some (target_of command.now)) }
     requires may_act { MayAct command.now course.old.store.state }
     ensures does { (moments : List ℕ) → (told : Told) → Does told told [] course.old.store.state
         (record (going course.old moments) { typing = option_map (typing_to moment) (target_of command.now) })

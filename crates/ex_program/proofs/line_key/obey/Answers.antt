@@ -1,0 +1,54 @@
+use Rattle.std.proofs.Common.{false, refl}
+use Rattle.ex_program.specs.World.{act_at, command_at, going}
+use Rattle.ex_commands.specs.Act.{act_of}
+use Rattle.ex_program.proofs.Acting.{Begins, cut_behind, data_begins, file_behind, lacked_behind, line_behind, obeyed, over_behind}
+use Rattle.ex_program.proofs.line_key.obey.Goals as goal
+
+pub act-requires-clause-stub : goal.act-requires-clause-stub
+act-requires-clause-stub g c = ?
+
+pub begin_typing-requires-clause-file : goal.begin_typing-requires-clause-file
+begin_typing-requires-clause-file g c = ?
+
+pub begin_typing-requires-clause-may_act : goal.begin_typing-requires-clause-may_act
+begin_typing-requires-clause-may_act g c = ?
+
+pub returns-in-Ok-clause-does : goal.returns-in-Ok-clause-does
+returns-in-Ok-clause-does g c = λ clock.
+    let world = going c.args.course.now (g.C.Clock.left c.args.clock.now) in
+    let moments = g.C.Clock.left c.now-moment.new.self in
+    let next = going c.begin_line.new.course moments in
+    obeyed world c.command_of-command.result c.now-moment.result (g.S.Sink.told c.args.screen.now) (g.S.Sink.told c.begin_line.new.screen) next c.begin_line.result
+    (c.command_of-command.ensures.command (g.C.Clock.left c.args.clock.now)) (c.now-moment.ensures.moment clock)
+    (line_behind world c.command_of-command.result (act_of c.command_of-command.result c.now-moment.result world.state)
+      (g.S.Sink.told c.args.screen.now) (g.S.Sink.told c.act.new.sink) c.act.new.store.state moments (c.now-moment.ensures.later clock)
+      _ (g.S.Sink.told c.begin_line.new.screen) next c.begin_line.result refl refl c.in-Ok.ensures.acts
+      (c.begin_line.ensures.does moments c.act.new.store.state false))
+
+pub returns-in-Refused-clause-does : goal.returns-in-Refused-clause-does
+returns-in-Refused-clause-does g c = λ clock.
+    let world = going c.args.course.now (g.C.Clock.left c.args.clock.now) in
+    let moments = g.C.Clock.left c.now-moment.new.self in
+    let next = going c.begin_line-in-Refused.new.course moments in
+    obeyed world c.command_of-command.result c.now-moment.result (g.S.Sink.told c.args.screen.now) (g.S.Sink.told c.begin_line-in-Refused.new.screen) next
+    c.begin_line-in-Refused.result
+    (c.command_of-command.ensures.command (g.C.Clock.left c.args.clock.now)) (c.now-moment.ensures.moment clock)
+    (line_behind world c.command_of-command.result (act_of c.command_of-command.result c.now-moment.result world.state)
+      (g.S.Sink.told c.args.screen.now) (g.S.Sink.told c.act.new.sink) c.act.new.store.state moments (c.now-moment.ensures.later clock)
+      _ (g.S.Sink.told c.begin_line-in-Refused.new.screen) next c.begin_line-in-Refused.result refl refl c.in-Refused.ensures.acts
+      (c.begin_line-in-Refused.ensures.does moments c.act.new.store.state false))
+
+pub returns-in-Data-clause-does : goal.returns-in-Data-clause-does
+returns-in-Data-clause-does g c = ?
+
+pub returns-in-Data-clause-cause : goal.returns-in-Data-clause-cause
+returns-in-Data-clause-cause g c = ?
+
+pub returns-in-Logout-clause-does : goal.returns-in-Logout-clause-does
+returns-in-Logout-clause-does g c = ?
+
+pub returns-in-NoMemory-clause-does : goal.returns-in-NoMemory-clause-does
+returns-in-NoMemory-clause-does g c = ?
+
+pub returns-in-Failed-clause-does : goal.returns-in-Failed-clause-does
+returns-in-Failed-clause-does g c = ?
