@@ -203,6 +203,8 @@ fn begin_typing(command: &Command, moment: u64, alloc: Global, course: &mut Cour
         (record (going course.old moments) { typing = option_map (typing_to moment) (target_of command.now) })
         (wants command.now) (going course.new moments) result }
     ensures ready { result ≡ Step.More → IsAtKey course.new }
+    // Nothing is asked of the screen.
+    ensures cause { (faults : ℕ) → ScreenCause faults faults result }
 {
     if let Command::CopyTty { to } = command {
         let Ok(typed) = Data::new(alloc) else {
