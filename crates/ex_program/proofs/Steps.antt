@@ -1,5 +1,6 @@
 -- What the parts of a key's work come to.
-use Rattle.std.proofs.Common.{◌≡◌, ℕ, ◌+◌, Bool, true, false, List, [], ◌++◌, Option, None, Some, if◌then◌else◌, refl, sym, ap, ◌∙◌, subst, inl, inr}
+use Rattle.std.proofs.Common.{◌≡◌, ℕ, ◌+◌, Bool, true, false, List, [], ◌++◌, Option, None, Some, if◌then◌else◌, refl, sym, ap, ◌∙◌, subst, inl, inr, IsTrue, is_some, add-zero}
+use Rattle.std.proofs.lemmas.Bool.{false≢true}
 use Rattle.cm_io.specs.Told.{Told, add, Adds, AddsPart}
 use Rattle.cm_io.specs.declared.sink.Put.{Put}
 use Rattle.cm_io.specs.declared.sink.Put.TheVariants.{Done}
@@ -14,7 +15,7 @@ use Rattle.cm_state.specs.Turn.{put_of, turn_of}
 use Rattle.cm_state.specs.declared.turn.Turn.{Turn}
 use Rattle.cm_state.specs.declared.turn.Turn.TheVariants as turns
 use Rattle.ex_store.specs.State.{State}
-use Rattle.ex_commands.specs.Typed.{Edit, IsTyped, edit, echo_text}
+use Rattle.ex_commands.specs.Typed.{Edit, IsTyped, Types, edit, echo_text}
 use Rattle.ex_commands.specs.declared.data.DataTurn.{DataTurn}
 use Rattle.ex_commands.specs.declared.data.DataTurn.TheVariants as data_turns
 use Rattle.ex_program.specs.Run.{cost_by, data_log, data_turn, echo_by, key_bytes, key_cost, key_echo, key_leads, key_log, key_prompt, key_reply, key_wants, leads_by, log_by, logs, prompt_by, reply_by, shows, step, wants_by, with_data}
@@ -197,3 +198,61 @@ same_leads world other typing data_turns.More = refl
 same_leads world other typing data_turns.Write = refl
 same_leads world other typing data_turns.Dropped = refl
 same_leads world other typing data_turns.Failed = refl
+
+-- what a file's key shows is put, unless it failed
+typed_whole : (told echoed : Told) (key : Edit) (turn : DataTurn) → (turn ≡ data_turns.Failed → ⊥) → Types told echoed key turn → IsTyped told echoed key turn
+typed_whole told echoed key data_turns.More other types = types
+typed_whole told echoed key data_turns.Write other types = types
+typed_whole told echoed key data_turns.Dropped other types = types
+typed_whole told echoed key data_turns.Failed other types = absurd (other refl)
+
+-- the file with these bytes, which is typed in
+abbrev typed_as : Typing → List ℕ → Typing
+typed_as typing bytes = record typing { typed = bytes }
+
+abbrev typed_in : World → Typing → World
+typed_in world typing = record world { typing = Some typing }
+
+module _ (world : World) (key : ℕ) (typing : Typing) (is : world.typing ≡ Some typing) (going : world.ended ≡ false)
+    (bytes : List ℕ) (turn : DataTurn) (told echoed : Told) (other : turn ≡ data_turns.Failed → ⊥)
+    (is_bytes : bytes ≡ (edit typing.typed key).bytes) (types : Types told echoed (edit typing.typed key) turn) where
+  whole : IsTyped told echoed (edit typing.typed key) turn
+  whole = typed_whole told echoed (edit typing.typed key) turn other types
+
+  pub cut_data_log : (writes : Bool) (log now : Told) (next : World) → left_of next ≡ left_of world
+      → AddsPart log now (if writes then data_log key else [])
+      → Took writes world key (outputs told log) (outputs echoed now) next steps.LogFailed
+  cut_data_log writes log now next left part = cut_log world key (Some typing) is going writes told echoed log now next left whole.told part
+
+  pub took_data : (writes : Bool) (screen log logged : Told) (next : World) (came : Step)
+      → logged ≡ add log (if writes then data_log key else [])
+      → Does echoed screen (data_reply (typed_in world (typed_as typing bytes)) (typed_as typing bytes) turn ++ data_prompt turn) world.state
+          (world_after_data (typed_in world (typed_as typing bytes)) (typed_as typing bytes) turn) (data_wants turn) next came
+      → Took writes world key (outputs told log) (outputs screen logged) next came
+  took_data writes screen log logged next came is_logged does =
+      took_by world key (Some typing) is going writes told echoed screen log logged next came whole.told is_logged
+      (subst (λ (it : DataTurn). Does echoed screen (data_reply world (with_data typing key) it ++ data_prompt it) world.state
+          (world_after_data world (with_data typing key) it) (data_wants it) next came) (sym whole.turn_is)
+        (does_as echoed screen _ _ world.state _ _ _ _ next came
+          (ap (λ (it : List ℕ). it ++ data_prompt turn) (same_reply world (Some (with_data typing key)) (with_data typing key) turn))
+          (same_leads world (Some (with_data typing key)) (with_data typing key) turn)
+          refl
+          (subst (λ (it : List ℕ). Does echoed screen (data_reply (typed_in world (typed_as typing it)) (typed_as typing it) turn ++ data_prompt turn) world.state
+              (world_after_data (typed_in world (typed_as typing it)) (typed_as typing it) turn) (data_wants turn) next came) is_bytes does)))
+
+-- a line's key costs the trials of the text that it leaves
+pub counted_line : (world : World) (key : ℕ) → world.typing ≡ None → world.ended ≡ false → (typed : Held) (before now : ℕ)
+    → typed ≡ edited (exec_setting world.state) world.session key
+    → now ≡ before + cost (exec_setting world.state) world.session.node (met_line world.session) (text_of typed)
+    → now ≡ before + key_cost world key
+counted_line world key line going typed before now is_typed rise =
+    counted world key None line going before now
+    (rise ∙ ap (λ (held : Held). before + cost (exec_setting world.state) world.session.node (met_line world.session) (text_of held)) is_typed)
+
+-- a file's key costs nothing
+pub counted_data : (world : World) (key : ℕ) → IsTrue (is_some world.typing) → world.ended ≡ false → (before : ℕ) → before ≡ before + key_cost world key
+counted_data world key file going before =
+    counted world key world.typing refl going before before (sym (add-zero before) ∙ ap (λ (it : ℕ). before + it) (sym (free world.typing file))) where
+  free : (typing : Option Typing) → IsTrue (is_some typing) → cost_by world key typing ≡ 0
+  free None none = absurd (false≢true none)
+  free (Some typing) some = refl

@@ -139,6 +139,7 @@ fn take_turn<S: Sink, C: Clock>(
     ensures ready { result ≡ Step.More → IsAtKey course.new }
     ensures later { S.faults screen.old ≤ S.faults screen.new }
     ensures cause { ScreenCause (S.faults screen.old) (S.faults screen.new) result }
+    ensures log { (faults : ℕ) → LogCause faults faults result }
 {
     match turn {
         Turn::Edited => Step::More,
@@ -182,6 +183,7 @@ fn obey<S: Sink, C: Clock>(
     ensures ready { result ≡ Step.More → IsAtKey course.new }
     ensures later { S.faults screen.old ≤ S.faults screen.new }
     ensures cause { ScreenCause (S.faults screen.old) (S.faults screen.new) result }
+    ensures log { (faults : ℕ) → LogCause faults faults result }
 {
     let command = command_of(&course.session, under, &course.store);
     let moment = clock.now();
@@ -203,8 +205,8 @@ fn begin_typing(command: &Command, moment: u64, alloc: Global, course: &mut Cour
         (record (going course.old moments) { typing = option_map (typing_to moment) (target_of command.now) })
         (wants command.now) (going course.new moments) result }
     ensures ready { result ≡ Step.More → IsAtKey course.new }
-    // Nothing is asked of the screen.
     ensures cause { (faults : ℕ) → ScreenCause faults faults result }
+    ensures log { (faults : ℕ) → LogCause faults faults result }
 {
     if let Command::CopyTty { to } = command {
         let Ok(typed) = Data::new(alloc) else {
@@ -226,6 +228,7 @@ pub(crate) fn begin_line<S: Sink>(course: &mut Course, screen: &mut S) -> Step
     ensures ready { result ≡ Step.More → IsAtKey course.new }
     ensures later { S.faults screen.old ≤ S.faults screen.new }
     ensures cause { ScreenCause (S.faults screen.old) (S.faults screen.new) result }
+    ensures log { (faults : ℕ) → LogCause faults faults result }
 {
     match prompt_line(course, screen) {
         Put::Done => Step::More,
