@@ -4,9 +4,6 @@ use Rattle.ex_program.specs.World.{going}
 use Rattle.ex_program.proofs.Steps.{cut_data_log, cut_echo, took_data}
 use Rattle.ex_program.proofs.data_key.type_key.Goals as goal
 
-pub key-turn-requires : goal.key-turn-requires
-key-turn-requires g c = ?
-
 pub returns-in-Failed-clause-took : goal.returns-in-Failed-clause-took
 returns-in-Failed-clause-took g c = λ moments.
     cut_echo (going (record c.args.course.now { typing = Some c.args.typing }) moments) c.args.key (Some c.args.typing) refl refl c.args.writes

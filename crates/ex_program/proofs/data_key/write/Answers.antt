@@ -3,9 +3,6 @@ use Rattle.ex_program.specs.World.{going, write_at}
 use Rattle.std.proofs.Common.{Some, false}
 use Rattle.ex_program.proofs.data_key.write.Goals as goal
 
-pub write_data-requires-clause-stub : goal.write_data-requires-clause-stub
-write_data-requires-clause-stub g c = ?
-
 pub returns-in-Ok-clause-does : goal.returns-in-Ok-clause-does
 returns-in-Ok-clause-does g c = λ moments.
     written_behind (going (record c.args.course.now { typing = Some c.args.typing }) moments)

@@ -12,8 +12,5 @@ no_file : (command : Command) → ((to : Place) → command ≡ commands.CopyTty
 no_file (commands.CopyTty to) other file = other to refl
 no_file command other file = absurd (false≢true file)
 
-pub new-requires : goal.new-requires
-new-requires c = ?
-
 pub returns-in_default : goal.returns-in_default
 returns-in_default c = absurd (no_file c.args.command.now c.in_default.not-CopyTty c.requires.file)

@@ -10,12 +10,6 @@ use Rattle.ex_grammar.specs.declared.node.TheConstants.{COMMANDS}
 use Rattle.ex_program.proofs.ExecSetting.{is_exec}
 use Rattle.ex_program.proofs.line_key.command_of.Goals as goal
 
-pub a_line_may_act-requires : goal.a_line_may_act-requires
-a_line_may_act-requires g c = ?
-
-pub of-requires-clause-stub : goal.of-requires-clause-stub
-of-requires-clause-stub g c = ?
-
 pub of-requires-clause-parse : goal.of-requires-clause-parse
 of-requires-clause-parse g c =
     subst (λ (it : Setting). IsParse it COMMANDS (text_of c.args.session.now) c.args.session.now.fields Done)

@@ -8,9 +8,6 @@ use Rattle.ex_program.specs.declared.step.Step.TheVariants.{NoMemory, Over, Scre
 use Rattle.ex_program.proofs.Acting.{cut_behind, data_begins, file_behind, lacked_behind, line_behind, obeyed, over_behind}
 use Rattle.ex_program.proofs.line_key.obey.Goals as goal
 
-pub act-requires-clause-stub : goal.act-requires-clause-stub
-act-requires-clause-stub g c = ?
-
 pub begin_typing-requires-clause-file : goal.begin_typing-requires-clause-file
 begin_typing-requires-clause-file g c =
     (data_begins c.command_of-command.result c.now-moment.result c.args.course.now.store.state c.in-Data.ensures.acts.answer_is).target
