@@ -1,6 +1,7 @@
 pub mod Parts
 pub mod ExecSetting
 pub mod Steps
+pub mod Acting
 pub mod Folds
 pub mod Running
 pub mod Trying

@@ -110,6 +110,7 @@ fn take_data_turn<S: Sink>(turn: DataTurn, typing: Typing, course: &mut Course, 
     ensures ready { result ≡ Step.More → IsAtKey course.new }
     ensures later { S.faults screen.old ≤ S.faults screen.new }
     ensures cause { ScreenCause (S.faults screen.old) (S.faults screen.new) result }
+    ensures log { (faults : ℕ) → LogCause faults faults result }
 {
     match turn {
         DataTurn::More => go_on(typing, course),
@@ -140,6 +141,7 @@ fn write<S: Sink>(typing: Typing, course: &mut Course, screen: &mut S) -> Step
     ensures ready { result ≡ Step.More → IsAtKey course.new }
     ensures later { S.faults screen.old ≤ S.faults screen.new }
     ensures cause { ScreenCause (S.faults screen.old) (S.faults screen.new) result }
+    ensures log { (faults : ℕ) → LogCause faults faults result }
 {
     let Typing { to, moment, typed } = typing;
     match write_data(&mut course.store, &to, typed, moment, screen) {

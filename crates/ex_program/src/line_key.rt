@@ -1,7 +1,7 @@
 // What a key does to the line, and what a line that is confirmed does.
 #![tactic(auto, using(crate::proofs::Parts::pieces))]
 
-ghost use Rattle.std.specs.Prelude.{◌≡◌, ◌≤◌, ◌+◌, ◌++◌, [], ℕ, Bool, List, None, IsTrue, if◌then◌else◌, option_map};
+ghost use Rattle.std.specs.Prelude.{◌≡◌, ◌≤◌, ◌+◌, ◌++◌, [], ℕ, Bool, List, None, IsTrue, if◌then◌else◌, is_some, option_map};
 ghost use Rattle.cm_io.specs.Told.{Adds, Told};
 ghost use Rattle.cm_io.specs.Fault.{PutCause};
 ghost use Rattle.cm_line.specs.Keys.{class_of};
@@ -139,6 +139,7 @@ fn take_turn<S: Sink, C: Clock>(
     ensures ready { result ≡ Step.More → IsAtKey course.new }
     ensures later { S.faults screen.old ≤ S.faults screen.new }
     ensures cause { ScreenCause (S.faults screen.old) (S.faults screen.new) result }
+    ensures log { (faults : ℕ) → LogCause faults faults result }
 {
     match turn {
         Turn::Edited => Step::More,
@@ -182,6 +183,7 @@ fn obey<S: Sink, C: Clock>(
     ensures ready { result ≡ Step.More → IsAtKey course.new }
     ensures later { S.faults screen.old ≤ S.faults screen.new }
     ensures cause { ScreenCause (S.faults screen.old) (S.faults screen.new) result }
+    ensures log { (faults : ℕ) → LogCause faults faults result }
 {
     let command = command_of(&course.session, under, &course.store);
     let moment = clock.now();
@@ -197,12 +199,14 @@ fn obey<S: Sink, C: Clock>(
 
 // Begins to type in the file of a command.
 fn begin_typing(command: &Command, moment: u64, alloc: Global, course: &mut Course) -> Step
-    requires line { course.old.typing ≡ None }
+    requires file { IsTrue (is_some (target_of command.now)) }
     requires may_act { MayAct command.now course.old.store.state }
     ensures does { (moments : List ℕ) → (told : Told) → Does told told [] course.old.store.state
         (record (going course.old moments) { typing = option_map (typing_to moment) (target_of command.now) })
         (wants command.now) (going course.new moments) result }
     ensures ready { result ≡ Step.More → IsAtKey course.new }
+    ensures cause { (faults : ℕ) → ScreenCause faults faults result }
+    ensures log { (faults : ℕ) → LogCause faults faults result }
 {
     if let Command::CopyTty { to } = command {
         let Ok(typed) = Data::new(alloc) else {
@@ -224,6 +228,7 @@ pub(crate) fn begin_line<S: Sink>(course: &mut Course, screen: &mut S) -> Step
     ensures ready { result ≡ Step.More → IsAtKey course.new }
     ensures later { S.faults screen.old ≤ S.faults screen.new }
     ensures cause { ScreenCause (S.faults screen.old) (S.faults screen.new) result }
+    ensures log { (faults : ℕ) → LogCause faults faults result }
 {
     match prompt_line(course, screen) {
         Put::Done => Step::More,
