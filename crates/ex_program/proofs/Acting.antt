@@ -1,5 +1,5 @@
 -- What is done behind an act.
-use Rattle.std.proofs.Common.{◌≡◌, ℕ, Bool, true, false, List, [], ◌∷◌, ◌++◌, Option, None, Some, Result, Ok, Err, option_map, refl, sym, ap, ◌∙◌, subst, IsTrue, if◌then◌else◌}
+use Rattle.std.proofs.Common.{◌≡◌, ℕ, Bool, true, false, List, [], ◌∷◌, ◌++◌, Result, Ok, Err, option_map, refl, sym, ap, ◌∙◌, subst, IsTrue, if◌then◌else◌}
 use Rattle.std.proofs.lemmas.Bool.{false≢true}
 use Rattle.std.proofs.lemmas.List.{append-nil}
 use Rattle.std.specs.Option.{is_some}
@@ -11,7 +11,7 @@ use Rattle.cm_io.proofs.Adding.{add_append, add_none, adds_early, adds_late}
 use Rattle.cm_state.specs.Echo.{prompt_text}
 use Rattle.cm_state.specs.declared.prompt.Prompt.TheVariants.{Main}
 use Rattle.ex_store.specs.Copying.{lacks_name}
-use Rattle.ex_store.specs.Plan.{Planned, sources}
+use Rattle.ex_store.specs.Plan.{Planned}
 use Rattle.ex_store.specs.State.{State, defined, undefined}
 use Rattle.ex_store.specs.declared.place.Place.{Place}
 use Rattle.ex_store.specs.declared.row.Row.{Row}
@@ -23,7 +23,7 @@ use Rattle.ex_commands.specs.declared.command.Command.{Command}
 use Rattle.ex_commands.specs.declared.command.Command.TheVariants as commands
 use Rattle.ex_commands.specs.declared.pairs.Origin.{Origin}
 use Rattle.ex_commands.specs.declared.pairs.Origin.TheVariants.{Files}
-use Rattle.ex_program.specs.Step.{Does, Left, left_of}
+use Rattle.ex_program.specs.Step.{Does, left_of}
 use Rattle.ex_program.specs.World.{World, act_at, act_bytes, acted_in, behind_answer, command_at, next_line, prompt_behind, target_of, typing_to, wants, world_after_command}
 use Rattle.ex_program.specs.declared.step.Step.{Step}
 use Rattle.ex_program.specs.declared.step.Step.TheVariants as steps
@@ -99,7 +99,7 @@ module _ (world : World) (command : Command) (act : Act) (told acted : Told) (le
       (behind_answer world (acted_in world act.state) command act.answer) (wants command) (wants command) next came
       (ap (λ bytes. act.reply ++ bytes) (sym is_prompt) ∙ ap (λ (it : Acted). act.reply ++ prompt_behind it) (sym done.answer_is))
       (ap (λ (it : World). next_line it) (as_acted done.state) ∙ sym is_line
-        ∙ ap (λ (it : Acted). behind_answer world (acted_in world act.state) command it) (sym done.answer_is))
+      ∙ ap (λ (it : Acted). behind_answer world (acted_in world act.state) command it) (sym done.answer_is))
       refl
       (does_behind told acted now act.reply (prompt_text Main) world.state left _ (wants command) next came done.told does)
 
@@ -108,22 +108,22 @@ module _ (world : World) (command : Command) (act : Act) (told acted : Told) (le
       → moment ≡ next_moment world.moments → act.reply ≡ [] → act.state ≡ world.state
       → IsDone told acted act left answers.Data
       → Does acted acted [] left
-          (record world { state = left; moments = moments; typing = option_map (typing_to moment) (target_of command) }) (wants command) next came
+      (record world { state = left; moments = moments; typing = option_map (typing_to moment) (target_of command) }) (wants command) next came
       → Behind acted next came
   file_behind moment next came is_moment silent same done does =
       does_as told acted [] (act_bytes act) world.state (record world { state = left; moments = moments; typing = option_map (typing_to moment) (target_of command) })
       (behind_answer world (acted_in world act.state) command act.answer) (wants command) (wants command) next came
       (ap (λ bytes. bytes ++ []) (sym silent) ∙ ap (λ (it : Acted). act.reply ++ prompt_behind it) (sym done.answer_is))
       (ap (λ (it : World). record it { typing = option_map (typing_to moment) (target_of command) }) (as_acted done.state)
-        ∙ ap (λ (it : ℕ). record (acted_in world act.state) { typing = option_map (typing_to it) (target_of command) }) is_moment
-        ∙ ap (λ (it : Acted). behind_answer world (acted_in world act.state) command it) (sym done.answer_is))
+      ∙ ap (λ (it : ℕ). record (acted_in world act.state) { typing = option_map (typing_to it) (target_of command) }) is_moment
+      ∙ ap (λ (it : Acted). behind_answer world (acted_in world act.state) command it) (sym done.answer_is))
       refl
       (subst (λ (it : Told). Does it acted [] world.state
-          (record world { state = left; moments = moments; typing = option_map (typing_to moment) (target_of command) }) (wants command) next came)
-        (done.told ∙ ap (λ bytes. add told bytes) silent ∙ add_none told)
-        (subst (λ (it : State). Does acted acted [] it
-            (record world { state = left; moments = moments; typing = option_map (typing_to moment) (target_of command) }) (wants command) next came)
-          (done.state ∙ same) does))
+      (record world { state = left; moments = moments; typing = option_map (typing_to moment) (target_of command) }) (wants command) next came)
+      (done.told ∙ ap (λ bytes. add told bytes) silent ∙ add_none told)
+      (subst (λ (it : State). Does acted acted [] it
+      (record world { state = left; moments = moments; typing = option_map (typing_to moment) (target_of command) }) (wants command) next came)
+      (done.state ∙ same) does))
 
   -- LOGOUT ends the run
   pub over_behind : IsDone told acted act left answers.Logout → Behind acted (record world { state = left; moments = moments }) steps.Over
@@ -142,7 +142,7 @@ module _ (world : World) (command : Command) (act : Act) (told acted : Told) (le
     lacking.told,
     ap (λ (it : State). left_of (record world { state = it; moments = moments })) lacking.state
         ∙ ap (λ (it : List ℕ). left_of (record world { moments = it }))
-          (moved ∙ sym (moments_behind world (acted_in world act.state) command act.answer)),
+        (moved ∙ sym (moments_behind world (acted_in world act.state) command act.answer)),
   )
 
   -- the reply was cut
@@ -156,15 +156,15 @@ module _ (world : World) (command : Command) (act : Act) (told acted : Told) (le
 pub obeyed : (world : World) (command : Command) (moment : ℕ) (told now : Told) (next : World) (came : Step)
     → command ≡ command_at world → moment ≡ next_moment world.moments
     → Does told now (act_bytes (act_of command moment world.state)) world.state
-        (behind_answer world (acted_in world (act_of command moment world.state).state) command (act_of command moment world.state).answer)
-        (wants command) next came
+    (behind_answer world (acted_in world (act_of command moment world.state).state) command (act_of command moment world.state).answer)
+    (wants command) next came
     → Does told now (act_bytes (act_at world (command_at world))) world.state (world_after_command world (command_at world))
-        (wants (command_at world)) next came
+    (wants (command_at world)) next came
 obeyed world command moment told now next came is_command is_moment does =
     subst (λ (it : Command). Does told now (act_bytes (act_at world it)) world.state (world_after_command world it) (wants it) next came) is_command
     (subst (λ (it : ℕ). Does told now (act_bytes (act_of command it world.state)) world.state
-        (behind_answer world (acted_in world (act_of command it world.state).state) command (act_of command it world.state).answer)
-        (wants command) next came) is_moment does)
+    (behind_answer world (acted_in world (act_of command it world.state).state) command (act_of command it world.state).answer)
+    (wants command) next came) is_moment does)
 
 -- an act that answers that a file is to be typed in shows nothing, and changes nothing; its command is COPY TTY
 pub record Begins (command : Command) (act : Act) (state : State) : Type 0 where

@@ -2,9 +2,8 @@
 use Rattle.std.proofs.Common.{◌≡◌, ℕ, ◌+◌, Bool, true, false, List, [], ◌++◌, Option, None, Some, if◌then◌else◌, refl, sym, ap, ◌∙◌, subst, inl, inr, IsTrue, is_some, add-zero}
 use Rattle.std.proofs.lemmas.Bool.{false≢true}
 use Rattle.cm_io.specs.Told.{Told, add, Adds, AddsPart}
-use Rattle.cm_io.specs.declared.sink.Put.{Put}
 use Rattle.cm_io.specs.declared.sink.Put.TheVariants.{Done}
-use Rattle.cm_io.proofs.Adding.{add_append, adds_late}
+use Rattle.cm_io.proofs.Adding.{add_append}
 use Rattle.cm_line.specs.Keys.{class_of}
 use Rattle.cm_blocks.specs.Kept.{cost}
 use Rattle.cm_state.specs.Echo.{echo}
@@ -15,13 +14,13 @@ use Rattle.cm_state.specs.Turn.{put_of, turn_of}
 use Rattle.cm_state.specs.declared.turn.Turn.{Turn}
 use Rattle.cm_state.specs.declared.turn.Turn.TheVariants as turns
 use Rattle.ex_store.specs.State.{State}
-use Rattle.ex_commands.specs.Typed.{Edit, IsTyped, Types, edit, echo_text}
+use Rattle.ex_commands.specs.Typed.{Edit, IsTyped, Types, edit}
 use Rattle.ex_commands.specs.declared.data.DataTurn.{DataTurn}
 use Rattle.ex_commands.specs.declared.data.DataTurn.TheVariants as data_turns
-use Rattle.ex_program.specs.Run.{cost_by, data_log, data_turn, echo_by, key_bytes, key_cost, key_echo, key_leads, key_log, key_prompt, key_reply, key_wants, leads_by, log_by, logs, prompt_by, reply_by, shows, step, wants_by, with_data}
+use Rattle.ex_program.specs.Run.{cost_by, data_log, echo_by, key_bytes, key_cost, key_echo, key_leads, key_log, key_prompt, key_reply, key_wants, leads_by, log_by, logs, prompt_by, reply_by, shows, step, wants_by, with_data}
 use Rattle.ex_program.specs.Setting.{exec_setting}
 use Rattle.ex_program.specs.Step.{Does, Outputs, Took, left_of}
-use Rattle.ex_program.specs.World.{World, data_prompt, data_reply, data_wants, key_turn, turn_prompt, turn_reply, turn_wants, with_key, world_after_data, world_after_turn}
+use Rattle.ex_program.specs.World.{World, data_prompt, data_reply, data_wants, turn_prompt, turn_reply, turn_wants, with_key, world_after_data, world_after_turn}
 use Rattle.ex_program.specs.declared.course.Typing.{Typing}
 use Rattle.ex_program.specs.declared.step.Step.{Step}
 use Rattle.ex_program.specs.declared.step.Step.TheVariants as steps
@@ -144,6 +143,11 @@ module _ (world : World) (key : ℕ) (typing : Option Typing) (is : world.typing
         (line ∙ ap (λ bytes. add log bytes) (as_logs writes))
         (does_as echoed screen _ _ world.state _ _ _ _ next came as_bytes as_step as_wants does)
 
+-- what a turn of the line does from this world on
+abbrev pub Turned : World → Turn → Told → Told → World → Step → Type 0
+Turned world turn told now next came =
+    Does told now (turn_reply world turn ++ turn_prompt world turn) world.state (world_after_turn world turn) (turn_wants world turn) next came
+
 -- a turn that is no failure is told
 not_failed : (turn : Turn) → (turn ≡ turns.Failed → ⊥) → put_of turn ≡ Done
 not_failed turns.Edited other = refl
@@ -170,19 +174,21 @@ module _ (world : World) (key : ℕ) (line : world.typing ≡ None) (going : wor
   pub took_line : (writes : Bool) (screen log logged : Told) (next : World) (came : Step)
       → (put_of turn ≡ Done → turn ≡ turn_of (class_of key) typed.ending)
       → logged ≡ add log (if writes then log_line key typed else [])
-      → Does echoed screen (turn_reply (record world { session = typed }) turn ++ turn_prompt (record world { session = typed }) turn) world.state
-          (world_after_turn (record world { session = typed }) turn) (turn_wants (record world { session = typed }) turn) next came
+      → Turned (record world { session = typed }) turn echoed screen next came
       → Took writes world key (outputs told log) (outputs screen logged) next came
   took_line writes screen log logged next came is_turn is_logged does =
       took_by world key None line going writes told echoed screen log logged next came echo_whole
       (is_logged ∙ ap (λ (held : Held). add log (if writes then log_line key held else [])) is_typed)
-      (subst (λ (to : Turn). Does echoed screen (turn_reply (with_key world key) to ++ turn_prompt (with_key world key) to) world.state
-          (world_after_turn (with_key world key) to) (turn_wants (with_key world key) to) next came)
-        (is_turn (not_failed turn other) ∙ ap (λ (held : Held). turn_of (class_of key) held.ending) is_typed)
-        (subst (λ (held : Held). Does echoed screen (turn_reply (record world { session = held }) turn ++ turn_prompt (record world { session = held }) turn) world.state
-            (world_after_turn (record world { session = held }) turn) (turn_wants (record world { session = held }) turn) next came) is_typed does))
+      (subst (λ (it : Turn). Turned (with_key world key) it echoed screen next came)
+      (is_turn (not_failed turn other) ∙ ap (λ (held : Held). turn_of (class_of key) held.ending) is_typed)
+      (subst (λ (held : Held). Turned (record world { session = held }) turn echoed screen next came) is_typed does))
 
--- a file takes a key: only the file's bytes change
+-- what a turn of a file does from this world on
+abbrev pub DataTurned : World → Typing → DataTurn → Told → Told → World → Step → Type 0
+DataTurned world typing turn told now next came =
+    Does told now (data_reply world typing turn ++ data_prompt turn) world.state (world_after_data world typing turn) (data_wants turn) next came
+
+-- it is so by the file as it then is and not by the one before
 same_reply : (world : World) (other : Option Typing) (typing : Typing) (turn : DataTurn)
     → data_reply (record world { typing = other }) typing turn ≡ data_reply world typing turn
 unfolding data_reply
@@ -210,7 +216,7 @@ typed_whole told echoed key data_turns.Failed other types = absurd (other refl)
 abbrev typed_as : Typing → List ℕ → Typing
 typed_as typing bytes = record typing { typed = bytes }
 
-abbrev typed_in : World → Typing → World
+abbrev pub typed_in : World → Typing → World
 typed_in world typing = record world { typing = Some typing }
 
 module _ (world : World) (key : ℕ) (typing : Typing) (is : world.typing ≡ Some typing) (going : world.ended ≡ false)
@@ -226,19 +232,16 @@ module _ (world : World) (key : ℕ) (typing : Typing) (is : world.typing ≡ So
 
   pub took_data : (writes : Bool) (screen log logged : Told) (next : World) (came : Step)
       → logged ≡ add log (if writes then data_log key else [])
-      → Does echoed screen (data_reply (typed_in world (typed_as typing bytes)) (typed_as typing bytes) turn ++ data_prompt turn) world.state
-          (world_after_data (typed_in world (typed_as typing bytes)) (typed_as typing bytes) turn) (data_wants turn) next came
+      → DataTurned (typed_in world (typed_as typing bytes)) (typed_as typing bytes) turn echoed screen next came
       → Took writes world key (outputs told log) (outputs screen logged) next came
   took_data writes screen log logged next came is_logged does =
       took_by world key (Some typing) is going writes told echoed screen log logged next came whole.told is_logged
-      (subst (λ (it : DataTurn). Does echoed screen (data_reply world (with_data typing key) it ++ data_prompt it) world.state
-          (world_after_data world (with_data typing key) it) (data_wants it) next came) (sym whole.turn_is)
-        (does_as echoed screen _ _ world.state _ _ _ _ next came
-          (ap (λ (it : List ℕ). it ++ data_prompt turn) (same_reply world (Some (with_data typing key)) (with_data typing key) turn))
-          (same_leads world (Some (with_data typing key)) (with_data typing key) turn)
-          refl
-          (subst (λ (it : List ℕ). Does echoed screen (data_reply (typed_in world (typed_as typing it)) (typed_as typing it) turn ++ data_prompt turn) world.state
-              (world_after_data (typed_in world (typed_as typing it)) (typed_as typing it) turn) (data_wants turn) next came) is_bytes does)))
+      (subst (λ (it : DataTurn). DataTurned world (with_data typing key) it echoed screen next came) (sym whole.turn_is)
+      (does_as echoed screen _ _ world.state _ _ _ _ next came
+      (ap (λ (it : List ℕ). it ++ data_prompt turn) (same_reply world (Some (with_data typing key)) (with_data typing key) turn))
+      (same_leads world (Some (with_data typing key)) (with_data typing key) turn)
+      refl
+      (subst (λ (it : List ℕ). DataTurned (typed_in world (typed_as typing it)) (typed_as typing it) turn echoed screen next came) is_bytes does)))
 
 -- a line's key costs the trials of the text that it leaves
 pub counted_line : (world : World) (key : ℕ) → world.typing ≡ None → world.ended ≡ false → (typed : Held) (before now : ℕ)
@@ -253,6 +256,6 @@ counted_line world key line going typed before now is_typed rise =
 pub counted_data : (world : World) (key : ℕ) → IsTrue (is_some world.typing) → world.ended ≡ false → (before : ℕ) → before ≡ before + key_cost world key
 counted_data world key file going before =
     counted world key world.typing refl going before before (sym (add-zero before) ∙ ap (λ (it : ℕ). before + it) (sym (free world.typing file))) where
-  free : (typing : Option Typing) → IsTrue (is_some typing) → cost_by world key typing ≡ 0
-  free None none = absurd (false≢true none)
-  free (Some typing) some = refl
+      free : (typing : Option Typing) → IsTrue (is_some typing) → cost_by world key typing ≡ 0
+      free None none = absurd (false≢true none)
+      free (Some typing) some = refl

@@ -73,7 +73,8 @@ Took writes world key before now next steps.NoMemory =
 -- it, or not
 abbrev pub Does : Told → Told → List ℕ → State → World → Bool → World → Step → Type 0
 Does before now bytes state leads wants next steps.More = (now ≡ add before bytes) × (leads ≡ next)
-Does before now bytes state leads wants next steps.Over = (now ≡ add before bytes) × (leads ≡ record next { ended = true })
+Does before now bytes state leads wants next steps.Over =
+    (now ≡ add before bytes) × (leads ≡ record next { ended = true })
 Does before now bytes state leads wants next steps.ScreenFailed =
     AddsPart before now bytes × (left_of next ≡ left_of leads)
 Does before now bytes state leads wants next steps.LogFailed = ⊥

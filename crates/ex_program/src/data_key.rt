@@ -102,7 +102,12 @@ fn put_data_log<W: Sink>(key: u8, log: &mut W) -> Put
 
 // Does what a key of a file came to, which is taken out of the course: the typing goes on, the file is written, or it
 // is dropped.
-fn take_data_turn<S: Sink>(turn: DataTurn, typing: Typing, course: &mut Course, screen: &mut S) -> Step
+fn take_data_turn<S: Sink>(
+    turn: DataTurn,
+    typing: Typing,
+    course: &mut Course,
+    screen: &mut S,
+) -> Step
     requires { IsTarget typing.to course.old.store.state.directories }
     ensures does { (moments : List ℕ) → (let world = going (record course.old { typing = Some typing }) moments in
         Does (S.told screen.old) (S.told screen.new) (data_reply world typing turn ++ data_prompt turn) world.state
@@ -110,6 +115,7 @@ fn take_data_turn<S: Sink>(turn: DataTurn, typing: Typing, course: &mut Course, 
     ensures ready { result ≡ Step.More → IsAtKey course.new }
     ensures later { S.faults screen.old ≤ S.faults screen.new }
     ensures cause { ScreenCause (S.faults screen.old) (S.faults screen.new) result }
+    // Nothing is asked of the log.
     ensures log { (faults : ℕ) → LogCause faults faults result }
 {
     match turn {
@@ -141,6 +147,7 @@ fn write<S: Sink>(typing: Typing, course: &mut Course, screen: &mut S) -> Step
     ensures ready { result ≡ Step.More → IsAtKey course.new }
     ensures later { S.faults screen.old ≤ S.faults screen.new }
     ensures cause { ScreenCause (S.faults screen.old) (S.faults screen.new) result }
+    // Nothing is asked of the log.
     ensures log { (faults : ℕ) → LogCause faults faults result }
 {
     let Typing { to, moment, typed } = typing;

@@ -68,7 +68,14 @@ pub(crate) fn take_line_key<S: Sink, W: Sink, C: Clock, L: Ledger>(
     ensures log_later { W.faults log.old ≤ W.faults log.new }
     ensures log_cause { LogCause (W.faults log.old) (W.faults log.new) result }
 {
-    let turn = edit_key(key, under, &mut course.session, &course.store, screen, steps);
+    let turn = edit_key(
+        key,
+        under,
+        &mut course.session,
+        &course.store,
+        screen,
+        steps,
+    );
     if let Turn::Failed = turn {
         return Step::ScreenFailed;
     }
@@ -139,6 +146,7 @@ fn take_turn<S: Sink, C: Clock>(
     ensures ready { result ≡ Step.More → IsAtKey course.new }
     ensures later { S.faults screen.old ≤ S.faults screen.new }
     ensures cause { ScreenCause (S.faults screen.old) (S.faults screen.new) result }
+    // Nothing is asked of the log.
     ensures log { (faults : ℕ) → LogCause faults faults result }
 {
     match turn {
@@ -183,6 +191,7 @@ fn obey<S: Sink, C: Clock>(
     ensures ready { result ≡ Step.More → IsAtKey course.new }
     ensures later { S.faults screen.old ≤ S.faults screen.new }
     ensures cause { ScreenCause (S.faults screen.old) (S.faults screen.new) result }
+    // Nothing is asked of the log.
     ensures log { (faults : ℕ) → LogCause faults faults result }
 {
     let command = command_of(&course.session, under, &course.store);
@@ -205,7 +214,9 @@ fn begin_typing(command: &Command, moment: u64, alloc: Global, course: &mut Cour
         (record (going course.old moments) { typing = option_map (typing_to moment) (target_of command.now) })
         (wants command.now) (going course.new moments) result }
     ensures ready { result ≡ Step.More → IsAtKey course.new }
+    // Nothing is asked of the screen.
     ensures cause { (faults : ℕ) → ScreenCause faults faults result }
+    // Nothing is asked of the log.
     ensures log { (faults : ℕ) → LogCause faults faults result }
 {
     if let Command::CopyTty { to } = command {
@@ -228,6 +239,7 @@ pub(crate) fn begin_line<S: Sink>(course: &mut Course, screen: &mut S) -> Step
     ensures ready { result ≡ Step.More → IsAtKey course.new }
     ensures later { S.faults screen.old ≤ S.faults screen.new }
     ensures cause { ScreenCause (S.faults screen.old) (S.faults screen.new) result }
+    // Nothing is asked of the log.
     ensures log { (faults : ℕ) → LogCause faults faults result }
 {
     match prompt_line(course, screen) {

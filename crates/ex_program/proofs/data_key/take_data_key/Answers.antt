@@ -7,6 +7,6 @@ use Rattle.ex_program.proofs.data_key.take_data_key.Goals as goal
 pub returns-clause-took : goal.returns-clause-took
 returns-clause-took g c = λ moments.
     subst (λ (it : Option Typing). Took c.args.writes (record (going c.args.course.now moments) { typing = it }) c.args.key
-        (record { screen = g.S.Sink.told c.args.screen.now; log = g.W.Sink.told c.args.log.now })
-        (record { screen = g.S.Sink.told c.type_key.new.screen; log = g.W.Sink.told c.type_key.new.log })
-        (going c.type_key.new.course moments) c.type_key.result) c.in-Some.ensures.value (c.type_key.ensures.took moments)
+    (record { screen = g.S.Sink.told c.args.screen.now; log = g.W.Sink.told c.args.log.now })
+    (record { screen = g.S.Sink.told c.type_key.new.screen; log = g.W.Sink.told c.type_key.new.log })
+    (going c.type_key.new.course moments) c.type_key.result) c.in-Some.ensures.value (c.type_key.ensures.took moments)

@@ -1,10 +1,9 @@
-use Rattle.std.proofs.Common.{◌≡◌, IsTrue, None, is_some, refl}
+use Rattle.std.proofs.Common.{◌≡◌, IsTrue, is_some, refl}
 use Rattle.std.proofs.lemmas.Bool.{false≢true}
 use Rattle.ex_store.specs.declared.place.Place.{Place}
 use Rattle.ex_commands.specs.declared.command.Command.{Command}
 use Rattle.ex_commands.specs.declared.command.Command.TheVariants as commands
 use Rattle.ex_program.specs.World.{target_of}
-use Rattle.ex_program.proofs.Acting.{data_begins}
 use Rattle.ex_program.proofs.line_key.begin_typing.Goals as goal
 
 -- a command with a file to be typed in is COPY TTY

@@ -19,5 +19,5 @@ pub returns-clause-may_act : goal.returns-clause-may_act
 returns-clause-may_act g c =
     subst (λ (it : Command). MayAct it c.args.store.now.state) (sym c.of.ensures)
     (c.a_line_may_act.ensures c.args.store.now.state (text_of c.args.session.now) c.args.session.now.fields c.directories.ensures.lawful
-      (subst (λ (it : Setting). IsParse it COMMANDS (text_of c.args.session.now) c.args.session.now.fields Done)
-        (sym (is_exec exec_graph c.args.store.now.state refl)) c.requires.parse))
+    (subst (λ (it : Setting). IsParse it COMMANDS (text_of c.args.session.now) c.args.session.now.fields Done)
+    (sym (is_exec exec_graph c.args.store.now.state refl)) c.requires.parse))

@@ -1,4 +1,4 @@
-use Rattle.std.proofs.Common.{◌≡◌, ◌+◌, ◌∙◌, ap, arith, subst, sym}
+use Rattle.std.proofs.Common.{◌+◌, ◌∙◌, ap, arith, subst, sym}
 use Rattle.cm_blocks.specs.Kept.{cost}
 use Rattle.cm_blocks.specs.Parse.{IsParse}
 use Rattle.cm_blocks.specs.Setting.{Setting}
@@ -11,9 +11,13 @@ use Rattle.ex_program.proofs.ExecSetting.{is_exec}
 use Rattle.ex_program.proofs.line_key.edit_key.Goals as goal
 
 pub key-requires : goal.key-requires
-key-requires g c =
-    (omega arith, (subst (λ (it : Setting). IsReady it c.args.session.now) (sym (is_exec c.args.under.now.grammar c.args.store.now.state c.requires.exec)) c.requires.ready,
-      (c.requires.ties, c.requires.hooks)))
+key-requires g c = (
+  omega arith,
+  (
+    subst (λ (it : Setting). IsReady it c.args.session.now) (sym (is_exec c.args.under.now.grammar c.args.store.now.state c.requires.exec)) c.requires.ready,
+    (c.requires.ties, c.requires.hooks),
+  ),
+)
 
 pub returns-clause-edited : goal.returns-clause-edited
 returns-clause-edited g c =
@@ -38,4 +42,4 @@ pub returns-clause-steps : goal.returns-clause-steps
 returns-clause-steps g c =
     c.key.ensures.steps
     ∙ ap (λ (it : Setting). c.args.steps.now + cost it c.args.session.now.node (met_line c.args.session.now) (text_of c.key.new.self))
-      (is_exec c.args.under.now.grammar c.args.store.now.state c.requires.exec)
+    (is_exec c.args.under.now.grammar c.args.store.now.state c.requires.exec)

@@ -46,7 +46,7 @@ confirmed_parse : (s : Setting) (old typed : Held) (key : ℕ) (turn : Turn) →
 confirmed_parse s old typed key turn at is_typed parse is_turn confirmed =
     subst (λ (it : ℕ). IsParse s it (text_of typed) typed.fields endings.Done) (ap (λ (held : Held). held.node) is_typed ∙ same_node s old key ∙ at)
     (subst (λ (it : Ending). IsParse s typed.node (text_of typed) typed.fields it)
-      (done_of (class_of key) typed.ending (sym (is_turn (ap (λ (it : Turn). put_of it) confirmed)) ∙ confirmed)) parse)
+    (done_of (class_of key) typed.ending (sym (is_turn (ap (λ (it : Turn). put_of it) confirmed)) ∙ confirmed)) parse)
 
 -- the course stays at a key
 at_key : (course : Course) (key : ℕ) (typed : Held) → IsAtKey course → typed ≡ edited (exec_setting course.store.state) course.session key

@@ -1,4 +1,4 @@
-use Rattle.std.proofs.Common.{◌≡◌, ◌++◌, false, refl, subst, sym}
+use Rattle.std.proofs.Common.{◌≡◌, false, refl, subst, sym}
 use Rattle.cm_blocks.specs.declared.field.Fault.{Fault}
 use Rattle.cm_io.specs.Told.{Told}
 use Rattle.cm_io.proofs.Adding.{add_none}
@@ -10,12 +10,8 @@ use Rattle.ex_program.specs.Step.{Does}
 use Rattle.ex_program.specs.World.{World, act_at, act_bytes, command_at, going, next_line, turn_prompt, turn_reply, turn_wants, wants, world_after_command, world_after_turn}
 use Rattle.ex_program.specs.declared.step.Step.{Step}
 use Rattle.ex_program.specs.declared.step.Step.TheVariants.{More}
+use Rattle.ex_program.proofs.Steps.{Turned}
 use Rattle.ex_program.proofs.line_key.take_turn.Goals as goal
-
--- what a turn does
-abbrev Turned : World → Turn → Told → Told → World → Step → Type 0
-Turned world turn told now next came =
-    Does told now (turn_reply world turn ++ turn_prompt world turn) world.state (world_after_turn world turn) (turn_wants world turn) next came
 
 edited : (world : World) (told : Told) → Turned world turns.Edited told told world More
 unfolding turn_reply turn_prompt turn_wants world_after_turn
@@ -54,22 +50,22 @@ returns-in-Confirmed-clause-does g c = λ clock. let world = going c.args.course
     by world c.args.turn turns.Confirmed (g.S.Sink.told c.args.screen.now) (g.S.Sink.told c.obey.new.screen)
     (going c.obey.new.course (g.C.Clock.left c.obey.new.clock)) c.obey.result c.in-Confirmed.is
     (confirmed world (g.S.Sink.told c.args.screen.now) (g.S.Sink.told c.obey.new.screen)
-      (going c.obey.new.course (g.C.Clock.left c.obey.new.clock)) c.obey.result (c.obey.ensures.does clock))
+    (going c.obey.new.course (g.C.Clock.left c.obey.new.clock)) c.obey.result (c.obey.ensures.does clock))
 
 pub returns-in-Refused-clause-does : goal.returns-in-Refused-clause-does
 returns-in-Refused-clause-does g c = λ clock. let moments = g.C.Clock.left c.args.clock.now in let world = going c.args.course.now moments in
     by world c.args.turn (turns.Refused c.in-Refused.field-0) (g.S.Sink.told c.args.screen.now) (g.S.Sink.told c.begin_line.new.screen)
     (going c.begin_line.new.course moments) c.begin_line.result c.in-Refused.is
     (refused world c.in-Refused.field-0 (g.S.Sink.told c.args.screen.now) (g.S.Sink.told c.begin_line.new.screen)
-      (going c.begin_line.new.course moments) c.begin_line.result (c.begin_line.ensures.does moments world.state false))
+    (going c.begin_line.new.course moments) c.begin_line.result (c.begin_line.ensures.does moments world.state false))
 
 pub returns-in-Abandoned-clause-does : goal.returns-in-Abandoned-clause-does
 returns-in-Abandoned-clause-does g c = λ clock. let moments = g.C.Clock.left c.args.clock.now in let world = going c.args.course.now moments in
     by world c.args.turn turns.Abandoned (g.S.Sink.told c.args.screen.now) (g.S.Sink.told c.begin_line-in-Abandoned.new.screen)
     (going c.begin_line-in-Abandoned.new.course moments) c.begin_line-in-Abandoned.result c.in-Abandoned.is
     (abandoned world (g.S.Sink.told c.args.screen.now) (g.S.Sink.told c.begin_line-in-Abandoned.new.screen)
-      (going c.begin_line-in-Abandoned.new.course moments) c.begin_line-in-Abandoned.result
-      (c.begin_line-in-Abandoned.ensures.does moments world.state false))
+    (going c.begin_line-in-Abandoned.new.course moments) c.begin_line-in-Abandoned.result
+    (c.begin_line-in-Abandoned.ensures.does moments world.state false))
 
 pub returns-in-Failed-clause-does : goal.returns-in-Failed-clause-does
 returns-in-Failed-clause-does g c = λ clock. let world = going c.args.course.now (g.C.Clock.left c.args.clock.now) in
