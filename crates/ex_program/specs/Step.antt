@@ -29,17 +29,17 @@ pub record Stepped (writes : Bool) (world : World) (key : ℕ) (before now : Out
   pub leads : step world key ≡ next
 
 -- the echo of a key was cut: the key is not logged, takes no moment, and does not act
-pub record EchoCut (world : World) (key : ℕ) (before now : Outputs) (left : Left) : Type 0 where
+pub record EchoCut (world : World) (key : ℕ) (before now : Outputs) (behind : Left) : Type 0 where
   pub screen : AddsPart before.screen now.screen (key_echo world key)
   pub log : now.log ≡ before.log
-  pub left : left ≡ left_of world
+  pub left : behind ≡ left_of world
 
 -- what a key shows behind its echo was cut: the key is logged, and its line has acted
-pub record ReplyCut (writes : Bool) (world : World) (key : ℕ) (before now : Outputs) (left : Left)
+pub record ReplyCut (writes : Bool) (world : World) (key : ℕ) (before now : Outputs) (behind : Left)
     : Type 0 where
   pub screen : AddsPart (add before.screen (key_echo world key)) now.screen (key_bytes world key)
   pub log : now.log ≡ add before.log (logs writes world key)
-  pub left : left ≡ left_of (step world key)
+  pub left : behind ≡ left_of (step world key)
 
 -- the screen failed at a key
 abbrev pub KeyCut : Bool → World → ℕ → Outputs → Outputs → Left → Type 0
@@ -47,15 +47,15 @@ KeyCut writes world key before now left =
     EchoCut world key before now left ⊎ ReplyCut writes world key before now left
 
 -- the log line of a key was cut, behind the echo: the key takes no moment, and its line does not act
-pub record LogCut (writes : Bool) (world : World) (key : ℕ) (before now : Told) (left : Left) : Type 0 where
+pub record LogCut (writes : Bool) (world : World) (key : ℕ) (before now : Told) (behind : Left) : Type 0 where
   pub log : AddsPart before now (logs writes world key)
-  pub left : left ≡ left_of world
+  pub left : behind ≡ left_of world
 
 -- memory was wanting at a key where it may be: the key is logged, and its line has taken its moment and not acted
-pub record Lacked (writes : Bool) (world : World) (key : ℕ) (before now : Told) (left : Left) : Type 0 where
+pub record Lacked (writes : Bool) (world : World) (key : ℕ) (before now : Told) (behind : Left) : Type 0 where
   pub may_want : key_wants world key ≡ true
   pub log : now ≡ add before (logs writes world key)
-  pub left : left ≡ record { state = world.state; moments = (step world key).moments }
+  pub left : behind ≡ record { state = world.state; moments = (step world key).moments }
 
 -- what stands behind a key, by what it came to
 abbrev pub Took : Bool → World → ℕ → Outputs → Outputs → World → Step → Type 0
