@@ -25,15 +25,15 @@ module _ (writes : Bool) (a b : Scene) where
   ends_counted message status.KeyLimit ends = (ends.taken, ends.as_taken.keys, ends.as_taken.steps)
   ends_counted message status.WriteFault (inl cut) = cut_counted cut.1
   ends_counted message status.WriteFault (inr cut) = at_counted a b cut.1.at
+  ends_counted message status.NoMemory ends = at_counted a b ends.at
   ends_counted message status.Usage ends = absurd ends
   ends_counted message status.HostFault ends = absurd ends
-  ends_counted message status.NoMemory ends = absurd ends
 
   pub ran_counted : (result : Status) → Ran writes a b result → IsCounted a b
   ran_counted status.Done ran = ends_counted _ status.Done ran.ends
   ran_counted status.ReadFault ran = ends_counted _ status.ReadFault ran.ends
   ran_counted status.WriteFault ran = ends_counted _ status.WriteFault ran.ends
   ran_counted status.KeyLimit ran = ends_counted _ status.KeyLimit ran.ends
+  ran_counted status.NoMemory ran = ends_counted _ status.NoMemory ran.ends
   ran_counted status.HostFault ran = ends_counted _ ran.0 ran.1.ends
   ran_counted status.Usage ran = absurd ran
-  ran_counted status.NoMemory ran = absurd ran

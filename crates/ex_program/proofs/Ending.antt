@@ -8,9 +8,10 @@ use Rattle.ex_program.specs.Cause.{Counts, EndCause, StatusCause, StopCause}
 use Rattle.ex_program.specs.Cut.{ScreenCut}
 use Rattle.ex_program.specs.End.{Ended, Ran}
 use Rattle.ex_program.specs.Messages.{message}
-use Rattle.ex_program.specs.Run.{World, run_keys, run_shown, starting, world_after}
-use Rattle.ex_program.specs.Scene.{Scene, Tried, counts_of}
+use Rattle.ex_program.specs.Run.{run_keys, run_shown, world_after}
+use Rattle.ex_program.specs.Scene.{AtKey, Scene, Taken, Tried, counts_of, start_of}
 use Rattle.ex_program.specs.Stop.{Closes, IsOr, IsRun, Stops}
+use Rattle.ex_program.specs.World.{World}
 use Rattle.ex_program.specs.declared.status.Status.{Status}
 use Rattle.ex_program.specs.declared.status.Status.TheVariants as status
 use Rattle.ex_program.specs.declared.stop.Stop.{Stop}
@@ -31,8 +32,8 @@ ran_as writes a b status.ReadFault ended = ended
 ran_as writes a b status.WriteFault ended = ended
 ran_as writes a b status.KeyLimit ended = ended
 ran_as writes a b status.HostFault ended = (status.HostFault, ended)
+ran_as writes a b status.NoMemory ended = ended
 ran_as writes a b status.Usage ended = ended.cause
-ran_as writes a b status.NoMemory ended = ended.cause
 
 ran_or : (writes : Bool) (a b : Scene) (result why : Status) → IsOr result why → Ended writes a b why result → Ran writes a b result
 ran_or writes a b result why (inl same) ended = ran_as writes a b result (subst (λ (came : Status). Ended writes a b came result) (sym same) ended)
@@ -64,13 +65,26 @@ module _ (writes : Bool) (a b : Scene) (now : Told) (faults : ℕ) (result : Sta
   abbrev final : Scene
   final = record b { screen = now; screen_faults = faults }
 
+  -- of the keys nothing changes
+  taken_stays : (taken : List ℕ) → Taken writes a b taken → Taken writes a final taken
+  taken_stays taken as_taken = record {
+    keys = as_taken.keys;
+    log = as_taken.log;
+    moments = as_taken.moments;
+    steps = as_taken.steps;
+    state = as_taken.state;
+  }
+
+  abbrev at_stays : AtKey a b → AtKey a final
+  at_stays at = record { before = at.before; key = at.key; keys = at.keys; going = at.going; below = at.below; steps = at.steps }
+
   logged_out : Stops writes a b stop.LoggedOut → StopCause (counts_of a) (counts_of b) stop.LoggedOut
       → Closes stop.LoggedOut b.screen now b.screen_faults faults result → Ran writes a final result
-  logged_out s cause closes = let w = starting a.moments in ran_or writes a final result status.Done closes.0 (record {
+  logged_out s cause closes = let w = start_of a in ran_or writes a final result status.Done closes.0 (record {
     cause = cause_stays (counts_of a) (counts_of b) faults cause;
     ends = record {
       taken = s.0;
-      as_taken = record { keys = s.1.as_taken.keys; log = s.1.as_taken.log; moments = s.1.as_taken.moments; steps = s.1.as_taken.steps };
+      as_taken = taken_stays s.0 s.1.as_taken;
       over = inl s.2;
       within = s.3;
       screen = subst (λ bytes. Tried a.screen now a.screen_faults faults bytes (message result)) (shown_ended w s.0 s.2.ended)
@@ -80,11 +94,11 @@ module _ (writes : Bool) (a b : Scene) (now : Told) (faults : ℕ) (result : Sta
 
   keys_ended : Stops writes a b stop.KeysEnded → StopCause (counts_of a) (counts_of b) stop.KeysEnded
       → Closes stop.KeysEnded b.screen now b.screen_faults faults result → Ran writes a final result
-  keys_ended s cause (inl closes) = let w = starting a.moments in ran_or writes a final result status.Done closes.0 (record {
+  keys_ended s cause (inl closes) = let w = start_of a in ran_or writes a final result status.Done closes.0 (record {
     cause = cause_stays (counts_of a) (counts_of b) faults cause;
     ends = record {
       taken = s.0;
-      as_taken = record { keys = s.1.as_taken.keys; log = s.1.as_taken.log; moments = s.1.as_taken.moments; steps = s.1.as_taken.steps };
+      as_taken = taken_stays s.0 s.1.as_taken;
       over = inr s.2;
       within = omega (arith, s.2.2);
       screen = subst (λ bytes. Tried a.screen now a.screen_faults faults bytes (message result)) (shown_going w s.0 s.2.0)
@@ -97,7 +111,7 @@ module _ (writes : Bool) (a b : Scene) (now : Told) (faults : ℕ) (result : Sta
       rose_late a.screen_faults b.screen_faults faults earlier closes.2,
       inr (inr (record {
         taken = s.0;
-        as_taken = record { keys = s.1.as_taken.keys; log = s.1.as_taken.log; moments = s.1.as_taken.moments; steps = s.1.as_taken.steps };
+        as_taken = taken_stays s.0 s.1.as_taken;
         read = s.2;
         screen = subst (λ told. AddsPart told now end_of_line) s.1.screen closes.1;
       })),
@@ -110,10 +124,10 @@ module _ (writes : Bool) (a b : Scene) (now : Told) (faults : ℕ) (result : Sta
     cause = cause_unread (counts_of a) (counts_of b) faults cause;
     ends = record {
       taken = s.0;
-      as_taken = record { keys = s.1.as_taken.keys; log = s.1.as_taken.log; moments = s.1.as_taken.moments; steps = s.1.as_taken.steps };
+      as_taken = taken_stays s.0 s.1.as_taken;
       going = s.2;
       counted = s.3;
-      screen = tried_behind a.screen b.screen now a.screen_faults b.screen_faults faults (run_keys (starting a.moments) s.0) (end_of_line ++ message result) s.1.screen (ap (λ (counts : Counts). counts.screen) cause.1) closes.1;
+      screen = tried_behind a.screen b.screen now a.screen_faults b.screen_faults faults (run_keys (start_of a) s.0) (end_of_line ++ message result) s.1.screen (ap (λ (counts : Counts). counts.screen) cause.1) closes.1;
     };
   })
 
@@ -123,16 +137,23 @@ module _ (writes : Bool) (a b : Scene) (now : Told) (faults : ℕ) (result : Sta
     cause = cause_stays (counts_of a) (counts_of b) faults cause;
     ends = record {
       taken = s.0;
-      as_taken = record { keys = s.1.as_taken.keys; log = s.1.as_taken.log; moments = s.1.as_taken.moments; steps = s.1.as_taken.steps };
+      as_taken = taken_stays s.0 s.1.as_taken;
       going = s.2;
       counted = s.3;
-      screen = tried_behind a.screen b.screen now a.screen_faults b.screen_faults faults (run_keys (starting a.moments) s.0) (end_of_line ++ message result) s.1.screen (ap (λ (counts : Counts). counts.screen) cause) closes.1;
+      screen = tried_behind a.screen b.screen now a.screen_faults b.screen_faults faults (run_keys (start_of a) s.0) (end_of_line ++ message result) s.1.screen (ap (λ (counts : Counts). counts.screen) cause) closes.1;
     };
   })
 
   -- a screen that failed is given no more
   cut_stays : Stops writes a b stop.ScreenFailed → ScreenCut writes a (record b { screen_faults = faults })
-  cut_stays (inl prompt) = inl (record { screen = prompt.screen; log = prompt.log; keys = prompt.keys; moments = prompt.moments; steps = prompt.steps })
+  cut_stays (inl prompt) = inl (record {
+    screen = prompt.screen;
+    log = prompt.log;
+    keys = prompt.keys;
+    moments = prompt.moments;
+    steps = prompt.steps;
+    state = prompt.state;
+  })
   cut_stays (inr cut) = inr (inl (
     record { before = cut.0.before; key = cut.0.key; keys = cut.0.keys; going = cut.0.going; below = cut.0.below; steps = cut.0.steps },
     cut.1,
@@ -152,11 +173,22 @@ module _ (writes : Bool) (a b : Scene) (now : Told) (faults : ℕ) (result : Sta
     ends = inr (
       cause.0,
       record {
-        at = record { before = s.0.before; key = s.0.key; keys = s.0.keys; going = s.0.going; below = s.0.below; steps = s.0.steps };
+        at = at_stays s.0;
         cut = s.2;
         screen = tried_behind a.screen b.screen now a.screen_faults b.screen_faults faults _ (message result) s.1 (ap (λ (counts : Counts). counts.screen) cause.1) closes.1;
       },
     );
+  })
+
+  memory_wanting : Stops writes a b stop.NoMemory → StopCause (counts_of a) (counts_of b) stop.NoMemory
+      → Closes stop.NoMemory b.screen now b.screen_faults faults result → Ran writes a final result
+  memory_wanting s cause closes = ran_or writes a final result status.NoMemory closes.0 (record {
+    cause = cause_stays (counts_of a) (counts_of b) faults cause;
+    ends = record {
+      at = at_stays s.0;
+      lacked = s.2;
+      screen = tried_behind a.screen b.screen now a.screen_faults b.screen_faults faults _ (end_of_line ++ message result) s.1 (ap (λ (counts : Counts). counts.screen) cause) closes.1;
+    };
   })
 
   -- a run that stopped so and closed so stands
@@ -168,6 +200,7 @@ module _ (writes : Bool) (a b : Scene) (now : Told) (faults : ℕ) (result : Sta
   closes_ran stop.KeyLimit s cause closes = keys_out s cause closes
   closes_ran stop.ScreenFailed s cause closes = screen_failed s cause closes
   closes_ran stop.LogFailed s cause closes = log_failed s cause closes
+  closes_ran stop.NoMemory s cause closes = memory_wanting s cause closes
 
 -- a status is as the one that it may be, or HostFault
 by_or : (P : Status → Type 0) (result why : Status) → IsOr result why → (result ≡ why → P why) → (result ≡ status.HostFault → P status.HostFault) → P result
@@ -212,6 +245,9 @@ module _ (a b : Counts) (before now : Told) (screen : ℕ) (result : Status) (la
       by_or (StatusCause a last) result status.WriteFault closes.0
       (λ same. inr (cause.0, ap (λ count. record b { screen = count }) (closes.2 same) ∙ cause.1))
       (λ _. (status.WriteFault, cause_unlogged a b screen cause))
+  closes_causes stop.NoMemory cause closes quiet =
+      by_or (StatusCause a last) result status.NoMemory closes.0 (λ _. cause_stays a b screen cause)
+      (λ _. (status.NoMemory, cause_stays a b screen cause))
 
 -- a run that closed so is past its first prompt
 pub closes_run : (before now : Told) (f g : ℕ) (result : Status) (why : Stop) → Closes why before now f g result → IsRun result
@@ -222,3 +258,4 @@ closes_run before now f g result stop.ReadFailed closes = by_or IsRun result sta
 closes_run before now f g result stop.KeyLimit closes = by_or IsRun result status.KeyLimit closes.0 (λ _. tt) (λ _. tt)
 closes_run before now f g result stop.ScreenFailed closes = by_or IsRun result status.WriteFault closes.0 (λ _. tt) (λ _. tt)
 closes_run before now f g result stop.LogFailed closes = by_or IsRun result status.WriteFault closes.0 (λ _. tt) (λ _. tt)
+closes_run before now f g result stop.NoMemory closes = by_or IsRun result status.NoMemory closes.0 (λ _. tt) (λ _. tt)

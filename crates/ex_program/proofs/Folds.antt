@@ -1,7 +1,8 @@
 -- The folds of a run over keys that come in two parts.
 use Rattle.std.proofs.Common.{◌≡◌, ℕ, ◌+◌, Bool, List, [], ◌∷◌, ◌++◌, refl, sym, ap, ◌∙◌, add_assoc, add-zero, zero-add, append_assoc}
 use Rattle.std.proofs.lemmas.List.{append-nil}
-use Rattle.ex_program.specs.Run.{World, bytes_logged, bytes_shown, key_cost, logs, shows, step, total, world_after}
+use Rattle.ex_program.specs.Run.{bytes_logged, bytes_shown, key_cost, logs, shows, step, total, world_after}
+use Rattle.ex_program.specs.World.{World}
 
 pub world_after-append : (world : World) (keys more : List ℕ) → world_after world (keys ++ more) ≡ world_after (world_after world keys) more
 world_after-append world [] more = refl

@@ -1,33 +1,54 @@
 // Laws of a run, and of what can't stand at its end.
-ghost use Rattle.std.specs.Prelude.{◌≡◌, ◌≢◌, ◌+◌, ◌<◌, ℕ, Bool, false, List, [], ◌∷◌, ◌++◌, length};
+ghost use Rattle.std.specs.Prelude.{◌≡◌, ◌≢◌, ◌⊎◌, ◌+◌, ◌<◌, ℕ, Bool, true, false, List, [], ◌∷◌, ◌++◌, length, None};
+ghost use Rattle.cm_blocks.specs.declared.field.Fault.{Fault};
 ghost use Rattle.cm_io.specs.Told.{AddsPart, Bytes, add};
 ghost use Rattle.cm_state.specs.declared.turn.Turn.{Turn};
+ghost use Rattle.ex_commands.specs.declared.data.DataTurn.{DataTurn};
 ghost use Rattle.ex_program.specs.Cause.{Counts, IsQuiet, StatusCause};
-ghost use Rattle.ex_program.specs.Cut.{ScreenCut, run_echo};
+ghost use Rattle.ex_program.specs.Cut.{RunCut, ScreenCut, run_echo};
 ghost use Rattle.ex_program.specs.End.{Ran};
-ghost use Rattle.ex_program.specs.Run.{World, bytes_logged, bytes_shown, key_turn, run_keys, run_shown, starting, total, turn_reply, with_key, world_after, world_after_turn};
-ghost use Rattle.ex_program.specs.Scene.{AtKey, Scene, world_at};
+ghost use Rattle.ex_program.specs.Run.{bytes_logged, bytes_shown, key_bytes, key_reply, key_wants, run_keys, run_shown, step, total, world_after};
+ghost use Rattle.ex_program.specs.Scene.{AtKey, Scene, left_at, start_of, world_at};
+ghost use Rattle.ex_program.specs.Step.{left_of};
+ghost use Rattle.ex_program.specs.World.{World, data_reply, key_turn, turn_reply, world_after_data, world_after_turn};
+ghost use Rattle.ex_program.specs.declared.course.Typing.{Typing};
 ghost use Rattle.ex_program.specs.declared.run.TheConstants.{KEY_LIMIT};
 
 use crate::Status;
 use cm_state::Turn;
+use ex_commands::DataTurn;
 
-/// Nothing acts before confirmation: a key that confirms no line has no reply, takes no moment, and does
-/// not end the run.
+/// Nothing acts before confirmation: a key that confirms no line has no reply, leaves the state, takes no moment, and
+/// does not end the run.
 pub fn only_a_confirmed_line_acts()
     ensures { (world : World) → (turn : Turn) → turn ≢ Turn.Confirmed
         → (turn_reply world turn ≡ [])
-        × ((world_after_turn world turn).moments ≡ world.moments)
+        × (left_of (world_after_turn world turn) ≡ left_of world)
         × ((world_after_turn world turn).ended ≡ world.ended) }
 {}
 
-/// No reply is dropped: what a line replies stands in what the run shows.
+/// Only control-Z writes a file that is typed in: any other key of it has no reply, leaves the state, takes no moment,
+/// and does not end the run.
+pub fn only_control_z_writes()
+    ensures { (world : World) → (typing : Typing) → (turn : DataTurn) → turn ≢ DataTurn.Write
+        → (data_reply world typing turn ≡ [])
+        × (left_of (world_after_data world typing turn) ≡ left_of world)
+        × ((world_after_data world typing turn).ended ≡ world.ended) }
+{}
+
+/// A key that finishes a line that the parser refuses has no reply, leaves the state, and takes no moment.
+pub fn a_refused_line_changes_nothing()
+    ensures { (world : World) → (key : ℕ) → (fault : Fault) → world.typing ≡ None
+        → key_turn world key ≡ Turn.Refused fault
+        → (key_reply world key ≡ []) × (left_of (step world key) ≡ left_of world) }
+{}
+
+/// No reply is dropped: what a key replies, at a line or at a file that is typed in, stands in what the run shows.
 pub fn each_reply_is_shown()
     ensures { (world : World) → (before : List ℕ) → (key : ℕ) → (rest : List ℕ)
         → (world_after world before).ended ≡ false
-        → (first last : List ℕ) × (first
-        ++ turn_reply (with_key (world_after world before) key) (key_turn (world_after world before) key)
-        ++ last ≡ bytes_shown world (before ++ key ∷ rest)) }
+        → (first last : List ℕ)
+        × (first ++ key_reply (world_after world before) key ++ last ≡ bytes_shown world (before ++ key ∷ rest)) }
 {}
 
 /// A run that the screen or the log cut short shows and logs a prefix of what the keys taken show and log.
@@ -61,12 +82,35 @@ pub fn a_write_fault_leaves_the_keys()
 {}
 
 /// A key is logged before its line acts: where the log failed, and not the screen, the screen ends with the
-/// echo of the key, and no moment was taken for it.
+/// echo of the key, no moment was taken for it, and the state is the one that it met.
 pub fn an_unlogged_line_has_not_acted()
     ensures { (writes : Bool) → (a b : Scene) → Ran writes a b Status.WriteFault
         → IsQuiet a.screen_faults b.screen_faults
         → (at : AtKey a b) × (b.screen ≡ add a.screen (run_echo a b at))
-        × (b.moments ≡ (world_at a at.before).moments) }
+        × (left_at b ≡ left_of (world_at a at.before)) }
+{}
+
+/// Behind a cut echo nothing has acted, and behind a whole one the line has: where the screen failed at a key, it holds a
+/// part of what is shown up to the echo, and state and moments are those that the key met, or it holds all of that, and
+/// they are those that the key leaves.
+pub fn a_cut_line_has_acted_or_not()
+    ensures either { (writes : Bool) → (a b : Scene) → (at : AtKey a b) → RunCut writes a b at
+        → (AddsPart a.screen b.screen (run_echo a b at) × (left_at b ≡ left_of (world_at a at.before)))
+        ⊎ (AddsPart (add a.screen (run_echo a b at)) b.screen (key_bytes (world_at a at.before) at.key)
+        × (left_at b ≡ left_of (step (world_at a at.before) at.key))) }
+    // So the bytes tell which, but where they end just behind the echo.
+    ensures by_bytes { (writes : Bool) → (a b : Scene) → (at : AtKey a b) → RunCut writes a b at
+        → (given part : List ℕ) → a.screen ≡ Bytes given → b.screen ≡ Bytes (given ++ part)
+        → (length part < length (run_echo a b at) → left_at b ≡ left_of (world_at a at.before))
+        × (length (run_echo a b at) < length part → left_at b ≡ left_of (step (world_at a at.before) at.key)) }
+{}
+
+/// Memory is wanting where it is taken: the last key taken is one at which it may be, and the state is the one that the
+/// key met.
+pub fn memory_is_wanting_where_it_is_taken()
+    ensures { (writes : Bool) → (a b : Scene) → Ran writes a b Status.NoMemory
+        → (at : AtKey a b) × (key_wants (world_at a at.before) at.key ≡ true)
+        × (b.state ≡ (world_at a at.before).state) }
 {}
 
 /// No key is thrown away: where the screen failed, and lacks a byte of what the keys up to this one show,

@@ -1,11 +1,10 @@
 use Rattle.std.proofs.Common.{◌≡◌}
 use Rattle.std.specs.Bool.{IsTrue}
-use Rattle.cm_state.specs.Held.{IsReady}
-use Rattle.ex_program.specs.Setting.{exec_setting}
+use Rattle.ex_program.specs.World.{IsAtKey}
 use Rattle.ex_program.proofs.Running.{Runs}
 use Rattle.ex_program.proofs.run.run.Given as goal
 
--- the run of the keys so far stands, the session is ready for a key, and no fault was counted
+-- the run of the keys so far stands, a key may be taken, and no fault was counted
 abbrev pub invariant-loop-turn : goal.invariant-loop-turn
 invariant-loop-turn g l = record {
   runs : IsTrue g.K.Source.tells → IsTrue g.C.Clock.tells → Runs l.writes
@@ -18,6 +17,7 @@ invariant-loop-turn g l = record {
         keys_faults = g.K.Source.faults l.fn.keys;
         moments = g.C.Clock.left l.fn.clock;
         steps = l.fn.steps;
+        state = l.fn.course.store.state;
       })
       (record {
         screen = g.S.Sink.told l.screen;
@@ -28,9 +28,10 @@ invariant-loop-turn g l = record {
         keys_faults = g.K.Source.faults l.keys;
         moments = g.C.Clock.left l.clock;
         steps = l.steps;
+        state = l.course.store.state;
       })
-      l.session l._turn;
-  ready : IsReady exec_setting l.session;
+      l.course l._turn;
+  ready : IsAtKey l.course;
   screen : g.S.Sink.faults l.screen ≡ g.S.Sink.faults l.fn.screen;
   log : g.W.Sink.faults l.log ≡ g.W.Sink.faults l.fn.log;
   keys : g.K.Source.faults l.keys ≡ g.K.Source.faults l.fn.keys;
