@@ -123,4 +123,6 @@ named line verb =
 
 -- the field of role Verb names the command; a line without fields is empty
 unfoldable pub command_of : Line → Command
-command_of line = option_map_or (λ (verb : Taken). named line (keyword_code verb.value)) (field_of roles.Verb line.fields) commands.Empty
+command_of line =
+    option_map_or (λ (verb : Taken). named line (keyword_code verb.value)) (field_of roles.Verb line.fields)
+    commands.Empty
