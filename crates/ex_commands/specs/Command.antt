@@ -38,11 +38,13 @@ block_of graph field = option_and_then (λ node. slice_get node.chain field.bloc
 abbrev pub flags_of : Graph → Taken → Flags
 flags_of graph field = option_map_or (λ (block : Block). block.flags) (block_of graph field) no_flags
 
--- the text that it is a part of: the line, or the default of its node
+-- the text that stands for it where the line ends before it: the default of its node
+abbrev pub default_of : Graph → Taken → List ℕ
+default_of graph field = unwrap_or (option_and_then (λ node. node.default) (node_of graph field)) []
+
+-- the text that it is a part of: the line, or that default
 abbrev pub said_in : Line → Taken → List ℕ
-said_in line field =
-    if field.defaulted then unwrap_or (option_and_then (λ node. node.default) (node_of line.graph field)) []
-    else line.text
+said_in line field = if field.defaulted then default_of line.graph field else line.text
 
 -- a part of a text, in upper case
 abbrev pub upper : List ℕ → Span → List ℕ
@@ -123,4 +125,6 @@ named line verb =
 
 -- the field of role Verb names the command; a line without fields is empty
 unfoldable pub command_of : Line → Command
-command_of line = option_map_or (λ (verb : Taken). named line (keyword_code verb.value)) (field_of roles.Verb line.fields) commands.Empty
+command_of line =
+    option_map_or (λ (verb : Taken). named line (keyword_code verb.value)) (field_of roles.Verb line.fields)
+    commands.Empty

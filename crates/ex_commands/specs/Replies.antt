@@ -12,6 +12,7 @@ use Rattle.ex_store.specs.declared.key.NamePair.{NamePair}
 use Rattle.ex_store.specs.declared.row.Row.{Row}
 use Rattle.ex_store.specs.Rows.{full_of}
 use Rattle.ex_commands.specs.declared.lines.Lines.{Lines}
+use Rattle.ex_commands.specs.declared.lines.TheConstants.{DAY_SECONDS}
 use Rattle.ex_commands.specs.declared.lines.Lines.TheVariants.{Marked, Listed}
 use Rattle.ex_commands.specs.declared.pairs.Origin.{Origin}
 use Rattle.ex_commands.specs.declared.pairs.Origin.TheVariants.{Files, Terminal}
@@ -57,9 +58,9 @@ origin_line Terminal pair = typed_line pair
 unfoldable pub marked_line : Row → List ℕ
 marked_line row = space ++ full_text (full_of row) ++ done_text
 
--- a day has 86,400 seconds
+-- the day of a moment
 abbrev pub day_of : ℕ → List ℕ
-day_of moment = day_text (pos (moment / 86400))
+day_of moment = day_text (pos (moment / DAY_SECONDS))
 
 -- how many pages and how many bytes a file has
 unfoldable pub sizes_text : File → List ℕ

@@ -173,7 +173,8 @@ fn directory_in<N: Names>(
     names: &N,
 ) -> Option<Name>
     requires { IsSaidIn (option_copied field) }
-    ensures { result ≡ directory_in (line_of grammar.now (N.catalogue names.now) session.now) (option_copied field.entry) }
+    ensures { result ≡ directory_in (line_of grammar.now (N.catalogue names.now) session.now)
+        (option_copied field.entry) }
 {
     match field {
         Some(field) => directory_by(names, said_in(field, session, grammar), field.value()),

@@ -21,7 +21,7 @@ use ex_generations::File;
 use ex_store::{Place, Row, Store, page_count};
 
 // The seconds of a day.
-const DAY_SECONDS: u64 = 86_400;
+pub(crate) const DAY_SECONDS: u64 = 86_400;
 
 /// What the line of a file tells.
 #[derive(Clone, Copy, Debug, PartialEq, Eq)]
