@@ -90,9 +90,9 @@ pub fn an_unlogged_line_has_not_acted()
         × (left_at b ≡ left_of (world_at a at.before)) }
 {}
 
-/// Behind a cut echo nothing has acted, and behind a whole one the line has: where the screen failed at a key, it holds a
-/// part of what is shown up to the echo, and state and moments are those that the key met, or it holds all of that, and
-/// they are those that the key leaves.
+/// Behind a cut echo nothing has acted, and behind a whole one the line has: where the screen failed at a key, it holds
+/// a part of what is shown up to the echo, and state and moments are those that the key met, or it holds all of that,
+/// and they are those that the key leaves.
 pub fn a_cut_line_has_acted_or_not()
     ensures either { (writes : Bool) → (a b : Scene) → (at : AtKey a b) → RunCut writes a b at
         → (AddsPart a.screen b.screen (run_echo a b at) × (left_at b ≡ left_of (world_at a at.before)))

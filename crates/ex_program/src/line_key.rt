@@ -137,7 +137,6 @@ fn take_turn<S: Sink, C: Clock>(
 ) -> Step
     requires exec { under.now.grammar ≡ exec_graph }
     requires ready { IsAtKey course.old }
-    requires line { course.old.typing ≡ None }
     requires parse { turn ≡ Turn.Confirmed → IsParse (exec_setting course.old.store.state) COMMANDS
         (text_of course.old.session) course.old.session.fields ending.Done }
     ensures does { IsTrue C.tells → (let world = going course.old (C.left clock.old) in
@@ -181,7 +180,6 @@ fn obey<S: Sink, C: Clock>(
     clock: &mut C,
 ) -> Step
     requires exec { under.now.grammar ≡ exec_graph }
-    requires line { course.old.typing ≡ None }
     requires parse { IsParse (exec_setting course.old.store.state) COMMANDS (text_of course.old.session)
         course.old.session.fields ending.Done }
     ensures does { IsTrue C.tells → (let world = going course.old (C.left clock.old) in
