@@ -18,8 +18,8 @@ use crate::Status;
 use cm_state::Turn;
 use ex_commands::DataTurn;
 
-/// Nothing acts before confirmation: a key that confirms no line has no reply, leaves the state, takes no moment, and
-/// does not end the run.
+/// Nothing acts before confirmation: a key that confirms no line has no reply, leaves the state, takes no moment,
+/// and does not end the run.
 pub fn only_a_confirmed_line_acts()
     ensures { (world : World) → (turn : Turn) → turn ≢ Turn.Confirmed
         → (turn_reply world turn ≡ [])
@@ -27,8 +27,8 @@ pub fn only_a_confirmed_line_acts()
         × ((world_after_turn world turn).ended ≡ world.ended) }
 {}
 
-/// Only control-Z writes a file that is typed in: any other key of it has no reply, leaves the state, takes no moment,
-/// and does not end the run.
+/// Only control-Z writes a file that is typed in: any other key of it has no reply, leaves the state, takes no
+/// moment, and does not end the run.
 pub fn only_control_z_writes()
     ensures { (world : World) → (typing : Typing) → (turn : DataTurn) → turn ≢ DataTurn.Write
         → (data_reply world typing turn ≡ [])
@@ -90,9 +90,9 @@ pub fn an_unlogged_line_has_not_acted()
         × (left_at b ≡ left_of (world_at a at.before)) }
 {}
 
-/// Behind a cut echo nothing has acted, and behind a whole one the line has: where the screen failed at a key, it holds a
-/// part of what is shown up to the echo, and state and moments are those that the key met, or it holds all of that, and
-/// they are those that the key leaves.
+/// Behind a cut echo nothing has acted, and behind a whole one the line has: where the screen failed at a key, it
+/// holds a part of what is shown up to the echo, and state and moments are those that the key met, or it holds all of
+/// that, and they are those that the key leaves.
 pub fn a_cut_line_has_acted_or_not()
     ensures either { (writes : Bool) → (a b : Scene) → (at : AtKey a b) → RunCut writes a b at
         → (AddsPart a.screen b.screen (run_echo a b at) × (left_at b ≡ left_of (world_at a at.before)))

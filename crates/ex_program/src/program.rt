@@ -211,5 +211,15 @@ pub fn exec20<H: Host, K: Source, S: Sink, W: Sink, C: Clock, L: Ledger>(
         store,
         typing: None,
     };
-    run_all(form, &under, &mut course, host, keys, screen, log, clock, steps)
+    run_all(
+        form,
+        &under,
+        &mut course,
+        host,
+        keys,
+        screen,
+        log,
+        clock,
+        steps,
+    )
 }

@@ -19,8 +19,8 @@ use std::sync::ledger::Ledger;
 /// The most keys that a run takes.
 pub const KEY_LIMIT: u32 = 16_777_216;
 
-/// Shows the first prompt and takes the keys in turn, until LOGOUT has acted, no key is left, as many are taken as a run
-/// takes, the outside fails, or memory is wanting. Nothing is asked of the outside behind a call that failed.
+/// Shows the first prompt and takes the keys in turn, until LOGOUT has acted, no key is left, as many are taken as a
+/// run takes, the outside fails, or memory is wanting. Nothing is asked of the outside behind a call that failed.
 pub(crate) fn run<K: Source, S: Sink, W: Sink, C: Clock, L: Ledger>(
     writes: bool,
     under: &Setting<'_>,
