@@ -9,3 +9,4 @@ pub mod Ending
 pub mod Meaning
 pub mod Refusing
 pub mod Counting
+pub mod Leaving

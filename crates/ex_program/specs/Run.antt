@@ -1,6 +1,6 @@
 -- The run of the program: a fold over the keys, each of which meets the whole line, or the whole file, as it then
 -- stands.
-use Rattle.std.specs.Prelude.{ℕ, ◌+◌, Bool, false, List, [], ◌∷◌, ◌++◌, Option, None, Some, codes, if◌then◌else◌}
+use Rattle.std.specs.Prelude.{ℕ, ◌+◌, Bool, List, [], ◌∷◌, ◌++◌, Option, None, Some, codes, if◌then◌else◌}
 use Rattle.cm_text.specs.Shown.{end_of_line}
 use Rattle.cm_io.specs.Pieces.{hex}
 use Rattle.cm_blocks.specs.Kept.{cost}

@@ -1,5 +1,5 @@
 -- What a key of the run does to the outside, and to the state.
-use Rattle.std.specs.Prelude.{◌≡◌, ◌⊎◌, ℕ, Bool, true, List, ◌++◌}
+use Rattle.std.specs.Prelude.{◌≡◌, ◌⊎◌, ℕ, Bool, true, List}
 use Rattle.cm_io.specs.Told.{Told, add, AddsPart}
 use Rattle.cm_io.specs.Fault.{Rose}
 use Rattle.ex_store.specs.State.{State}

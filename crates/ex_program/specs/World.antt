@@ -1,5 +1,5 @@
 -- What a run goes on from, and where a line and a file that is typed in lead.
-use Rattle.std.specs.Prelude.{◌≡◌, ℕ, Bool, true, false, List, [], ◌++◌, Option, None, Some, option_map, IfSome, if◌then◌else◌}
+use Rattle.std.specs.Prelude.{◌≡◌, ℕ, Bool, true, false, List, [], ◌++◌, Option, None, Some, option_map, IfSome}
 use Rattle.cm_io.specs.Clock.{later_moments, next_moment}
 use Rattle.cm_line.specs.Keys.{class_of}
 use Rattle.cm_state.specs.declared.prompt.Prompt.TheVariants.{Main}

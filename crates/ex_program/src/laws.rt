@@ -1,5 +1,5 @@
 // Laws of a run, and of what can't stand at its end.
-ghost use Rattle.std.specs.Prelude.{◌≡◌, ◌≢◌, ◌⊎◌, ◌+◌, ◌<◌, ℕ, Bool, true, false, List, [], ◌∷◌, ◌++◌, length, None};
+ghost use Rattle.std.specs.Prelude.{◌≡◌, ◌≢◌, ◌⊎◌, ◌+◌, ◌<◌, ◌≤◌, ℕ, Bool, true, false, List, [], ◌∷◌, ◌++◌, length, None};
 ghost use Rattle.cm_blocks.specs.declared.field.Fault.{Fault};
 ghost use Rattle.cm_io.specs.Told.{AddsPart, Bytes, add};
 ghost use Rattle.cm_state.specs.declared.turn.Turn.{Turn};
@@ -18,8 +18,8 @@ use crate::Status;
 use cm_state::Turn;
 use ex_commands::DataTurn;
 
-/// Nothing acts before confirmation: a key that confirms no line has no reply, leaves the state, takes no moment, and
-/// does not end the run.
+/// Nothing acts before confirmation: a key that confirms no line has no reply, leaves the state, takes no moment,
+/// and does not end the run.
 pub fn only_a_confirmed_line_acts()
     ensures { (world : World) → (turn : Turn) → turn ≢ Turn.Confirmed
         → (turn_reply world turn ≡ [])
@@ -27,8 +27,8 @@ pub fn only_a_confirmed_line_acts()
         × ((world_after_turn world turn).ended ≡ world.ended) }
 {}
 
-/// Only control-Z writes a file that is typed in: any other key of it has no reply, leaves the state, takes no moment,
-/// and does not end the run.
+/// Only control-Z writes a file that is typed in: any other key of it has no reply, leaves the state, takes no
+/// moment, and does not end the run.
 pub fn only_control_z_writes()
     ensures { (world : World) → (typing : Typing) → (turn : DataTurn) → turn ≢ DataTurn.Write
         → (data_reply world typing turn ≡ [])
@@ -103,6 +103,14 @@ pub fn a_cut_line_has_acted_or_not()
         → (given part : List ℕ) → a.screen ≡ Bytes given → b.screen ≡ Bytes (given ++ part)
         → (length part < length (run_echo a b at) → left_at b ≡ left_of (world_at a at.before))
         × (length (run_echo a b at) < length part → left_at b ≡ left_of (step (world_at a at.before) at.key)) }
+{}
+
+/// The image is of no other state: whatever the status is, the state that is left is that behind the keys taken, or
+/// behind all of them but the last.
+pub fn the_state_left_is_that_of_the_keys()
+    ensures { (writes : Bool) → (a b : Scene) → (result : Status) → Ran writes a b result
+        → (taken last : List ℕ) × (taken ++ (last ++ b.keys) ≡ a.keys) × (length last ≤ 1)
+        × (b.state ≡ (world_at a taken).state) }
 {}
 
 /// Memory is wanting where it is taken: the last key taken is one at which it may be, and the state is the one that the

@@ -206,10 +206,12 @@ pub fn exec20<H: Host, K: Source, S: Sink, W: Sink, C: Clock, L: Ledger>(
         grammar,
         hooks,
     };
-    let mut course = Course {
+    let mut now = Course {
         session: Session::new(),
         store,
         typing: None,
     };
-    run_all(form, &under, &mut course, host, keys, screen, log, clock, steps)
+    run_all(
+        form, &under, &mut now, host, keys, screen, log, clock, steps,
+    )
 }

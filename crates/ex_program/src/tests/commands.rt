@@ -76,11 +76,7 @@ fn a_completion_fits_a_line_or_not(rt: HostRuntime) -> Result<(), Fail> {
             b" EXPUNGE (DELETED FILES) \r\n".as_slice(),
             b"\n1b 255 O 0.1k8@231-238 35.0n1@239-254\n".as_slice(),
         ),
-        (
-            232,
-            b" EXPU\x07\r\n".as_slice(),
-            b"\n1b 236 O\n".as_slice(),
-        ),
+        (232, b" EXPU\x07\r\n".as_slice(), b"\n1b 236 O\n".as_slice()),
     ] {
         let keys = far_out(rt.alloc(), blanks)?;
         let outcome = outcome_of(&rt, &over(&keys))?;

@@ -161,7 +161,11 @@ fn is_cut(fault: Fault, taken: usize, outcome: &Outcome, whole: &Outcome) -> boo
     outcome.status == fault.status()
         && is_behind_a_prefix(screen, fault.message(), whole.screen.bytes())
         && whole.log.bytes().starts_with(outcome.log.bytes())
-        && is_saved(fault, outcome.host.file("OUT"), image_at(fault, taken, outcome))
+        && is_saved(
+            fault,
+            outcome.host.file("OUT"),
+            image_at(fault, taken, outcome),
+        )
         && outcome.host.file("IN") == Some(BEFORE)
 }
 
@@ -186,10 +190,7 @@ fn count_cut(
             return Ok(number as usize);
         }
         let taken = count_taken(&mut outcome.keys);
-        assert!(rt;
-            is_cut(fault, taken, &outcome, whole),
-            "{fault:?} {number}"
-        );
+        assert!(rt; is_cut(fault, taken, &outcome, whole), "{fault:?} {number}");
     }
     Err(Fail::from("no run is Done"))
 }

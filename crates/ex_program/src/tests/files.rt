@@ -37,7 +37,9 @@ fn types_a_file_in(rt: HostRuntime) -> Result<(), Fail> {
         done(
             b"COPY TTY: A.TXT\rX\x03",
             b"@COPY TTY: A.TXT\r\nX^C\r\n@\r\n",
-            Log::End(b"\n0d 15 D 0.1k4@0-4 1.0n0@5-5 2.0t@5-9 3.0n0@10-10 4.0o@10-15\n58 data\n03 data\n"),
+            Log::End(
+                b"\n0d 15 D 0.1k4@0-4 1.0n0@5-5 2.0t@5-9 3.0n0@10-10 4.0o@10-15\n58 data\n03 data\n",
+            ),
             IMAGE,
         ),
         done(
@@ -57,7 +59,9 @@ fn types_a_file_in(rt: HostRuntime) -> Result<(), Fail> {
         done(
             b"COPY TTY:x\r\x7fA\tB\x7f\n\x7f\x15\x1b\x1a",
             b"@COPY TTY:x\r\n\x07A B\x08 \x08\r\n\x07\x07\x07^Z\r\n TTY: => <OPERATOR>X..1 [OK]\r\n@\r\n",
-            Log::End(b"\n7f data\n41 data\n09 data\n42 data\n7f data\n0a data\n7f data\n15 data\n1b data\n1a data\n"),
+            Log::End(
+                b"\n7f data\n41 data\n09 data\n42 data\n7f data\n0a data\n7f data\n15 data\n1b data\n1a data\n",
+            ),
             b"EXEC20 1\nD OPERATOR 1\nC OPERATOR\nF OPERATOR X..1 U 0 4\nA\t\r\n\nE\n",
         ),
         // What is open at the end of the keys is dropped.

@@ -111,9 +111,7 @@ fn connects_to_what_is_there(rt: HostRuntime) -> Result<(), Fail> {
         done(
             b"CON\r",
             b"@CON\r\n@\r\n",
-            Log::Whole(
-                b"43 1 O\n4f 2 O\n4e 3 O\n0d 3 D 0.1k3@0-3 17.0n0@3-3 18.1D@3-3=\n",
-            ),
+            Log::Whole(b"43 1 O\n4f 2 O\n4e 3 O\n0d 3 D 0.1k3@0-3 17.0n0@3-3 18.1D@3-3=\n"),
             2,
         ),
         done(
