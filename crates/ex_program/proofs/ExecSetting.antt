@@ -1,5 +1,5 @@
 -- What the EXEC's setting is and has.
-use Rattle.std.proofs.Common.{◌≡◌, ℕ, ◌<◌, ◌≤◌, length, None, arith, ap}
+use Rattle.std.proofs.Common.{◌≡◌, ℕ, ◌<◌, ◌≤◌, length, None, arith, ap, refl}
 use Rattle.cm_blocks.specs.Fault.{grammar_fault}
 use Rattle.cm_blocks.specs.Grammar.{Graph, hook_count}
 use Rattle.cm_blocks.specs.Setting.{setting}
@@ -14,9 +14,12 @@ pub exec_has_no_fault : (state : State) → grammar_fault (exec_setting state).g
 unfolding exec_setting
 exec_has_no_fault state = graph_has_no_fault
 
+pub has_commands : (graph : Graph) → graph ≡ exec_graph → COMMANDS < length graph.nodes
+has_commands graph of_exec = omega (arith, ap (λ (it : Graph). length it.nodes) of_exec, graph_nodes)
+
 pub exec_has_commands : (state : State) → COMMANDS < length (exec_setting state).graph.nodes
 unfolding exec_setting
-exec_has_commands state = omega (arith, graph_nodes)
+exec_has_commands state = has_commands exec_graph refl
 
 pub is_exec : (graph : Graph) (state : State) → graph ≡ exec_graph
     → setting graph (catalogue_of state) exec_meanings ≡ exec_setting state
