@@ -1,5 +1,5 @@
 -- What the parts of a key's work come to.
-use Rattle.std.proofs.Common.{◌≡◌, ℕ, ◌+◌, Bool, true, false, List, [], ◌++◌, Option, None, Some, if◌then◌else◌, refl, sym, ap, ◌∙◌, subst, inl, inr, IsTrue, is_some, add-zero}
+use Rattle.std.proofs.Common.{◌≡◌, ℕ, ◌+◌, Bool, false, List, [], ◌++◌, Option, None, Some, if◌then◌else◌, refl, sym, ap, ◌∙◌, subst, inl, inr, IsTrue, is_some, add-zero}
 use Rattle.std.proofs.lemmas.Bool.{false≢true}
 use Rattle.cm_io.specs.Told.{Told, add, Adds, AddsPart}
 use Rattle.cm_io.specs.declared.sink.Put.TheVariants.{Done}
