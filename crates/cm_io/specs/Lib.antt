@@ -3,6 +3,7 @@ pub mod Fault
 pub mod Source
 pub mod Clock
 pub mod Host
+pub mod Loading
 pub mod Pieces
 pub mod Memory
 pub mod HeldFiles

@@ -1,11 +1,28 @@
 // What keeps files.
 ghost use Rattle.std.specs.Prelude.{◌≡◌, ◌≤◌, ◌↔◌, ℕ, Bool, false, List, IsTrue};
 ghost use Rattle.cm_io.specs.Host.{Files, KeepsOthers, Creates, Writes};
+ghost use Rattle.cm_io.specs.Loading.{Loads, IsWithin, LoadCause};
 ghost use Rattle.cm_io.specs.Fault.{PutCause};
 
 use crate::Put;
+use std::alloc::Global;
 
-/// What keeps files. One at a time may be open, to be written from its beginning.
+/// What loading a file gave.
+#[derive(Drop)]
+pub enum Loaded {
+    /// All bytes of the file.
+    Bytes(Vec<u8>),
+    /// There is no such file.
+    Absent,
+    /// The file has more bytes than were asked for.
+    TooLarge,
+    /// The outside failed.
+    Failed,
+    /// There was not enough memory.
+    NoMemory,
+}
+
+/// What keeps files. Each may be loaded whole. One at a time may be open, to be written from its beginning.
 pub trait Host {
     /// Whether objects of this type tell their files.
     ghost tells: { Bool };
@@ -21,6 +38,16 @@ pub trait Host {
 
     /// How often it has failed. The count stays at its last value once that is reached.
     ghost faults: { Self → ℕ };
+
+    /// Loads a file of at most `limit` bytes. The files stay, and what is open.
+    fn load(&mut self, alloc: Global, name: &str, limit: u32) -> Loaded
+        ensures bytes { IsTrue tells → Loads (files self.old name.now) limit result }
+        ensures within { IsWithin limit result }
+        ensures files { IsTrue tells → (name : List ℕ) → files self.new name ≡ files self.old name }
+        ensures open { is_open self.new ≡ is_open self.old }
+        ensures target { IsTrue tells → target self.new ≡ target self.old }
+        ensures later { faults self.old ≤ faults self.new }
+        ensures cause { LoadCause (faults self.old) (faults self.new) result };
 
     /// Creates a file, in place of one that is there, and opens it. After Failed none is open, and
     /// the file is absent, as before, or empty.

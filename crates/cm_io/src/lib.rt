@@ -16,14 +16,16 @@ mod sink;
 mod source;
 mod std_clock;
 mod std_host;
+mod std_load;
 mod std_log;
+mod std_read;
 mod std_sink;
 mod std_source;
 mod std_write;
 
 pub use clock::Clock;
 pub use count_sink::CountSink;
-pub use host::Host;
+pub use host::{Host, Loaded};
 pub use mem_clock::MemClock;
 pub use mem_host::MemHost;
 pub use mem_sink::MemSink;

@@ -3,11 +3,12 @@ ghost use Rattle.std.specs.Prelude.{◌≡◌, ◌≤◌, ◌↔◌, ℕ, true, 
 ghost use Rattle.std.specs.Option.{option_map};
 ghost use Rattle.cm_io.specs.Fault.{PutCause};
 ghost use Rattle.cm_io.specs.Host.{KeepsOthers, Creates, Writes};
+ghost use Rattle.cm_io.specs.Loading.{Loads, IsWithin, LoadCause};
 ghost use Rattle.cm_io.specs.HeldFiles.{is_listed, closed_at, next_call};
 
 use crate::fault::raised;
 use crate::reserved::Reserved;
-use crate::{Host, NoMemory, Put};
+use crate::{Host, Loaded, NoMemory, Put};
 use arrayvec::ArrayString;
 use std::alloc::Global;
 use std::marker::Model;
@@ -136,6 +137,39 @@ impl Host for MemHost {
     ghost target = { λ host. host.output_name };
 
     ghost faults = { λ host. host.faults };
+
+    fn load(&mut self, alloc: Global, name: &str, limit: u32) -> Loaded
+        ensures bytes { IsTrue true → Loads (files_of self.old name.now) limit result }
+        ensures within { IsWithin limit result }
+        ensures files { IsTrue true
+            → (name : List ℕ) → files_of self.new name ≡ files_of self.old name }
+        ensures open { self.new.is_open ≡ self.old.is_open }
+        ensures target { IsTrue true → self.new.output_name ≡ self.old.output_name }
+        ensures later { self.old.faults ≤ self.new.faults }
+        ensures cause { LoadCause self.old.faults self.new.faults result }
+        ensures failed { (result ≡ Loaded.Failed) ↔ IsTrue (is_listed self.old.fails self.old.calls) }
+        ensures counts { self.new ≡ record self.old {
+          calls = next_call self.old.calls;
+          faults = self.new.faults;
+        } }
+    {
+        let is_listed = is_listed(&self.fails, self.calls);
+        self.calls = self.calls.saturating_add(1);
+        if is_listed {
+            self.faults = raised(self.faults);
+            return Loaded::Failed;
+        }
+        let Some(bytes) = self.file(name) else {
+            return Loaded::Absent;
+        };
+        if bytes.len() > limit as usize {
+            return Loaded::TooLarge;
+        }
+        match bytes.to_vec(alloc) {
+            Ok(bytes) => Loaded::Bytes(bytes),
+            Err(_) => Loaded::NoMemory,
+        }
+    }
 
     fn create(&mut self, name: &str) -> Put
         ensures opens { IsTrue self.new.is_open ↔ (result ≡ Put.Done) }

@@ -2,8 +2,10 @@
 ghost use Rattle.std.specs.Prelude.{◌≡◌, false, [], None};
 
 use crate::fault::raised;
+use crate::std_load::load_file;
 use crate::std_write::write_whole;
-use crate::{Host, Put};
+use crate::{Host, Loaded, Put};
+use std::alloc::Global;
 use std::fs::File;
 use std::io::Write;
 use std::marker::Model;
@@ -48,6 +50,14 @@ impl Host for StdHost {
     ghost target = { λ _. [] };
 
     ghost faults = { λ host. host.faults };
+
+    fn load(&mut self, alloc: Global, name: &str, limit: u32) -> Loaded {
+        let loaded = load_file(&self.rt, alloc, name, limit);
+        if let Loaded::Failed = loaded {
+            self.faults = raised(self.faults);
+        }
+        loaded
+    }
 
     fn create(&mut self, name: &str) -> Put {
         match File::create(&self.rt, name) {

@@ -1,10 +1,10 @@
 // Standard input.
-ghost use Rattle.std.specs.Prelude.{◌≡◌, ◌≤◌, length, false, [], IfSome};
+ghost use Rattle.std.specs.Prelude.{◌≡◌, false, []};
 
 use crate::fault::raised;
-use crate::std_write::TRIES;
+use crate::std_read::read_some;
 use crate::{Got, Source};
-use std::io::{ErrorKind, Read, Stdin};
+use std::io::Stdin;
 use std::marker::Model;
 
 // The most bytes of one read.
@@ -70,18 +70,4 @@ impl Source for StdSource {
         self.next += 1;
         Got::Byte(byte)
     }
-}
-
-// Reads what has come, and gives its length, or nothing where the system failed.
-fn read_some(input: &mut Stdin, buffer: &mut [u8]) -> Option<usize>
-    ensures within { IfSome result (λ count. count ≤ length buffer.old) }
-{
-    for _ in 0..TRIES {
-        match input.read(buffer) {
-            Ok(count) => return Some(count),
-            Err(error) if error.kind() == ErrorKind::Interrupted => {}
-            Err(_) => return None,
-        }
-    }
-    None
 }

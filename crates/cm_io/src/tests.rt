@@ -1,8 +1,9 @@
 // Each object once, through the bounds by which programs use it.
 use crate::{
-    Clock, CountSink, Got, Host, MemClock, MemHost, MemSink, MemSource, Put, Sink, Source,
+    Clock, CountSink, Got, Host, Loaded, MemClock, MemHost, MemSink, MemSource, Put, Sink, Source,
     StdClock, StdHost, StdSink, StdSource, put_decimal, put_hex, put_line, put_times,
 };
+use std::alloc::Global;
 use std::test::Fail;
 use std::{env, fs};
 
@@ -23,6 +24,19 @@ fn save<H: Host>(host: &mut H, name: &str, bytes: &[u8]) -> [Put; 3] {
     match host.create(name) {
         Put::Failed => [Put::Failed; 3],
         Put::Done => [Put::Done, host.write(bytes), host.close()],
+    }
+}
+
+// What loading a file of at most five bytes gives.
+fn load_five<'a, H: Host>(host: &mut H, alloc: Global, name: &str) -> Loaded {
+    host.load(alloc, name, 5)
+}
+
+// Whether these are the bytes that were loaded.
+fn has(loaded: &Loaded, wanted: &[u8]) -> bool {
+    match loaded {
+        Loaded::Bytes(bytes) => bytes.as_slice() == wanted,
+        _ => false,
     }
 }
 
@@ -94,6 +108,22 @@ fn memory_host(rt: HostRuntime) -> Result<(), Fail> {
 }
 
 #[test]
+fn loading_from_memory(rt: HostRuntime) -> Result<(), Fail> {
+    let alloc = rt.alloc();
+    let mut host = MemHost::new(alloc, "in", Some(b"12345"), 6, &[1])?;
+    assert!(rt; has(&load_five(&mut host, alloc, "in"), b"12345"), "call 0");
+    assert!(rt;
+        matches!(load_five(&mut host, alloc, "in"), Loaded::Failed),
+        "call 1"
+    );
+    assert!(rt; matches!(load_five(&mut host, alloc, "out"), Loaded::Absent));
+    assert_eq!(rt; save(&mut host, "out", b"123456"), [Put::Done; 3]);
+    assert!(rt; matches!(load_five(&mut host, alloc, "out"), Loaded::TooLarge));
+    assert!(rt; has(&load_five(&mut host, alloc, "in"), b"12345"), "again");
+    Ok(())
+}
+
+#[test]
 fn often_used_pieces(rt: HostRuntime) -> Result<(), Fail> {
     let mut sink = MemSink::new(rt.alloc(), 100)?;
     assert_eq!(rt; put_decimal(0, &mut sink), Put::Done);
@@ -136,7 +166,16 @@ fn system_files(rt: HostRuntime) -> Result<(), Fail> {
     assert_eq!(rt; save(&mut host, name, b"first and long"), [Put::Done; 3]);
     assert_eq!(rt; save(&mut host, name, b"second"), [Put::Done; 3]);
     assert_eq!(rt; fs::read(&rt, name)?.as_slice(), b"second".as_slice());
+    let alloc = rt.alloc();
+    assert!(rt; matches!(load_five(&mut host, alloc, name), Loaded::TooLarge));
+    assert_eq!(rt; save(&mut host, name, b"five5"), [Put::Done; 3]);
+    assert!(rt; has(&load_five(&mut host, alloc, name), b"five5"));
     fs::remove_file(&rt, name)?;
+    assert!(rt; matches!(load_five(&mut host, alloc, name), Loaded::Absent));
+    assert!(rt;
+        matches!(load_five(&mut host, alloc, "/"), Loaded::Failed),
+        "a folder"
+    );
     assert_eq!(rt;
         save(&mut host, "/no such folder/file", b"x"),
         [Put::Failed; 3]
