@@ -288,18 +288,18 @@ pub rows_by_number : (state : State) → IsWellFormed state → (name : List ℕ
     → has_directory name state.directories ≡ true
     → rows_numbered (number_of name state.directories) state ≡ rows_in name state.rows
 rows_by_number state well name there =
-    let sorted = sorted_ascends by_name by_name_total state.directories well.directories_ascend in
+    let sorted = sorted_ascends by_name by_name_total state.directories well.draft.directories_ascend in
     filter_same (is_row_among state.directories)
     (λ row. number_of row.key.directory state.directories == number_of name state.directories) (is_in name)
     (λ row is.
     same_numbers (number_of row.key.directory state.directories) (number_of name state.directories)
     ∙ ap is_eq (number_order state.directories row.key.directory name sorted (directory_there state.directories row is) there))
-    state.rows well.rows.within
+    state.rows well.draft.rows.within
 
 pub rows_at_number : (state : State) → IsWellFormed state → (n : ℕ) (directory : Directory)
     → slice_get state.directories n ≡ Some directory → rows_numbered n state ≡ rows_in directory.name state.rows
 rows_at_number state well n directory is =
-    let sorted = sorted_ascends by_name by_name_total state.directories well.directories_ascend in
+    let sorted = sorted_ascends by_name by_name_total state.directories well.draft.directories_ascend in
     let number = number_at state.directories n directory sorted is in
     subst (λ (k : ℕ). rows_numbered k state ≡ rows_in directory.name state.rows) number.1
     (rows_by_number state well directory.name number.0)
@@ -437,11 +437,11 @@ pub row_in_stands : (state : State) → IsWellFormed state → (i at : ℕ) (nam
     → i < length (rows_in name state.rows) → at ≡ first_in name state.rows → rows ≡ state.rows
     → (at + i < length rows) × (slice_get (rows_in name state.rows) i ≡ slice_get rows (at + i)) × (at + i < 4096)
 row_in_stands state well i at name rows within first items =
-    let parts = block name state.rows well.rows.ascend in
+    let parts = block name state.rows well.draft.rows.ascend in
     let bounds = block_within (is_in name) state.rows (rows_in name state.rows) (first_in name state.rows) (end_in name state.rows) parts in
     let start = bounds.0 in
     let last = bounds.1 in
-    let few = well.rows.few in
+    let few = well.draft.rows.few in
     let all = ap length items in (
       omega arith,
       block_at (is_in name) state.rows (rows_in name state.rows) (first_in name state.rows) (end_in name state.rows) parts i within
@@ -467,11 +467,11 @@ pub rows_counted : (state : State) → IsWellFormed state → (n : ℕ) (name : 
     × (end_in name state.rows ≤ 4096)
 rows_counted state well n name is =
     let same = rows_of_name state well n name is in
-    let parts = block name state.rows well.rows.ascend in
+    let parts = block name state.rows well.draft.rows.ascend in
     let bounds = block_within (is_in name) state.rows (rows_in name state.rows) (first_in name state.rows) (end_in name state.rows) parts in
     let first = bounds.0 in
     let last = bounds.1 in
-    let few = well.rows.few in
+    let few = well.draft.rows.few in
     let sizes = ap length same in
     let catalogue = ap length (rows_of_catalogue state n) in
     let mapped = length-map (rows_numbered n state) (file_row state.directories) in

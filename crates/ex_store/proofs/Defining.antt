@@ -74,6 +74,6 @@ walk_ends directories name (suc i) (first ∷ entries) past = walk_ends director
 pub entry_there : (state : State) → IsWellFormed state → (i : ℕ) (entries : List Definition) (entry : Definition)
     → entries ≡ state.logical → slice_get entries i ≡ Some entry → has_directory entry.directory state.directories ≡ true
 entry_there state well i entries entry same at =
-    let is = all_at (is_definition_among state.directories) state.logical i entry well.logical_within
+    let is = all_at (is_definition_among state.directories) state.logical i entry well.draft.logical_within
     (ap (λ each. slice_get each i) (sym same) ∙ at) in
     (and_parts _ _ (and_parts _ _ is).0).0

@@ -171,22 +171,22 @@ definition_within directories entry is =
 
 pub catalogue_lawful : (state : State) → IsWellFormed state → IsCatalogue (catalogue_of state)
 catalogue_lawful state well =
-    let sorted = sorted_ascends by_name by_name_total state.directories well.directories_ascend in
+    let sorted = sorted_ascends by_name by_name_total state.directories well.draft.directories_ascend in
     let many : length (map (λ (directory : Directory). directory.name) state.directories) ≡ length state.directories =
     length-map state.directories (λ directory. directory.name) in
     record {
       directories_ascend = ascends_map by_bytes by_name (λ directory. directory.name) (λ a b. refl) state.directories
-          ∙ well.directories_ascend;
+          ∙ well.draft.directories_ascend;
       directory_names = all_map is_directory is_directory_name (λ directory. directory.name) (λ directory is. (and_parts _ _ is).0)
-          state.directories well.directories_within;
+          state.directories well.draft.directories_within;
       connected_within = rw many (number_within state.directories state.connected well.connected_there);
       logical_ascend = ascends_map (on (λ entry. entry.name) by_bytes) (on (λ entry. entry.name) by_bytes)
-          (logical_name state.directories) (λ a b. refl) state.logical ∙ well.logical_ascend;
+          (logical_name state.directories) (λ a b. refl) state.logical ∙ well.draft.logical_ascend;
       logical_within = rw many (all_map (is_definition_among state.directories) (is_logical (length state.directories))
-          (logical_name state.directories) (definition_within state.directories) state.logical well.logical_within);
-      rows_ascend = rows_ascend state.directories state.rows sorted well.rows.within well.rows.ascend;
+          (logical_name state.directories) (definition_within state.directories) state.logical well.draft.logical_within);
+      rows_ascend = rows_ascend state.directories state.rows sorted well.draft.rows.within well.draft.rows.ascend;
       rows_within = rw many (all_map (is_row_among state.directories) (is_row (length state.directories))
-          (file_row state.directories) (row_within state.directories) state.rows well.rows.within);
+          (file_row state.directories) (row_within state.directories) state.rows well.draft.rows.within);
     }
 
 -- the number that a search gives for a directory that is there

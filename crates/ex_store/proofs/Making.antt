@@ -236,30 +236,32 @@ row_more before after there row = onto _ _ _ (onto _ _ _ (onto _ _ _ (onto _ _ _
 entry_more : (before after : List Directory) → ((x : List ℕ) → has_directory x before ≡ true → has_directory x after ≡ true)
     → (entry : QueueEntry) → is_entry_among before entry ≡ true → is_entry_among after entry ≡ true
 entry_more before after there entry =
-    onto _ _ _ (onto _ _ _ (onto _ _ _ (onto _ _ _ (onto _ _ _ (onto _ _ _
-    (onto _ _ _ (onto _ _ _ (onto _ _ _ (onto _ _ _ (onto _ _ _ (onto _ _ _ (there entry.file.key.directory))))))))))))
+    onto _ _ _ (onto _ _ _ (onto _ _ _ (onto _ _ _ (onto _ _ _
+    (onto _ _ _ (onto _ _ _ (onto _ _ _ (onto _ _ _ (onto _ _ _ (there entry.file.key.directory))))))))))
 
 well_formed_with_more : (state : State) (after : List Directory) → IsWellFormed state → AreMore state.directories after
     → IsWellFormed (record state { directories = after })
 well_formed_with_more state after well more = record {
-  directories_ascend = more.are.ascend;
-  directories_within = more.are.within;
-  few_directories = more.are.few;
-  connected_there = more.there state.connected well.connected_there;
-  logical_ascend = well.logical_ascend;
-  logical_within = all_more (is_definition_among state.directories) (is_definition_among after) state.logical
-      (definition_more state.directories after more.there) well.logical_within;
-  few_logical = well.few_logical;
-  rows = record {
-    ascend = well.rows.ascend;
-    within = all_more (is_row_among state.directories) (is_row_among after) state.rows
-        (row_more state.directories after more.there) well.rows.within;
-    few = well.rows.few;
-    small = well.rows.small;
+  draft = record {
+    directories_ascend = more.are.ascend;
+    directories_within = more.are.within;
+    few_directories = more.are.few;
+    logical_ascend = well.draft.logical_ascend;
+    logical_within = all_more (is_definition_among state.directories) (is_definition_among after) state.logical
+        (definition_more state.directories after more.there) well.draft.logical_within;
+    few_logical = well.draft.few_logical;
+    rows = record {
+      ascend = well.draft.rows.ascend;
+      within = all_more (is_row_among state.directories) (is_row_among after) state.rows
+          (row_more state.directories after more.there) well.draft.rows.within;
+      few = well.draft.rows.few;
+      small = well.draft.rows.small;
+    };
+    queue_within = all_more (is_entry_among state.directories) (is_entry_among after) state.queue
+        (entry_more state.directories after more.there) well.draft.queue_within;
+    few_entries = well.draft.few_entries;
   };
-  queue_within = all_more (is_entry_among state.directories) (is_entry_among after) state.queue
-      (entry_more state.directories after more.there) well.queue_within;
-  few_entries = well.few_entries;
+  connected_there = more.there state.connected well.connected_there;
 }
 
 -- the state with a directory that is made is well formed
@@ -268,8 +270,8 @@ pub well_formed_built : (state : State) (name : List ℕ) (keep : Option ℕ) (m
     → IsWellFormed (record state { directories = with_directory made state.directories })
 well_formed_built state name keep made well named few is =
     let parts = built_parts name keep state.directories made is in
-    let are : AreDirectories state.directories = record { ascend = well.directories_ascend; within = well.directories_within; few = well.few_directories } in
-    let limit : kept_by name keep state.directories ≤ RETENTION_LIMIT = kept_limit name keep state.directories few well.directories_within in
+    let are : AreDirectories state.directories = record { ascend = well.draft.directories_ascend; within = well.draft.directories_within; few = well.draft.few_directories } in
+    let limit : kept_by name keep state.directories ≤ RETENTION_LIMIT = kept_limit name keep state.directories few well.draft.directories_within in
     let form : is_directory (record { name = name; keep = kept_by name keep state.directories }) ≡ true = and_from _ _ named (le-leb _ _ limit) in
     subst (λ (made : Directory). IsWellFormed (record state { directories = with_directory made state.directories })) parts.0
     (well_formed_with_more state _ well (with_more _ state.directories are form parts.1))

@@ -193,16 +193,18 @@ rows_short directories rows are = all_more (is_row_among directories) is_short r
 pub well_formed_with_rows : (state : State) (rows : List Row) → IsWellFormed state → AreRows state.directories rows
     → IsWellFormed (record state { rows = rows })
 well_formed_with_rows state rows well are = record {
-  directories_ascend = well.directories_ascend;
-  directories_within = well.directories_within;
-  few_directories = well.few_directories;
+  draft = record {
+    directories_ascend = well.draft.directories_ascend;
+    directories_within = well.draft.directories_within;
+    few_directories = well.draft.few_directories;
+    logical_ascend = well.draft.logical_ascend;
+    logical_within = well.draft.logical_within;
+    few_logical = well.draft.few_logical;
+    rows = are;
+    queue_within = well.draft.queue_within;
+    few_entries = well.draft.few_entries;
+  };
   connected_there = well.connected_there;
-  logical_ascend = well.logical_ascend;
-  logical_within = well.logical_within;
-  few_logical = well.few_logical;
-  rows = are;
-  queue_within = well.queue_within;
-  few_entries = well.few_entries;
 }
 
 -- the rows that are marked are those that pass

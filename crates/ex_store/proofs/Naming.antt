@@ -20,16 +20,18 @@ use Rattle.ex_store.proofs.Ascending.{all_filter, ascends_filter}
 pub first_well_formed : IsWellFormed first_state
 unfolding is_name is_word
 first_well_formed = record {
-  directories_ascend = refl;
-  directories_within = refl;
-  few_directories = omega arith;
+  draft = record {
+    directories_ascend = refl;
+    directories_within = refl;
+    few_directories = omega arith;
+    logical_ascend = refl;
+    logical_within = refl;
+    few_logical = omega arith;
+    rows = record { ascend = refl; within = refl; few = omega arith; small = omega arith };
+    queue_within = refl;
+    few_entries = omega arith;
+  };
   connected_there = refl;
-  logical_ascend = refl;
-  logical_within = refl;
-  few_logical = omega arith;
-  rows = record { ascend = refl; within = refl; few = omega arith; small = omega arith };
-  queue_within = refl;
-  few_entries = omega arith;
 }
 
 -- the name of a directory that is there has at most 39 bytes
@@ -58,16 +60,18 @@ nothing_undefined name (entry ∷ more) none =
 pub fewer_well_formed : (state : State) (keep : Definition → Bool) → IsWellFormed state
     → IsWellFormed (record state { logical = filter keep state.logical })
 fewer_well_formed state keep well = record {
-  directories_ascend = well.directories_ascend;
-  directories_within = well.directories_within;
-  few_directories = well.few_directories;
+  draft = record {
+    directories_ascend = well.draft.directories_ascend;
+    directories_within = well.draft.directories_within;
+    few_directories = well.draft.few_directories;
+    logical_ascend = ascends_filter _ (on_texts (λ (entry : Definition). entry.name)) keep state.logical well.draft.logical_ascend;
+    logical_within = all_filter (is_definition_among state.directories) keep state.logical well.draft.logical_within;
+    few_logical = omega (arith, length-filter keep state.logical, count_by-le-length keep state.logical, well.draft.few_logical);
+    rows = well.draft.rows;
+    queue_within = well.draft.queue_within;
+    few_entries = well.draft.few_entries;
+  };
   connected_there = well.connected_there;
-  logical_ascend = ascends_filter _ (on_texts (λ (entry : Definition). entry.name)) keep state.logical well.logical_ascend;
-  logical_within = all_filter (is_definition_among state.directories) keep state.logical well.logical_within;
-  few_logical = omega (arith, length-filter keep state.logical, count_by-le-length keep state.logical, well.few_logical);
-  rows = well.rows;
-  queue_within = well.queue_within;
-  few_entries = well.few_entries;
 }
 
 -- a logical name that is read, as it is told

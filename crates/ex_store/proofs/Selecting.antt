@@ -190,15 +190,15 @@ pub positions_meant : (state : State) → IsWellFormed state → (deleted : Bool
 positions_meant state well deleted place =
     positions_within (is_meant deleted place state) (is_in place.directory) (meant_in deleted place state) state.rows
     (rows_in place.directory state.rows) (first_in place.directory state.rows) (end_in place.directory state.rows)
-    (block place.directory state.rows well.rows.ascend)
+    (block place.directory state.rows well.draft.rows.ascend)
 
 -- and they are few
 pub block_few : (state : State) → IsWellFormed state → (directory : List ℕ)
     → first_in directory state.rows + length (rows_in directory state.rows) ≤ 4096
 block_few state well directory =
     let bounds = block_within (is_in directory) state.rows (rows_in directory state.rows) (first_in directory state.rows)
-    (end_in directory state.rows) (block directory state.rows well.rows.ascend) in
+    (end_in directory state.rows) (block directory state.rows well.draft.rows.ascend) in
     let start = bounds.0 in
     let last = bounds.1 in
-    let few = well.rows.few in
+    let few = well.draft.rows.few in
     omega arith

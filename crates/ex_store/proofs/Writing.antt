@@ -106,4 +106,4 @@ write_sound state to bytes moment keep generation change well target has admits 
       moment = moment_within moment;
       short = le-leb (length bytes) FILE_LIMIT known.roomy.short;
     }) in
-    rw is (well_formed_with_rows state _ well (rows_added state.directories keep (written_row to moment bytes generation) state.rows well.rows known form))
+    rw is (well_formed_with_rows state _ well (rows_added state.directories keep (written_row to moment bytes generation) state.rows well.draft.rows known form))

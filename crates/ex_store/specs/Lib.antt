@@ -2,6 +2,7 @@ pub mod Adding
 pub mod Appending
 pub mod Building
 pub mod Copying
+pub mod Draft
 pub mod Forms
 pub mod Lent
 pub mod Plan

@@ -3,7 +3,7 @@
 use Rattle.std.specs.Prelude.{ℕ, ℤ, pos, ◌≡◌, ◌≤◌, Bool, true, ◌&&◌, nat_lt, nat_le, List, length, Option, None, Some, int_le}
 use Rattle.std.specs.List.{list_all}
 use Rattle.std.specs.Ordering.{on}
-use Rattle.cm_text.specs.Bytes.{is_name, is_text}
+use Rattle.cm_text.specs.Bytes.{is_text}
 use Rattle.cm_text.specs.declared.name.TheConstants.{NAME_LIMIT}
 use Rattle.cm_files.specs.Catalogue.{ascends, by_bytes, is_directory_name, is_upper_name}
 use Rattle.cm_files.specs.LogicalName.{is_logical_name}
@@ -54,8 +54,7 @@ is_entry_among directories entry =
     has_directory entry.file.key.directory directories && is_file_name entry.file.key.name
     && is_file_type entry.file.key.kind && is_numbered entry.file.generation
     && nat_lt 0 entry.copies && nat_le entry.copies COPIES_LIMIT && nat_lt entry.form FORMS && is_day entry.after
-    && nat_lt 0 (length entry.job) && nat_le (length entry.job) NAME_LIMIT && list_all is_name entry.job
-    && nat_le (length entry.note) NAME_LIMIT && list_all is_text entry.note
+    && is_file_name entry.job && nat_le (length entry.note) NAME_LIMIT && list_all is_text entry.note
 
 -- the rows alone, of a state with these directories
 pub record AreRows (directories : List Directory) (rows : List Row) : Type 0 where
@@ -64,14 +63,18 @@ pub record AreRows (directories : List Directory) (rows : List Row) : Type 0 whe
   pub few : length rows ≤ ROW_LIMIT
   pub small : total rows ≤ STORE_LIMIT
 
-pub record IsWellFormed (state : State) : Type 0 where
+-- all but that a directory is connected
+pub record IsDraft (state : State) : Type 0 where
   pub directories_ascend : ascends (on (λ directory. directory.name) by_bytes) state.directories ≡ true
   pub directories_within : list_all is_directory state.directories ≡ true
   pub few_directories : length state.directories ≤ DIRECTORY_LIMIT
-  pub connected_there : has_directory state.connected state.directories ≡ true
   pub logical_ascend : ascends (on (λ entry. entry.name) by_bytes) state.logical ≡ true
   pub logical_within : list_all (is_definition_among state.directories) state.logical ≡ true
   pub few_logical : length state.logical ≤ LOGICAL_LIMIT
   pub rows : AreRows state.directories state.rows
   pub queue_within : list_all (is_entry_among state.directories) state.queue ≡ true
   pub few_entries : length state.queue ≤ QUEUE_LIMIT
+
+pub record IsWellFormed (state : State) : Type 0 where
+  pub draft : IsDraft state
+  pub connected_there : has_directory state.connected state.directories ≡ true

@@ -11,6 +11,7 @@ mod change;
 mod copy;
 mod course;
 mod directory;
+mod draft;
 mod key;
 pub mod laws;
 mod limits;
@@ -32,6 +33,7 @@ mod tests;
 mod write;
 
 pub use directory::{Definition, Directory, Logical};
+pub use draft::Draft;
 pub use key::{Full, FullName, Key, NamePair, Pair};
 pub use limits::{
     AFTER_LIMIT, COPIES_LIMIT, DIRECTORY_LIMIT, FORMS, LOGICAL_LIMIT, MOMENT_LIMIT, QUEUE_LIMIT,

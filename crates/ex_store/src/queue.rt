@@ -1,10 +1,11 @@
 // The print queue.
-ghost use Rattle.std.specs.Prelude.{◌≡◌, ◌<◌};
+ghost use Rattle.std.specs.Prelude.{◌≡◌, ◌<◌, ◌≤◌, length};
+ghost use Rattle.cm_text.specs.declared.name.TheConstants.{NAME_LIMIT};
 ghost use Rattle.ex_store.specs.declared.limits.TheConstants.{FORMS};
 ghost use Rattle.ex_store.specs.Forms.{form_text};
 ghost use Rattle.ex_store.specs.Lent.{queue_entry};
 
-use crate::FullName;
+use crate::{FullName, Key};
 use cm_text::Name;
 
 /// An entry of the print queue.
@@ -62,6 +63,34 @@ impl QueueEntry {
             after: self.after,
             job: self.job.as_str(),
             note: self.note.as_str(),
+        }
+    }
+}
+
+impl Queued<'_> {
+    // The same as an entry of its own.
+    pub(crate) fn owned(&self) -> QueueEntry
+        requires directory { length self.now.directory.now ≤ NAME_LIMIT }
+        requires name { length self.now.name.now ≤ NAME_LIMIT }
+        requires kind { length self.now.kind.now ≤ NAME_LIMIT }
+        requires job { length self.now.job.now ≤ NAME_LIMIT }
+        requires note { length self.now.note.now ≤ NAME_LIMIT }
+        ensures { result ≡ queue_entry self.now }
+    {
+        QueueEntry {
+            file: FullName {
+                key: Key {
+                    directory: Name::new(self.directory),
+                    name: Name::new(self.name),
+                    kind: Name::new(self.kind),
+                },
+                generation: self.generation,
+            },
+            copies: self.copies,
+            form: self.form,
+            after: self.after,
+            job: Name::new(self.job),
+            note: Name::new(self.note),
         }
     }
 }

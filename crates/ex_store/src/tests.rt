@@ -3,6 +3,7 @@
 mod appends;
 mod copies;
 mod directories;
+mod drafts;
 mod limits;
 mod listing;
 mod marks;

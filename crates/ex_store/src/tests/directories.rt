@@ -6,7 +6,7 @@ use cm_files::Names;
 use std::process::Abort;
 
 // How many generations the directory with a number keeps.
-fn retention(rt: &impl Abort, store: &Store, directory: u16) -> u8 {
+pub(super) fn retention(rt: &impl Abort, store: &Store, directory: u16) -> u8 {
     assert!(rt;
         directory < store.directories(),
         "there is no such directory"

@@ -75,7 +75,7 @@ fn request(name: Name, copies: u8, after: Option<i32>) -> QueueEntry
 }
 
 // The logical names and the numbers of their directories.
-fn logicals_are(rt: &impl Abort, store: &Store, wanted: &[(&str, u16)]) {
+pub(super) fn logicals_are(rt: &impl Abort, store: &Store, wanted: &[(&str, u16)]) {
     assert_eq!(rt; usize::from(store.logicals()), wanted.len());
     for i in 0..store.logicals() {
         let found = store.logical_at(i);
@@ -100,7 +100,13 @@ fn a_logical_name_is_taken_away(rt: HostRuntime) {
 }
 
 // A request of the sample has this name and so many copies, and is printed from this day on.
-fn is_request(rt: &impl Abort, request: &Queued<'_>, name: &str, copies: u8, after: Option<i32>) {
+pub(super) fn is_request(
+    rt: &impl Abort,
+    request: &Queued<'_>,
+    name: &str,
+    copies: u8,
+    after: Option<i32>,
+) {
     assert_eq!(rt; request.name, name);
     assert_eq!(rt; (request.copies, request.after), (copies, after));
     assert_eq!(rt; (request.generation, request.form), (7, 2));

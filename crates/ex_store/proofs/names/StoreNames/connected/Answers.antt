@@ -10,7 +10,7 @@ pub overflow_cast-result : goal.overflow_cast-result
 overflow_cast-result c =
     let within = number_found c.self.inside.directories.items c.self.inside.connected c.self.invariant.connected_there
     c.number_of.result c.as_bytes.result.now c.deref.result.now c.number_of.ensures c.as_bytes.ensures.value c.deref.ensures.value in
-    let few = c.self.invariant.few_directories in
+    let few = c.self.invariant.draft.few_directories in
     let sizes = length-map c.self.inside.directories.items (λ (directory : Directory). directory.name) in
     omega arith
 

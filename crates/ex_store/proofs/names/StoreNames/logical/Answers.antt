@@ -27,7 +27,7 @@ overflow_cast-result c =
     let within = number_found state.directories c.entry-item.result.directory there c.number_of.result
     c.as_bytes-then-equals.result.now c.deref.result.now c.number_of.ensures c.as_bytes-then-equals.ensures.value
     (c.deref.ensures.value ∙ ap (λ held. held.state.directories) c.self.view_is) in
-    let few = well.few_directories in
+    let few = well.draft.few_directories in
     let sizes = length-map state.directories (λ (directory : Directory). directory.name) in
     omega arith
 

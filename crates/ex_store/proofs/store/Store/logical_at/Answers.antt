@@ -7,7 +7,7 @@ use Rattle.ex_store.proofs.store.Store.logical_at.Goals as goal
 pub overflow_cast-result : goal.overflow_cast-result
 overflow_cast-result c =
     let within : number_of c.as_bytes.result.now c.deref.result.now ≤ length c.deref.result.now = prefix_len-le-length _ c.deref.result.now in
-    omega (arith, c.number_of.ensures, c.deref.ensures.len, c.self.inside.directories.ok.0, c.self.invariant.few_directories)
+    omega (arith, c.number_of.ensures, c.deref.ensures.len, c.self.inside.directories.ok.0, c.self.invariant.draft.few_directories)
 
 pub returns : goal.returns
 returns c =

@@ -15,7 +15,7 @@ overflow_cast-directory c =
     let within = number_found directories c.args.files.now.directory c.requires c.number_of-directory.result
     c.as_bytes.result.now c.deref.result.now c.number_of-directory.ensures c.as_bytes.ensures.value
     (c.deref.ensures.value ∙ ap (λ held. held.state.directories) c.self.view_is) in
-    let few = well.few_directories in
+    let few = well.draft.few_directories in
     let sizes = length-map directories (λ (directory : Directory). directory.name) in
     omega arith
 

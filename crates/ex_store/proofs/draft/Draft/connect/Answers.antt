@@ -1,0 +1,9 @@
+use Rattle.std.proofs.Common.{◌≡◌, true}
+use Rattle.ex_store.specs.State.{has_directory}
+use Rattle.ex_store.proofs.Naming.{name_is_short}
+use Rattle.ex_store.proofs.draft.Draft.connect.Goals as goal
+
+pub new-self-inside-requires : goal.new-self-inside-requires
+new-self-inside-requires c =
+    let there : has_directory c.args.name.now c.self.inside.directories.items ≡ true = rw (← c.self.view_is) at c.requires in
+    name_is_short c.args.name.now c.self.inside.directories.items c.self.invariant.directories_within there

@@ -1,0 +1,24 @@
+-- A state that is filled part by part.
+use Rattle.std.specs.Prelude.{[], ◌∷◌, ◌++◌}
+use Rattle.ex_store.specs.declared.directory.Definition.{Definition}
+use Rattle.ex_store.specs.declared.directory.Directory.{Directory}
+use Rattle.ex_store.specs.declared.queue.QueueEntry.{QueueEntry}
+use Rattle.ex_store.specs.declared.row.Row.{Row}
+use Rattle.ex_store.specs.State.{State}
+
+-- nothing; the empty name, which no directory has, stands where none is connected yet
+abbrev pub empty_state : State
+empty_state = record { directories = []; connected = []; logical = []; rows = []; queue = [] }
+
+-- the state with one part more, behind those of its kind
+abbrev pub and_directory : Directory → State → State
+and_directory directory state = record state { directories = state.directories ++ directory ∷ [] }
+
+abbrev pub and_logical : Definition → State → State
+and_logical entry state = record state { logical = state.logical ++ entry ∷ [] }
+
+abbrev pub and_row : Row → State → State
+and_row row state = record state { rows = state.rows ++ row ∷ [] }
+
+abbrev pub and_request : QueueEntry → State → State
+and_request entry state = record state { queue = state.queue ++ entry ∷ [] }
