@@ -37,4 +37,4 @@ pub forms_of_parts : (parts : Parts) (state : State) → state_of parts ≡ stat
     → list_all (λ entry. nat_lt entry.form FORMS) parts.queue.now ≡ true
 forms_of_parts parts state is formed =
     subst (λ (state : State). list_all (λ entry. nat_lt entry.form FORMS) state.queue ≡ true) (sym is)
-    (forms_there state.directories state.queue formed.queue_within)
+    (forms_there state.directories state.queue formed.draft.queue_within)

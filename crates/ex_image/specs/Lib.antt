@@ -1,3 +1,10 @@
+pub mod Decoding
+pub mod Fields
+pub mod Gives
+pub mod Grammar
 pub mod Image
+pub mod Lines
+pub mod Reading
 pub mod Record
+pub mod Said
 pub mod Writing

@@ -1,13 +1,26 @@
-//! The image: the text of a state of the file machine. It is written to a file of a host, and takes no memory.
+//! The image: the text of a state of the file machine. It is written to a file of a host, which takes no memory, and
+//! bytes are read as the store whose image they are.
 #![tactic(auto)]
 
+mod adding;
+mod decoding;
+mod entries;
+mod entry;
+mod fault;
+mod faults;
+mod fields;
 mod image;
 pub mod laws;
 mod line;
 mod lines;
+mod names;
+mod reading;
 mod records;
+mod tag;
 mod target;
 
+pub use decoding::decode;
+pub use fault::{ImageFault, Kind};
 pub use image::encode;
 
 #[cfg(test)]

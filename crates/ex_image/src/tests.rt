@@ -1,5 +1,6 @@
-// Whole images, and what stands where the host fails.
+// Whole images, written and read, what stands where the host fails, and where bytes go wrong.
 
+mod decoding;
 mod failing;
 mod given;
 mod kinds;

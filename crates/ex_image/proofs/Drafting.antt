@@ -1,0 +1,240 @@
+-- What was read so far is a draft of a store.
+use Rattle.std.proofs.Common.{◌≡◌, ℕ, ◌+◌, ◌≤◌, Bool, true, nat_le, nat_lt, List, [], ◌∷◌, ◌++◌, length, refl, subst, sym, ◌∙◌, arith}
+use Rattle.std.specs.List.{list_all}
+use Rattle.std.proofs.lemmas.Bool.{and_from, and_parts, leb-true, ltb-true}
+use Rattle.std.proofs.lemmas.List.{length_push}
+use Rattle.std.proofs.lemmas.List.Folds.{list_all-append}
+use Rattle.std.proofs.lemmas.List.Sums.{sum_by-append}
+use Rattle.cm_files.specs.Catalogue.{is_directory_name, is_upper_name}
+use Rattle.cm_files.specs.LogicalName.{is_logical_name}
+use Rattle.ex_generations.specs.declared.file.TheConstants.{FILE_LIMIT}
+use Rattle.ex_store.specs.declared.directory.Directory as directories
+use Rattle.ex_store.specs.declared.limits.TheConstants.{DIRECTORY_LIMIT, LOGICAL_LIMIT, QUEUE_LIMIT, ROW_LIMIT, STORE_LIMIT}
+use Rattle.ex_store.specs.declared.queue.QueueEntry.{QueueEntry}
+use Rattle.ex_store.specs.declared.row.Row.{Row}
+use Rattle.ex_store.specs.Draft.{and_directory, and_logical, and_request, and_row, empty_state}
+use Rattle.ex_store.specs.Rows.{by_row, total}
+use Rattle.ex_store.specs.State.{State, has_directory}
+use Rattle.ex_store.specs.WellFormed.{AreRows, IsDraft, is_definition_among, is_directory, is_entry_among, is_row_among}
+use Rattle.ex_image.specs.Grammar.{Leads, Makes, MayStand, is_shaped}
+use Rattle.ex_image.specs.Fields.{is_logical}
+use Rattle.ex_image.specs.Reading.{Reading, is_in_range, stands_above, start, with_entry, with_record}
+use Rattle.ex_image.specs.Record.{Entry, Head, Directory, Connected, Logical, File, Request, End}
+use Rattle.ex_image.proofs.Ascents.{above_same, ascends_more}
+use Rattle.ex_image.proofs.LineLaws.{file_shape}
+use Rattle.ex_image.proofs.RequestLaws.{IsRequestShape, request_shape}
+use Rattle.ex_image.proofs.Standing.{IsFaultless, Stands, faultless_of, only_directories, stands_more}
+
+-- one more that passes
+all_more : {X : Type 0} (test : X → Bool) (xs : List X) (x : X) → list_all test xs ≡ true → test x ≡ true
+    → list_all test (xs ++ x ∷ []) ≡ true
+all_more test xs x all passes = list_all-append test xs (x ∷ []) ∙ and_from _ _ all (and_from _ _ passes refl)
+
+-- where there is none, each passes
+all_none : {X : Type 0} (test : X → Bool) (xs : List X) → xs ≡ [] → list_all test xs ≡ true
+all_none test xs none = rw none refl
+
+-- one more where there is room
+few_more : {X : Type 0} (xs : List X) (x : X) (limit : ℕ) → nat_lt (length xs) limit ≡ true
+    → length (xs ++ x ∷ []) ≤ limit
+few_more xs x limit room = let less = ltb-true (length xs) limit room in omega (arith, length_push xs x)
+
+empty_draft : IsDraft empty_state
+empty_draft = record {
+  directories_ascend = refl;
+  directories_within = refl;
+  few_directories = omega arith;
+  logical_ascend = refl;
+  logical_within = refl;
+  few_logical = omega arith;
+  rows = record { ascend = refl; within = refl; few = omega arith; small = omega arith };
+  queue_within = refl;
+  few_entries = omega arith;
+}
+
+directory_more : (state : State) (name : List ℕ) (keep : ℕ) → IsDraft state
+    → (state.logical ≡ []) × (state.rows ≡ []) × (state.queue ≡ []) → is_shaped (Directory name keep) ≡ true
+    → IsFaultless state (Directory name keep) → IsDraft (and_directory (record { name = name; keep = keep }) state)
+directory_more state name keep draft none shape good =
+    let named = (and_parts (is_directory_name name) _ shape).0 in
+    record {
+      directories_ascend = ascends_more _ state.directories _ draft.directories_ascend good.above;
+      directories_within =
+          all_more is_directory state.directories _ draft.directories_within (and_from _ _ named good.range);
+      few_directories = few_more state.directories _ DIRECTORY_LIMIT good.room;
+      logical_ascend = draft.logical_ascend;
+      logical_within = all_none _ state.logical none.0;
+      few_logical = draft.few_logical;
+      rows = record {
+        ascend = draft.rows.ascend;
+        within = all_none _ state.rows none.1;
+        few = draft.rows.few;
+        small = draft.rows.small;
+      };
+      queue_within = all_none _ state.queue none.2;
+      few_entries = draft.few_entries;
+    }
+
+connected_more : (state : State) (name : List ℕ) → IsDraft state → IsDraft (record state { connected = name })
+connected_more state name draft = record {
+  directories_ascend = draft.directories_ascend;
+  directories_within = draft.directories_within;
+  few_directories = draft.few_directories;
+  logical_ascend = draft.logical_ascend;
+  logical_within = draft.logical_within;
+  few_logical = draft.few_logical;
+  rows = draft.rows;
+  queue_within = draft.queue_within;
+  few_entries = draft.few_entries;
+}
+
+logical_more : (state : State) (name directory : List ℕ) → IsDraft state → is_shaped (Logical name directory) ≡ true
+    → IsFaultless state (Logical name directory)
+    → IsDraft (and_logical (record { name = name; directory = directory }) state)
+logical_more state name directory draft shape good =
+    let named = and_parts (is_logical_name name) (is_upper_name name) (and_parts (is_logical name) _ shape).0 in
+    record {
+      directories_ascend = draft.directories_ascend;
+      directories_within = draft.directories_within;
+      few_directories = draft.few_directories;
+      logical_ascend = ascends_more _ state.logical _ draft.logical_ascend good.above;
+      logical_within =
+          all_more (is_definition_among state.directories) state.logical _ draft.logical_within
+          (and_from _ _ (and_from _ _ good.there named.0) named.1);
+      few_logical = few_more state.logical _ LOGICAL_LIMIT good.room;
+      rows = draft.rows;
+      queue_within = draft.queue_within;
+      few_entries = draft.few_entries;
+    }
+
+-- a row with its bytes
+abbrev filled : Row → List ℕ → Row
+filled row bytes = record row { file = record row.file { bytes = bytes } }
+
+rows_more : (directories : List directories.Directory) (rows : List Row) (row : Row) (bytes : List ℕ)
+    → AreRows directories rows → is_row_among directories (filled row bytes) ≡ true
+    → stands_above by_row rows row ≡ true → nat_lt (length rows) ROW_LIMIT ≡ true
+    → nat_le (total rows + length bytes) STORE_LIMIT ≡ true → AreRows directories (rows ++ filled row bytes ∷ [])
+rows_more directories rows row bytes are among above room fits = record {
+  ascend =
+      ascends_more by_row rows (filled row bytes) are.ascend
+      (sym (above_same by_row rows row (filled row bytes) (λ other. refl)) ∙ above);
+  within = all_more (is_row_among directories) rows (filled row bytes) are.within among;
+  few = few_more rows (filled row bytes) ROW_LIMIT room;
+  small =
+      let less = leb-true (total rows + length bytes) STORE_LIMIT fits in
+      omega (arith, sum_by-append (λ (each : Row). length each.file.bytes) rows (filled row bytes ∷ []));
+}
+
+row_more : (state : State) (row : Row) (size : ℕ) (bytes : List ℕ) → IsDraft state → is_shaped (File row size) ≡ true
+    → length bytes ≡ size → IsFaultless state (File row size) → IsDraft (and_row (filled row bytes) state)
+row_more state row size bytes draft shape content good =
+    let is = file_shape row size shape in
+    let range = and_parts _ _ good.range in
+    let numbers = and_parts _ _ range.0 in
+    let room = and_parts _ _ good.room in
+    let fits : nat_le (length bytes) FILE_LIMIT ≡ true = rw content range.1 in
+    let all_fit : nat_le (total state.rows + length bytes) STORE_LIMIT ≡ true = rw content room.1 in
+    record {
+      directories_ascend = draft.directories_ascend;
+      directories_within = draft.directories_within;
+      few_directories = draft.few_directories;
+      logical_ascend = draft.logical_ascend;
+      logical_within = draft.logical_within;
+      few_logical = draft.few_logical;
+      rows =
+          rows_more state.directories state.rows row bytes draft.rows
+          (and_from _ _
+          (and_from _ _
+          (and_from _ _ (and_from _ _ (and_from _ _ good.there is.file.name) is.file.kind) numbers.0)
+          numbers.1)
+          fits)
+          good.above room.0 all_fit;
+      queue_within = draft.queue_within;
+      few_entries = draft.few_entries;
+    }
+
+entry_among : (directories : List directories.Directory) (entry : QueueEntry) → IsRequestShape entry
+    → has_directory entry.file.key.directory directories ≡ true → is_in_range (Request entry) ≡ true
+    → is_entry_among directories entry ≡ true
+entry_among directories entry is there ranged =
+    let day = and_parts _ _ ranged in
+    let copies = and_parts _ _ day.0 in
+    let numbered = and_parts _ _ copies.0 in
+    let note = and_parts _ _ is.note in
+    and_from _ _
+    (and_from _ _
+    (and_from _ _
+    (and_from _ _
+    (and_from _ _
+    (and_from _ _
+    (and_from _ _ (and_from _ _ (and_from _ _ (and_from _ _ there is.file.name) is.file.kind) numbered.0) numbered.1)
+    copies.1)
+    is.form)
+    day.1)
+    is.job)
+    note.0)
+    note.1
+
+request_more : (state : State) (entry : QueueEntry) → IsDraft state → is_shaped (Request entry) ≡ true
+    → IsFaultless state (Request entry) → IsDraft (and_request entry state)
+request_more state entry draft shape good =
+    record {
+      directories_ascend = draft.directories_ascend;
+      directories_within = draft.directories_within;
+      few_directories = draft.few_directories;
+      logical_ascend = draft.logical_ascend;
+      logical_within = draft.logical_within;
+      few_logical = draft.few_logical;
+      rows = draft.rows;
+      queue_within =
+          all_more (is_entry_among state.directories) state.queue entry draft.queue_within
+          (entry_among state.directories entry (request_shape entry shape) good.there good.range);
+      few_entries = few_more state.queue entry QUEUE_LIMIT good.room;
+    }
+
+-- with a record that may stand behind it, a draft is one still
+pub draft_more : (reading : Reading) (entry : Entry) (bytes : List ℕ) → IsDraft reading.state
+    → Stands reading.last reading.state → MayStand reading (entry, bytes)
+    → IsDraft (with_entry reading.state entry bytes)
+draft_more reading Head bytes draft stands may = draft
+draft_more reading (Directory name keep) bytes draft stands may =
+    directory_more reading.state name keep draft (only_directories reading.last reading.state stands may.place)
+    may.shape (faultless_of reading.state (Directory name keep) may.faultless)
+draft_more reading (Connected name) bytes draft stands may = connected_more reading.state name draft
+draft_more reading (Logical name directory) bytes draft stands may =
+    logical_more reading.state name directory draft may.shape
+    (faultless_of reading.state (Logical name directory) may.faultless)
+draft_more reading (File row size) bytes draft stands may =
+    row_more reading.state row size bytes draft may.shape may.content
+    (faultless_of reading.state (File row size) may.faultless)
+draft_more reading (Request entry) bytes draft stands may =
+    request_more reading.state entry draft may.shape (faultless_of reading.state (Request entry) may.faultless)
+draft_more reading End bytes draft stands may = draft
+
+-- what holds of all that was read so far
+pub record IsSound (reading : Reading) : Type 0 where
+  pub draft : IsDraft reading.state
+  pub stands : Stands reading.last reading.state
+
+pub start_sound : IsSound start
+start_sound = record { draft = empty_draft; stands = (refl, refl, refl, refl) }
+
+pub sound_more : (reading : Reading) (next : Entry × List ℕ) → IsSound reading → MayStand reading next
+    → IsSound (with_record reading next)
+sound_more reading next sound may = record {
+  draft = draft_more reading next.0 next.1 sound.draft sound.stands may;
+  stands =
+      stands_more reading.last reading.state next.0 next.1 sound.stands may.place
+      (faultless_of reading.state next.0 may.faultless).there;
+}
+
+pub leads_sound : (from to : Reading) (records : List (Entry × List ℕ)) → IsSound from
+    → Leads from records to → IsSound to
+leads_sound from to [] sound leads = subst IsSound (sym leads) sound
+leads_sound from to (next ∷ records) sound leads =
+    leads_sound (with_record from next) to records (sound_more from next sound leads.0) leads.1
+
+pub makes_sound : (bytes : List ℕ) (reading : Reading) (rest : List ℕ) → Makes bytes reading rest → IsSound reading
+unfolding Makes
+makes_sound bytes reading rest made = leads_sound start reading made.0 start_sound made.1

@@ -1,0 +1,202 @@
+-- Where the records of bytes end.
+use Rattle.std.proofs.Common.{◌≡◌, ◌⊎◌, ◌<◌, ◌≤◌, ◌-◌, inl, inr, ℕ, zero, suc, Bool, true, false, ◌&&◌, ◌==◌, List, [], ◌∷◌, ◌++◌, length, Result, Ok, Err, refl, ap, subst, sym, ◌∙◌, arith, append_assoc, length-append}
+use Rattle.std.specs.List.{flat_map}
+use Rattle.std.proofs.lemmas.Bool.{and_parts, false≢true}
+use Rattle.std.proofs.lemmas.List.{append-nil}
+use Rattle.ex_store.specs.State.{State}
+use Rattle.ex_image.specs.declared.fault.Kind.{Kind}
+use Rattle.ex_image.specs.declared.fault.Kind.TheVariants.{Form}
+use Rattle.ex_image.specs.declared.tag.Tag.{Tag}
+use Rattle.ex_image.specs.declared.tag.Tag.TheVariants as tags
+use Rattle.ex_image.specs.Grammar.{FirstBad, IsImage, Leads, Makes, MayStand}
+use Rattle.ex_image.specs.Reading.{Reading, is_ended, record_at, start, with_record}
+use Rattle.ex_image.specs.Record.{Entry, record_text}
+use Rattle.ex_image.proofs.Leading.{makes_more, makes_start}
+use Rattle.ex_image.proofs.LineLaws.{no_bytes}
+use Rattle.ex_image.proofs.RecordLaws.{record_again, record_shorter}
+use Rattle.ex_image.proofs.Spelling.{done}
+
+-- no record is read here
+pub record IsStuck (reading : Reading) (rest : List ℕ) : Type 0 where
+  pub kind : Kind
+  pub is : record_at reading rest ≡ Err kind
+
+-- so behind an end
+ended_stuck : (reading : Reading) (rest : List ℕ) → is_ended reading.last ≡ true → IsStuck reading rest
+unfolding record_at
+ended_stuck reading rest ended = record { kind = Form; is = rw ended refl }
+
+not_stuck : (reading : Reading) (next : Entry × List ℕ) (more : List (Entry × List ℕ)) (end to : Reading)
+    (rest left : List ℕ) → end ≡ reading → Leads reading (next ∷ more) to
+    → rest ≡ flat_map record_text (next ∷ more) ++ left → IsStuck end rest → ⊥
+not_stuck reading next more end to rest left same leads text stuck =
+    let again = record_again reading next (flat_map record_text more ++ left) leads.0 in
+    let joined = append_assoc (record_text next) (flat_map record_text more) left in
+    let here : record_at end rest ≡ Ok (next, flat_map record_text more ++ left) = rw (same, text, joined) again in
+    let fault = stuck.is in
+    absurd (cc)
+
+-- one record is read of one text
+one_record : (from : Reading) (next other : Entry × List ℕ) (rest left : List ℕ) → MayStand from next
+    → MayStand from other → record_text next ++ rest ≡ record_text other ++ left → (next ≡ other) × (rest ≡ left)
+one_record from next other rest left first second same =
+    let here = record_again from next rest first in
+    let there = record_again from other left second in
+    let read : done (next, rest) ≡ done (other, left) =
+    sym here ∙ ap (λ bytes. record_at from bytes) same ∙ there in
+    let both : (next, rest) ≡ (other, left) = cc in (
+      ap (λ (part : (Entry × List ℕ) × List ℕ). part.0) both,
+      ap (λ (part : (Entry × List ℕ) × List ℕ). part.1) both,
+    )
+
+two_joined : (next other : Entry × List ℕ) (records others : List (Entry × List ℕ)) (rest left : List ℕ)
+    → flat_map record_text (next ∷ records) ++ rest ≡ flat_map record_text (other ∷ others) ++ left
+    → record_text next ++ (flat_map record_text records ++ rest)
+    ≡ record_text other ++ (flat_map record_text others ++ left)
+two_joined next other records others rest left same =
+    sym (append_assoc (record_text next) (flat_map record_text records) rest)
+    ∙ same ∙ append_assoc (record_text other) (flat_map record_text others) left
+
+-- records from one place, in one text, end at one place
+pub same_end : (from one two : Reading) (records others : List (Entry × List ℕ)) (rest left : List ℕ)
+    → Leads from records one → Leads from others two
+    → flat_map record_text records ++ rest ≡ flat_map record_text others ++ left
+    → IsStuck one rest → IsStuck two left → (one ≡ two) × (rest ≡ left)
+same_end from one two [] [] rest left first second same stuck ends = (first ∙ sym second, same)
+same_end from one two [] (next ∷ others) rest left first second same stuck ends =
+    absurd (not_stuck from next others one two rest left first second same stuck)
+same_end from one two (next ∷ records) [] rest left first second same stuck ends =
+    absurd (not_stuck from next records two one left rest second first (sym same) ends)
+same_end from one two (next ∷ records) (other ∷ others) rest left first second same stuck ends =
+    let one_first =
+    one_record from next other (flat_map record_text records ++ rest) (flat_map record_text others ++ left)
+    first.0 second.0 (two_joined next other records others rest left same) in
+    same_end (with_record from next) one two records others rest left first.1
+    (subst (λ at. Leads (with_record from at) others two) (sym one_first.0) second.1) one_first.1 stuck ends
+
+-- what was read of bytes up to where no record is read
+pub one_end : (bytes : List ℕ) (one two : Reading) (rest left : List ℕ) → Makes bytes one rest → Makes bytes two left
+    → IsStuck one rest → IsStuck two left → (one ≡ two) × (rest ≡ left)
+unfolding Makes
+one_end bytes one two rest left first second stuck ends =
+    same_end start one two first.0 second.0 rest left first.1 second.1 (sym first.2 ∙ second.2) stuck ends
+
+-- the end of an image
+abbrev pub whole : State → Reading
+whole state = record { last = tags.End; state = state }
+
+image_made : (bytes : List ℕ) (state : State) → IsImage bytes state → Makes bytes (whole state) []
+unfolding IsImage
+image_made bytes state image = image
+
+-- behind an image nothing may stand
+pub nothing_behind : (bytes more : List ℕ) (state other : State) → IsImage bytes state → IsImage (bytes ++ more) other
+    → more ≡ []
+unfolding IsImage Makes
+nothing_behind bytes more state other image longer =
+    (same_end start (whole state) (whole other) image.0 longer.0 more [] image.1 longer.1
+    (ap (λ bytes. bytes ++ more) (sym (append-nil (flat_map record_text image.0)) ∙ sym image.2) ∙ longer.2)
+    (ended_stuck (whole state) more refl) (ended_stuck (whole other) [] refl)).1
+
+pub one_state : (bytes : List ℕ) (state other : State) → IsImage bytes state → IsImage bytes other → state ≡ other
+one_state bytes state other image second =
+    ap (λ reading. reading.state)
+    (one_end bytes (whole state) (whole other) [] [] (image_made bytes state image) (image_made bytes other second)
+    (ended_stuck (whole state) [] refl) (ended_stuck (whole other) [] refl)).0
+
+bad_stuck : (bytes : List ℕ) (place : ℕ) (kind : Kind) (bad : FirstBad bytes place kind) → IsStuck bad.reading bad.rest
+bad_stuck bytes place kind bad = record { kind = kind; is = bad.bad }
+
+at_end : (state : State) (reading : Reading) (rest : List ℕ) → whole state ≡ reading → [] ≡ rest
+    → (is_ended reading.last && length rest == 0) ≡ false → ⊥
+at_end state reading rest same none goes = false≢true (sym goes ∙ rw (← same, ← none) refl)
+
+-- an image goes wrong nowhere
+pub never_bad : (bytes : List ℕ) (state : State) (place : ℕ) (kind : Kind) → IsImage bytes state
+    → FirstBad bytes place kind → ⊥
+never_bad bytes state place kind image bad =
+    let same =
+    one_end bytes (whole state) bad.reading [] bad.rest (image_made bytes state image) bad.made
+    (ended_stuck (whole state) [] refl) (bad_stuck bytes place kind bad) in
+    at_end state bad.reading bad.rest same.0 same.1 bad.goes_on
+
+same_fault : (one two : Reading) (rest left : List ℕ) (kind fault : Kind) → one ≡ two → rest ≡ left
+    → record_at one rest ≡ Err kind → record_at two left ≡ Err fault → kind ≡ fault
+same_fault one two rest left kind fault same behind first second = cc
+
+-- bytes go wrong at one place
+pub one_bad : (bytes : List ℕ) (place other : ℕ) (kind fault : Kind) → FirstBad bytes place kind
+    → FirstBad bytes other fault → (place ≡ other) × (kind ≡ fault)
+one_bad bytes place other kind fault first second =
+    let same =
+    one_end bytes first.reading second.reading first.rest second.rest first.made second.made
+    (bad_stuck bytes place kind first) (bad_stuck bytes other fault second) in
+    let size = ap length same.1 in
+    let here = first.placed in
+    let there = second.placed in (
+      omega arith,
+      same_fault first.reading second.reading first.rest second.rest kind fault same.0 same.1 first.bad second.bad,
+    )
+
+-- an image, or a place where the bytes go wrong
+abbrev pub Judged : List ℕ → Type 0
+Judged bytes = ((state : State) × IsImage bytes state) ⊎ ((place : ℕ) × (kind : Kind) × FirstBad bytes place kind)
+
+reading_at : State → Tag → Reading
+reading_at state last = record { last = last; state = state }
+
+ended_is : (last : Tag) → is_ended last ≡ true → last ≡ tags.End
+ended_is tags.End ended = refl
+ended_is last ended = absurd (false≢true ended)
+
+-- an image ends where all of it is read
+pub image_here : (bytes : List ℕ) (reading : Reading) (rest : List ℕ) → Makes bytes reading rest
+    → (is_ended reading.last && length rest == 0) ≡ true → IsImage bytes reading.state
+unfolding IsImage reading_at
+image_here bytes reading rest made ends =
+    let both = and_parts (is_ended reading.last) (length rest == 0) ends in
+    let last = ended_is reading.last both.0 in
+    subst (λ at. Makes bytes at []) (ap (reading_at reading.state) last)
+    (subst (λ left. Makes bytes reading left) (no_bytes rest both.1) made)
+
+behind_size : (bytes : List ℕ) (reading : Reading) (rest : List ℕ) → Makes bytes reading rest
+    → length rest ≤ length bytes
+unfolding Makes
+behind_size bytes reading rest made =
+    omega (arith, ap length made.2, length-append (flat_map record_text made.0) rest)
+
+-- bytes go wrong where no record is read, and more are wanted
+pub bad_here : (bytes : List ℕ) (reading : Reading) (rest : List ℕ) (kind : Kind) → Makes bytes reading rest
+    → (is_ended reading.last && length rest == 0) ≡ false → record_at reading rest ≡ Err kind
+    → FirstBad bytes (length bytes - length rest) kind
+bad_here bytes reading rest kind made goes bad = record {
+  reading = reading;
+  rest = rest;
+  made = made;
+  placed = let most = behind_size bytes reading rest made in omega arith;
+  goes_on = goes;
+  bad = bad;
+}
+
+judged_from : (room : ℕ) (bytes : List ℕ) (reading : Reading) (rest : List ℕ) → length rest < room
+    → Makes bytes reading rest → Judged bytes
+judged_from zero bytes reading rest less made = absurd (none (length rest) less)
+  where
+    none : (n : ℕ) → n < 0 → ⊥
+    none n less = omega arith
+judged_from (suc room) bytes reading rest less made =
+    by (is_ended reading.last && length rest == 0) refl (record_at reading rest) refl (judged_from room bytes)
+  where
+    by : (ends : Bool) → (is_ended reading.last && length rest == 0) ≡ ends
+        → (read : Result ((Entry × List ℕ) × List ℕ) Kind) → record_at reading rest ≡ read
+        → ((next : Reading) (left : List ℕ) → length left < room → Makes bytes next left → Judged bytes) → Judged bytes
+    by true ends read is later = inl (reading.state, image_here bytes reading rest made ends)
+    by false ends (Ok part) is later =
+        let shorter = record_shorter reading rest part is in
+        later (with_record reading part.0) part.1 (omega arith) (makes_more bytes reading rest part made is)
+    by false ends (Err kind) is later =
+        inr (length bytes - length rest, kind, bad_here bytes reading rest kind made ends is)
+
+-- bytes are an image, or go wrong somewhere
+pub judged : (bytes : List ℕ) → Judged bytes
+judged bytes = judged_from (suc (length bytes)) bytes start bytes (omega arith) (makes_start bytes)

@@ -1,0 +1,179 @@
+-- The fields of files and of requests: their readers and their writers.
+use Rattle.std.proofs.Common.{◌≡◌, ℕ, zero, suc, ◌<◌, ℤ, pos, negsuc, Bool, true, false, nat_lt, cond, List, ◌∷◌, ◌++◌, codes, Option, Some, None, Result, Ok, refl, ap, subst, sym, ◌∙◌, arith}
+use Rattle.std.specs.Char.{is_ascii_digit}
+use Rattle.std.specs.Fmt.{decimal}
+use Rattle.std.specs.List.{list_all}
+use Rattle.std.specs.Str.{bytes_eq}
+use Rattle.std.proofs.lemmas.Bool.{and_from, and_parts, le-leb, ltb-true}
+use Rattle.std.proofs.lemmas.Slice.Eq.{bytes_eq-Decides}
+use Rattle.cm_text.specs.Bytes.{is_name}
+use Rattle.ex_store.specs.declared.key.FullName.{FullName}
+use Rattle.ex_store.specs.declared.limits.TheConstants.{FORMS}
+use Rattle.ex_store.specs.Forms.{form_text}
+use Rattle.ex_store.specs.WellFormed.{is_file_name, is_file_type}
+use Rattle.ex_image.specs.declared.fault.Kind.{Kind}
+use Rattle.ex_image.specs.declared.fault.Kind.TheVariants.{Form}
+use Rattle.ex_image.specs.Fields.{after_of, file_of, form_of, mark_of}
+use Rattle.ex_image.specs.Grammar.{is_short, is_short_day}
+use Rattle.ex_image.specs.Record.{after_text, file_text, mark_text}
+use Rattle.ex_image.proofs.FieldLaws.{file_name_names, file_type_names, is_dark, name_dark, kind_spelling, name_spelling, number_digits, number_spelling, point_no_name}
+use Rattle.ex_image.proofs.Spelling.{IsSpelling, all_joined, all_weaker, by_part, by_rest, by_word, done, part_again}
+
+-- a full name by its parts
+abbrev full_name : List ℕ → List ℕ → List ℕ → ℕ → FullName
+full_name directory name kind generation =
+    record { key = record { directory = directory; name = name; kind = kind }; generation = generation }
+
+-- a full name that may be read as one in this directory
+pub record IsFile (directory : List ℕ) (full : FullName) : Type 0 where
+  pub directory_is : full.key.directory ≡ directory
+  pub name : is_file_name full.key.name ≡ true
+  pub kind : is_file_type full.key.kind ≡ true
+  pub generation : is_short full.generation ≡ true
+
+-- the parts of a full name make its text
+file_end : (directory bytes name behind kind rest : List ℕ) (generation : ℕ) (full : FullName)
+    → bytes ≡ name ++ 46 ∷ behind → behind ≡ kind ++ 46 ∷ rest → rest ≡ decimal generation
+    → is_file_name name ≡ true → is_file_type kind ≡ true → is_short generation ≡ true
+    → done (full_name directory name kind generation) ≡ done full → (bytes ≡ file_text full) × IsFile directory full
+file_end directory bytes name behind kind rest generation full one two three named typed short is =
+    let same : full_name directory name kind generation ≡ full = cc in
+    subst (λ full. (bytes ≡ file_text full) × IsFile directory full) same (
+      one ∙ ap (λ behind. name ++ 46 ∷ behind) (two ∙ ap (λ rest. kind ++ 46 ∷ rest) three),
+      record { directory_is = refl; name = named; kind = typed; generation = short },
+    )
+
+file_takes : (directory bytes : List ℕ) (full : FullName) → file_of directory bytes ≡ Ok full
+    → (bytes ≡ file_text full) × IsFile directory full
+unfolding file_of
+file_takes directory bytes full is =
+    by_part _ _ _ _ name_spelling 46 Form bytes _ full _ is λ name behind one named is.
+    by_part _ _ _ _ kind_spelling 46 Form behind _ full _ is λ kind rest two typed is.
+    by_rest _ _ _ _ number_spelling rest _ full _ is λ generation three short is.
+    file_end directory bytes name behind kind rest generation full one two three named typed short is
+
+file_again : (directory : List ℕ) (full : FullName) → IsFile directory full
+    → file_of directory (file_text full) ≡ Ok full
+unfolding file_of
+file_again directory full good =
+    rw (
+      part_again _ _ _ _ name_spelling 46 Form point_no_name full.key.name
+          (full.key.kind ++ 46 ∷ decimal full.generation) good.name,
+      part_again _ _ _ _ kind_spelling 46 Form point_no_name full.key.kind (decimal full.generation) good.kind,
+      number_spelling.again full.generation good.generation,
+      good.directory_is,
+    ) refl
+
+file_only : (directory : List ℕ) (full : FullName) → IsFile directory full → list_all is_dark (file_text full) ≡ true
+file_only directory full good =
+    all_joined is_dark full.key.name 46 (full.key.kind ++ 46 ∷ decimal full.generation)
+    (all_weaker is_name is_dark name_dark full.key.name (file_name_names full.key.name good.name)) refl
+    (all_joined is_dark full.key.kind 46 (decimal full.generation)
+    (all_weaker is_name is_dark name_dark full.key.kind (file_type_names full.key.kind good.kind)) refl
+    (number_spelling.only full.generation good.generation))
+
+pub file_spelling : (directory : List ℕ) → IsSpelling (file_of directory) file_text (IsFile directory) is_dark
+file_spelling directory =
+    record { takes = file_takes directory; again = file_again directory; only = file_only directory }
+
+-- what a text says that is one of a few words
+chosen : {A : Type 0} (bytes word : List ℕ) (x : A) (other : Result A Kind) (y : A) (P : Type 0)
+    → cond (bytes_eq bytes word) (done x) other ≡ done y → (bytes ≡ word → x ≡ y → P) → (other ≡ done y → P) → P
+chosen bytes word x other y P is this that =
+    by_word bytes word (done x) other (done y) P is (λ same is. let e : x ≡ y = cc in this same e) that
+
+mark_takes : (bytes : List ℕ) (mark : Bool) → mark_of bytes ≡ Ok mark → (bytes ≡ mark_text mark) × Unit {0}
+unfolding mark_of
+mark_takes bytes mark is =
+    chosen bytes (codes "U") false _ mark _ is (λ word e. (word ∙ ap mark_text e, tt)) λ is.
+    chosen bytes (codes "D") true _ mark _ is (λ word e. (word ∙ ap mark_text e, tt)) λ is.
+    absurd (cc)
+
+mark_again : (mark : Bool) → Unit {0} → mark_of (mark_text mark) ≡ Ok mark
+unfolding mark_of
+mark_again true good = refl
+mark_again false good = refl
+
+mark_only : (mark : Bool) → Unit {0} → list_all is_dark (mark_text mark) ≡ true
+mark_only true good = refl
+mark_only false good = refl
+
+pub mark_spelling : IsSpelling mark_of mark_text (λ mark. Unit {0}) is_dark
+mark_spelling = record { takes = mark_takes; again = mark_again; only = mark_only }
+
+abbrev pub is_form : ℕ → Bool
+is_form form = nat_lt form FORMS
+
+form_takes : (bytes : List ℕ) (form : ℕ) → form_of bytes ≡ Ok form → (bytes ≡ form_text form) × (is_form form ≡ true)
+unfolding form_of
+form_takes bytes form is =
+    chosen bytes (form_text 0) 0 _ form _ is (λ word e. (word ∙ ap form_text e, ap is_form (sym e))) λ is.
+    chosen bytes (form_text 1) 1 _ form _ is (λ word e. (word ∙ ap form_text e, ap is_form (sym e))) λ is.
+    chosen bytes (form_text 2) 2 _ form _ is (λ word e. (word ∙ ap form_text e, ap is_form (sym e))) λ is.
+    absurd (cc)
+
+form_again : (form : ℕ) → is_form form ≡ true → form_of (form_text form) ≡ Ok form
+unfolding form_of
+form_again zero good = refl
+form_again (suc zero) good = refl
+form_again (suc (suc zero)) good = refl
+form_again (suc (suc (suc form))) good = absurd (large (ltb-true (suc (suc (suc form))) FORMS good))
+  where
+    large : suc (suc (suc form)) < 3 → ⊥
+    large less = omega arith
+
+form_only : (form : ℕ) → is_form form ≡ true → list_all is_dark (form_text form) ≡ true
+form_only zero good = refl
+form_only (suc zero) good = refl
+form_only (suc (suc form)) good = refl
+
+pub form_spelling : IsSpelling form_of form_text (λ form. is_form form ≡ true) is_dark
+form_spelling = record { takes = form_takes; again = form_again; only = form_only }
+
+-- a day of ten digits
+short_day : (day : ℕ) → is_short day ≡ true → is_short_day (Some (pos day)) ≡ true
+short_day day short = and_from _ _ (le-leb 0 day (omega arith)) short
+
+day_short : (day : ℕ) → is_short_day (Some (pos day)) ≡ true → is_short day ≡ true
+day_short day short = (and_parts _ _ short).1
+
+after_takes : (bytes : List ℕ) (after : Option ℤ) → after_of bytes ≡ Ok after
+    → (bytes ≡ after_text after) × (is_short_day after ≡ true)
+unfolding after_of
+after_takes bytes after is =
+    chosen bytes (codes "-") None _ after _ is
+    (λ word e. (word ∙ ap after_text e, ap is_short_day (sym e))) λ is.
+    by_rest _ _ _ _ number_spelling bytes _ after _ is λ day text short is.
+    after_end bytes day after text short is
+  where
+    after_end : (bytes : List ℕ) (day : ℕ) (after : Option ℤ) → bytes ≡ decimal day → is_short day ≡ true
+        → done (Some (pos day)) ≡ done after → (bytes ≡ after_text after) × (is_short_day after ≡ true)
+    after_end bytes day after text short is =
+        let same : Some (pos day) ≡ after = cc in
+        (text ∙ ap after_text same, subst (λ after. is_short_day after ≡ true) same (short_day day short))
+
+hyphen_no_number : (number : ℕ) → is_short number ≡ true → bytes_eq (decimal number) (codes "-") ≡ false
+hyphen_no_number number short =
+    by (bytes_eq (decimal number) (codes "-")) (bytes_eq-Decides (decimal number) (codes "-")).0
+  where
+    by : (same : Bool) → (same ≡ true → decimal number ≡ codes "-") → same ≡ false
+    by true means =
+        let digit : list_all is_ascii_digit (codes "-") ≡ true =
+        subst (λ bytes. list_all is_ascii_digit bytes ≡ true) (means refl) (number_digits number short) in
+        absurd (cc)
+    by false means = refl
+
+after_again : (after : Option ℤ) → is_short_day after ≡ true → after_of (after_text after) ≡ Ok after
+unfolding after_of
+after_again None good = refl
+after_again (Some (pos day)) good =
+    rw (hyphen_no_number day (day_short day good), number_spelling.again day (day_short day good)) refl
+after_again (Some (negsuc day)) good = absurd (cc)
+
+after_only : (after : Option ℤ) → is_short_day after ≡ true → list_all is_dark (after_text after) ≡ true
+after_only None good = refl
+after_only (Some (pos day)) good = number_spelling.only day (day_short day good)
+after_only (Some (negsuc day)) good = absurd (cc)
+
+pub after_spelling : IsSpelling after_of after_text (λ after. is_short_day after ≡ true) is_dark
+after_spelling = record { takes = after_takes; again = after_again; only = after_only }

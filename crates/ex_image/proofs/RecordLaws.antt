@@ -1,0 +1,191 @@
+-- A record: what is read of bytes is a record that may stand there, and such a record is read.
+use Rattle.std.proofs.Common.{◌≡◌, ℕ, suc, ◌+◌, ◌<◌, ◌==◌, Bool, true, false, nat_le, cond, List, [], ◌∷◌, ◌++◌, length, take, drop, get_or, Option, Some, None, Result, Ok, Err, refl, ap, subst, sym, ◌∙◌, arith, add-one, append_assoc, length-append}
+use Rattle.std.proofs.Math.Seq.{drop-append-add, get_or-append_seam, length-take-le, split_at, take-append_seam}
+use Rattle.std.proofs.lemmas.Bool.{eqb-true, false≢true, leb-false, lt-leb}
+use Rattle.ex_image.specs.declared.fault.Kind.{Kind}
+use Rattle.ex_image.specs.declared.fault.Kind.TheVariants.{Cut, Form}
+use Rattle.ex_image.specs.declared.tag.Tag.{Tag}
+use Rattle.ex_image.specs.declared.tag.Tag.TheVariants as tags
+use Rattle.ex_image.specs.Fields.{content_at}
+use Rattle.ex_image.specs.Grammar.{HasContent, MayStand, is_shaped}
+use Rattle.ex_image.specs.Reading.{Reading, behind, fault_of, is_ended, may_follow, record_at, record_behind, standing, tag_of, unless}
+use Rattle.ex_image.specs.Record.{Entry, File, content_text, line_text, record_text}
+use Rattle.ex_image.proofs.EntryLaws.{entry_spelling}
+use Rattle.ex_image.proofs.FieldLaws.{is_inside}
+use Rattle.ex_image.proofs.Spelling.{IsSpelling, by_part, by_rest, done, part_again, steps_of}
+
+-- an entry that may stand behind a record
+pub record IsPlaced (last : Tag) (entry : Entry) : Type 0 where
+  pub shape : is_shaped entry ≡ true
+  pub place : may_follow last (tag_of entry) ≡ true
+
+standing_takes : (last : Tag) (line : List ℕ) (entry : Entry) → standing last line ≡ Ok entry
+    → (line ≡ line_text entry) × IsPlaced last entry
+unfolding standing
+standing_takes last line entry is =
+    by_rest _ _ _ _ entry_spelling line _ entry _ is λ other one shape is.
+    by other (may_follow last (tag_of other)) refl one shape is
+  where
+    by : (other : Entry) (may : Bool) → may_follow last (tag_of other) ≡ may → line ≡ line_text other
+        → is_shaped other ≡ true → cond may (done other) (Err Form) ≡ done entry
+        → (line ≡ line_text entry) × IsPlaced last entry
+    by other true place one shape is =
+        let same : other ≡ entry = cc in
+        subst (λ entry. (line ≡ line_text entry) × IsPlaced last entry) same
+        (one, record { shape = shape; place = place })
+    by other false place one shape is = absurd (cc)
+
+standing_again : (last : Tag) (entry : Entry) → IsPlaced last entry → standing last (line_text entry) ≡ Ok entry
+unfolding standing
+standing_again last entry placed = rw (entry_spelling.again entry placed.shape, placed.place) refl
+
+standing_spelling : (last : Tag) → IsSpelling (standing last) line_text (IsPlaced last) is_inside
+standing_spelling last = record {
+  takes = standing_takes last;
+  again = standing_again last;
+  only = λ entry placed. entry_spelling.only entry placed.shape;
+}
+
+-- the bytes of a file
+abbrev IsContent : ℕ → List ℕ → List ℕ × List ℕ → Type 0
+IsContent size bytes parts = (bytes ≡ (parts.0 ++ 10 ∷ []) ++ parts.1) × (length parts.0 ≡ size)
+
+content_there : (size : ℕ) (bytes : List ℕ) → size < length bytes → get_or bytes size 0 ≡ 10
+    → IsContent size bytes (take size bytes, drop (size + 1) bytes)
+content_there size bytes long ends = (
+  split_at bytes size 0 long
+      ∙ rw (ends, add-one size, append_assoc (take size bytes) (10 ∷ []) (drop (suc size) bytes)) refl,
+  length-take-le size bytes (omega arith),
+)
+
+content_takes : (size : ℕ) (bytes : List ℕ) (parts : List ℕ × List ℕ) → content_at size bytes ≡ Ok parts
+    → IsContent size bytes parts
+unfolding content_at
+content_takes size bytes parts is =
+    by (nat_le (length bytes) size) (get_or bytes size 0 == 10) (leb-false (length bytes) size)
+    (eqb-true (get_or bytes size 0) 10) is
+  where
+    by : (short ends : Bool) → (short ≡ false → size < length bytes) → (ends ≡ true → get_or bytes size 0 ≡ 10)
+        → cond short (Err Cut) (cond ends (done (take size bytes, drop (size + 1) bytes)) (Err Form)) ≡ done parts
+        → IsContent size bytes parts
+    by true ends long there is = absurd (cc)
+    by false true long there is =
+        let same : (take size bytes, drop (size + 1) bytes) ≡ parts = cc in
+        subst (IsContent size bytes) same (content_there size bytes (long refl) (there refl))
+    by false false long there is = absurd (cc)
+
+content_again : (bytes rest : List ℕ) → content_at (length bytes) ((bytes ++ 10 ∷ []) ++ rest) ≡ Ok (bytes, rest)
+unfolding content_at
+content_again bytes rest =
+    let joined = append_assoc bytes (10 ∷ []) rest in
+    let size = length-append bytes (10 ∷ rest) in
+    let long = lt-leb (length (bytes ++ 10 ∷ rest)) (length bytes) (omega arith) in
+    rw (
+      joined,
+      long,
+      get_or-append_seam bytes 10 rest 0,
+      take-append_seam bytes (10 ∷ rest),
+      drop-append-add bytes (10 ∷ rest) 1,
+    ) refl
+
+-- what stands behind a line
+nothing_takes : (bytes : List ℕ) (parts : List ℕ × List ℕ) → done ([], bytes) ≡ done parts
+    → (bytes ≡ parts.1) × (parts.0 ≡ [])
+nothing_takes bytes parts is =
+    let same : ([], bytes) ≡ parts = cc in
+    (ap (λ (both : List ℕ × List ℕ). both.1) same, ap (λ (both : List ℕ × List ℕ). both.0) (sym same))
+
+behind_takes : (entry : Entry) (bytes : List ℕ) (parts : List ℕ × List ℕ) → behind entry bytes ≡ Ok parts
+    → (bytes ≡ content_text entry parts.0 ++ parts.1) × HasContent entry parts.0
+behind_takes (File row size) bytes parts is = content_takes size bytes parts is
+behind_takes entry bytes parts is = nothing_takes bytes parts is
+
+behind_again : (entry : Entry) (bytes rest : List ℕ) → HasContent entry bytes
+    → behind entry (content_text entry bytes ++ rest) ≡ Ok (bytes, rest)
+behind_again (File row size) bytes rest content =
+    ap (λ size. content_at size ((bytes ++ 10 ∷ []) ++ rest)) (sym content) ∙ content_again bytes rest
+behind_again entry bytes rest content = ap (λ bytes. done (bytes, rest)) (sym content)
+
+-- a fault or none
+unless_takes : {A : Type 0} (fault : Option Kind) (value end : A) → unless fault value ≡ done end
+    → (fault ≡ None) × (value ≡ end)
+unless_takes None value end is = (refl, cc)
+unless_takes (Some kind) value end is = absurd (cc)
+
+-- a record that was read, and what is left
+pub record IsRead (reading : Reading) (bytes : List ℕ) (part : (Entry × List ℕ) × List ℕ) : Type 0 where
+  pub joined : bytes ≡ record_text part.0 ++ part.1
+  pub stands : MayStand reading part.0
+
+read_of : (reading : Reading) (bytes line : List ℕ) (entry : Entry) (parts : List ℕ × List ℕ)
+    (part : (Entry × List ℕ) × List ℕ) → bytes ≡ line_text entry ++ 10 ∷ line → IsPlaced reading.last entry
+    → (line ≡ content_text entry parts.0 ++ parts.1) × HasContent entry parts.0
+    → (fault_of reading.state entry ≡ None) × (((entry, parts.0), parts.1) ≡ part) → IsRead reading bytes part
+read_of reading bytes line entry parts part one placed two three =
+    subst (IsRead reading bytes) three.1 (record {
+      joined =
+          one ∙ ap (λ line. line_text entry ++ 10 ∷ line) two.0
+          ∙ sym (append_assoc (line_text entry) (10 ∷ content_text entry parts.0) parts.1);
+      stands = record { shape = placed.shape; place = placed.place; content = two.1; faultless = three.0 };
+    })
+
+behind_record : (reading : Reading) (bytes : List ℕ) (part : (Entry × List ℕ) × List ℕ)
+    → record_behind reading bytes ≡ Ok part → IsRead reading bytes part
+unfolding record_behind
+behind_record reading bytes part is =
+    by_part _ _ _ _ (standing_spelling reading.last) 10 Cut bytes _ part _ is λ entry line one placed is.
+    let step = steps_of (behind entry line) _ part is in
+    let two = behind_takes entry line step.value step.first in
+    let three = unless_takes (fault_of reading.state entry) ((entry, step.value.0), step.value.1) part step.then in
+    read_of reading bytes line entry step.value part one placed two three
+
+-- what is read may stand there
+pub record_takes : (reading : Reading) (bytes : List ℕ) (part : (Entry × List ℕ) × List ℕ)
+    → record_at reading bytes ≡ Ok part → IsRead reading bytes part
+unfolding record_at
+record_takes reading bytes part is =
+    by (is_ended reading.last) (record_behind reading bytes) (behind_record reading bytes part) is
+  where
+    by : (ended : Bool) (read : Result ((Entry × List ℕ) × List ℕ) Kind)
+        → (read ≡ Ok part → IsRead reading bytes part) → cond ended (Err Form) read ≡ Ok part
+        → IsRead reading bytes part
+    by true read behind is = absurd (cc)
+    by false read behind is = behind is
+
+-- nothing may stand behind an end
+not_ended : (last next : Tag) → may_follow last next ≡ true → is_ended last ≡ false
+not_ended tags.End next place = absurd (false≢true place)
+not_ended last next place = refl
+
+again_behind : (reading : Reading) (entry : Entry) (bytes rest : List ℕ) → MayStand reading (entry, bytes)
+    → record_behind reading (line_text entry ++ 10 ∷ (content_text entry bytes ++ rest)) ≡ Ok ((entry, bytes), rest)
+unfolding record_behind
+again_behind reading entry bytes rest stands =
+    rw (
+      part_again _ _ _ _ (standing_spelling reading.last) 10 Cut refl entry (content_text entry bytes ++ rest)
+          (record { shape = stands.shape; place = stands.place }),
+      behind_again entry bytes rest stands.content,
+      stands.faultless,
+    ) refl
+
+-- what may stand there is read
+pub record_again : (reading : Reading) (r : Entry × List ℕ) (rest : List ℕ) → MayStand reading r
+    → record_at reading (record_text r ++ rest) ≡ Ok (r, rest)
+unfolding record_at
+record_again reading r rest stands =
+    rw (
+      append_assoc (line_text r.0) (10 ∷ content_text r.0 r.1) rest,
+      not_ended reading.last (tag_of r.0) stands.place,
+    ) (again_behind reading r.0 r.1 rest stands)
+
+-- a record takes a byte at least
+pub record_shorter : (reading : Reading) (bytes : List ℕ) (part : (Entry × List ℕ) × List ℕ)
+    → record_at reading bytes ≡ Ok part → length part.1 < length bytes
+record_shorter reading bytes part is =
+    let taken = record_takes reading bytes part is in
+    omega (
+      arith,
+      ap length taken.joined,
+      length-append (record_text part.0) part.1,
+      length-append (line_text part.0.0) (10 ∷ content_text part.0.0 part.0.1),
+    )

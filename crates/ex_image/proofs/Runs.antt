@@ -1,0 +1,64 @@
+-- The records of a list, one behind the other.
+use Rattle.std.proofs.Common.{◌≡◌, ℕ, ◌≤◌, nat_lt, Bool, true, List, [], ◌∷◌, ◌++◌, length, map, refl, ap, subst, sym, ◌∙◌, arith, append_assoc, length-append}
+use Rattle.std.specs.List.{list_all}
+use Rattle.std.proofs.lemmas.Bool.{and_parts, lt-ltb}
+use Rattle.std.proofs.lemmas.List.{append-nil}
+use Rattle.std.proofs.lemmas.List.Folds.{list_all-append}
+use Rattle.ex_image.specs.declared.tag.Tag.{Tag}
+use Rattle.ex_image.specs.Grammar.{Leads, MayStand}
+use Rattle.ex_image.specs.Reading.{Reading, may_follow, with_record}
+use Rattle.ex_image.specs.Record.{Entry}
+
+-- which record is the last behind those of a list
+abbrev pub behind_all : {X : Type 0} → Tag → Tag → List X → Tag
+behind_all last own [] = last
+behind_all last own (x ∷ xs) = behind_all own own xs
+
+-- what holds of both that may be the last holds of the last
+pub of_last : {X : Type 0} (P : Tag → Type 0) (last own : Tag) (xs : List X) → P last → P own
+    → P (behind_all last own xs)
+of_last P last own [] first second = first
+of_last P last own (x ∷ xs) first second = of_last P own own xs second second
+
+-- how the records of a list are read: what is read so far is the list as far as it was read
+pub record IsRun {X : Type 0} (all : List X) (at : Tag → List X → Reading) (written : X → Entry × List ℕ) (own : Tag)
+    : Type 0 where
+  pub again : may_follow own own ≡ true
+  pub step : (last : Tag) (before : List X) (x : X)
+      → with_record (at last before) (written x) ≡ at own (before ++ x ∷ [])
+  pub stands : (last : Tag) (before : List X) (x : X) (more : List X) → all ≡ before ++ x ∷ more
+      → may_follow last own ≡ true → MayStand (at last before) (written x)
+
+run_from : {X : Type 0} (all : List X) (at : Tag → List X → Reading) (written : X → Entry × List ℕ) (own : Tag)
+    → IsRun all at written own → (last : Tag) (before rest : List X) → all ≡ before ++ rest → may_follow last own ≡ true
+    → Leads (at last before) (map written rest) (at (behind_all last own rest) all)
+run_from all at written own run last before [] same place = ap (at last) (same ∙ append-nil before)
+run_from all at written own run last before (x ∷ rest) same place = (
+  run.stands last before x rest same place,
+  subst (λ from. Leads from (map written rest) (at (behind_all own own rest) all)) (sym (run.step last before x))
+      (run_from all at written own run own (before ++ x ∷ []) rest (same ∙ sym (append_assoc before (x ∷ []) rest))
+      run.again),
+)
+
+-- so all of them are read
+pub run_leads : {X : Type 0} (all : List X) (at : Tag → List X → Reading) (written : X → Entry × List ℕ) (own : Tag)
+    → IsRun all at written own → (last : Tag) → may_follow last own ≡ true
+    → Leads (at last []) (map written all) (at (behind_all last own all) all)
+run_leads all at written own run last place = run_from all at written own run last [] all refl place
+
+-- an element of a list all of which pass
+pub all_there : {X : Type 0} (test : X → Bool) (all before : List X) (x : X) (more : List X) → all ≡ before ++ x ∷ more
+    → list_all test all ≡ true → test x ≡ true
+all_there test all before x more same passes =
+    let whole : list_all test (before ++ x ∷ more) ≡ true = subst (λ xs. list_all test xs ≡ true) same passes in
+    let both = and_parts (list_all test before) (list_all test (x ∷ more))
+    (sym (list_all-append test before (x ∷ more)) ∙ whole) in
+    (and_parts (test x) (list_all test more) both.1).0
+
+-- before an element of a list with few there are fewer
+pub fewer : {X : Type 0} (all before : List X) (x : X) (more : List X) (limit : ℕ) → all ≡ before ++ x ∷ more
+    → length all ≤ limit → nat_lt (length before) limit ≡ true
+fewer all before x more limit same few =
+    let size = ap length same in
+    let parts = length-append before (x ∷ more) in
+    lt-ltb (length before) limit (omega arith)

@@ -1,0 +1,44 @@
+// Bytes are read as an image.
+ghost use Rattle.std.specs.Prelude.{ℕ, List, IfErr, IfOk};
+ghost use Rattle.ex_image.specs.declared.fault.Kind.{Kind};
+ghost use Rattle.ex_image.specs.Decoding.{IsBadAt, IsStore, Tells};
+ghost use Rattle.ex_image.specs.Grammar.{FirstBad, IsImage};
+ghost use Rattle.ex_store.specs.State.{State};
+
+use crate::ImageFault;
+use crate::reading::Reading;
+use ex_store::Store;
+use std::alloc::Global;
+
+// The store of which the bytes are the image.
+fn decoded(alloc: Global, bytes: &[u8]) -> Result<Store, ImageFault>
+    ensures image { IfOk result (λ store. IsImage bytes.now store.state) }
+    ensures bad { IfErr result (λ fault. Tells bytes.now fault) }
+{
+    let mut reading = Reading::new(alloc);
+    let mut rest = bytes;
+    while !reading.is_complete(rest) {
+        match reading.record_at(rest) {
+            Ok(next) => {
+                reading.add(alloc, &next)?;
+                rest = next.behind;
+            }
+            Err(kind) => {
+                let at = bytes.len() - rest.len();
+                return Err(ImageFault::Bad { at, kind });
+            }
+        }
+    }
+    Ok(reading.done())
+}
+
+/// The store of which the bytes are the image. Bad exactly where they are an image of none, with the place and the
+/// kind of the first record that is wrong after those before it.
+pub fn decode(alloc: Global, bytes: &[u8]) -> Result<Store, ImageFault>
+    ensures image { IfOk result (λ store. IsImage bytes.now store.state) }
+    ensures bad { IfErr result (λ fault. Tells bytes.now fault) }
+    ensures only { (wanted : State) → IsImage bytes.now wanted → IsStore result wanted }
+    ensures first { (place : ℕ) → (kind : Kind) → FirstBad bytes.now place kind → IsBadAt result place kind }
+{
+    decoded(alloc, bytes)
+}

@@ -1,0 +1,191 @@
+// What is wrong with a record that may stand where it does by its form.
+ghost use Rattle.std.specs.Prelude.{◌≡◌, ◌≤◌, ℕ, List, pos, option_map};
+ghost use Rattle.std.specs.Ordering.{is_lt, on};
+ghost use Rattle.cm_files.specs.Catalogue.{by_bytes};
+ghost use Rattle.ex_image.specs.Reading.{fault_of, has_room, is_above, is_in_range, is_there, stands_above};
+ghost use Rattle.ex_image.specs.Said.{entry_said, row_said};
+ghost use Rattle.ex_store.specs.Lent.{state_of};
+ghost use Rattle.ex_store.specs.Rows.{by_row, total};
+ghost use Rattle.ex_store.specs.State.{has_directory};
+ghost use Rattle.ex_store.specs.WellFormed.{is_day, is_numbered};
+
+use crate::Kind;
+use crate::entry::{Entry, FileEntry, RequestEntry};
+use ex_generations::{FILE_LIMIT, GENERATION_LIMIT};
+use ex_store::{
+    AFTER_LIMIT, COPIES_LIMIT, DIRECTORY_LIMIT, Definition, Directory, LOGICAL_LIMIT, MOMENT_LIMIT,
+    Parts, QUEUE_LIMIT, RETENTION_LIMIT, ROW_LIMIT, Row, STORE_LIMIT,
+};
+
+fn is_numbered(generation: u64) -> bool
+    ensures { result ≡ is_numbered generation }
+{
+    generation > 0 && generation <= u64::from(GENERATION_LIMIT)
+}
+
+fn is_day(after: Option<u64>) -> bool
+    ensures { result ≡ is_day (option_map pos after) }
+{
+    match after {
+        None => true,
+        Some(day) => day <= u64::from(AFTER_LIMIT.unsigned_abs()),
+    }
+}
+
+fn is_file_in_range(it: &FileEntry<'_>) -> bool
+    ensures { result ≡ is_in_range (entry_said (Entry.File it.now)) }
+{
+    is_numbered(it.file.generation) && it.moment <= MOMENT_LIMIT && it.size <= FILE_LIMIT as u64
+}
+
+fn is_request_in_range(it: &RequestEntry<'_>) -> bool
+    ensures { result ≡ is_in_range (entry_said (Entry.Request it.now)) }
+{
+    is_numbered(it.file.generation)
+        && it.copies > 0
+        && it.copies <= u64::from(COPIES_LIMIT)
+        && is_day(it.after)
+}
+
+// Whether the numbers are in their ranges.
+fn is_in_range(entry: &Entry<'_>) -> bool
+    ensures { result ≡ is_in_range (entry_said entry.now) }
+{
+    match entry {
+        Entry::Head => true,
+        Entry::Directory { keep, .. } => *keep <= u64::from(RETENTION_LIMIT),
+        Entry::Connected { .. } => true,
+        Entry::Logical { .. } => true,
+        Entry::File(it) => is_file_in_range(it),
+        Entry::Request(it) => is_request_in_range(it),
+        Entry::End => true,
+    }
+}
+
+// Whether there is a directory of this name.
+fn has_directory(directories: &[Directory], name: &str) -> bool
+    ensures { result ≡ has_directory name.now directories.now }
+{
+    directories
+        .iter()
+        .any(|directory| directory.name.as_bytes() == name.as_bytes())
+}
+
+// Whether the directory that is named is there.
+fn is_there(parts: &Parts<'_>, entry: &Entry<'_>) -> bool
+    ensures { result ≡ is_there (state_of parts.now) (entry_said entry.now) }
+{
+    match entry {
+        Entry::Head => true,
+        Entry::Directory { .. } => true,
+        Entry::Connected { name } => has_directory(parts.directories, name),
+        Entry::Logical { directory, .. } => has_directory(parts.directories, directory),
+        Entry::File(it) => has_directory(parts.directories, it.file.directory),
+        Entry::Request(it) => has_directory(parts.directories, it.file.directory),
+        Entry::End => true,
+    }
+}
+
+// Whether a name stands above the last directory.
+fn is_directory_above(directories: &[Directory], name: &str) -> bool
+    ensures { (keep : ℕ) → result ≡ stands_above (on (λ directory. directory.name) by_bytes) directories.now
+        (record { name = name.now; keep = keep }) }
+{
+    match directories {
+        [.., last] => last.name.as_bytes().cmp(name.as_bytes()).is_lt(),
+        [] => true,
+    }
+}
+
+// Whether a name stands above the last logical name.
+fn is_logical_above(logical: &[Definition], name: &str) -> bool
+    ensures { (directory : List ℕ) → result ≡ stands_above (on (λ entry. entry.name) by_bytes) logical.now
+        (record { name = name.now; directory = directory }) }
+{
+    match logical {
+        [.., last] => last.name.as_bytes().cmp(name.as_bytes()).is_lt(),
+        [] => true,
+    }
+}
+
+// Whether a row stands below a file.
+fn is_below(row: &Row, it: &FileEntry<'_>) -> bool
+    ensures { result ≡ is_lt (by_row row.now (row_said it.now)) }
+{
+    let directory = row
+        .key
+        .directory
+        .as_bytes()
+        .cmp(it.file.directory.as_bytes());
+    let name = row.key.name.as_bytes().cmp(it.file.name.as_bytes());
+    let kind = row.key.kind.as_bytes().cmp(it.file.kind.as_bytes());
+    let generation = u64::from(row.file.generation).cmp(&it.file.generation);
+    directory.then(name.then(kind)).then(generation).is_lt()
+}
+
+// Whether a file stands above the last one.
+fn is_file_above(rows: &[Row], it: &FileEntry<'_>) -> bool
+    ensures { result ≡ stands_above by_row rows.now (row_said it.now) }
+{
+    match rows {
+        [.., last] => is_below(last, it),
+        [] => true,
+    }
+}
+
+// Whether it stands above the one of its kind before it.
+fn is_above(parts: &Parts<'_>, entry: &Entry<'_>) -> bool
+    ensures { result ≡ is_above (state_of parts.now) (entry_said entry.now) }
+{
+    match entry {
+        Entry::Head => true,
+        Entry::Directory { name, .. } => is_directory_above(parts.directories, name),
+        Entry::Connected { .. } => true,
+        Entry::Logical { name, .. } => is_logical_above(parts.logical, name),
+        Entry::File(it) => is_file_above(parts.rows, it),
+        Entry::Request(_) => true,
+        Entry::End => true,
+    }
+}
+
+// Whether there is room for one more of its kind, beside files of so many bytes.
+fn has_room(parts: &Parts<'_>, bytes: usize, entry: &Entry<'_>) -> bool
+    requires counted { bytes ≡ total parts.now.rows.now }
+    requires within { bytes ≤ STORE_LIMIT }
+    ensures { result ≡ has_room (state_of parts.now) (entry_said entry.now) }
+{
+    match entry {
+        Entry::Head => true,
+        Entry::Directory { .. } => parts.directories.len() < DIRECTORY_LIMIT,
+        Entry::Connected { .. } => true,
+        Entry::Logical { .. } => parts.logical.len() < LOGICAL_LIMIT,
+        Entry::File(it) => {
+            parts.rows.len() < ROW_LIMIT && it.size <= (STORE_LIMIT - bytes) as u64
+        }
+        Entry::Request(_) => parts.queue.len() < QUEUE_LIMIT,
+        Entry::End => true,
+    }
+}
+
+/// The first fault of a record that may stand here by its form, behind those that made these parts, whose files have
+/// so many bytes.
+#[tactic(auto, unfolding(crate::specs::Reading::fault_of))]
+pub(crate) fn fault_of(parts: &Parts<'_>, bytes: usize, entry: &Entry<'_>) -> Option<Kind>
+    requires counted { bytes ≡ total parts.now.rows.now }
+    requires within { bytes ≤ STORE_LIMIT }
+    ensures { result ≡ fault_of (state_of parts.now) (entry_said entry.now) }
+{
+    if !is_in_range(entry) {
+        return Some(Kind::Range);
+    }
+    if !is_there(parts, entry) {
+        return Some(Kind::Name);
+    }
+    if !is_above(parts, entry) {
+        return Some(Kind::Order);
+    }
+    if !has_room(parts, bytes, entry) {
+        return Some(Kind::Limit);
+    }
+    None
+}
