@@ -1,5 +1,5 @@
 -- What a command comes to: it is done or refused, or it is COPY TTY: or LOGOUT.
-use Rattle.std.proofs.Common.{◌≡◌, ◌↔◌, ℕ, Bool, true, false, cond, List, [], ◌∷◌, Option, None, Result, Ok, Err, refl, ap, sym, ◌∙◌}
+use Rattle.std.proofs.Common.{◌≡◌, ◌↔◌, ℕ, Bool, true, false, cond, List, [], ◌∷◌, None, Result, Ok, Err, refl, ap, sym, ◌∙◌}
 use Rattle.cm_fields.specs.declared.code.Code.{Code}
 use Rattle.cm_fields.specs.declared.code.Code.TheVariants.{NameNeeded, NoDefinition, NoMatch}
 use Rattle.cm_state.specs.Echo.{refusal}
@@ -40,6 +40,8 @@ choice_comes command state false one other here there = there
 pub comes : (command : Command) (moment : ℕ) (state : State) → Comes command state (act_of command moment state)
 unfolding act_of
 comes commands.Empty moment state = done refl
+comes (commands.Append from to) moment state =
+    plan_comes (commands.Append from to) Files (planned (plans.Append from to) moment state) state
 comes (commands.Build directory) moment state =
     plan_comes (commands.Build directory) Files (planned (plans.Build directory None) moment state) state
 comes (commands.Connect directory) moment state = done refl
@@ -56,6 +58,9 @@ comes (commands.Expunge directory) moment state = done refl
 comes (commands.Information what) moment state = done refl
 comes commands.Logout moment state = ended refl refl
 comes commands.Remark moment state = done refl
+comes (commands.Rename from to) moment state =
+    plan_comes (commands.Rename from to) Files (planned (plans.Rename from to) moment state) state
+comes (commands.TypeOut files) moment state = done refl
 comes (commands.Undelete files) moment state = done refl
 
 -- a refused act changes nothing, and shows why it is refused

@@ -13,19 +13,19 @@ use Rattle.cm_blocks.specs.Taken.{Taken}
 use Rattle.cm_state.specs.Roles.{field_of}
 use Rattle.ex_grammar.specs.ExecRules.{exec_meanings}
 use Rattle.ex_grammar.specs.Graph.{exec_graph}
-use Rattle.ex_grammar.specs.declared.code.TheConstants.{BUILD, CONNECT, COPY, DEFINE, DELETE, DIRECTORY, EXPUNGE, INFORMATION, LOGOUT, REMARK, UNDELETE}
+use Rattle.ex_grammar.specs.declared.code.TheConstants.{APPEND, BUILD, CONNECT, COPY, DEFINE, DELETE, DIRECTORY, EXPUNGE, INFORMATION, LOGOUT, REMARK, RENAME, TYPE, UNDELETE}
 use Rattle.ex_grammar.specs.declared.node.TheConstants.{COMMANDS}
 use Rattle.ex_store.specs.declared.place.Place.{Place}
-use Rattle.ex_store.specs.Plan.{IsSource, IsTarget}
+use Rattle.ex_store.specs.Plan.{IsOneFile, IsSource, IsTarget}
 use Rattle.ex_store.specs.State.{State, catalogue_of, has_directory}
 use Rattle.ex_commands.specs.declared.command.Command.{Command}
 use Rattle.ex_commands.specs.declared.command.Command.TheVariants as commands
 use Rattle.ex_commands.specs.Answer.{IsThere, MayAct}
-use Rattle.ex_commands.specs.Command.{Line, command_of, copies, directory_in, flags_of, is_token, keyword_code, named, on, place_in}
-use Rattle.ex_commands.proofs.Fitting.{files_names, files_read, reads_files, reads_source, source_names, source_read, target_read}
-use Rattle.ex_commands.proofs.Targets.{directory_formed, directory_there, field_meant, field_target, place_there, trial_old}
+use Rattle.ex_commands.specs.Command.{Line, between, command_of, copies, directory_in, flags_of, is_token, keyword_code, named, on, place_in}
+use Rattle.ex_commands.proofs.Fitting.{files_names, files_read, reads_files, reads_source, source_names, source_read}
+use Rattle.ex_commands.proofs.Targets.{directory_formed, directory_there, field_meant, field_one, field_target, place_there, trial_old}
 use Rattle.ex_commands.proofs.Trying.{IsTried}
-use Rattle.ex_commands.proofs.Verbs.{names_old, old_directory}
+use Rattle.ex_commands.proofs.Verbs.{grown_target, made_target, names_grown, names_made, names_old, not_true, old_directory}
 
 -- a line of the grammar over the catalogue of a state
 abbrev line_over : State → List ℕ → List Taken → Line
@@ -63,12 +63,31 @@ source_there state text fields typed field place found is =
     let read = source_read (catalogue_of state) text fields typed.ends typed.parse field found in
     place_there state _ _ field.value place (field_meant (catalogue_of state) typed.lawful text field reads_source source_names read) is
 
-target_there : (state : State) (text : List ℕ) (fields : List Taken) → IsTyped state text fields → (place : Place)
+-- so are those of the source
+sources_there : (state : State) (text : List ℕ) (fields : List Taken) → IsTyped state text fields → (place : Place)
+    → place_in (line_over state text fields) (field_of roles.Source fields) ≡ Some place → IsSource place state
+sources_there state text fields typed place is =
+    let it = of_field (field_of roles.Source fields) _ place is in
+    source_there state text fields typed it.0 place it.1 it.2
+
+-- behind COPY and RENAME files can be made of the target
+target_there : (state : State) (text : List ℕ) (fields : List Taken) → IsTyped state text fields → (verb : Taken)
+    → field_of roles.Verb fields ≡ Some verb → names_made (keyword_code verb.value) ≡ true → (place : Place)
     → place_in (line_over state text fields) (field_of roles.Target fields) ≡ Some place → IsTarget place state.directories
-target_there state text fields typed place is =
+target_there state text fields typed verb verb_is made place is =
     let it = of_field (field_of roles.Target fields) _ place is in
-    let read = target_read (catalogue_of state) text fields typed.ends typed.parse it.0 it.1 in
+    let read = made_target (catalogue_of state) text fields typed.ends verb it.0 typed.parse verb_is made it.1 in
     field_target state typed.lawful text it.0 (flags_of exec_graph it.0) place read it.2
+
+-- behind APPEND it is one file
+one_there : (state : State) (text : List ℕ) (fields : List Taken) → IsTyped state text fields → (verb : Taken)
+    → field_of roles.Verb fields ≡ Some verb → names_grown (keyword_code verb.value) ≡ true → (place : Place)
+    → place_in (line_over state text fields) (field_of roles.Target fields) ≡ Some place
+    → IsOneFile place state.directories
+one_there state text fields typed verb verb_is grown place is =
+    let it = of_field (field_of roles.Target fields) _ place is in
+    let read = grown_target (catalogue_of state) text fields typed.ends verb it.0 typed.parse verb_is grown it.1 in
+    field_one state typed.lawful text it.0 (flags_of exec_graph it.0) place read it.2
 
 -- the directory of BUILD has a name that it may have
 build_may : (state : State) (text : List ℕ) (fields : List Taken) → IsTyped state text fields → (name : List ℕ)
@@ -98,15 +117,26 @@ old_may state text fields typed verb verb_is old name is =
     let tried = read.tried in
     let same = same_block (setting exec_graph (catalogue_of state) exec_meanings) text it.0 tried behind.tried in
     let plain = trial_old (catalogue_of state) tried.block.function tried.block.flags (drop tried.at tried.said) tried.at it.0.value tried.looked tried.end
-    (files_names tried.block.function read.by_function) (ap (λ (block : Block). block.flags.new) same ∙ behind.old) tried.accepts in
+    (files_names tried.block.function read.by_function)
+    (ap (λ (block : Block). block.flags.new) same ∙ not_true behind.tried.block.flags.new behind.read) tried.accepts in
     directory_there state _ it.0.value name plain
     (field_meant (catalogue_of state) typed.lawful text it.0 reads_files files_names read) it.2
 
+-- a command from files to others
+between_may : (state : State) (command : Place → Place → Command) (from to : Option Place)
+    → ((source target : Place) → from ≡ Some source → to ≡ Some target → MayAct (command source target) state)
+    → MayAct (between command from to) state
+between_may state command None None may = tt
+between_may state command None (Some target) may = tt
+between_may state command (Some source) None may = tt
+between_may state command (Some source) (Some target) may = may source target refl refl
+
 -- COPY
-copies_may : (state : State) (text : List ℕ) (fields : List Taken) → IsTyped state text fields
+copies_may : (state : State) (text : List ℕ) (fields : List Taken) → IsTyped state text fields → (verb : Taken)
+    → field_of roles.Verb fields ≡ Some verb → names_made (keyword_code verb.value) ≡ true
     → MayAct (copies (line_over state text fields) (field_of roles.Source fields)
     (place_in (line_over state text fields) (field_of roles.Target fields))) state
-copies_may state text fields typed = by (field_of roles.Source fields) refl
+copies_may state text fields typed verb verb_is made = by (field_of roles.Source fields) refl
   where
     by : (from : Option Taken) → field_of roles.Source fields ≡ from
         → MayAct (copies (line_over state text fields) from (place_in (line_over state text fields) (field_of roles.Target fields))) state
@@ -114,21 +144,46 @@ copies_may state text fields typed = by (field_of roles.Source fields) refl
     by (Some from) found =
         holds_of_choice (λ (command : Command). MayAct command state) (is_token from.value) _ _
         (λ token. on_may state commands.CopyTty (place_in (line_over state text fields) (field_of roles.Target fields))
-        (λ place is. target_there state text fields typed place is))
-        (λ files. on_may state (λ (files : Place). on (commands.Copy files) (place_in (line_over state text fields) (field_of roles.Target fields)))
-        (place_in (line_over state text fields) (Some from))
-        (λ source source_is. on_may state (commands.Copy source) (place_in (line_over state text fields) (field_of roles.Target fields))
-        (λ place is. (source_there state text fields typed from source found source_is, target_there state text fields typed place is))))
+        (λ place is. target_there state text fields typed verb verb_is made place is))
+        (λ files. between_may state commands.Copy (place_in (line_over state text fields) (Some from))
+        (place_in (line_over state text fields) (field_of roles.Target fields))
+        (λ source target source_is target_is. (
+          source_there state text fields typed from source found source_is,
+          target_there state text fields typed verb verb_is made target target_is,
+        )))
 
-connects : (code : ℕ) → (code == CONNECT) ≡ true → names_old code ≡ true
-connects code is = rw is refl
+-- RENAME
+renames_may : (state : State) (text : List ℕ) (fields : List Taken) → IsTyped state text fields → (verb : Taken)
+    → field_of roles.Verb fields ≡ Some verb → names_made (keyword_code verb.value) ≡ true
+    → MayAct (between commands.Rename (place_in (line_over state text fields) (field_of roles.Source fields))
+    (place_in (line_over state text fields) (field_of roles.Target fields))) state
+renames_may state text fields typed verb verb_is made =
+    between_may state commands.Rename _ _
+    (λ source target source_is target_is. (
+      sources_there state text fields typed source source_is,
+      target_there state text fields typed verb verb_is made target target_is,
+    ))
 
-expunges : (code : ℕ) → (code == EXPUNGE) ≡ true → names_old code ≡ true
-expunges code is = by (code == CONNECT) (code == EXPUNGE) is
-  where
-    by : (a b : Bool) → b ≡ true → (a || b) ≡ true
-    by true b is = refl
-    by false b is = is
+-- APPEND
+appends_may : (state : State) (text : List ℕ) (fields : List Taken) → IsTyped state text fields → (verb : Taken)
+    → field_of roles.Verb fields ≡ Some verb → names_grown (keyword_code verb.value) ≡ true
+    → MayAct (between commands.Append (place_in (line_over state text fields) (field_of roles.Source fields))
+    (place_in (line_over state text fields) (field_of roles.Target fields))) state
+appends_may state text fields typed verb verb_is grown =
+    between_may state commands.Append _ _
+    (λ source target source_is target_is. (
+      sources_there state text fields typed source source_is,
+      one_there state text fields typed verb verb_is grown target target_is,
+    ))
+
+-- one of two codes
+first_named : (a b : Bool) → a ≡ true → (a || b) ≡ true
+first_named true b is = refl
+first_named false b is = cc
+
+second_named : (a b : Bool) → b ≡ true → (a || b) ≡ true
+second_named true b is = refl
+second_named false b is = is
 
 there_may : (state : State) (said : Option (List ℕ)) → ((name : List ℕ) → said ≡ Some name → has_directory name state.directories ≡ true)
     → IsThere said state
@@ -139,17 +194,21 @@ there_may state (Some name) may = may name refl
 named_may : (state : State) (text : List ℕ) (fields : List Taken) → IsTyped state text fields → (verb : Taken)
     → field_of roles.Verb fields ≡ Some verb → MayAct (named (line_over state text fields) (keyword_code verb.value)) state
 named_may state text fields typed verb verb_is =
-    choose BUILD _ _ (λ is. on_may state commands.Build _ (build_may state text fields typed))
-    (choose CONNECT _ _ (λ is. on_may state commands.Connect _ (old_may state text fields typed verb verb_is (connects _ is)))
-    (choose COPY _ _ (λ is. copies_may state text fields typed)
+    choose APPEND _ _ (λ is. appends_may state text fields typed verb verb_is is)
+    (choose BUILD _ _ (λ is. on_may state commands.Build _ (build_may state text fields typed))
+    (choose CONNECT _ _ (λ is. on_may state commands.Connect _
+    (old_may state text fields typed verb verb_is (first_named _ _ is)))
+    (choose COPY _ _ (λ is. copies_may state text fields typed verb verb_is (first_named _ _ is))
     (choose DEFINE _ _ (λ is. on_may state commands.Define _ (λ it found. tt))
     (choose DELETE _ _ (λ is. on_may state commands.Delete _ (files_there state text fields typed))
     (choose DIRECTORY _ _ (λ is. on_may state commands.Directory _ (files_there state text fields typed))
-    (choose EXPUNGE _ _ (λ is. there_may state _ (old_may state text fields typed verb verb_is (expunges _ is)))
+    (choose EXPUNGE _ _ (λ is. there_may state _ (old_may state text fields typed verb verb_is (second_named _ _ is)))
     (choose INFORMATION _ _ (λ is. tt)
     (choose LOGOUT _ _ (λ is. tt)
-    (choose UNDELETE _ _ (λ is. on_may state commands.Undelete _ (files_there state text fields typed))
-    (choose REMARK _ _ (λ is. tt) tt))))))))))
+    (choose REMARK _ _ (λ is. tt)
+    (choose RENAME _ _ (λ is. renames_may state text fields typed verb verb_is (second_named _ _ is))
+    (choose TYPE _ _ (λ is. on_may state commands.TypeOut _ (files_there state text fields typed))
+    (choose UNDELETE _ _ (λ is. on_may state commands.Undelete _ (files_there state text fields typed)) tt)))))))))))))
   where
     choose : (wanted : ℕ) (first later : Command) → ((keyword_code verb.value == wanted) ≡ true → MayAct first state) → MayAct later state
         → MayAct (if keyword_code verb.value == wanted then first else later) state

@@ -99,7 +99,7 @@ is_number state well files from (Some at) is =
     let within = slice_get_within rows at next.x there in
     let few = block_few state well files.directory in
     let form = formed state.directories next.x (all_at (is_row_among state.directories) rows at next.x
-    (all_filter (is_row_among state.directories) (is_in files.directory) state.rows well.rows.within) there) in
+    (all_filter (is_row_among state.directories) (is_in files.directory) state.rows well.draft.rows.within) there) in
     record {
       row = next.x;
       is_there = there;

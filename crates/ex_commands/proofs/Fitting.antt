@@ -1,5 +1,5 @@
 -- What the blocks of the EXEC's grammar read, by what their fields are for.
-use Rattle.std.proofs.Common.{◌≡◌, ℕ, zero, suc, ◌+◌, ◌≤◌, ◌||◌, ◌==◌, Bool, true, false, if◌then◌else◌, List, [], ◌∷◌, length, take, drop, Option, Some, None, slice_get, Ok, Err, refl, ap, sym, subst, ◌∙◌, arith}
+use Rattle.std.proofs.Common.{◌≡◌, ℕ, zero, suc, ◌+◌, ◌≤◌, ◌||◌, ◌==◌, Bool, true, false, not, if◌then◌else◌, List, [], ◌∷◌, length, take, drop, Option, Some, None, slice_get, Ok, Err, refl, ap, sym, subst, ◌∙◌, arith}
 use Rattle.std.specs.List.{list_all, prefix_len}
 use Rattle.std.proofs.lemmas.List.{length-take}
 use Rattle.std.proofs.lemmas.List.Sums.{prefix_len-le-length}
@@ -42,9 +42,21 @@ reads_source (Token text) = true
 reads_source InFile = true
 reads_source function = false
 
+-- what is written: files that are made, or a file that is there already or not
 abbrev pub reads_target : Function → Bool
 reads_target OutFile = true
+reads_target AnyFile = true
 reads_target function = false
+
+-- files that are made
+abbrev pub reads_made : Function → Bool
+reads_made OutFile = true
+reads_made function = false
+
+-- one file, by its name and without wildcards
+abbrev pub reads_one : Function → Flags → Bool
+reads_one AnyFile flags = not (flags.wild || flags.default_all || flags.from_source)
+reads_one function flags = false
 
 -- what a command works on: files, users or directories
 abbrev pub reads_files : Function → Bool
@@ -241,6 +253,7 @@ source_names function reads = cc
 
 target_names : (function : Function) → reads_target function ≡ true → reads_places function ≡ true
 target_names OutFile reads = refl
+target_names AnyFile reads = refl
 target_names function reads = cc
 
 pub files_names : (function : Function) → reads_files function ≡ true → reads_places function ≡ true

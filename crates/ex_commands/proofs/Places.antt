@@ -14,7 +14,7 @@ use Rattle.cm_files.proofs.Fronts.{part_more}
 use Rattle.cm_files.proofs.Typed.{read_of}
 use Rattle.cm_blocks.specs.Setting.{Setting}
 use Rattle.cm_blocks.specs.Taken.{Taken}
-use Rattle.ex_commands.specs.Said.{said_of}
+use Rattle.ex_commands.specs.Command.{said_of}
 use Rattle.ex_commands.proofs.Trying.{IsTried, StandsIn}
 
 -- a run has bytes of its class alone

@@ -96,6 +96,7 @@ user_within c name directory is = let below = position_within (is_user_named nam
 
 -- what a specification is that is not refused
 pub record IsResolved (c : Catalogue) (kind : FileKind) (flags : Flags) (atom : List ℕ) (spec : Spec) (directory : ℕ) : Type 0 where
+  pub named : lacks_name flags spec ≡ false
   pub generation : is_bad_generation kind spec.generation ≡ false
   pub wild : has_bad_wild kind flags atom spec ≡ false
   pub within : directory < length c.directories
@@ -112,6 +113,7 @@ resolves c is_catalogue kind flags atom spec directory is =
     let last = passed (is_in kind && not (selects (wanted_by flags atom spec) (rows_of c named.0))) NoFile (Ok named.0) directory named.2 in
     let same : named.0 ≡ directory = (let it = last.1 in cc) in
     record {
+      named = first.0;
       generation = second.0;
       wild = third.0;
       within = subst (λ (n : ℕ). n < length c.directories) same

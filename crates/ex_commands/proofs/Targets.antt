@@ -1,5 +1,5 @@
 -- What the fields of a line mean: directories that are there, names of new ones, and where a file may be put.
-use Rattle.std.proofs.Common.{◌≡◌, ℕ, ◌<◌, ◌≤◌, ◌||◌, ◌&&◌, ◌==◌, Bool, true, false, not, nat_lt, nat_le, List, codes, length, take, drop, Option, Some, None, option_map, Ok, refl, ap, sym, subst, ◌∙◌, arith}
+use Rattle.std.proofs.Common.{◌≡◌, ℕ, ◌<◌, ◌≤◌, ◌||◌, ◌&&◌, ◌==◌, Bool, true, false, not, nat_lt, nat_le, List, codes, length, take, drop, Option, Some, None, option_map, is_none, Ok, refl, ap, sym, subst, ◌∙◌, arith}
 use Rattle.std.specs.Char.{to_ascii_uppercase}
 use Rattle.std.specs.List.{list_any, prefix_len}
 use Rattle.std.proofs.lemmas.Bool.{and_from, or_parts}
@@ -33,17 +33,17 @@ use Rattle.ex_grammar.specs.ExecRules.{exec_meanings}
 use Rattle.ex_grammar.specs.Graph.{exec_graph}
 use Rattle.ex_store.specs.declared.place.Place.{Place}
 use Rattle.ex_store.specs.Copying.{is_star}
-use Rattle.ex_store.specs.Plan.{IsTarget, may_be, may_number}
+use Rattle.ex_store.specs.Plan.{IsOneFile, IsTarget, has_plain_kind, has_plain_name, may_be, may_grow, may_number}
 use Rattle.ex_store.specs.State.{State, catalogue_of, has_directory}
 use Rattle.ex_store.specs.WellFormed.{is_file_name, is_file_type}
-use Rattle.ex_commands.specs.Command.{directory_by, directory_name, place_by, upper}
-use Rattle.ex_commands.specs.Said.{said_of}
+use Rattle.ex_commands.specs.Command.{directory_by, directory_name, place_by, said_of, upper}
 use Rattle.ex_commands.proofs.Capitals.{plain_names, plain_paths, star_stays, up, upper_directory, upper_name}
-use Rattle.ex_commands.proofs.Fitting.{IsRead, reads_places, reads_target}
+use Rattle.ex_commands.proofs.Fitting.{IsRead, reads_made, reads_one, reads_places}
 use Rattle.ex_commands.proofs.Places.{said_part, spec_directory, spec_kind, spec_name}
 use Rattle.ex_commands.proofs.Resolving.{device_directory_within, name_of_directory, resolves, state_has, user_within}
 use Rattle.ex_commands.proofs.Saying.{SaysDirectory, directory_says, file_says, fits_number, parts_are_short, run_of, token_says, user_says}
 use Rattle.ex_commands.proofs.Trying.{IsTried}
+use Rattle.ex_commands.proofs.Verbs.{IsOf, is_made, is_one, not_true}
 
 -- the bytes that a run of a field's text has, and its parts as parts of the text that the field is said in
 abbrev pub run_text : (is_part : ℕ → Bool) → List ℕ → List ℕ
@@ -232,6 +232,33 @@ star_or bytes test copy plain = by (list_any is_wild bytes) (equals bytes (codes
     by true true same copy plain = or_left (is_star (up bytes)) (test (up bytes)) (star_stays bytes same)
     by true false same copy plain = cc
 
+-- a name that is read and has no wildcard is one that a file may have, and so is a type
+plain_name : (run : List ℕ) (spec : Spec) (place : Span) → read_spec run ≡ Ok spec → spec.name ≡ Some place
+    → is_long (Some place) ≡ false → list_any is_wild (part run place) ≡ false
+    → is_file_name (up (part run place)) ≡ true
+plain_name run spec place read is short plain =
+    let found = spec_name run spec place read is in
+    let size = found.0.size in
+    let some = found.1 in
+    let same = length-map (part run place) to_ascii_uppercase in
+    let first : nat_lt 0 (length (up (part run place))) ≡ true = grind (arith, nat_tests) in
+    let fits : nat_le (length (up (part run place))) NAME_LIMIT ≡ true = grind (arith, nat_tests) in
+    and_from (nat_lt 0 (length (up (part run place))) && nat_le (length (up (part run place))) NAME_LIMIT)
+    (is_upper_name (up (part run place)))
+    (and_from (nat_lt 0 (length (up (part run place)))) (nat_le (length (up (part run place))) NAME_LIMIT) first fits)
+    (upper_name (part run place) (plain_names (part run place) found.0.all plain))
+
+plain_kind : (run : List ℕ) (spec : Spec) (place : Span) → read_spec run ≡ Ok spec → spec.kind ≡ Some place
+    → is_long (Some place) ≡ false → list_any is_wild (part run place) ≡ false
+    → is_file_type (up (part run place)) ≡ true
+plain_kind run spec place read is short plain =
+    let found = spec_kind run spec place read is in
+    let size = found.size in
+    let same = length-map (part run place) to_ascii_uppercase in
+    let fits : nat_le (length (up (part run place))) NAME_LIMIT ≡ true = grind (arith, nat_tests) in
+    and_from (nat_le (length (up (part run place))) NAME_LIMIT) (is_upper_name (up (part run place))) fits
+    (upper_name (part run place) (plain_names (part run place) found.all plain))
+
 target_name : (text run : List ℕ) (at : ℕ) (spec : Spec) → read_spec run ≡ Ok spec → has_wild_and_more run spec.name ≡ false
     → SaysParts text at run → may_be is_file_name (option_map (upper text) (option_map (moved at) spec.name)) ≡ true
 target_name text run at spec read copy says = by spec.name refl copy (parts_are_short run spec read).name
@@ -241,16 +268,8 @@ target_name text run at spec read copy says = by spec.name refl copy (parts_are_
     by None is copy short = refl
     by (Some place) is copy short =
         let found = spec_name run spec place read is in
-        let size = found.0.size in
-        let some = found.1 in
-        let same = length-map (part run place) to_ascii_uppercase in
-        let first : nat_lt 0 (length (up (part run place))) ≡ true = grind (arith, nat_tests) in
-        let fits : nat_le (length (up (part run place))) NAME_LIMIT ≡ true = grind (arith, nat_tests) in
         subst (λ (it : List ℕ). (is_star (up it) || is_file_name (up it)) ≡ true) (sym (says place found.0.order found.0.within))
-        (star_or (part run place) is_file_name copy
-        (λ plain. and_from (nat_lt 0 (length (up (part run place))) && nat_le (length (up (part run place))) NAME_LIMIT) (is_upper_name (up (part run place)))
-        (and_from (nat_lt 0 (length (up (part run place)))) (nat_le (length (up (part run place))) NAME_LIMIT) first fits)
-        (upper_name (part run place) (plain_names (part run place) found.0.all plain))))
+        (star_or (part run place) is_file_name copy (plain_name run spec place read is short))
 
 target_kind : (text run : List ℕ) (at : ℕ) (spec : Spec) → read_spec run ≡ Ok spec → has_wild_and_more run spec.kind ≡ false
     → SaysParts text at run → may_be is_file_type (option_map (upper text) (option_map (moved at) spec.kind)) ≡ true
@@ -261,13 +280,8 @@ target_kind text run at spec read copy says = by spec.kind refl copy (parts_are_
     by None is copy short = refl
     by (Some place) is copy short =
         let found = spec_kind run spec place read is in
-        let size = found.size in
-        let same = length-map (part run place) to_ascii_uppercase in
-        let fits : nat_le (length (up (part run place))) NAME_LIMIT ≡ true = grind (arith, nat_tests) in
         subst (λ (it : List ℕ). (is_star (up it) || is_file_type (up it)) ≡ true) (sym (says place found.order found.within))
-        (star_or (part run place) is_file_type copy
-        (λ plain. and_from (nat_le (length (up (part run place))) NAME_LIMIT) (is_upper_name (up (part run place))) fits
-        (upper_name (part run place) (plain_names (part run place) found.all plain))))
+        (star_or (part run place) is_file_type copy (plain_kind run spec place read is short))
 
 target_number : (generation : Gen) → is_bad_generation Out generation ≡ false → is_all generation ≡ false → fits_number generation ≡ true
     → may_number generation ≡ true
@@ -307,7 +321,7 @@ file_target state is_catalogue flags own text run at value place is says placed 
     })
 
 trial_target : (state : State) → IsCatalogue (catalogue_of state) → (function : Function) (flags own : Flags) (rest : List ℕ) (at : ℕ)
-    (text : List ℕ) (value : Value) (looked end : ℕ) (place : Place) → reads_target function ≡ true
+    (text : List ℕ) (value : Value) (looked end : ℕ) (place : Place) → reads_made function ≡ true
     → ((prefix_len is_file rest == length rest) ≡ false → SaysParts text at (run_text is_file rest))
     → trial (setting exec_graph (catalogue_of state) exec_meanings) function flags rest at ≡ Accept value looked end
     → place_by (catalogue_of state) own text value ≡ Some place → IsTarget place state.directories
@@ -318,9 +332,110 @@ trial_target state is_catalogue functions.OutFile flags own rest at text value l
 trial_target state is_catalogue function flags own rest at text value looked end place reads says is placed = cc
 
 pub field_target : (state : State) → IsCatalogue (catalogue_of state) → (text : List ℕ) (field : Taken) (own : Flags) (place : Place)
-    → IsRead (catalogue_of state) text reads_target field
+    → IsOf (catalogue_of state) text is_made field
     → place_by (catalogue_of state) own (said_of exec_graph text field) field.value ≡ Some place → IsTarget place state.directories
 field_target state is_catalogue text field own place read placed =
     let tried = read.tried in
     trial_target state is_catalogue tried.block.function tried.block.flags own (drop tried.at tried.said) tried.at (said_of exec_graph text field)
-    field.value tried.looked tried.end place read.by_function (run_says (catalogue_of state) text field tried) tried.accepts placed
+    field.value tried.looked tried.end place read.read (run_says (catalogue_of state) text field tried) tried.accepts placed
+
+-- the one file that bytes are put behind: it is named, with no wildcard
+one_name : (text run : List ℕ) (at : ℕ) (spec : Spec) → read_spec run ≡ Ok spec → is_none spec.name ≡ false
+    → has_wild run spec.name ≡ false → SaysParts text at run
+    → has_plain_name (option_map (upper text) (option_map (moved at) spec.name)) ≡ true
+one_name text run at spec read there plain says = by spec.name refl there plain (parts_are_short run spec read).name
+  where
+    by : (name : Option Span) → spec.name ≡ name → is_none name ≡ false → has_wild run name ≡ false
+        → is_long name ≡ false → has_plain_name (option_map (upper text) (option_map (moved at) name)) ≡ true
+    by None is there plain short = cc
+    by (Some place) is there plain short =
+        let found = spec_name run spec place read is in
+        subst (λ (it : List ℕ). is_file_name (up it) ≡ true) (sym (says place found.0.order found.0.within))
+        (plain_name run spec place read is short plain)
+
+one_kind : (text run : List ℕ) (at : ℕ) (spec : Spec) → read_spec run ≡ Ok spec → has_wild run spec.kind ≡ false
+    → SaysParts text at run → has_plain_kind (option_map (upper text) (option_map (moved at) spec.kind)) ≡ true
+one_kind text run at spec read plain says = by spec.kind refl plain (parts_are_short run spec read).kind
+  where
+    by : (kind : Option Span) → spec.kind ≡ kind → has_wild run kind ≡ false → is_long kind ≡ false
+        → has_plain_kind (option_map (upper text) (option_map (moved at) kind)) ≡ true
+    by None is plain short = refl
+    by (Some place) is plain short =
+        let found = spec_kind run spec place read is in
+        subst (λ (it : List ℕ). is_file_type (up it) ≡ true) (sym (says place found.order found.within))
+        (plain_kind run spec place read is short plain)
+
+one_number : (generation : Gen) → is_all generation ≡ false → fits_number generation ≡ true → may_grow generation ≡ true
+one_number Missing all fits = refl
+one_number Highest all fits = refl
+one_number Next all fits = refl
+one_number Lowest all fits = refl
+one_number All all fits = cc
+one_number (Number number) all fits = fits
+
+-- what a name is asked for, and no wildcard is allowed
+right_is : (first second : Bool) → first ≡ false → (not first && second) ≡ false → second ≡ false
+right_is true second is both = cc
+right_is false second is both = both
+
+left_is : (first second : Bool) → second ≡ false → (first && not second) ≡ false → first ≡ false
+left_is false second is both = refl
+left_is true second is both = let never = ap not is in cc
+
+file_one : (state : State) → IsCatalogue (catalogue_of state) → (flags own : Flags) (text run : List ℕ) (at : ℕ)
+    (value : Value) (place : Place)
+    → not (flags.wild || flags.default_all || flags.from_source) ≡ true
+    → file_of (catalogue_of state) Any flags at run ≡ Ok value → SaysParts text at run
+    → place_by (catalogue_of state) own text value ≡ Some place → IsOneFile place state.directories
+file_one state is_catalogue flags own text run at value place few is says placed =
+    let of = file_says (catalogue_of state) Any flags at run value is in
+    let it = resolves (catalogue_of state) is_catalogue Any flags run of.spec of.directory of.resolved in
+    let none = or_parts (flags.wild || flags.default_all) flags.from_source (not_true _ few) in
+    let both = or_parts flags.wild flags.default_all none.0 in
+    let stands = left_is (is_none of.spec.name) (flags.default_all || flags.from_source) (rw (both.1, none.1) refl) in
+    let named = stands it.named in
+    let kept = or_parts (has_wild run of.spec.directory) _ (or_parts _ (has_bad_copy Any run of.spec) it.wild).0 in
+    let plain = right_is flags.wild _ both.0 kept.1 in
+    let parts = or_parts (has_wild run of.spec.name || has_wild run of.spec.kind) (is_all of.spec.generation) plain in
+    let names = or_parts (has_wild run of.spec.name) (has_wild run of.spec.kind) parts.0 in
+    let there = state_has state of.directory it.within in
+    let named_so = values.File Any (moved_spec at of.spec) of.directory in
+    let made : place_by (catalogue_of state) own text named_so ≡ Some place =
+    ap (place_by (catalogue_of state) own text) (sym of.value_is) ∙ placed in
+    let same : ◌≡◌ {A = Place} (record {
+      directory = directory_name (catalogue_of state) of.directory;
+      name = option_map (upper text) (option_map (moved at) of.spec.name);
+      kind = option_map (upper text) (option_map (moved at) of.spec.kind);
+      generation = of.spec.generation;
+      flags = own;
+    }) place = cc in
+    subst (λ (place : Place). IsOneFile place state.directories) same
+    (record {
+      there = there;
+      name = one_name text run at of.spec of.read named names.0 says;
+      kind = one_kind text run at of.spec of.read names.1 says;
+      generation = one_number of.spec.generation parts.1 (parts_are_short run of.spec of.read).generation;
+    })
+
+trial_one : (state : State) → IsCatalogue (catalogue_of state) → (function : Function) (flags own : Flags)
+    (rest : List ℕ) (at : ℕ) (text : List ℕ) (value : Value) (looked end : ℕ) (place : Place)
+    → reads_one function flags ≡ true
+    → ((prefix_len is_file rest == length rest) ≡ false → SaysParts text at (run_text is_file rest))
+    → trial (setting exec_graph (catalogue_of state) exec_meanings) function flags rest at ≡ Accept value looked end
+    → place_by (catalogue_of state) own text value ≡ Some place → IsOneFile place state.directories
+unfolding trial
+trial_one state is_catalogue functions.AnyFile flags own rest at text value looked end place reads says is placed =
+    let run = run_of is_file (file_of (catalogue_of state) Any flags at) rest at value looked end is in
+    file_one state is_catalogue flags own text (run_text is_file rest) at value place reads run.decided (says run.ends)
+    placed
+trial_one state is_catalogue function flags own rest at text value looked end place reads says is placed = cc
+
+pub field_one : (state : State) → IsCatalogue (catalogue_of state) → (text : List ℕ) (field : Taken) (own : Flags)
+    (place : Place) → IsOf (catalogue_of state) text is_one field
+    → place_by (catalogue_of state) own (said_of exec_graph text field) field.value ≡ Some place
+    → IsOneFile place state.directories
+field_one state is_catalogue text field own place read placed =
+    let tried = read.tried in
+    trial_one state is_catalogue tried.block.function tried.block.flags own (drop tried.at tried.said) tried.at
+    (said_of exec_graph text field) field.value tried.looked tried.end place read.read
+    (run_says (catalogue_of state) text field tried) tried.accepts placed

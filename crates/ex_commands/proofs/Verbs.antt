@@ -1,4 +1,4 @@
--- Behind CONNECT and EXPUNGE a directory is named that is there.
+-- What stands behind the keywords of some commands: by which blocks the fields of a role are read there.
 use Rattle.std.proofs.Common.{◌≡◌, ◌⊎◌, inl, inr, ℕ, zero, suc, ◌+◌, ◌||◌, ◌&&◌, ◌==◌, Bool, true, false, not, if◌then◌else◌, List, [], ◌∷◌, drop, take, Option, Some, slice_get, Result, Ok, Err, refl, ap, sym, subst, ◌∙◌, arith}
 use Rattle.std.specs.List.{find, list_all, prefix_len}
 use Rattle.std.proofs.lemmas.Bool.{and_parts}
@@ -13,6 +13,7 @@ use Rattle.cm_files.specs.Catalogue.{Catalogue}
 use Rattle.cm_blocks.specs.declared.field.Ending.{Ending}
 use Rattle.cm_blocks.specs.declared.function.Function.{Function}
 use Rattle.cm_blocks.specs.declared.function.Function.TheVariants as functions
+use Rattle.cm_blocks.specs.declared.function.Role.{Role}
 use Rattle.cm_blocks.specs.declared.function.Role.TheVariants as roles
 use Rattle.cm_blocks.specs.declared.node.Block.{Block}
 use Rattle.cm_blocks.specs.declared.node.Node.{Node}
@@ -29,10 +30,10 @@ use Rattle.ex_grammar.specs.ExecRules.{exec_meanings}
 use Rattle.ex_grammar.specs.Graph.{append_blocks, build_blocks, define_blocks, delete_blocks, exec_graph, exec_nodes, first_nodes, information_blocks, print_blocks, source_nodes, subcommand_blocks, target_blocks, type_blocks}
 use Rattle.ex_grammar.specs.Tables.{command_entries, exec_tables, topic_entries}
 use Rattle.ex_grammar.specs.Words.{confirm, either, keyword}
-use Rattle.ex_grammar.specs.declared.code.TheConstants.{CONNECT, EXPUNGE}
+use Rattle.ex_grammar.specs.declared.code.TheConstants.{APPEND, CONNECT, COPY, EXPUNGE, RENAME}
 use Rattle.ex_grammar.specs.declared.node.TheConstants.{COMMANDS}
 use Rattle.ex_commands.specs.Command.{keyword_code}
-use Rattle.ex_commands.proofs.Fitting.{all_pass_at}
+use Rattle.ex_commands.proofs.Fitting.{all_pass_at, reads_made, reads_one}
 use Rattle.ex_commands.proofs.Saying.{run_of}
 use Rattle.ex_commands.proofs.Trying.{IsTried, chain_number, chain_tried}
 
@@ -40,9 +41,12 @@ use Rattle.ex_commands.proofs.Trying.{IsTried, chain_number, chain_tried}
 abbrev command_table : ℕ
 command_table = 0
 
--- a node behind the keyword of CONNECT or EXPUNGE, or the end of a line
-abbrev is_behind : ℕ → Bool
-is_behind node = node == 5 || node == 17 || node == 18 || node == 35 || node == 36
+-- some commands by their codes, the nodes behind them, and the blocks that read the fields of a role there
+pub record Branch : Type 0 where
+  pub names : ℕ → Bool
+  pub inside : ℕ → Bool
+  pub role : Role
+  pub reads : Block → Bool
 
 -- a function whose block alone says what follows
 abbrev is_plain : Function → Bool
@@ -50,31 +54,30 @@ is_plain (functions.Key table) = false
 is_plain (functions.Switch table) = false
 is_plain function = true
 
--- a block that names no command and no new directory, and leads to such nodes
-abbrev stays : Block → Bool
-stays block = not block.flags.new && not (is_role roles.Verb block.role) && is_plain block.function && is_behind block.next
+-- a block of such a node: it leads to another, and reads what it should
+abbrev stays : Branch → Block → Bool
+stays branch block =
+    is_plain block.function && branch.inside block.next && (not (is_role branch.role block.role) || branch.reads block)
 
-abbrev node_stays : ℕ → Node → Bool
-node_stays number node = not (is_behind number) || list_all stays node.chain
+abbrev node_stays : Branch → ℕ → Node → Bool
+node_stays branch number node = not (branch.inside number) || list_all (stays branch) node.chain
 
 abbrev all_from : (ℕ → Node → Bool) → ℕ → List Node → Bool
 all_from test number [] = true
 all_from test number (node ∷ nodes) = test number node && all_from test (number + 1) nodes
 
-nodes_stay : all_from node_stays 0 exec_graph.nodes ≡ true
-unfolding exec_graph exec_nodes first_nodes source_nodes target_blocks append_blocks delete_blocks type_blocks information_blocks define_blocks build_blocks print_blocks subcommand_blocks
-nodes_stay = refl
+-- such a command leads to such a node
+abbrev leads : Branch → Entry → Bool
+leads branch entry = not (branch.names entry.code) || branch.inside entry.next
 
--- the code of a command that works on a directory that is there, and leads to such a node
-abbrev pub names_old : ℕ → Bool
-names_old code = code == CONNECT || code == EXPUNGE
-
-abbrev leads : Entry → Bool
-leads entry = not (names_old entry.code) || is_behind entry.next
-
-commands_lead : list_all leads (table_of exec_graph command_table) ≡ true
-unfolding exec_graph exec_tables command_entries topic_entries
-commands_lead = refl
+-- so it is in the grammar of the EXEC
+pub record IsBranch (branch : Branch) : Type 0 where
+  pub none : branch.names 0 ≡ false
+  pub ends : branch.inside confirm.next ≡ true
+  pub nodes : all_from (node_stays branch) 0 exec_graph.nodes ≡ true
+  pub commands : list_all (leads branch) (table_of exec_graph command_table) ≡ true
+  pub some : is_role branch.role roles.None ≡ false
+  pub other : is_role branch.role roles.Verb ≡ false
 
 first_node : slice_get exec_graph.nodes COMMANDS ≡ Some (either confirm (keyword command_table roles.Verb))
 unfolding exec_graph exec_nodes first_nodes source_nodes
@@ -95,17 +98,20 @@ or_right : (a b : Bool) → a ≡ false → (a || b) ≡ true → b ≡ true
 or_right true b is either = cc
 or_right false b is either = either
 
-not_true : (a : Bool) → not a ≡ true → a ≡ false
+pub not_true : (a : Bool) → not a ≡ true → a ≡ false
 not_true true is = cc
 not_true false is = refl
 
 -- the node that such a code leads to
-entry_leads : (table : List Entry) (place : ℕ) → list_all leads table ≡ true → names_old (code_at table place) ≡ true
-    → is_behind (entry_next table place) ≡ true
-entry_leads [] place all old = cc
-entry_leads (entry ∷ more) zero all old =
-    or_right (not (names_old entry.code)) (is_behind entry.next) (ap not old) (and_parts (leads entry) (list_all leads more) all).0
-entry_leads (entry ∷ more) (suc place) all old = entry_leads more place (and_parts (leads entry) (list_all leads more) all).1 old
+entry_leads : (branch : Branch) → branch.names 0 ≡ false → (table : List Entry) (place : ℕ)
+    → list_all (leads branch) table ≡ true → branch.names (code_at table place) ≡ true
+    → branch.inside (entry_next table place) ≡ true
+entry_leads branch none [] place all named = cc
+entry_leads branch none (entry ∷ more) zero all named =
+    or_right (not (branch.names entry.code)) (branch.inside entry.next) (ap not named)
+    (and_parts (leads branch entry) (list_all (leads branch) more) all).0
+entry_leads branch none (entry ∷ more) (suc place) all named =
+    entry_leads branch none more place (and_parts (leads branch entry) (list_all (leads branch) more) all).1 named
 
 -- the node that follows a plain function
 plain_next : (graph : Graph) (block : Block) (value : Value) → is_plain block.function ≡ true → next_of graph block value ≡ block.next
@@ -121,47 +127,62 @@ plain_next graph block value plain = by value
     by (values.Switch entry code) = by_function block.function entry plain
     by value = refl
 
--- a field behind such a node
-pub record IsOld (c : Catalogue) (text : List ℕ) (field : Taken) : Type 0 where
-  pub tried : IsTried (setting exec_graph c exec_meanings) text field
-  pub old : tried.block.flags.new ≡ false
-  pub verb : is_role roles.Verb field.role ≡ false
-  pub behind : is_behind field.next ≡ true
+-- a field of such a node
+record IsInside (branch : Branch) (c : Catalogue) (text : List ℕ) (field : Taken) : Type 0 where
+  tried : IsTried (setting exec_graph c exec_meanings) text field
+  read : (not (is_role branch.role tried.block.role) || branch.reads tried.block) ≡ true
+  next : branch.inside field.next ≡ true
 
-stay_of : (c : Catalogue) (text : List ℕ) (node at : ℕ) (field : Taken) → is_behind node ≡ true
-    → (chain_at (setting exec_graph c exec_meanings) node text at).chain ≡ chain.Field field → IsOld c text field
-stay_of c text node at field behind is =
+stay_of : (branch : Branch) → IsBranch branch → (c : Catalogue) (text : List ℕ) (node at : ℕ) (field : Taken)
+    → branch.inside node ≡ true
+    → (chain_at (setting exec_graph c exec_meanings) node text at).chain ≡ chain.Field field
+    → IsInside branch c text field
+stay_of branch is_branch c text node at field inside is =
     let tried = chain_tried (setting exec_graph c exec_meanings) node text at field is in
     let number = chain_number (setting exec_graph c exec_meanings) node text at field is in
     let here : 0 + field.node ≡ field.node = omega arith in
-    let all = all_from_at node_stays 0 exec_graph.nodes field.node tried.node nodes_stay tried.node_is in
-    let passes : node_stays field.node tried.node ≡ true = ap (λ (n : ℕ). node_stays n tried.node) (sym here) ∙ all in
-    let inside : is_behind field.node ≡ true = ap is_behind number ∙ behind in
-    let chain = or_right (not (is_behind field.node)) (list_all stays tried.node.chain) (ap not inside) passes in
-    let block = all_pass_at stays tried.node.chain field.block tried.block chain tried.block_is in
-    let last = and_parts (not tried.block.flags.new && not (is_role roles.Verb tried.block.role) && is_plain tried.block.function) (is_behind tried.block.next) block in
-    let plain = and_parts (not tried.block.flags.new && not (is_role roles.Verb tried.block.role)) (is_plain tried.block.function) last.0 in
-    let first = and_parts (not tried.block.flags.new) (not (is_role roles.Verb tried.block.role)) plain.0 in
+    let all = all_from_at (node_stays branch) 0 exec_graph.nodes field.node tried.node is_branch.nodes tried.node_is in
+    let passes : node_stays branch field.node tried.node ≡ true =
+    ap (λ (n : ℕ). node_stays branch n tried.node) (sym here) ∙ all in
+    let within : branch.inside field.node ≡ true = ap branch.inside number ∙ inside in
+    let all_stay = list_all (stays branch) tried.node.chain in
+    let chain = or_right (not (branch.inside field.node)) all_stay (ap not within) passes in
+    let block = all_pass_at (stays branch) tried.node.chain field.block tried.block chain tried.block_is in
+    let last = and_parts (is_plain tried.block.function && branch.inside tried.block.next)
+    (not (is_role branch.role tried.block.role) || branch.reads tried.block) block in
+    let first = and_parts (is_plain tried.block.function) (branch.inside tried.block.next) last.0 in
     record {
       tried = tried;
-      old = not_true tried.block.flags.new first.0;
-      verb = ap (is_role roles.Verb) tried.role ∙ not_true (is_role roles.Verb tried.block.role) first.1;
-      behind = ap is_behind (tried.next ∙ plain_next exec_graph tried.block field.value plain.1) ∙ last.1;
+      read = last.1;
+      next = ap branch.inside (tried.next ∙ plain_next exec_graph tried.block field.value first.0) ∙ first.1;
     }
 
-found_old : (c : Catalogue) (text : List ℕ) (node at : ℕ) (test : Taken → Bool) (fields : List Taken) (field : Taken)
-    → is_behind node ≡ true → Follow (setting exec_graph c exec_meanings) text node at fields → find test fields ≡ Some field
-    → IsOld c text field × (test field ≡ true)
-found_old c text node at test [] field behind follow is = cc
-found_old c text node at test (first ∷ fields) field behind follow is =
-    let stay = stay_of c text node at first behind follow.0 in
-    by (test first) refl is stay (found_old c text first.next first.end test fields field stay.behind follow.1)
+-- a field whose block passes a test
+pub record IsOf (c : Catalogue) (text : List ℕ) (reads : Block → Bool) (field : Taken) : Type 0 where
+  pub tried : IsTried (setting exec_graph c exec_meanings) text field
+  pub read : reads tried.block ≡ true
+
+-- the first field of the role, from such a node on
+found_inside : (branch : Branch) → IsBranch branch → (c : Catalogue) (text : List ℕ) (node at : ℕ) (fields : List Taken)
+    (field : Taken) → branch.inside node ≡ true → Follow (setting exec_graph c exec_meanings) text node at fields
+    → field_of branch.role fields ≡ Some field → IsOf c text branch.reads field
+found_inside branch is_branch c text node at [] field inside follow is = cc
+found_inside branch is_branch c text node at (first ∷ fields) field inside follow is =
+    let stay = stay_of branch is_branch c text node at first inside follow.0 in
+    by (is_role branch.role first.role) refl is stay
+    (found_inside branch is_branch c text first.next first.end fields field stay.next follow.1)
   where
-    by : (passes : Bool) → test first ≡ passes → (if passes then Some first else find test fields) ≡ Some field → IsOld c text first
-        → (find test fields ≡ Some field → IsOld c text field × (test field ≡ true)) → IsOld c text field × (test field ≡ true)
+    by : (passes : Bool) → is_role branch.role first.role ≡ passes
+        → (if passes then Some first else field_of branch.role fields) ≡ Some field → IsInside branch c text first
+        → (field_of branch.role fields ≡ Some field → IsOf c text branch.reads field) → IsOf c text branch.reads field
     by true passes is stay later =
         let same : first ≡ field = cc in
-        subst (λ (it : Taken). IsOld c text it × (test it ≡ true)) same (stay, passes)
+        let of_role : is_role branch.role stay.tried.block.role ≡ true =
+        sym (ap (is_role branch.role) stay.tried.role) ∙ passes in
+        let tried = stay.tried in
+        let other = not (is_role branch.role tried.block.role) in
+        let read = or_right other (branch.reads tried.block) (ap not of_role) stay.read in
+        subst (IsOf c text branch.reads) same (record { tried = tried; read = read })
     by false passes is stay later = later is
 
 -- what a keyword's value says
@@ -216,35 +237,114 @@ behind_first : (test : Taken → Bool) (first : Taken) (fields : List Taken) (fo
     → find test (first ∷ fields) ≡ found → find test fields ≡ found
 behind_first test first fields found other is = rw other at is
 
--- behind CONNECT and EXPUNGE the field of the directory is one behind those nodes
-pub old_directory : (c : Catalogue) (text : List ℕ) (fields : List Taken) (ends : Ending) (verb field : Taken)
-    → IsParse (setting exec_graph c exec_meanings) COMMANDS text fields ends → field_of roles.Verb fields ≡ Some verb
-    → names_old (keyword_code verb.value) ≡ true → field_of roles.Files fields ≡ Some field → IsOld c text field
-old_directory c text [] ends verb field parse verb_is old is = cc
-old_directory c text (first ∷ fields) ends verb field parse verb_is old is =
+-- behind such a command the field of the role is read by such a block
+behind_verb : (branch : Branch) → IsBranch branch → (c : Catalogue) (text : List ℕ) (fields : List Taken)
+    (ends : Ending) (verb field : Taken) → IsParse (setting exec_graph c exec_meanings) COMMANDS text fields ends
+    → field_of roles.Verb fields ≡ Some verb → branch.names (keyword_code verb.value) ≡ true
+    → field_of branch.role fields ≡ Some field → IsOf c text branch.reads field
+behind_verb branch is_branch c text [] ends verb field parse verb_is named is = cc
+behind_verb branch is_branch c text (first ∷ fields) ends verb field parse verb_is named is =
     let it = first_field c text 0 first parse.follow.0 in
     by it.0 it.1 it.2 it.3
   where
-    behind : is_behind first.next ≡ true → is_role roles.Files first.role ≡ false → IsOld c text field
+    behind : branch.inside first.next ≡ true → is_role branch.role first.role ≡ false → IsOf c text branch.reads field
     behind next other =
-        (found_old c text first.next first.end (λ (it : Taken). is_role roles.Files it.role) fields field next parse.follow.1
-        (behind_first (λ (it : Taken). is_role roles.Files it.role) first fields (Some field) other is)).0
+        found_inside branch is_branch c text first.next first.end fields field next parse.follow.1
+        (behind_first (λ (it : Taken). is_role branch.role it.role) first fields (Some field) other is)
 
     by : (block : Block) → first.role ≡ block.role → first.next ≡ next_of exec_graph block first.value
         → (block ≡ confirm) ⊎ ((block ≡ keyword command_table roles.Verb)
         × ((place : ℕ) × (first.value ≡ values.Key place (code_at (table_of exec_graph command_table) place))))
-        → IsOld c text field
+        → IsOf c text branch.reads field
     by block role next (inl same) =
-        behind (ap is_behind (next ∙ ap (λ (it : Block). next_of exec_graph it first.value) same ∙ plain_next exec_graph confirm first.value refl))
-        (ap (is_role roles.Files) (role ∙ ap (λ (it : Block). it.role) same))
+        behind (ap branch.inside (next ∙ ap (λ (it : Block). next_of exec_graph it first.value) same
+        ∙ plain_next exec_graph confirm first.value refl) ∙ is_branch.ends)
+        (ap (is_role branch.role) (role ∙ ap (λ (it : Block). it.role) same) ∙ is_branch.some)
     by block role next (inr said) =
-        let named : first.role ≡ roles.Verb = role ∙ ap (λ (it : Block). it.role) said.0 in
-        let test : is_role roles.Verb first.role ≡ true = ap (is_role roles.Verb) named in
+        let is_verb : first.role ≡ roles.Verb = role ∙ ap (λ (it : Block). it.role) said.0 in
+        let test : is_role roles.Verb first.role ≡ true = ap (is_role roles.Verb) is_verb in
         let found : find (λ (field : Taken). is_role roles.Verb field.role) (first ∷ fields) ≡ Some first = rw test refl in
         let same : first ≡ verb = (let both = sym found ∙ verb_is in cc) in
-        let code : names_old (code_at (table_of exec_graph command_table) said.1.0) ≡ true =
-        ap (λ (value : Value). names_old (keyword_code value)) (sym said.1.1 ∙ ap (λ (it : Taken). it.value) same) ∙ old in
+        let code : branch.names (code_at (table_of exec_graph command_table) said.1.0) ≡ true =
+        ap (λ (value : Value). branch.names (keyword_code value)) (sym said.1.1 ∙ ap (λ (it : Taken). it.value) same)
+        ∙ named in
         let leads_to : next_of exec_graph block first.value ≡ entry_next (table_of exec_graph command_table) said.1.0 =
         ap (λ (it : Block). next_of exec_graph it first.value) said.0 ∙ ap (next_of exec_graph (keyword command_table roles.Verb)) said.1.1 in
-        behind (ap is_behind (next ∙ leads_to) ∙ entry_leads (table_of exec_graph command_table) said.1.0 commands_lead code)
-        (ap (is_role roles.Files) named)
+        behind (ap branch.inside (next ∙ leads_to)
+        ∙ entry_leads branch is_branch.none (table_of exec_graph command_table) said.1.0 is_branch.commands code)
+        (ap (is_role branch.role) is_verb ∙ is_branch.other)
+
+-- CONNECT and EXPUNGE: a directory that is there
+abbrev pub names_old : ℕ → Bool
+names_old code = code == CONNECT || code == EXPUNGE
+
+abbrev pub is_old : Block → Bool
+is_old block = not block.flags.new
+
+abbrev old_branch : Branch
+old_branch = record {
+  names = names_old;
+  inside = λ (node : ℕ). node == 5 || node == 17 || node == 18 || node == 35 || node == 36;
+  role = roles.Files;
+  reads = is_old;
+}
+
+old_is : IsBranch old_branch
+unfolding exec_graph exec_nodes first_nodes source_nodes target_blocks append_blocks delete_blocks type_blocks information_blocks define_blocks build_blocks print_blocks subcommand_blocks exec_tables command_entries topic_entries
+old_is = record { none = refl; ends = refl; nodes = refl; commands = refl; some = refl; other = refl }
+
+pub old_directory : (c : Catalogue) (text : List ℕ) (fields : List Taken) (ends : Ending) (verb field : Taken)
+    → IsParse (setting exec_graph c exec_meanings) COMMANDS text fields ends → field_of roles.Verb fields ≡ Some verb
+    → names_old (keyword_code verb.value) ≡ true → field_of roles.Files fields ≡ Some field → IsOf c text is_old field
+old_directory = behind_verb old_branch old_is
+
+-- COPY and RENAME: files that are made
+abbrev pub names_made : ℕ → Bool
+names_made code = code == COPY || code == RENAME
+
+abbrev pub is_made : Block → Bool
+is_made block = reads_made block.function
+
+abbrev made_branch : Branch
+made_branch = record {
+  names = names_made;
+  inside = λ (node : ℕ).
+      node == 1 || node == 2 || node == 3 || node == 4 || node == 5 || node == 10 || node == 11 || node == 12;
+  role = roles.Target;
+  reads = is_made;
+}
+
+made_is : IsBranch made_branch
+unfolding exec_graph exec_nodes first_nodes source_nodes target_blocks append_blocks delete_blocks type_blocks information_blocks define_blocks build_blocks print_blocks subcommand_blocks exec_tables command_entries topic_entries
+made_is = record { none = refl; ends = refl; nodes = refl; commands = refl; some = refl; other = refl }
+
+pub made_target : (c : Catalogue) (text : List ℕ) (fields : List Taken) (ends : Ending) (verb field : Taken)
+    → IsParse (setting exec_graph c exec_meanings) COMMANDS text fields ends → field_of roles.Verb fields ≡ Some verb
+    → names_made (keyword_code verb.value) ≡ true → field_of roles.Target fields ≡ Some field
+    → IsOf c text is_made field
+made_target = behind_verb made_branch made_is
+
+-- APPEND: one file
+abbrev pub names_grown : ℕ → Bool
+names_grown code = code == APPEND
+
+abbrev pub is_one : Block → Bool
+is_one block = reads_one block.function block.flags
+
+abbrev grown_branch : Branch
+grown_branch = record {
+  names = names_grown;
+  inside = λ (node : ℕ). node == 5 || node == 6 || node == 7 || node == 8 || node == 9;
+  role = roles.Target;
+  reads = is_one;
+}
+
+grown_is : IsBranch grown_branch
+unfolding exec_graph exec_nodes first_nodes source_nodes target_blocks append_blocks delete_blocks type_blocks information_blocks define_blocks build_blocks print_blocks subcommand_blocks exec_tables command_entries topic_entries
+grown_is = record { none = refl; ends = refl; nodes = refl; commands = refl; some = refl; other = refl }
+
+pub grown_target : (c : Catalogue) (text : List ℕ) (fields : List Taken) (ends : Ending) (verb field : Taken)
+    → IsParse (setting exec_graph c exec_meanings) COMMANDS text fields ends → field_of roles.Verb fields ≡ Some verb
+    → names_grown (keyword_code verb.value) ≡ true → field_of roles.Target fields ≡ Some field
+    → IsOf c text is_one field
+grown_target = behind_verb grown_branch grown_is

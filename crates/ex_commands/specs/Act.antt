@@ -17,7 +17,7 @@ use Rattle.ex_commands.specs.declared.acted.Acted.{Acted}
 use Rattle.ex_commands.specs.declared.acted.Acted.TheVariants as answers
 use Rattle.ex_commands.specs.declared.command.Command.{Command}
 use Rattle.ex_commands.specs.declared.command.Command.TheVariants as commands
-use Rattle.ex_commands.specs.declared.lines.Lines.TheVariants.{Marked}
+use Rattle.ex_commands.specs.declared.lines.Lines.TheVariants.{Held, Marked}
 use Rattle.ex_commands.specs.declared.pairs.Origin.{Origin}
 use Rattle.ex_commands.specs.declared.pairs.Origin.TheVariants.{Files, Terminal}
 use Rattle.ex_commands.specs.Replies.{farewell_line, freed_line, line_of, listing, origin_line, version_line}
@@ -80,6 +80,7 @@ logs_out state =
 -- what a command does at a moment
 unfoldable pub act_of : Command → ℕ → State → Act
 act_of commands.Empty moment state = does [] state
+act_of (commands.Append from to) moment state = plays Files (planned (plans.Append from to) moment state) state
 act_of (commands.Build directory) moment state =
     plays Files (planned (plans.Build directory None) moment state) state
 act_of (commands.Connect directory) moment state = does [] (record state { connected = directory })
@@ -92,6 +93,8 @@ act_of (commands.Expunge directory) moment state = expunges (unwrap_or directory
 act_of (commands.Information what) moment state = does (told what) state
 act_of commands.Logout moment state = logs_out state
 act_of commands.Remark moment state = does [] state
+act_of (commands.Rename from to) moment state = plays Files (planned (plans.Rename from to) moment state) state
+act_of (commands.TypeOut files) moment state = does (flat_map (line_of Held) (sources files state)) state
 act_of (commands.Undelete files) moment state = marks false files state
 
 -- what was typed in is written, at a moment

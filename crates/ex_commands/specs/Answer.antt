@@ -5,7 +5,7 @@ use Rattle.cm_io.specs.declared.sink.Put.{Put}
 use Rattle.cm_io.specs.declared.sink.Put.TheVariants.{Done, Failed}
 use Rattle.cm_io.specs.Fault.{Rose}
 use Rattle.cm_io.specs.Told.{Told, add, AddsPart}
-use Rattle.ex_store.specs.Plan.{IsSource, IsTarget}
+use Rattle.ex_store.specs.Plan.{IsOneFile, IsSource, IsTarget}
 use Rattle.ex_store.specs.State.{State, has_directory}
 use Rattle.ex_commands.specs.declared.acted.Acted.{Acted}
 use Rattle.ex_commands.specs.declared.acted.Acted.TheVariants as answers
@@ -55,8 +55,10 @@ ActCause before now answers.Logout = now ≡ before
 
 -- the commands that take memory
 abbrev pub may_lack : Command → Bool
+may_lack (commands.Append from to) = true
 may_lack (commands.Build directory) = true
 may_lack (commands.Copy from to) = true
+may_lack (commands.Rename from to) = true
 may_lack command = false
 
 -- the directory is one of the state
@@ -66,13 +68,16 @@ IsThere (Some directory) state = has_directory directory state.directories ≡ t
 
 -- a command that can be done: its directories are there, and its names and numbers have their forms
 abbrev pub MayAct : Command → State → Type 0
+MayAct (commands.Append from to) state = IsSource from state × IsOneFile to state.directories
 MayAct (commands.Build directory) state = is_directory_name directory ≡ true
 MayAct (commands.Connect directory) state = has_directory directory state.directories ≡ true
 MayAct (commands.Copy from to) state = IsSource from state × IsTarget to state.directories
+MayAct (commands.Rename from to) state = IsSource from state × IsTarget to state.directories
 MayAct (commands.CopyTty to) state = IsTarget to state.directories
 MayAct (commands.Delete files) state = IsSource files state
 MayAct (commands.Undelete files) state = IsSource files state
 MayAct (commands.Directory files) state = IsSource files state
+MayAct (commands.TypeOut files) state = IsSource files state
 MayAct (commands.Expunge directory) state = IsThere directory state
 MayAct commands.Empty state = Unit {0}
 MayAct (commands.Define name) state = Unit {0}

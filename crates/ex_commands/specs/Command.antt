@@ -15,7 +15,7 @@ use Rattle.cm_blocks.specs.Grammar.{Graph}
 use Rattle.cm_blocks.specs.Taken.{Taken}
 use Rattle.cm_blocks.specs.Words.{no_flags}
 use Rattle.cm_state.specs.Roles.{field_of}
-use Rattle.ex_grammar.specs.declared.code.TheConstants.{BUILD, CONNECT, COPY, DEFINE, DELETE, DIRECTORY, EXPUNGE, INFORMATION, LOGOUT, REMARK, UNDELETE}
+use Rattle.ex_grammar.specs.declared.code.TheConstants.{APPEND, BUILD, CONNECT, COPY, DEFINE, DELETE, DIRECTORY, EXPUNGE, INFORMATION, LOGOUT, REMARK, RENAME, TYPE, UNDELETE}
 use Rattle.ex_store.specs.declared.place.Place.{Place}
 use Rattle.ex_commands.specs.declared.command.Command.{Command}
 use Rattle.ex_commands.specs.declared.command.Command.TheVariants as commands
@@ -42,13 +42,17 @@ flags_of graph field = option_map_or (λ (block : Block). block.flags) (block_of
 abbrev pub default_of : Graph → Taken → List ℕ
 default_of graph field = unwrap_or (option_and_then (λ node. node.default) (node_of graph field)) []
 
--- the text that it is a part of: the line, or that default
-abbrev pub said_in : Line → Taken → List ℕ
-said_in line field = if field.defaulted then default_of line.graph field else line.text
+-- the text that it is a part of, in a line of this text: that, or the default
+abbrev pub said_of : Graph → List ℕ → Taken → List ℕ
+said_of graph text field = if field.defaulted then default_of graph field else text
 
 -- a part of a text, in upper case
 abbrev pub upper : List ℕ → Span → List ℕ
 upper text place = map to_ascii_uppercase (part text place)
+
+-- its bytes, in upper case
+abbrev pub name_of : Graph → List ℕ → Taken → List ℕ
+name_of graph text field = upper (said_of graph text field) (record { start = field.start; end = field.end })
 
 -- the name of the directory with this number
 abbrev pub directory_name : Catalogue → ℕ → List ℕ
@@ -84,33 +88,46 @@ is_token value = false
 -- what the field of a role is for a line
 abbrev pub place_in : Line → Option Taken → Option Place
 place_in line =
-    option_and_then (λ field. place_by line.catalogue (flags_of line.graph field) (said_in line field) field.value)
+    option_and_then (λ field.
+    place_by line.catalogue (flags_of line.graph field) (said_of line.graph line.text field) field.value)
 
 abbrev pub directory_in : Line → Option Taken → Option (List ℕ)
-directory_in line = option_and_then (λ field. directory_by line.catalogue (said_in line field) field.value)
+directory_in line =
+    option_and_then (λ field. directory_by line.catalogue (said_of line.graph line.text field) field.value)
 
 abbrev pub code_in : Option Taken → ℕ
 code_in field = option_map_or (λ (field : Taken). keyword_code field.value) field 0
 
--- its bytes, in upper case
 abbrev pub name_in : Line → Option Taken → Option (List ℕ)
-name_in line = option_map (λ field. upper (said_in line field) (record { start = field.start; end = field.end }))
+name_in line = option_map (name_of line.graph line.text)
 
 -- a command on files, on a directory or on a name; where none is said there is nothing to do
 abbrev pub on : {A : Type 0} → (A → Command) → Option A → Command
 on command said = option_map_or command said commands.Empty
+
+-- both, where both are said
+abbrev pub both : Option Place → Option Place → Option (Place × Place)
+both (Some from) (Some to) = Some (from, to)
+both from to = None
+
+-- a command from files to others
+abbrev pub between : (Place → Place → Command) → Option Place → Option Place → Command
+between command from to = on (λ files. command files.0 files.1) (both from to)
 
 -- from the terminal, or from files
 abbrev pub copies : Line → Option Taken → Option Place → Command
 copies line None to = commands.Empty
 copies line (Some from) to =
     if is_token from.value then on commands.CopyTty to
-    else on (λ files. on (commands.Copy files) to) (place_in line (Some from))
+    else between commands.Copy (place_in line (Some from)) to
 
 -- the command that a keyword of this code names, with what its other fields say
 abbrev pub named : Line → ℕ → Command
 named line verb =
-    if verb == BUILD then on commands.Build (directory_in line (field_of roles.Files line.fields))
+    if verb == APPEND
+    then between commands.Append (place_in line (field_of roles.Source line.fields))
+    (place_in line (field_of roles.Target line.fields))
+    else (if verb == BUILD then on commands.Build (directory_in line (field_of roles.Files line.fields))
     else (if verb == CONNECT then on commands.Connect (directory_in line (field_of roles.Files line.fields))
     else (if verb == COPY
     then copies line (field_of roles.Source line.fields) (place_in line (field_of roles.Target line.fields))
@@ -120,8 +137,13 @@ named line verb =
     else (if verb == EXPUNGE then commands.Expunge (directory_in line (field_of roles.Files line.fields))
     else (if verb == INFORMATION then commands.Information (code_in (field_of roles.What line.fields))
     else (if verb == LOGOUT then commands.Logout
+    else (if verb == REMARK then commands.Remark
+    else (if verb == RENAME
+    then between commands.Rename (place_in line (field_of roles.Source line.fields))
+    (place_in line (field_of roles.Target line.fields))
+    else (if verb == TYPE then on commands.TypeOut (place_in line (field_of roles.Files line.fields))
     else (if verb == UNDELETE then on commands.Undelete (place_in line (field_of roles.Files line.fields))
-    else (if verb == REMARK then commands.Remark else commands.Empty))))))))))
+    else commands.Empty)))))))))))))
 
 -- the field of role Verb names the command; a line without fields is empty
 unfoldable pub command_of : Line → Command

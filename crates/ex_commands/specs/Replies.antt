@@ -1,7 +1,8 @@
 -- What commands show, line by line.
-use Rattle.std.specs.Prelude.{ℕ, ◌/◌, pos, List, ◌++◌, length}
+use Rattle.std.specs.Prelude.{ℕ, ◌/◌, ◌==◌, pos, Bool, true, if◌then◌else◌, List, [], ◌++◌, length, None}
 use Rattle.std.specs.Fmt.{decimal}
-use Rattle.std.specs.List.{flat_map}
+use Rattle.std.specs.List.{flat_map, last_or}
+use Rattle.std.specs.Option.{option_map_or}
 use Rattle.cm_text.specs.Shown.{end_of_line}
 use Rattle.cm_dates.specs.DayText.{day_text}
 use Rattle.ex_generations.specs.declared.file.File.{File}
@@ -13,7 +14,7 @@ use Rattle.ex_store.specs.declared.row.Row.{Row}
 use Rattle.ex_store.specs.Rows.{full_of}
 use Rattle.ex_commands.specs.declared.lines.Lines.{Lines}
 use Rattle.ex_commands.specs.declared.lines.TheConstants.{DAY_SECONDS}
-use Rattle.ex_commands.specs.declared.lines.Lines.TheVariants.{Marked, Listed}
+use Rattle.ex_commands.specs.declared.lines.Lines.TheVariants.{Marked, Listed, Held}
 use Rattle.ex_commands.specs.declared.pairs.Origin.{Origin}
 use Rattle.ex_commands.specs.declared.pairs.Origin.TheVariants.{Files, Terminal}
 use Rattle.ex_commands.specs.Texts.{arrow, dot, done_mark, farewell, files_counted, from_terminal, left_angle, pages_freed, right_angle, right_bracket, space, structure, total_of, version}
@@ -78,10 +79,19 @@ listed_name row = space ++ file_text (full_of row) ++ space
 unfoldable pub listed_line : Row → List ℕ
 listed_line row = listed_name row ++ measures_text row.file ++ end_of_line
 
--- the line of a file, by what it tells
+-- a text ends with a line feed, or is empty
+abbrev pub ends_line : List ℕ → Bool
+ends_line bytes = option_map_or (λ byte. byte == 10) (last_or None bytes) true
+
+-- what a file holds, and the end of its last line where that is begun
+unfoldable pub held_text : Row → List ℕ
+held_text row = row.file.bytes ++ (if ends_line row.file.bytes then [] else end_of_line)
+
+-- what is put for a file, by what it tells
 abbrev pub line_of : Lines → Row → List ℕ
 line_of Marked row = marked_line row
 line_of Listed row = listed_line row
+line_of Held row = held_text row
 
 -- the head of a listing, `   PS:<DIRECTORY>`, and how many files stand in it, ` Total of COUNT files`
 unfoldable pub heading : List ℕ → List ℕ

@@ -1,5 +1,5 @@
 -- What the parts of a line have that names are made of.
-use Rattle.std.specs.Prelude.{ℕ, ◌+◌, ◌≤◌, if◌then◌else◌, List, [], Option, Some, None, IfSome}
+use Rattle.std.specs.Prelude.{◌+◌, ◌≤◌, List, Option, Some, None, IfSome}
 use Rattle.cm_text.specs.declared.name.TheConstants.{NAME_LIMIT}
 use Rattle.cm_fields.specs.declared.value.Span.{Span}
 use Rattle.cm_fields.specs.declared.value.Value.{Value}
@@ -10,19 +10,12 @@ use Rattle.cm_blocks.specs.Grammar.{Graph}
 use Rattle.cm_blocks.specs.Taken.{Taken}
 use Rattle.cm_state.specs.Held.{Held, text_of}
 use Rattle.cm_state.specs.Roles.{field_of}
-use Rattle.ex_commands.specs.Command.{Line, default_of, upper}
+use Rattle.ex_commands.specs.Command.{Line}
 
 -- the line that a session holds
 abbrev pub line_of : Graph → Catalogue → Held → Line
 line_of graph catalogue held =
     record { graph = graph; catalogue = catalogue; text = text_of held; fields = held.fields }
-
--- the text that a field is a part of, and its bytes in upper case, by the text of the line
-abbrev pub said_of : Graph → List ℕ → Taken → List ℕ
-said_of graph text field = if field.defaulted then default_of graph field else text
-
-abbrev pub name_of : Graph → List ℕ → Taken → List ℕ
-name_of graph text field = upper (said_of graph text field) (record { start = field.start; end = field.end })
 
 -- a part that is given is no longer than a name
 abbrev pub IsShort : Option Span → Type 0

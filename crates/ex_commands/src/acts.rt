@@ -11,7 +11,7 @@ ghost use Rattle.ex_commands.specs.Answer.{ActCause, Answers, IsThere, MayAct, a
 
 use crate::acted::answer_by;
 use crate::lines::{Lines, count_files, put_lines, put_listing};
-use crate::plans::{build, copy};
+use crate::plans::{append, build, copy, rename};
 use crate::replies::{put_farewell, put_freed, put_refusal, put_told};
 use crate::{Acted, Command};
 use cm_fields::Code;
@@ -23,8 +23,8 @@ use ex_store::{Place, Store};
 ///
 /// The answer is Refused(code) exactly where the command is refused with that code; the reason is put, and nothing
 /// changes. It is Data for COPY TTY: that is not refused, whose file is typed in next, and Logout for LOGOUT. NoMemory
-/// comes only for BUILD and COPY, and nothing is put or changed. Failed comes only where the sink failed: a part of
-/// what is to be put is put, and the command has acted all the same.
+/// comes only for APPEND, BUILD, COPY and RENAME, and nothing is put or changed. Failed comes only where the sink
+/// failed: a part of what is to be put is put, and the command has acted all the same.
 #[tactic(auto, using(crate::proofs::Parts::pieces), unfolding(crate::specs::Act::act_of))]
 pub fn act<S: Sink>(store: &mut Store, command: &Command, moment: u64, sink: &mut S) -> Acted
     requires { MayAct command.now store.old.state }
@@ -35,6 +35,7 @@ pub fn act<S: Sink>(store: &mut Store, command: &Command, moment: u64, sink: &mu
 {
     match command {
         Command::Empty => Acted::Ok,
+        Command::Append { from, to } => append(store, from, to, moment, sink),
         Command::Build { directory } => build(store, directory, moment, sink),
         Command::Connect { directory } => connect(store, directory, sink),
         Command::Copy { from, to } => copy(store, from, to, moment, sink),
@@ -46,6 +47,8 @@ pub fn act<S: Sink>(store: &mut Store, command: &Command, moment: u64, sink: &mu
         Command::Information { what } => done(put_told(*what, sink)),
         Command::Logout => log_out(store, sink),
         Command::Remark => Acted::Ok,
+        Command::Rename { from, to } => rename(store, from, to, moment, sink),
+        Command::TypeOut { files } => done(put_lines(store, files, Lines::Held, sink)),
         Command::Undelete { files } => unmark(store, files, sink),
     }
 }

@@ -7,6 +7,8 @@ use ex_store::Place;
 pub enum Command {
     /// Nothing: the line has no field.
     Empty,
+    /// APPEND: to put the bytes of files behind those of one file.
+    Append { from: Place, to: Place },
     /// BUILD: to make a directory, which keeps one generation of each file.
     Build { directory: Name },
     /// CONNECT: to connect to a directory.
@@ -29,6 +31,10 @@ pub enum Command {
     Logout,
     /// REMARK: nothing.
     Remark,
+    /// RENAME: to give files other names.
+    Rename { from: Place, to: Place },
+    /// TYPE: to show what files hold.
+    TypeOut { files: Place },
     /// UNDELETE: to take the mark of files away.
     Undelete { files: Place },
 }

@@ -9,8 +9,8 @@ ghost use Rattle.cm_state.specs.Roles.{field_of};
 ghost use Rattle.ex_grammar.specs.ExecRules.{exec_meanings};
 ghost use Rattle.ex_grammar.specs.Graph.{exec_graph};
 ghost use Rattle.ex_grammar.specs.declared.node.TheConstants.{COMMANDS};
-ghost use Rattle.ex_commands.specs.Command.{code_in, command_of, copies, directory_in, is_token, keyword_code, named, place_in};
-ghost use Rattle.ex_commands.specs.Said.{HasShortNames, IsNameIn, IsSaid, IsSaidIn, line_of, name_of};
+ghost use Rattle.ex_commands.specs.Command.{both, code_in, command_of, copies, directory_in, is_token, keyword_code, name_of, named, place_in};
+ghost use Rattle.ex_commands.specs.Said.{HasShortNames, IsNameIn, IsSaid, IsSaidIn, line_of};
 
 use crate::Command;
 use crate::place::{directory_by, flags_of, place_by, said_in, upper};
@@ -20,8 +20,8 @@ use cm_files::Names;
 use cm_state::Session;
 use cm_text::Name;
 use ex_grammar::{
-    BUILD, CONNECT, COPY, DEFINE, DELETE, DIRECTORY, EXPUNGE, ExecRules, INFORMATION, LOGOUT,
-    REMARK, UNDELETE,
+    APPEND, BUILD, CONNECT, COPY, DEFINE, DELETE, DIRECTORY, EXPUNGE, ExecRules, INFORMATION,
+    LOGOUT, REMARK, RENAME, TYPE, UNDELETE,
 };
 use ex_store::Place;
 
@@ -73,6 +73,10 @@ fn named<N: Names>(verb: u16, session: &Session<ExecRules>, grammar: &Grammar, n
 {
     let files = session.field_of(Role::Files);
     match verb {
+        APPEND => between(session, grammar, names).map_or(
+            Command::Empty,
+            |(from, to)| Command::Append { from, to },
+        ),
         BUILD => directory_in(files, session, grammar, names).map_or(
             Command::Empty,
             |directory| Command::Build { directory },
@@ -101,12 +105,39 @@ fn named<N: Names>(verb: u16, session: &Session<ExecRules>, grammar: &Grammar, n
             what: code_in(session.field_of(Role::What)),
         },
         LOGOUT => Command::Logout,
+        REMARK => Command::Remark,
+        RENAME => between(session, grammar, names).map_or(
+            Command::Empty,
+            |(from, to)| Command::Rename { from, to },
+        ),
+        TYPE => place_in(files, session, grammar, names).map_or(
+            Command::Empty,
+            |files| Command::TypeOut { files },
+        ),
         UNDELETE => place_in(files, session, grammar, names).map_or(
             Command::Empty,
             |files| Command::Undelete { files },
         ),
-        REMARK => Command::Remark,
         _ => Command::Empty,
+    }
+}
+
+// The files that a command works from, and those that it makes of them.
+fn between<N: Names>(
+    session: &Session<ExecRules>,
+    grammar: &Grammar,
+    names: &N,
+) -> Option<(Place, Place)>
+    requires { HasShortNames session.now.fields }
+    ensures { let line = line_of grammar.now (N.catalogue names.now) session.now in
+        result ≡ both (place_in line (field_of roles.Source line.fields))
+        (place_in line (field_of roles.Target line.fields)) }
+{
+    let from = place_in(session.field_of(Role::Source), session, grammar, names);
+    let to = place_in(session.field_of(Role::Target), session, grammar, names);
+    match (from, to) {
+        (Some(from), Some(to)) => Some((from, to)),
+        _ => None,
     }
 }
 

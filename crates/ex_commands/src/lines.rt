@@ -9,7 +9,7 @@ ghost use Rattle.ex_generations.specs.declared.file.TheConstants.{FILE_LIMIT};
 ghost use Rattle.ex_store.specs.declared.limits.TheConstants.{MOMENT_LIMIT};
 ghost use Rattle.ex_store.specs.Plan.{IsSource, sources};
 ghost use Rattle.ex_commands.specs.Files.{IsNumber};
-ghost use Rattle.ex_commands.specs.Replies.{day_of, heading, line_of, listed_line, listed_name, listing, marked_line, measures_text, sizes_text, total_line};
+ghost use Rattle.ex_commands.specs.Replies.{day_of, ends_line, heading, held_text, line_of, listed_line, listed_name, listing, marked_line, measures_text, sizes_text, total_line};
 
 use crate::names::{full_of, put_directory, put_file, put_full};
 use crate::replies::put_done;
@@ -30,6 +30,8 @@ pub enum Lines {
     Marked,
     /// How large it is, and of which day.
     Listed,
+    /// What it holds.
+    Held,
 }
 
 // The number of the first file that a place means, among those of its directory with this number or a later one; none
@@ -154,7 +156,34 @@ fn put_marked<S: Sink>(row: &Row, sink: &mut S) -> Put
     put_done(sink)
 }
 
-// Puts the line of a file.
+// Whether a text ends with a line feed, or is empty.
+fn ends_line(bytes: &[u8]) -> bool
+    ensures { result ≡ ends_line bytes.now }
+{
+    match bytes.last() {
+        Some(byte) => *byte == b'\n',
+        None => true,
+    }
+}
+
+// Puts what a file holds, and the end of its last line where that is begun.
+#[tactic(auto, using(crate::proofs::Parts::pieces), unfolding(crate::specs::Replies::held_text))]
+fn put_held<S: Sink>(row: &Row, sink: &mut S) -> Put
+    ensures bytes { Adds (S.told sink.old) (S.told sink.new) (held_text row.now) result }
+    ensures later { S.faults sink.old ≤ S.faults sink.new }
+    ensures cause { PutCause (S.faults sink.old) (S.faults sink.new) result }
+{
+    let bytes = row.file.bytes.as_slice();
+    if let Put::Failed = sink.put(bytes) {
+        return Put::Failed;
+    }
+    if ends_line(bytes) {
+        return Put::Done;
+    }
+    sink.put(end_of_line())
+}
+
+// Puts what is to be put for a file.
 fn put_row<S: Sink>(lines: Lines, row: &Row, sink: &mut S) -> Put
     requires moment { row.now.file.moment ≤ MOMENT_LIMIT }
     requires short { length row.now.file.bytes ≤ FILE_LIMIT }
@@ -165,6 +194,7 @@ fn put_row<S: Sink>(lines: Lines, row: &Row, sink: &mut S) -> Put
     match lines {
         Lines::Marked => put_marked(row, sink),
         Lines::Listed => put_listed(row, sink),
+        Lines::Held => put_held(row, sink),
     }
 }
 

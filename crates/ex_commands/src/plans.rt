@@ -1,7 +1,7 @@
 // Plans are done, with a line for each pair of files.
 ghost use Rattle.std.specs.Prelude.{◌≡◌, ◌≤◌, true};
 ghost use Rattle.cm_files.specs.Catalogue.{is_directory_name};
-ghost use Rattle.ex_store.specs.Plan.{IsSource, IsTarget, MayPlan, planned};
+ghost use Rattle.ex_store.specs.Plan.{IsOneFile, IsSource, IsTarget, MayPlan, planned};
 ghost use Rattle.ex_commands.specs.declared.command.Command.TheVariants as commands;
 ghost use Rattle.ex_commands.specs.Act.{act_of, plays, writes};
 ghost use Rattle.ex_commands.specs.Answer.{ActCause, Answers};
@@ -75,6 +75,52 @@ pub(crate) fn copy<S: Sink>(
     ensures cause { ActCause (S.faults sink.old) (S.faults sink.new) result }
 {
     let plan = Plan::Copy {
+        from: from.copy(),
+        to: to.copy(),
+    };
+    play(store, plan, Origin::Files, moment, sink)
+}
+
+/// Gives files other names.
+#[tactic(auto, unfolding(crate::specs::Act::act_of))]
+pub(crate) fn rename<S: Sink>(
+    store: &mut Store,
+    from: &Place,
+    to: &Place,
+    moment: u64,
+    sink: &mut S,
+) -> Acted
+    requires from { IsSource from.now store.old.state }
+    requires to { IsTarget to.now store.old.state.directories }
+    ensures acts { Answers (S.told sink.old) (S.told sink.new)
+        (act_of (commands.Rename from.now to.now) moment store.old.state) true store.old.state store.new.state result }
+    ensures later { S.faults sink.old ≤ S.faults sink.new }
+    ensures cause { ActCause (S.faults sink.old) (S.faults sink.new) result }
+{
+    let plan = Plan::Rename {
+        from: from.copy(),
+        to: to.copy(),
+    };
+    play(store, plan, Origin::Files, moment, sink)
+}
+
+/// Puts the bytes of files behind those of one file.
+#[tactic(auto, unfolding(crate::specs::Act::act_of))]
+pub(crate) fn append<S: Sink>(
+    store: &mut Store,
+    from: &Place,
+    to: &Place,
+    moment: u64,
+    sink: &mut S,
+) -> Acted
+    requires from { IsSource from.now store.old.state }
+    requires to { IsOneFile to.now store.old.state.directories }
+    ensures acts { Answers (S.told sink.old) (S.told sink.new)
+        (act_of (commands.Append from.now to.now) moment store.old.state) true store.old.state store.new.state result }
+    ensures later { S.faults sink.old ≤ S.faults sink.new }
+    ensures cause { ActCause (S.faults sink.old) (S.faults sink.new) result }
+{
+    let plan = Plan::Append {
         from: from.copy(),
         to: to.copy(),
     };

@@ -1,9 +1,10 @@
 -- The grammar of the EXEC: 51 nodes, each on a line of its own, and two keyword tables.
 use Rattle.std.specs.Prelude.{List, [], ◌∷◌, ◌++◌, codes, map}
-use Rattle.cm_blocks.specs.declared.function.Role.TheVariants.{Verb, What, Source, Files}
+use Rattle.cm_blocks.specs.declared.function.Role.TheVariants.{Verb, What, Source, Target, Files}
 use Rattle.cm_blocks.specs.declared.node.Block.{Block}
 use Rattle.cm_blocks.specs.declared.node.Node.{Node}
 use Rattle.cm_blocks.specs.Grammar.{Graph}
+use Rattle.cm_blocks.specs.Words.{no_flags}
 use Rattle.ex_grammar.specs.declared.node.TheConstants.{LINE_END}
 use Rattle.ex_grammar.specs.declared.tables.TheConstants.{COMMAND_TABLE, TOPIC_TABLE}
 use Rattle.ex_grammar.specs.Tables.{exec_tables}
@@ -28,13 +29,13 @@ target_blocks =
 -- 6 to 12: APPEND and RENAME
 unfoldable pub append_blocks : List Block
 append_blocks =
-    later
-    ∷ later
-    ∷ later
-    ∷ later
-    ∷ later
-    ∷ later
-    ∷ later
+    guide (codes "FROM") 7
+    ∷ in_file wild Source 8
+    ∷ guide (codes "TO") 9
+    ∷ any_file no_flags Target LINE_END
+    ∷ guide (codes "EXISTING FILE") 11
+    ∷ in_file wild Source 12
+    ∷ guide (codes "TO") 4
     ∷ []
 
 -- 13 to 17: DELETE, UNDELETE, and the guide word of CONNECT
@@ -50,8 +51,8 @@ delete_blocks =
 -- 19 to 23: TYPE, TAKE, and the guide word of DIRECTORY
 unfoldable pub type_blocks : List Block
 type_blocks =
-    later
-    ∷ later
+    guide (codes "FILES") 20
+    ∷ in_file wild Files LINE_END
     ∷ later
     ∷ later
     ∷ guide (codes "OF FILES") 24
@@ -121,7 +122,7 @@ unfoldable pub exec_nodes : List Node
 exec_nodes =
     first_nodes
     ++ map only type_blocks
-    ++ only_or (any_file wild_all 25) (codes "*.*.*") ∷ []
+    ++ only_or (any_file wild_all Files 25) (codes "*.*.*") ∷ []
     ++ map only information_blocks
     ++ map only define_blocks
     ++ map only build_blocks

@@ -2,10 +2,11 @@
 use Rattle.std.specs.Prelude.{List, [], ◌∷◌, codes}
 use Rattle.cm_tables.specs.declared.entry.Entry.{Entry}
 use Rattle.cm_tables.specs.declared.entry.Flag.{Flag}
-use Rattle.cm_tables.specs.declared.entry.Flag.TheVariants.{Invisible, NoRecognise}
+use Rattle.cm_tables.specs.declared.entry.Flag.TheVariants.{Invisible, NoRecognise, Short}
 use Rattle.cm_tables.specs.Words.{entry}
 use Rattle.ex_grammar.specs.declared.node.TheConstants.{LINE_END}
-use Rattle.ex_grammar.specs.declared.code.TheConstants.{BUILD, CONNECT, COPY, DEFINE, DELETE, DIRECTORY, EXPUNGE, INFORMATION, LOGOUT, NO_KEYWORD, REMARK, UNDELETE, VERSION}
+use Rattle.ex_grammar.specs.declared.tables.TheConstants.{TYPE_POSITION}
+use Rattle.ex_grammar.specs.declared.code.TheConstants.{APPEND, BUILD, CONNECT, COPY, DEFINE, DELETE, DIRECTORY, EXPUNGE, INFORMATION, LOGOUT, NO_KEYWORD, REMARK, RENAME, TYPE, UNDELETE, VERSION}
 
 -- the same keyword, which takes part in the look-up in this way
 abbrev pub flagged : Entry → Flag → Entry
@@ -13,7 +14,8 @@ flagged keyword flag = record keyword { flag = flag }
 
 unfoldable pub command_entries : List Entry
 command_entries =
-    entry (codes "BUILD") BUILD 33
+    entry (codes "APPEND") APPEND 6
+    ∷ entry (codes "BUILD") BUILD 33
     ∷ entry (codes "CONNECT") CONNECT 17
     ∷ entry (codes "COPY") COPY 1
     ∷ entry (codes "DEFINE") DEFINE 28
@@ -26,6 +28,9 @@ command_entries =
     ∷ flagged (entry (codes "LO") NO_KEYWORD LINE_END) NoRecognise
     ∷ entry (codes "LOGOUT") LOGOUT LINE_END
     ∷ entry (codes "REMARK") REMARK 45
+    ∷ entry (codes "RENAME") RENAME 10
+    ∷ flagged (entry (codes "T") NO_KEYWORD LINE_END) (Short TYPE_POSITION)
+    ∷ entry (codes "TYPE") TYPE 19
     ∷ entry (codes "UNDELETE") UNDELETE 15
     ∷ []
 

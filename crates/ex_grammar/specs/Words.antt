@@ -76,9 +76,9 @@ in_file flags role next = record (block InFile role next) { flags = flags }
 abbrev pub out_file : Flags → ℕ → Block
 out_file flags next = record (block OutFile roles.Target next) { flags = flags }
 
--- files that a command works on, which need not be there
-abbrev pub any_file : Flags → ℕ → Block
-any_file flags next = record (block AnyFile roles.Files next) { flags = flags }
+-- files that need not be there, read in this way and for this
+abbrev pub any_file : Flags → Role → ℕ → Block
+any_file flags role next = record (block AnyFile role next) { flags = flags }
 
 abbrev pub rest_of_line : Block
 rest_of_line = block Text roles.None LINE_END

@@ -1,5 +1,8 @@
 // The codes of the EXEC's keywords.
 
+/// The code of APPEND.
+pub const APPEND: u16 = 1;
+
 /// The code of BUILD.
 pub const BUILD: u16 = 2;
 
@@ -30,11 +33,17 @@ pub const LOGOUT: u16 = 10;
 /// The code of REMARK.
 pub const REMARK: u16 = 12;
 
+/// The code of RENAME.
+pub const RENAME: u16 = 13;
+
+/// The code of TYPE, and of T.
+pub const TYPE: u16 = 15;
+
 /// The code of UNDELETE.
 pub const UNDELETE: u16 = 16;
 
 /// The code of VERSION, which INFORMATION tells about.
 pub const VERSION: u16 = 4;
 
-// The code of a text that is no keyword: it makes itself ambiguous.
+// The code of a text that is no keyword: it makes itself ambiguous, or stands for another.
 pub(crate) const NO_KEYWORD: u16 = 0;

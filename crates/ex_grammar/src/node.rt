@@ -162,13 +162,13 @@ pub(crate) fn out_file(flags: Flags, next: u16) -> Block
     }
 }
 
-// Files that a command works on, which need not be there.
-pub(crate) fn any_file(flags: Flags, next: u16) -> Block
-    ensures { result ≡ any_file flags next }
+// Files that need not be there, read in this way and for this.
+pub(crate) fn any_file(flags: Flags, role: Role, next: u16) -> Block
+    ensures { result ≡ any_file flags role next }
 {
     Block {
         flags,
-        ..Block::new(Function::AnyFile, Role::Files, next)
+        ..Block::new(Function::AnyFile, role, next)
     }
 }
 

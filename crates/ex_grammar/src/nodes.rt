@@ -10,6 +10,7 @@ use crate::node::{
 };
 use crate::tables::{COMMAND_TABLE, TOPIC_TABLE};
 use cm_blocks::{Block, Node, Role};
+use cm_files::Flags;
 use cm_io::NoMemory;
 use std::alloc::Global;
 
@@ -19,7 +20,7 @@ pub(crate) fn nodes(alloc: Global) -> Result<Vec<Node>, NoMemory>
 {
     let mut nodes = first_nodes(alloc)?;
     push_each(&mut nodes, alloc, type_blocks(alloc)?)?;
-    nodes.push(only_or(alloc, any_file(wild_all(), 25), "*.*.*")?)?;
+    nodes.push(only_or(alloc, any_file(wild_all(), Role::Files, 25), "*.*.*")?)?;
     push_each(&mut nodes, alloc, information_blocks(alloc)?)?;
     push_each(&mut nodes, alloc, define_blocks(alloc)?)?;
     push_each(&mut nodes, alloc, build_blocks(alloc)?)?;
@@ -85,13 +86,13 @@ fn append_blocks(alloc: Global) -> Result<Vec<Block>, NoMemory>
     ensures { IfOk result (λ blocks. blocks.items ≡ append_blocks) }
 {
     Ok(vec![in alloc;
-        later(),
-        later(),
-        later(),
-        later(),
-        later(),
-        later(),
-        later(),
+        guide("FROM", 7),
+        in_file(wild(), Role::Source, 8),
+        guide("TO", 9),
+        any_file(Flags::default(), Role::Target, LINE_END),
+        guide("EXISTING FILE", 11),
+        in_file(wild(), Role::Source, 12),
+        guide("TO", 4),
     ]?)
 }
 
@@ -114,7 +115,13 @@ fn delete_blocks(alloc: Global) -> Result<Vec<Block>, NoMemory>
 fn type_blocks(alloc: Global) -> Result<Vec<Block>, NoMemory>
     ensures { IfOk result (λ blocks. blocks.items ≡ type_blocks) }
 {
-    Ok(vec![in alloc; later(), later(), later(), later(), guide("OF FILES", 24)]?)
+    Ok(vec![in alloc;
+        guide("FILES", 20),
+        in_file(wild(), Role::Files, LINE_END),
+        later(),
+        later(),
+        guide("OF FILES", 24),
+    ]?)
 }
 
 // 25 to 27: where DIRECTORY and BUILD end, and INFORMATION.

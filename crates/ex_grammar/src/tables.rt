@@ -3,8 +3,8 @@ ghost use Rattle.std.specs.Prelude.{◌≡◌, IfOk};
 ghost use Rattle.ex_grammar.specs.Tables.{command_entries, exec_tables, flagged, topic_entries};
 
 use crate::code::{
-    BUILD, CONNECT, COPY, DEFINE, DELETE, DIRECTORY, EXPUNGE, INFORMATION, LOGOUT, NO_KEYWORD,
-    REMARK, UNDELETE, VERSION,
+    APPEND, BUILD, CONNECT, COPY, DEFINE, DELETE, DIRECTORY, EXPUNGE, INFORMATION, LOGOUT,
+    NO_KEYWORD, REMARK, RENAME, TYPE, UNDELETE, VERSION,
 };
 use crate::node::LINE_END;
 use cm_io::NoMemory;
@@ -13,6 +13,9 @@ use std::alloc::Global;
 
 // The table of the commands.
 pub(crate) const COMMAND_TABLE: u16 = 0;
+
+// Where TYPE stands in the table of the commands.
+pub(crate) const TYPE_POSITION: u16 = 16;
 
 // The table of what INFORMATION tells about.
 pub(crate) const TOPIC_TABLE: u16 = 1;
@@ -43,6 +46,7 @@ fn command_entries(alloc: Global) -> Result<Vec<Entry>, NoMemory>
     ensures { IfOk result (λ entries. entries.items ≡ command_entries) }
 {
     Ok(vec![in alloc;
+        Entry::new("APPEND", APPEND, 6),
         Entry::new("BUILD", BUILD, 33),
         Entry::new("CONNECT", CONNECT, 17),
         Entry::new("COPY", COPY, 1),
@@ -56,6 +60,12 @@ fn command_entries(alloc: Global) -> Result<Vec<Entry>, NoMemory>
         flagged(Entry::new("LO", NO_KEYWORD, LINE_END), Flag::NoRecognise),
         Entry::new("LOGOUT", LOGOUT, LINE_END),
         Entry::new("REMARK", REMARK, 45),
+        Entry::new("RENAME", RENAME, 10),
+        flagged(
+            Entry::new("T", NO_KEYWORD, LINE_END),
+            Flag::Short(TYPE_POSITION)
+        ),
+        Entry::new("TYPE", TYPE, 19),
         Entry::new("UNDELETE", UNDELETE, 15),
     ]?)
 }

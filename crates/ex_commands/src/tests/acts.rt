@@ -1,8 +1,8 @@
 // Commands one after the other: what each answers and shows, and which files are left.
 
 use super::stored::{
-    any_file, build_smith, does, file, file_of_smith, files_are, marked_file, numbered, runs,
-    stored,
+    any_file, build_smith, does, file, file_of_smith, files_are, marked_file, numbered, place,
+    place_at, runs, stored, write,
 };
 use crate::{Acted, Command};
 use cm_fields::{Code, Gen};
@@ -107,6 +107,113 @@ fn a_copy_is_refused(rt: HostRuntime) {
         );
         files_are(&rt, &store, files);
     }
+}
+
+#[test]
+fn files_are_put_behind_one(rt: HostRuntime) {
+    let mut store = Store::new(rt.alloc()).expect(&rt, "memory");
+    write(&rt, &mut store, file(), b"HI\r\n");
+    write(&rt, &mut store, place("B", "TXT"), b"YO\r\n");
+    runs(
+        &rt,
+        &mut store,
+        &[
+            (
+                Command::Append {
+                    from: place("*", "TXT"),
+                    to: place("C", "TXT"),
+                },
+                Acted::Ok,
+                " <OPERATOR>A.TXT.1 => <OPERATOR>C.TXT.1 [OK]\r\n <OPERATOR>B.TXT.1 => <OPERATOR>C.TXT.1 [OK]\r\n",
+            ),
+            (
+                Command::TypeOut {
+                    files: place("C", "TXT"),
+                },
+                Acted::Ok,
+                "HI\r\nYO\r\n",
+            ),
+        ],
+    );
+    files_are(
+        &rt,
+        &store,
+        "<OPERATOR>A.TXT.1<OPERATOR>B.TXT.1<OPERATOR>C.TXT.1",
+    );
+}
+
+#[test]
+fn files_are_typed_out(rt: HostRuntime) {
+    for (bytes, shown) in [
+        (b"".as_slice(), ""),
+        (b"HI".as_slice(), "HI\r\n"),
+        (b"HI\r".as_slice(), "HI\r\r\n"),
+        (b"HI\n".as_slice(), "HI\n"),
+        (b"\x00\r\n".as_slice(), "\x00\r\n"),
+    ] {
+        let mut store = Store::new(rt.alloc()).expect(&rt, "memory");
+        write(&rt, &mut store, file(), bytes);
+        let command = Command::TypeOut { files: file() };
+        does(&rt, &mut store, &command, 0, 1_000, Acted::Ok, shown);
+    }
+}
+
+#[test]
+fn the_line_of_each_file_is_ended(rt: HostRuntime) {
+    let mut store = stored(&rt, 3);
+    write(&rt, &mut store, place("B", "TXT"), b"more");
+    let files = any_file();
+    let command = Command::TypeOut { files };
+    let shown = "text\r\nmore\r\n";
+    does(&rt, &mut store, &command, 0, 1_000, Acted::Ok, shown);
+    files_are(&rt, &store, "<OPERATOR>A.TXT.3<OPERATOR>B.TXT.1");
+}
+
+#[test]
+fn files_are_renamed(rt: HostRuntime) {
+    let mut store = Store::new(rt.alloc()).expect(&rt, "memory");
+    write(&rt, &mut store, place("A", "FOR"), b"HI");
+    write(&rt, &mut store, place("B", "FOR"), b"YO");
+    let command = Command::Rename {
+        from: place("*", "FOR"),
+        to: place("*", "OLD"),
+    };
+    let shown =
+        " <OPERATOR>A.FOR.1 => <OPERATOR>A.OLD.1 [OK]\r\n <OPERATOR>B.FOR.1 => <OPERATOR>B.OLD.1 [OK]\r\n";
+    does(&rt, &mut store, &command, 0, 1_000, Acted::Ok, shown);
+    files_are(&rt, &store, "<OPERATOR>A.OLD.1<OPERATOR>B.OLD.1");
+}
+
+#[test]
+fn all_or_none_are_renamed(rt: HostRuntime) {
+    let mut store = Store::new(rt.alloc()).expect(&rt, "memory");
+    let last = place_at("C", "OLD", Gen::Number(131_071));
+    for to in [
+        place("A", "FOR"),
+        place("B", "FOR"),
+        place("C", "FOR"),
+        last,
+    ] {
+        write(&rt, &mut store, to, b"");
+    }
+    let command = Command::Rename {
+        from: place("*", "FOR"),
+        to: place("*", "OLD"),
+    };
+    does(
+        &rt,
+        &mut store,
+        &command,
+        0,
+        1_000,
+        Acted::Refused(Code::GenFull),
+        "?No higher generation\r\n",
+    );
+    files_are(
+        &rt,
+        &store,
+        "<OPERATOR>A.FOR.1<OPERATOR>B.FOR.1<OPERATOR>C.FOR.1<OPERATOR>C.OLD.131071",
+    );
 }
 
 #[test]
@@ -307,6 +414,28 @@ fn a_cut_reply_undoes_no_command(rt: HostRuntime) {
         13,
         " <OPERATOR>A.",
         "<OPERATOR>A.TXT.1-<OPERATOR>A.TXT.2",
+    );
+}
+
+#[test]
+fn what_is_typed_out_is_cut(rt: HostRuntime) {
+    let command = Command::TypeOut { files: file() };
+    is_cut(&rt, &command, 3, "tex", "<OPERATOR>A.TXT.1");
+    is_cut(&rt, &command, 5, "text\r", "<OPERATOR>A.TXT.1");
+}
+
+#[test]
+fn files_are_put_behind_one_though_a_reply_is_cut(rt: HostRuntime) {
+    let command = Command::Append {
+        from: file(),
+        to: place("B", "TXT"),
+    };
+    is_cut(
+        &rt,
+        &command,
+        5,
+        " <OPE",
+        "<OPERATOR>A.TXT.1<OPERATOR>B.TXT.1",
     );
 }
 

@@ -187,6 +187,11 @@ fn text_of(alloc: Global, command: &Command) -> Result<String, AllocError> {
     let mut text = String::new(alloc);
     match command {
         Command::Empty => text.push_str("Empty")?,
+        Command::Append { from, to } => {
+            text.push_str("Append")?;
+            put_place(&mut text, from)?;
+            put_place(&mut text, to)?;
+        }
         Command::Build { directory } => write!(text, "Build {}", directory.as_str())?,
         Command::Connect { directory } => write!(text, "Connect {}", directory.as_str())?,
         Command::Copy { from, to } => {
@@ -211,6 +216,15 @@ fn text_of(alloc: Global, command: &Command) -> Result<String, AllocError> {
         Command::Information { what } => write!(text, "Information {what}")?,
         Command::Logout => text.push_str("Logout")?,
         Command::Remark => text.push_str("Remark")?,
+        Command::Rename { from, to } => {
+            text.push_str("Rename")?;
+            put_place(&mut text, from)?;
+            put_place(&mut text, to)?;
+        }
+        Command::TypeOut { files } => {
+            text.push_str("TypeOut")?;
+            put_place(&mut text, files)?;
+        }
         Command::Undelete { files } => {
             text.push_str("Undelete")?;
             put_place(&mut text, files)?;
@@ -279,6 +293,32 @@ fn a_line_means_files(rt: HostRuntime) -> Result<(), Fail> {
         ("DELETE A.TXT.2", "Delete <OPERATOR>A.TXT Number(2) wa"),
         ("DIRECTORY", "Directory <OPERATOR>*.* All wae"),
         ("DIRECTORY b", "Directory <OPERATOR>B.- Missing wae"),
+    ];
+    try_lines::<Brand, _>(&rt, &rt, Blank::new(1), &store, &cases)
+}
+
+#[test]
+fn a_line_means_files_and_others(rt: HostRuntime) -> Result<(), Fail> {
+    let store = store(&rt, rt.alloc())?;
+    let cases = [
+        (
+            "APPEND *.TXT C.TXT",
+            "Append <OPERATOR>*.TXT Missing w <OPERATOR>C.TXT Missing ",
+        ),
+        (
+            "append a.txt.2 <operator>b.0",
+            "Append <OPERATOR>A.TXT Number(2) w <OPERATOR>B.0 Missing ",
+        ),
+        (
+            "RENAME A.TXT B.FOR",
+            "Rename <OPERATOR>A.TXT Missing w <OPERATOR>B.FOR Missing ws",
+        ),
+        (
+            "rename a.* *.bak.-1",
+            "Rename <OPERATOR>A.* Missing w <OPERATOR>*.BAK Next ws",
+        ),
+        ("T A.TXT", "TypeOut <OPERATOR>A.TXT Missing w"),
+        ("type *.txt.2", "TypeOut <OPERATOR>*.TXT Number(2) w"),
     ];
     try_lines::<Brand, _>(&rt, &rt, Blank::new(1), &store, &cases)
 }

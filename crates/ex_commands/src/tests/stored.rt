@@ -1,7 +1,8 @@
 // A store with one file, places that mean it, and commands that are done on it.
-ghost use Rattle.std.specs.Prelude.{◌≡◌, true};
+ghost use Rattle.std.specs.Prelude.{◌≡◌, ◌≤◌, true, length};
+ghost use Rattle.cm_text.specs.declared.name.TheConstants.{NAME_LIMIT};
 ghost use Rattle.cm_files.specs.Catalogue.{is_upper_name};
-ghost use Rattle.ex_store.specs.Plan.{IsTarget};
+ghost use Rattle.ex_store.specs.Plan.{IsOneFile, IsTarget};
 ghost use Rattle.ex_store.specs.State.{has_directory};
 ghost use Rattle.ex_store.specs.WellFormed.{is_file_name, is_file_type, is_numbered};
 ghost use Rattle.ex_commands.specs.Answer.{IsThere, MayAct};
@@ -26,15 +27,31 @@ const MARKED: Flags = Flags {
     new: false,
 };
 
-// A.TXT of OPERATOR, with this generation.
-pub(super) fn numbered(generation: Gen) -> Place {
+// Files of OPERATOR, with this generation.
+pub(super) fn place_at(name: &str, kind: &str, generation: Gen) -> Place
+    requires name { length name.now ≤ NAME_LIMIT }
+    requires kind { length kind.now ≤ NAME_LIMIT }
+{
     Place {
         directory: Name::new("OPERATOR"),
-        name: Some(Name::new("A")),
-        kind: Some(Name::new("TXT")),
+        name: Some(Name::new(name)),
+        kind: Some(Name::new(kind)),
         generation,
         flags: Flags::default(),
     }
+}
+
+// The same with no generation.
+pub(super) fn place(name: &str, kind: &str) -> Place
+    requires name { length name.now ≤ NAME_LIMIT }
+    requires kind { length kind.now ≤ NAME_LIMIT }
+{
+    place_at(name, kind, Gen::Missing)
+}
+
+// A.TXT of OPERATOR, with this generation.
+pub(super) fn numbered(generation: Gen) -> Place {
+    place_at("A", "TXT", generation)
 }
 
 // A.TXT of OPERATOR, with no generation.
@@ -55,13 +72,7 @@ pub(super) fn marked_file() -> Place {
 
 // Any file of OPERATOR, by wildcards.
 pub(super) fn any_file() -> Place {
-    Place {
-        directory: Name::new("OPERATOR"),
-        name: Some(Name::new("*")),
-        kind: Some(Name::new("*")),
-        generation: Gen::Missing,
-        flags: Flags::default(),
-    }
+    place("*", "*")
 }
 
 // A.TXT of SMITH.
@@ -128,6 +139,26 @@ fn is_target(to: &Place, directories: &[Directory]) -> bool
     has_directory(directories, to.directory.as_bytes()) && name && kind && generation
 }
 
+// Whether bytes can be put behind the file of a place.
+fn is_one_file(to: &Place, directories: &[Directory]) -> bool
+    ensures { result ≡ true → IsOneFile to.now directories.now }
+{
+    let name = match &to.name {
+        Some(name) => is_file_name(name.as_bytes()),
+        None => false,
+    };
+    let kind = match &to.kind {
+        Some(kind) => is_file_type(kind.as_bytes()),
+        None => true,
+    };
+    let generation = match to.generation {
+        Gen::Missing | Gen::Highest | Gen::Next | Gen::Lowest => true,
+        Gen::Number(number) => is_numbered(number),
+        _ => false,
+    };
+    has_directory(directories, to.directory.as_bytes()) && name && kind && generation
+}
+
 // Whether there is a directory of this name.
 fn has(store: &Store, name: &Name) -> bool
     ensures { result ≡ has_directory name.now store.now.state.directories }
@@ -140,6 +171,13 @@ fn takes(store: &Store, to: &Place) -> bool
     ensures { result ≡ true → IsTarget to.now store.now.state.directories }
 {
     is_target(to, store.parts().directories)
+}
+
+// Whether bytes can be put behind the file of a place.
+fn grows(store: &Store, to: &Place) -> bool
+    ensures { result ≡ true → IsOneFile to.now store.now.state.directories }
+{
+    is_one_file(to, store.parts().directories)
 }
 
 // Whether the directory is there, or none is said.
@@ -158,6 +196,7 @@ fn may_act(store: &Store, command: &Command) -> bool
 {
     match command {
         Command::Empty => true,
+        Command::Append { from, to } => has(store, &from.directory) && grows(store, to),
         Command::Build { .. } => false,
         Command::Connect { directory } => has(store, directory),
         Command::Copy { from, to } => has(store, &from.directory) && takes(store, to),
@@ -169,7 +208,20 @@ fn may_act(store: &Store, command: &Command) -> bool
         Command::Information { .. } => true,
         Command::Logout => true,
         Command::Remark => true,
+        Command::Rename { from, to } => has(store, &from.directory) && takes(store, to),
+        Command::TypeOut { files } => has(store, &files.directory),
         Command::Undelete { files } => has(store, &files.directory),
+    }
+}
+
+// Writes a file with these bytes, at the moment 0.
+pub(super) fn write(rt: &(impl Abort + AllocGlobal), store: &mut Store, to: Place, text: &[u8]) {
+    assert!(rt; takes(store, &to), "no file can have this name");
+    let text = Vec::from_slice(rt.alloc(), text).expect(rt, "memory");
+    let bytes = Bytes::new(text);
+    match store.prepare(Plan::Write { to, bytes }, 0) {
+        Ok(ready) => store.apply(ready),
+        Err(_) => assert!(rt; false, "the file is refused"),
     }
 }
 
@@ -177,13 +229,7 @@ fn may_act(store: &Store, command: &Command) -> bool
 pub(super) fn stored(rt: &(impl Abort + AllocGlobal), generation: u32) -> Store {
     let mut store = Store::new(rt.alloc()).expect(rt, "memory");
     let to = numbered(Gen::Number(generation));
-    assert!(rt; takes(&store, &to), "no file can have this generation");
-    let text = Vec::from_slice(rt.alloc(), b"text").expect(rt, "memory");
-    let bytes = Bytes::new(text);
-    match store.prepare(Plan::Write { to, bytes }, 0) {
-        Ok(ready) => store.apply(ready),
-        Err(_) => assert!(rt; false, "the file is refused"),
-    }
+    write(rt, &mut store, to, b"text");
     store
 }
 

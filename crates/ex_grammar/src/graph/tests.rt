@@ -1,8 +1,8 @@
 // The grammar, node by node and entry by entry.
 use crate::tables::tables;
 use crate::{
-    BUILD, COMMANDS, CONNECT, COPY, DEFINE, DELETE, DIRECTORY, EXPUNGE, INFORMATION, LOGOUT,
-    REMARK, UNDELETE, VERSION, grammar,
+    APPEND, BUILD, COMMANDS, CONNECT, COPY, DEFINE, DELETE, DIRECTORY, EXPUNGE, INFORMATION,
+    LOGOUT, REMARK, RENAME, TYPE, UNDELETE, VERSION, grammar,
 };
 use cm_blocks::{Function, Role};
 use cm_files::Flags;
@@ -11,7 +11,7 @@ use std::test::Fail;
 
 // The nodes whose command is not built yet.
 fn is_later(number: u16) -> bool {
-    matches!(number, 6..=12 | 19..=22 | 37..=44 | 46..=50)
+    matches!(number, 21 | 22 | 37..=44 | 46..=50)
 }
 
 // The name of what a block reads, the text of it, and the number of a table or a hook.
@@ -41,7 +41,7 @@ fn flags_of(number: u16, position: usize) -> Flags {
         ..wild
     };
     match (number, position) {
-        (2, 1) => wild,
+        (2, 1) | (7 | 11 | 20, 0) => wild,
         (4, 0) => Flags {
             from_source: true,
             ..wild
@@ -117,6 +117,13 @@ fn each_block_that_is_built_reads_its_field(rt: HostRuntime) -> Result<(), Fail>
         (3, 0, "Noise", "TO", 0, Role::None, 4),
         (4, 0, "OutFile", "", 0, Role::Target, 5),
         (5, 0, "Confirm", "", 0, Role::None, 5),
+        (6, 0, "Noise", "FROM", 0, Role::None, 7),
+        (7, 0, "InFile", "", 0, Role::Source, 8),
+        (8, 0, "Noise", "TO", 0, Role::None, 9),
+        (9, 0, "AnyFile", "", 0, Role::Target, 5),
+        (10, 0, "Noise", "EXISTING FILE", 0, Role::None, 11),
+        (11, 0, "InFile", "", 0, Role::Source, 12),
+        (12, 0, "Noise", "TO", 0, Role::None, 4),
         (13, 0, "Noise", "FILES", 0, Role::None, 14),
         (14, 0, "InFile", "", 0, Role::Files, 5),
         (15, 0, "Noise", "FILES", 0, Role::None, 16),
@@ -124,6 +131,8 @@ fn each_block_that_is_built_reads_its_field(rt: HostRuntime) -> Result<(), Fail>
         (17, 0, "Noise", "TO DIRECTORY", 0, Role::None, 18),
         (18, 0, "User", "", 0, Role::Files, 5),
         (18, 1, "Directory", "", 0, Role::Files, 5),
+        (19, 0, "Noise", "FILES", 0, Role::None, 20),
+        (20, 0, "InFile", "", 0, Role::Files, 5),
         (23, 0, "Noise", "OF FILES", 0, Role::None, 24),
         (24, 0, "AnyFile", "", 0, Role::Files, 25),
         (25, 0, "Confirm", "", 0, Role::None, 5),
@@ -160,27 +169,31 @@ fn each_entry_has_its_code(rt: HostRuntime) -> Result<(), Fail> {
     let tables = tables(rt.alloc())?;
     assert_eq!(rt; tables.len(), 2);
     for (table, position, text, flag, code, next) in [
-        (0, 0, b"BUILD".as_slice(), Flag::Plain, 2, 33),
-        (0, 1, b"CONNECT".as_slice(), Flag::Plain, 3, 17),
-        (0, 2, b"COPY".as_slice(), Flag::Plain, 4, 1),
-        (0, 3, b"DEFINE".as_slice(), Flag::Plain, 5, 28),
-        (0, 4, b"DELETE".as_slice(), Flag::Plain, 6, 13),
-        (0, 5, b"DIRECTORY".as_slice(), Flag::Plain, 7, 23),
-        (0, 6, b"EXPUNGE".as_slice(), Flag::Plain, 8, 35),
-        (0, 7, b"INFORMATION".as_slice(), Flag::Plain, 9, 26),
-        (0, 8, b"KJOB".as_slice(), Flag::Invisible, 10, 5),
-        (0, 9, b"L".as_slice(), Flag::NoRecognise, 0, 5),
-        (0, 10, b"LO".as_slice(), Flag::NoRecognise, 0, 5),
-        (0, 11, b"LOGOUT".as_slice(), Flag::Plain, 10, 5),
-        (0, 12, b"REMARK".as_slice(), Flag::Plain, 12, 45),
-        (0, 13, b"UNDELETE".as_slice(), Flag::Plain, 16, 15),
+        (0, 0, b"APPEND".as_slice(), Flag::Plain, 1, 6),
+        (0, 1, b"BUILD".as_slice(), Flag::Plain, 2, 33),
+        (0, 2, b"CONNECT".as_slice(), Flag::Plain, 3, 17),
+        (0, 3, b"COPY".as_slice(), Flag::Plain, 4, 1),
+        (0, 4, b"DEFINE".as_slice(), Flag::Plain, 5, 28),
+        (0, 5, b"DELETE".as_slice(), Flag::Plain, 6, 13),
+        (0, 6, b"DIRECTORY".as_slice(), Flag::Plain, 7, 23),
+        (0, 7, b"EXPUNGE".as_slice(), Flag::Plain, 8, 35),
+        (0, 8, b"INFORMATION".as_slice(), Flag::Plain, 9, 26),
+        (0, 9, b"KJOB".as_slice(), Flag::Invisible, 10, 5),
+        (0, 10, b"L".as_slice(), Flag::NoRecognise, 0, 5),
+        (0, 11, b"LO".as_slice(), Flag::NoRecognise, 0, 5),
+        (0, 12, b"LOGOUT".as_slice(), Flag::Plain, 10, 5),
+        (0, 13, b"REMARK".as_slice(), Flag::Plain, 12, 45),
+        (0, 14, b"RENAME".as_slice(), Flag::Plain, 13, 10),
+        (0, 15, b"T".as_slice(), Flag::Short(16), 0, 5),
+        (0, 16, b"TYPE".as_slice(), Flag::Plain, 15, 19),
+        (0, 17, b"UNDELETE".as_slice(), Flag::Plain, 16, 15),
         (1, 0, b"VERSION".as_slice(), Flag::Plain, 4, 5),
     ] {
         assert!(rt; table < tables.len(), "{table} {position}");
         let entries = tables[table].entries();
         assert_eq!(rt;
             entries.len(),
-            if table == 0 { 14 } else { 1 },
+            if table == 0 { 18 } else { 1 },
             "{table} {position}"
         );
         assert!(rt; position < entries.len(), "{table} {position}");
@@ -200,6 +213,7 @@ fn each_name_has_its_number(rt: HostRuntime) {
     assert_eq!(rt; VERSION, 4);
     assert_eq!(rt;
         [
+            APPEND,
             BUILD,
             CONNECT,
             COPY,
@@ -210,8 +224,10 @@ fn each_name_has_its_number(rt: HostRuntime) {
             INFORMATION,
             LOGOUT,
             REMARK,
+            RENAME,
+            TYPE,
             UNDELETE
         ],
-        [2, 3, 4, 5, 6, 7, 8, 9, 10, 12, 16]
+        [1, 2, 3, 4, 5, 6, 7, 8, 9, 10, 12, 13, 15, 16]
     );
 }
