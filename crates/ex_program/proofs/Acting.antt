@@ -208,6 +208,7 @@ pub data_begins : (command : Command) (moment : ℕ) (state : State) → (act_of
     → Begins command (act_of command moment state) state
 unfolding act_of
 data_begins commands.Empty moment state is = absurd (ok_other is)
+data_begins (commands.Append from to) moment state is = absurd (plays_other Files _ state is)
 data_begins (commands.Build directory) moment state is = absurd (plays_other Files _ state is)
 data_begins (commands.Connect directory) moment state is = absurd (ok_other is)
 data_begins (commands.Copy from to) moment state is = absurd (plays_other Files _ state is)
@@ -219,4 +220,6 @@ data_begins (commands.Expunge directory) moment state is = absurd (ok_other is)
 data_begins (commands.Information what) moment state is = absurd (ok_other is)
 data_begins commands.Logout moment state is = absurd (logout_other is)
 data_begins commands.Remark moment state is = absurd (ok_other is)
+data_begins (commands.Rename from to) moment state is = absurd (plays_other Files _ state is)
+data_begins (commands.TypeOut files) moment state is = absurd (ok_other is)
 data_begins (commands.Undelete files) moment state is = absurd (ok_other is)

@@ -27,6 +27,9 @@ module _ (writes : Bool) (a b : Scene) where
   ends_counted message status.WriteFault (inr cut) = at_counted a b cut.1.at
   ends_counted message status.NoMemory ends = at_counted a b ends.at
   ends_counted message status.Usage ends = absurd ends
+  ends_counted message (status.BadImage at kind) ends = absurd ends
+  ends_counted message status.NoImage ends = absurd ends
+  ends_counted message status.ImageTooLarge ends = absurd ends
   ends_counted message status.HostFault ends = absurd ends
 
   pub ran_counted : (result : Status) → Ran writes a b result → IsCounted a b
@@ -37,3 +40,6 @@ module _ (writes : Bool) (a b : Scene) where
   ran_counted status.NoMemory ran = ends_counted _ status.NoMemory ran.ends
   ran_counted status.HostFault ran = ends_counted _ ran.0 ran.1.ends
   ran_counted status.Usage ran = absurd ran
+  ran_counted (status.BadImage at kind) ran = absurd ran
+  ran_counted status.NoImage ran = absurd ran
+  ran_counted status.ImageTooLarge ran = absurd ran

@@ -34,6 +34,9 @@ ran_as writes a b status.KeyLimit ended = ended
 ran_as writes a b status.HostFault ended = (status.HostFault, ended)
 ran_as writes a b status.NoMemory ended = ended
 ran_as writes a b status.Usage ended = ended.cause
+ran_as writes a b (status.BadImage at kind) ended = ended.cause
+ran_as writes a b status.NoImage ended = ended.cause
+ran_as writes a b status.ImageTooLarge ended = ended.cause
 
 ran_or : (writes : Bool) (a b : Scene) (result why : Status) → IsOr result why → Ended writes a b why result → Ran writes a b result
 ran_or writes a b result why (inl same) ended = ran_as writes a b result (subst (λ (came : Status). Ended writes a b came result) (sym same) ended)

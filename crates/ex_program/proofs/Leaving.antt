@@ -42,6 +42,9 @@ module _ (writes : Bool) (a b : Scene) where
   ends_left message status.WriteFault (inr cut) = at_left cut.1.at (ap (λ (it : Left). it.state) cut.1.cut.left)
   ends_left message status.NoMemory ends = at_left ends.at (ap (λ (it : Left). it.state) ends.lacked.left)
   ends_left message status.Usage ends = absurd ends
+  ends_left message (status.BadImage at kind) ends = absurd ends
+  ends_left message status.NoImage ends = absurd ends
+  ends_left message status.ImageTooLarge ends = absurd ends
   ends_left message status.HostFault ends = absurd ends
 
   pub ran_left : (result : Status) → Ran writes a b result → IsLeft a b
@@ -52,3 +55,6 @@ module _ (writes : Bool) (a b : Scene) where
   ran_left status.NoMemory ran = ends_left _ status.NoMemory ran.ends
   ran_left status.HostFault ran = ends_left _ ran.0 ran.1.ends
   ran_left status.Usage ran = absurd ran
+  ran_left (status.BadImage at kind) ran = absurd ran
+  ran_left status.NoImage ran = absurd ran
+  ran_left status.ImageTooLarge ran = absurd ran

@@ -7,6 +7,7 @@ pub mod Running
 pub mod Trying
 pub mod Ending
 pub mod Meaning
+pub mod Beginning
 pub mod Refusing
 pub mod Counting
 pub mod Leaving

@@ -7,10 +7,9 @@ use Rattle.cm_state.specs.Echo.{prompt_text}
 use Rattle.cm_io.specs.Told.{add}
 use Rattle.cm_io.specs.Fault.{Rose}
 use Rattle.ex_program.specs.Cause.{Counts, HostCause, IsQuiet, StatusCause}
-use Rattle.cm_io.specs.Host.{Files, KeepsOthers}
 use Rattle.ex_image.specs.Image.{image_text}
 use Rattle.ex_store.specs.State.{State}
-use Rattle.ex_program.specs.End.{Disk, Ended, Finished, Halted, Leaves, Ran, Saved, Stands}
+use Rattle.ex_program.specs.End.{Ended, Finished, Halted, Ran}
 use Rattle.ex_program.specs.Form.{Form}
 use Rattle.ex_program.specs.Messages.{message}
 use Rattle.ex_program.specs.Run.{bytes_logged, bytes_shown, closing, key_cost, logs, run_keys, run_shown, shows, step, total, world_after}
@@ -192,6 +191,9 @@ module _ (writes : Bool) (a b : Scene) (f g : Counts) (h k : ℕ) (result : Stat
     cut (inr rose) = not_quiet f.log g.log rose.0 log
   quiet_ends status.HostFault ran same = absurd (host_stays same)
   quiet_ends status.Usage ran same = absurd ran
+  quiet_ends (status.BadImage at kind) ran same = absurd ran
+  quiet_ends status.NoImage ran same = absurd ran
+  quiet_ends status.ImageTooLarge ran same = absurd ran
   quiet_ends status.NoMemory ran same = inr (inr refl)
 
   -- with fewer keys than a run takes it is Done
@@ -232,16 +234,3 @@ a_form asked form is none = cc
 -- what is past the first prompt is not Usage
 pub not_usage : (result : Status) → IsRun result → result ≡ status.Usage → ⊥
 not_usage result run same = subst IsRun same run
-
--- what stands past it, and is left of the files
-pub stands_past : (asked : Option Form) (form : Form) (a b : Scene) (first : State) (before now : Disk) (result : Status) → Some form ≡ asked → a.state ≡ first
-    → Ran form.logs a b result → Saved before now form.out b.state result
-    → Stands asked (record a { state = first }) (record b { state = first }) before now result
-stands_past asked form a b first before now result is held ran saved =
-    subst (λ (it : Option Form). Stands it (record a { state = first }) (record b { state = first }) before now result) is
-    (inr (record { left = b.state; ran = from_first form.logs a b first result held ran; saved = saved }))
-
-pub leaves_past : (asked : Option Form) (form : Form) (before now : Files) (state : State) (result : Status) → Some form ≡ asked
-    → KeepsOthers form.out before now → Keeps (image_text state) (before form.out) (now form.out) result → Leaves asked before now result
-leaves_past asked form before now state result is others kept =
-    subst (λ (it : Option Form). Leaves it before now result) is (others, inr (state, kept))

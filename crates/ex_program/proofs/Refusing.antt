@@ -229,6 +229,9 @@ module _ (writes : Bool) (a b : Scene) where
       cut (inl rose) = not_quiet a.screen_faults b.screen_faults rose.0 screen
       cut (inr rose) = not_quiet a.log_faults b.log_faults rose log
     by_why status.Usage ended = absurd ended.cause
+    by_why (status.BadImage at kind) ended = absurd ended.cause
+    by_why status.NoImage ended = absurd ended.cause
+    by_why status.ImageTooLarge ended = absurd ended.cause
     by_why status.HostFault ended = absurd ended.cause
     by_why status.NoMemory ended = let at = ended.ends.at in absurd (omega (arith, ap length at.keys, ap length same, length-append at.before (at.key ∷ b.keys)))
 

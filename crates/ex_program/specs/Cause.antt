@@ -33,6 +33,9 @@ EndCause a b status.WriteFault =
 EndCause a b status.Usage = ⊥
 EndCause a b status.NoMemory = (b.keys ≡ a.keys) × (b.log ≡ a.log)
 EndCause a b status.HostFault = ⊥
+EndCause a b (status.BadImage at kind) = ⊥
+EndCause a b status.NoImage = ⊥
+EndCause a b status.ImageTooLarge = ⊥
 
 -- the counts of screen, log and keys, by the status
 abbrev pub StatusCause : Counts → Counts → Status → Type 0
@@ -44,6 +47,9 @@ StatusCause a b status.ReadFault = EndCause a b status.ReadFault
 StatusCause a b status.KeyLimit = EndCause a b status.KeyLimit
 StatusCause a b status.Usage = (b.keys ≡ a.keys) × (b.log ≡ a.log)
 StatusCause a b status.NoMemory = (b.keys ≡ a.keys) × (b.log ≡ a.log)
+StatusCause a b (status.BadImage at kind) = (b.keys ≡ a.keys) × (b.log ≡ a.log)
+StatusCause a b status.NoImage = (b.keys ≡ a.keys) × (b.log ≡ a.log)
+StatusCause a b status.ImageTooLarge = (b.keys ≡ a.keys) × (b.log ≡ a.log)
 StatusCause a b status.HostFault = (why : Status) × EndCause a b why
 
 -- the host's count rose where the status is HostFault, and else stayed
@@ -55,6 +61,9 @@ HostCause before now status.WriteFault = now ≡ before
 HostCause before now status.KeyLimit = now ≡ before
 HostCause before now status.Usage = now ≡ before
 HostCause before now status.NoMemory = now ≡ before
+HostCause before now (status.BadImage at kind) = now ≡ before
+HostCause before now status.NoImage = now ≡ before
+HostCause before now status.ImageTooLarge = now ≡ before
 
 -- the count did not rise, and does not stand at its last value
 abbrev pub IsQuiet : ℕ → ℕ → Type 0

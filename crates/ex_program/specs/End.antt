@@ -12,6 +12,7 @@ use Rattle.ex_program.specs.Messages.{message}
 use Rattle.ex_program.specs.Run.{run_keys, run_shown}
 use Rattle.ex_program.specs.Saving.{Keeps}
 use Rattle.ex_program.specs.Scene.{LoggedOut, ReadOut, Scene, Taken, Tried, counts_of, has_ended, start_of}
+use Rattle.ex_program.specs.Start.{Began, Disk, IsEarly}
 use Rattle.ex_program.specs.declared.run.TheConstants.{KEY_LIMIT}
 use Rattle.ex_program.specs.declared.status.Status.{Status}
 use Rattle.ex_program.specs.declared.status.Status.TheVariants as status
@@ -45,6 +46,9 @@ Ends writes a b message status.WriteFault =
     ⊎ (Rose a.log_faults b.log_faults × Unlogged writes a b message)
 Ends writes a b message status.Usage = ⊥
 Ends writes a b message status.HostFault = ⊥
+Ends writes a b message (status.BadImage at kind) = ⊥
+Ends writes a b message status.NoImage = ⊥
+Ends writes a b message status.ImageTooLarge = ⊥
 
 -- what the run came to, with its own cause, and what stands with the message of the status
 pub record Ended (writes : Bool) (a b : Scene) (why result : Status) : Type 0 where
@@ -60,11 +64,9 @@ Ran writes a b status.WriteFault = Ended writes a b status.WriteFault status.Wri
 Ran writes a b status.KeyLimit = Ended writes a b status.KeyLimit status.KeyLimit
 Ran writes a b status.NoMemory = Ended writes a b status.NoMemory status.NoMemory
 Ran writes a b status.Usage = ⊥
-
--- what the host has of one name and of all, if it tells
-pub record Disk : Type 0 where
-  pub tells : Bool
-  pub files : Files
+Ran writes a b (status.BadImage at kind) = ⊥
+Ran writes a b status.NoImage = ⊥
+Ran writes a b status.ImageTooLarge = ⊥
 
 -- nothing of it changed
 abbrev pub Untouched : Disk → Disk → Type 0
@@ -84,23 +86,26 @@ pub record Refused (a b : Scene) (before now : Disk) (result : Status) : Type 0 
   pub steps : b.steps ≡ a.steps
   pub files : Untouched before now
 
--- past it the run came to its status, and the image of the state that it left was written
+-- past it the run, from the state that it began in, came to its status, and the image of the state that it left was
+-- written
 pub record Saves (form : Form) (a b : Scene) (before now : Disk) (result : Status) : Type 0 where
+  pub start : State
   pub left : State
-  pub ran : Ran form.logs a (record b { state = left }) result
+  pub began : Began before form.input start
+  pub ran : Ran form.logs (record a { state = start }) (record b { state = left }) result
   pub saved : Saved before now form.out left result
 
 -- what stands at the end
 abbrev pub Stands : Option Form → Scene → Scene → Disk → Disk → Status → Type 0
 Stands None a b before now result = (result ≡ status.Usage) × Refused a b before now result
 Stands (Some form) a b before now result =
-    ((result ≡ status.NoMemory) × Refused a b before now result) ⊎ Saves form a b before now result
+    (IsEarly form.input result × Refused a b before now result) ⊎ Saves form a b before now result
 
 -- what is left of the host's files, whatever else is told: with no form they are as before; else every file but that of
--- the form is, and that one too where memory was wanting before the first prompt
+-- the form is, and that one too where the status came before the first prompt
 abbrev pub Leaves : Option Form → Files → Files → Status → Type 0
 Leaves None before now result = (name : List ℕ) → now name ≡ before name
 Leaves (Some form) before now result =
     KeepsOthers form.out before now
-    × (((result ≡ status.NoMemory) × (now form.out ≡ before form.out))
+    × ((IsEarly form.input result × (now form.out ≡ before form.out))
     ⊎ ((state : State) × Keeps (image_text state) (before form.out) (now form.out) result))

@@ -13,9 +13,11 @@ with_word None word = None
 with_word (Some words) word =
     if nat_lt (length words) MOST_WORDS && nat_le (length word) LONGEST_WORD then Some (words ++ word ∷ []) else None
 
--- whether there is a log, and the file that the image is written to
+-- whether there is a log; the file whose image the run begins from, or none where it begins anew; and the file that
+-- the image is written to
 pub record Form : Type 0 where
   pub logs : Bool
+  pub input : Option (List ℕ)
   pub out : List ℕ
 
 -- a file's name is not empty, and begins with no hyphen
@@ -23,13 +25,17 @@ abbrev pub is_name : List ℕ → Bool
 is_name [] = false
 is_name (byte ∷ bytes) = not (byte == 45)
 
--- `-n OUT`, and `-w` before it
+-- `-n OUT`, or `IN OUT`, which are two files
+abbrev pub files_of : Bool → List ℕ → List ℕ → Option Form
+files_of logs first out =
+    if bytes_eq first (codes "-n") && is_name out then Some (record { logs = logs; input = None; out = out })
+    else (if is_name first && is_name out && not (bytes_eq first out)
+    then Some (record { logs = logs; input = Some first; out = out }) else None)
+
+-- with `-w` before them for a log
 abbrev pub form_of_words : List (List ℕ) → Option Form
-form_of_words (new ∷ out ∷ []) =
-    if bytes_eq new (codes "-n") && is_name out then Some (record { logs = false; out = out }) else None
-form_of_words (log ∷ new ∷ out ∷ []) =
-    if bytes_eq log (codes "-w") && bytes_eq new (codes "-n") && is_name out
-    then Some (record { logs = true; out = out }) else None
+form_of_words (first ∷ out ∷ []) = files_of false first out
+form_of_words (log ∷ first ∷ out ∷ []) = if bytes_eq log (codes "-w") then files_of true first out else None
 form_of_words words = None
 
 unfoldable pub form_of : Given → Option Form

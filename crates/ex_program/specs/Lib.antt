@@ -1,3 +1,4 @@
+pub mod Asked
 pub mod Cause
 pub mod Cut
 pub mod End
@@ -7,6 +8,7 @@ pub mod Run
 pub mod Saving
 pub mod Scene
 pub mod Setting
+pub mod Start
 pub mod Step
 pub mod Stop
 pub mod World

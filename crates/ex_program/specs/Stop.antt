@@ -48,10 +48,16 @@ IsEnd status.KeyLimit = Unit {0}
 IsEnd status.NoMemory = Unit {0}
 IsEnd status.Usage = ⊥
 IsEnd status.HostFault = ⊥
+IsEnd (status.BadImage at kind) = ⊥
+IsEnd status.NoImage = ⊥
+IsEnd status.ImageTooLarge = ⊥
 
 -- what a run past its first prompt comes to
 abbrev pub IsRun : Status → Type 0
 IsRun status.Usage = ⊥
+IsRun (status.BadImage at kind) = ⊥
+IsRun status.NoImage = ⊥
+IsRun status.ImageTooLarge = ⊥
 IsRun result = Unit {0}
 
 -- what the end of a run shows, by how it stopped; a screen that failed is given no more

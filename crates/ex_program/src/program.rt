@@ -15,6 +15,7 @@ ghost use Rattle.ex_program.specs.Messages.{message};
 ghost use Rattle.ex_program.specs.Run.{bytes_logged, run_shown, total, world_after};
 ghost use Rattle.ex_program.specs.Saving.{Keeps};
 ghost use Rattle.ex_program.specs.Scene.{Tried};
+ghost use Rattle.ex_program.specs.Start.{Asks, StartCause};
 ghost use Rattle.ex_program.specs.Stop.{IsRun};
 ghost use Rattle.ex_program.specs.World.{starting};
 ghost use Rattle.ex_program.specs.declared.run.TheConstants.{KEY_LIMIT};
@@ -23,13 +24,13 @@ use crate::course::Course;
 use crate::end::{close, show_message};
 use crate::run::run;
 use crate::setting::Setting;
+use crate::start::start;
 use crate::{Status, Words, words};
 use cm_blocks::Steps;
 use cm_hooks::Hooks;
 use cm_io::{Clock, Host, Sink, Source};
 use cm_state::Session;
 use ex_grammar::{ExecRules, grammar};
-use ex_store::Store;
 use std::alloc::Global;
 use std::sync::ledger::Ledger;
 
@@ -102,10 +103,11 @@ fn refuse<S: Sink>(status: Status, screen: &mut S) -> Status
 /// The program `exec20`: takes the keys in turn, shows what they come to, logs the parse that is held after
 /// each where the words ask for it, does what confirmed lines command, and writes the image at the end.
 ///
-/// `words` are `-n OUT`, or `-w -n OUT` for a run with a log; the image is written to the file OUT of
-/// `host`. A key edits the line on `screen`; a line that is confirmed acts, at a moment of `clock`. The
-/// status is Usage exactly where the words are neither, before anything else is touched, and NoMemory where memory is
-/// wanting, before the first prompt or at a line that needs it. The others are said of below, clause by clause.
+/// `words` are `IN OUT`, or `-n OUT` for a run that begins anew, with `-w` before them for a log. The run begins from
+/// the image in the file IN of `host`, and its own is written to the file OUT. A key edits the line on `screen`; a line
+/// that is confirmed acts, at a moment of `clock`. The status is Usage exactly where the words are none of these,
+/// before anything else is touched, and NoMemory where memory is wanting, before the first prompt or at a line that
+/// needs it. The others are said of below, clause by clause.
 ///
 /// `hooks` answer the EXEC's rules. `steps` counts the trials: a key costs those of its line behind the
 /// fields that the unchanged front of the line decides.
@@ -124,23 +126,30 @@ pub fn exec20<H: Host, K: Source, S: Sink, W: Sink, C: Clock, L: Ledger>(
     requires hooks { Ties exec_meanings hooks.now }
     requires three { 3 ≤ count hooks.now }
 
-    // Where the run is Done, the screen was given what the run over all keys shows ..
+    // Where the run is Done, the screen was given what the run over all keys shows, from the state that it begins in,
+    // the first one or that whose image the file IN has ..
     ensures done_shown { IsTrue K.tells → IsTrue C.tells → result ≡ Status.Done
+        → (form : Form) → (start : State)
+        → Asks (form_of words.now) (record { tells = H.tells; files = H.files host.old }) form start
         → S.told screen.new ≡ add (S.told screen.old)
-        (run_shown (starting first_state (C.left clock.old)) (K.left keys.old)) }
+        (run_shown (starting start (C.left clock.old)) (K.left keys.old)) }
     // .. the log what it logs ..
     ensures done_logged { IsTrue K.tells → IsTrue C.tells → result ≡ Status.Done
-        → (form : Form) → form_of words.now ≡ Some form
+        → (form : Form) → (start : State)
+        → Asks (form_of words.now) (record { tells = H.tells; files = H.files host.old }) form start
         → W.told log.new ≡ add (W.told log.old)
-        (bytes_logged form.logs (starting first_state (C.left clock.old)) (K.left keys.old)) }
+        (bytes_logged form.logs (starting start (C.left clock.old)) (K.left keys.old)) }
     // .. the counter has risen by what the trials of all keys cost, with a log or without ..
     ensures done_counted { IsTrue K.tells → IsTrue C.tells → result ≡ Status.Done
-        → steps.new ≡ steps.old + total (starting first_state (C.left clock.old)) (K.left keys.old) }
+        → (form : Form) → (start : State)
+        → Asks (form_of words.now) (record { tells = H.tells; files = H.files host.old }) form start
+        → steps.new ≡ steps.old + total (starting start (C.left clock.old)) (K.left keys.old) }
     // .. and OUT holds the image of the state that the keys leave.
     ensures done_saved { IsTrue K.tells → IsTrue C.tells → IsTrue H.tells → result ≡ Status.Done
-        → (form : Form) → form_of words.now ≡ Some form
+        → (form : Form) → (start : State)
+        → Asks (form_of words.now) (record { tells = H.tells; files = H.files host.old }) form start
         → H.files host.new form.out
-        ≡ Some (image_text (world_after (starting first_state (C.left clock.old)) (K.left keys.old)).state) }
+        ≡ Some (image_text (world_after (starting start (C.left clock.old)) (K.left keys.old)).state) }
 
     // What stands, whatever the status: on the screen, in the log, in the counter, and in the file of the image ..
     ensures stands { IsTrue K.tells → IsTrue C.tells → Stands (form_of words.now)
@@ -181,16 +190,24 @@ pub fn exec20<H: Host, K: Source, S: Sink, W: Sink, C: Clock, L: Ledger>(
         result }
     ensures host_cause { HostCause (H.faults host.old) (H.faults host.new) result }
 
-    // With words of a form, fewer keys than a run takes, and nothing outside that fails, the run is Done.
-    ensures complete { IsTrue K.tells → IsTrue C.tells → (form : Form) → form_of words.now ≡ Some form
+    // And by the file that the run is to begin from: NoImage exactly where there is none, ImageTooLarge exactly where
+    // it has more bytes than any image, BadImage exactly where its bytes are no image, with the place and the kind of
+    // the first wrong record.
+    ensures start { StartCause (record { tells = H.tells; files = H.files host.old }) (form_of words.now) result }
+
+    // With words of a form, an image where they name one, fewer keys than a run takes, and nothing outside that fails,
+    // the run is Done.
+    ensures complete { IsTrue K.tells → IsTrue C.tells → (form : Form) → (start : State)
+        → Asks (form_of words.now) (record { tells = H.tells; files = H.files host.old }) form start
         → length (K.left keys.old) < KEY_LIMIT
         → IsQuiet (S.faults screen.old) (S.faults screen.new) → IsQuiet (W.faults log.old) (W.faults log.new)
         → IsQuiet (K.faults keys.old) (K.faults keys.new) → IsQuiet (H.faults host.old) (H.faults host.new)
         → (result ≡ Status.Done) ⊎ (result ≡ Status.NoMemory) }
     // With as many keys as a run takes, in which LOGOUT does not act, it is KeyLimit.
-    ensures limit { IsTrue K.tells → IsTrue C.tells → (form : Form) → form_of words.now ≡ Some form
+    ensures limit { IsTrue K.tells → IsTrue C.tells → (form : Form) → (start : State)
+        → Asks (form_of words.now) (record { tells = H.tells; files = H.files host.old }) form start
         → (taken rest : List ℕ) → taken ++ rest ≡ K.left keys.old → length taken ≡ KEY_LIMIT
-        → (world_after (starting first_state (C.left clock.old)) taken).ended ≡ false
+        → (world_after (starting start (C.left clock.old)) taken).ended ≡ false
         → IsQuiet (S.faults screen.old) (S.faults screen.new) → IsQuiet (W.faults log.old) (W.faults log.new)
         → IsQuiet (K.faults keys.old) (K.faults keys.new) → IsQuiet (H.faults host.old) (H.faults host.new)
         → (result ≡ Status.KeyLimit) ⊎ (result ≡ Status.NoMemory) }
@@ -198,8 +215,12 @@ pub fn exec20<H: Host, K: Source, S: Sink, W: Sink, C: Clock, L: Ledger>(
     let Some(form) = words.form() else {
         return refuse(Status::Usage, screen);
     };
-    let (Ok(grammar), Ok(store)) = (grammar(alloc), Store::new(alloc)) else {
+    let Ok(grammar) = grammar(alloc) else {
         return refuse(Status::NoMemory, screen);
+    };
+    let store = match start(alloc, form.input, host) {
+        Ok(store) => store,
+        Err(status) => return refuse(status, screen),
     };
     let under = Setting {
         alloc,

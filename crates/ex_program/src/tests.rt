@@ -5,6 +5,7 @@ mod cut;
 mod faults;
 mod files;
 mod given;
+mod images;
 mod limit;
 mod whole;
 mod words;

@@ -2,7 +2,8 @@
 ghost use Rattle.std.specs.Prelude.{◌≡◌, ℕ, List, [], length, Option, Some, None, nat_le, if◌then◌else◌};
 ghost use Rattle.std.specs.Str.{bytes_eq};
 ghost use Rattle.std.specs.Option.{option_map};
-ghost use Rattle.ex_program.specs.Form.{form_of, form_of_words, is_name, with_word};
+ghost use Rattle.ex_program.specs.Asked.{form_view};
+ghost use Rattle.ex_program.specs.Form.{files_of, form_of, form_of_words, is_name, with_word};
 
 use arrayvec::{ArrayString, ArrayVec};
 use std::marker::Model;
@@ -54,6 +55,8 @@ impl Model for Words {
 pub struct Form<'a> {
     /// Whether the log is written.
     pub logs: bool,
+    /// The name of the file whose image the run begins from; none where it begins anew.
+    pub input: Option<&'a str>,
     /// The name of the file that the image is written to.
     pub out: &'a str,
 }
@@ -92,8 +95,7 @@ impl Words {
     /// What the words ask for. None where they ask for nothing that the program does.
     #[tactic(auto, unfolding(crate::specs::Form::form_of))]
     pub(crate) fn form(&self) -> Option<Form<'_>>
-        ensures { option_map (λ form. record { logs = form.logs; out = form.out.now }) result
-            ≡ form_of self.now }
+        ensures { option_map form_view result ≡ form_of self.now }
     {
         if self.too_many {
             return None;
@@ -113,20 +115,34 @@ fn word_of(text: &str) -> Option<Word>
     }
 }
 
-// What a list of words asks for: `-n OUT`, and `-w` before it.
+// What two words ask for: `-n OUT`, or `IN OUT`.
+fn files_of<'a>(logs: bool, first: &'a Word, out: &'a Word) -> Option<Form<'a>>
+    ensures { option_map form_view result ≡ files_of logs first.now out.now }
+{
+    if is(first, "-n") && is_name(out) {
+        return Some(Form {
+            logs,
+            input: None,
+            out: out.text.as_str(),
+        });
+    }
+    if is_name(first) && is_name(out) && !is(first, out.text.as_str()) {
+        return Some(Form {
+            logs,
+            input: Some(first.text.as_str()),
+            out: out.text.as_str(),
+        });
+    }
+    None
+}
+
+// What a list of words asks for: two, and `-w` before them.
 fn form_of_words(words: &[Word]) -> Option<Form<'_>>
-    ensures { option_map (λ form. record { logs = form.logs; out = form.out.now }) result
-        ≡ form_of_words words.now }
+    ensures { option_map form_view result ≡ form_of_words words.now }
 {
     match words {
-        [new, out] if is(new, "-n") && is_name(out) => Some(Form {
-            logs: false,
-            out: out.text.as_str(),
-        }),
-        [log, new, out] if is(log, "-w") && is(new, "-n") && is_name(out) => Some(Form {
-            logs: true,
-            out: out.text.as_str(),
-        }),
+        [first, out] => files_of(false, first, out),
+        [log, first, out] if is(log, "-w") => files_of(true, first, out),
         _ => None,
     }
 }

@@ -65,19 +65,23 @@ pub(crate) fn outcome_by(
     words: &Words,
     given: &Given<'_>,
 ) -> Result<Outcome, NoMemory> {
+    outcome_from(runtime, words, Some(BEFORE), given)
+}
+
+// A run over a host that has these bytes under the name IN, or nothing.
+pub(crate) fn outcome_from(
+    runtime: &HostRuntime,
+    words: &Words,
+    input: Option<&[u8]>,
+    given: &Given<'_>,
+) -> Result<Outcome, NoMemory> {
     let alloc = runtime.alloc();
     let mut outcome = Outcome {
         status: Status::NoMemory,
         keys: MemSource::new(alloc, given.keys, given.failing_get)?,
         screen: MemSink::new(alloc, given.screen_room)?,
         log: MemSink::new(alloc, given.log_room)?,
-        host: MemHost::new(
-            alloc,
-            "IN",
-            Some(BEFORE),
-            given.file_room,
-            given.failing_calls,
-        )?,
+        host: MemHost::new(alloc, "IN", input, given.file_room, given.failing_calls)?,
         clock: MemClock::new(alloc, given.moments)?,
     };
     outcome.status = run_with_rules::<MemHost, MemSource, MemSink, MemSink, MemClock, Brand>(
@@ -132,6 +136,23 @@ fn leaves(keys: &mut MemSource, left: &[u8]) -> bool {
     keys.get() == Got::End
 }
 
+// Compares what stands at the end of a run with what is to, and with what IN had.
+fn compare(rt: &impl Abort, outcome: Outcome, input: Option<&[u8]>, case: &Case<'_>) {
+    let mut outcome = outcome;
+    let keys = case.given.keys;
+    assert_eq!(rt; outcome.status, case.status, "after {keys:?}");
+    assert_eq!(rt; outcome.screen.bytes(), case.screen, "after {keys:?}");
+    assert!(rt; case.log.is_of(outcome.log.bytes()), "log after {keys:?}");
+    assert!(rt; outcome.host.file("OUT") == case.out, "OUT after {keys:?}");
+    assert!(rt; outcome.host.file("IN") == input, "IN after {keys:?}");
+    assert!(rt; leaves(&mut outcome.keys, case.left), "keys after {keys:?}");
+    assert_eq!(rt;
+        outcome.clock.now(),
+        case.next_moment,
+        "moment after {keys:?}"
+    );
+}
+
 // Runs each case. The counter wants the runtime itself.
 pub(crate) fn try_cases(
     rt: &impl Abort,
@@ -139,22 +160,22 @@ pub(crate) fn try_cases(
     cases: &[Case<'_>],
 ) -> Result<(), Fail> {
     for case in cases {
-        let keys = case.given.keys;
-        let mut outcome = outcome_of(runtime, &case.given)?;
-        assert_eq!(rt; outcome.status, case.status, "after {keys:?}");
-        assert_eq!(rt; outcome.screen.bytes(), case.screen, "after {keys:?}");
-        assert!(rt; case.log.is_of(outcome.log.bytes()), "log after {keys:?}");
-        assert!(rt; outcome.host.file("OUT") == case.out, "OUT after {keys:?}");
-        assert!(rt;
-            outcome.host.file("IN") == Some(BEFORE),
-            "IN after {keys:?}"
-        );
-        assert!(rt; leaves(&mut outcome.keys, case.left), "keys after {keys:?}");
-        assert_eq!(rt;
-            outcome.clock.now(),
-            case.next_moment,
-            "moment after {keys:?}"
-        );
+        let outcome = outcome_of(runtime, &case.given)?;
+        compare(rt, outcome, Some(BEFORE), case);
+    }
+    Ok(())
+}
+
+// Runs each case from the bytes that IN has, or from none, which stay.
+pub(crate) fn try_images(
+    rt: &impl Abort,
+    runtime: &HostRuntime,
+    cases: &[(Option<&[u8]>, Case<'_>)],
+) -> Result<(), Fail> {
+    for (input, case) in cases {
+        let words = words_of(&["-w", "IN", "OUT"]);
+        let outcome = outcome_from(runtime, &words, *input, &case.given)?;
+        compare(rt, outcome, *input, case);
     }
     Ok(())
 }

@@ -89,6 +89,18 @@ fn runs_over_the_grammar_of_the_exec(rt: HostRuntime) -> Result<(), Fail> {
             2,
         ),
         done(
+            b"T N.TXT\r",
+            b"@T N.TXT\r\n?No such file\r\n@\r\n",
+            Log::End(b"\n0d 7 F23.20@2 0.1k15@0-1 19.0n0@2-2\n"),
+            1,
+        ),
+        done(
+            b"LO\rT N.TXT\rK?JOB\r",
+            b"@LO\r\n?Ambiguous keyword\r\n@T N.TXT\r\n?No such file\r\n@K? keyword, none matches\r\n@KJOB\r\nLogged out\r\n",
+            Log::End(b"\n0d 4 D 0.1k10@0-4\n"),
+            2,
+        ),
+        done(
             b"LO\rKJOB\r",
             b"@LO\r\n?Ambiguous keyword\r\n@KJOB\r\nLogged out\r\n",
             Log::End(b"\n0d 4 D 0.1k10@0-4\n"),

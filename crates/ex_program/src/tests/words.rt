@@ -19,7 +19,7 @@ fn is_refused(outcome: &mut Outcome) -> bool {
 #[test]
 fn shows_the_usage_of_other_words(rt: HostRuntime) -> Result<(), Fail> {
     let base = over(b"LOG\r");
-    let cases: [&[&str]; 15] = [
+    let cases: [&[&str]; 22] = [
         &[],
         &["-w"],
         &["-n"],
@@ -34,6 +34,13 @@ fn shows_the_usage_of_other_words(rt: HostRuntime) -> Result<(), Fail> {
         &["-W", "-n", "OUT"],
         &["-w", "-n", ""],
         &["-w", "-n", "OUT", "X"],
+        &["A", "A"],
+        &["", "OUT"],
+        &["IN", ""],
+        &["IN", "-n"],
+        &["-w", "A", "A"],
+        &["IN", "OUT", "-w"],
+        &["IN", "-n", "OUT"],
         &["-w", "-n", "OUT", "X", "Y"],
     ];
     for words in cases {
