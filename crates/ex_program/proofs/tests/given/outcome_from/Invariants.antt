@@ -1,4 +1,4 @@
-use Rattle.ex_program.proofs.tests.given.outcome_by.Given as goal
+use Rattle.ex_program.proofs.tests.given.outcome_from.Given as goal
 
 -- the ledger that was just opened
 abbrev pub ghosts-run_with_rules : goal.ghosts-run_with_rules
