@@ -36,7 +36,7 @@ use Rattle.cm_blocks.specs.Grammar.{Graph}
 use Rattle.cm_blocks.specs.Keyword.{behind_slash, entry_position, has_colon, key_value, named_switch, switch}
 use Rattle.cm_blocks.specs.Parse.{IsClosed, Parse, after_chain, ending_of, parse_from, parse_of}
 use Rattle.cm_blocks.specs.Setting.{Setting}
-use Rattle.cm_blocks.specs.Taken.{Taken}
+use Rattle.cm_blocks.specs.FieldView.{FieldView}
 use Rattle.cm_blocks.specs.Trial.{table_of, trial}
 use Rattle.cm_blocks.specs.Well.{IsWell, IsWellBlock}
 use Rattle.cm_blocks.proofs.Wells.{well_node}
@@ -198,11 +198,11 @@ closed_from s none line (suc room) node at within =
     by (chain_at s node (finished line) at).chain (chain_decides s node line at none within)
     (λ field near. closed_from s none line room field.next field.end near)
   where
-    behind : Taken → Parse
+    behind : FieldView → Parse
     behind field = parse_from s (finished line) room field.next field.end
 
     by : (answer : Chain) → ChainDecides (length line) answer
-        → ((field : Taken) → field.end ≤ length line → IsClosed (behind field).ending) → IsClosed (after_chain behind answer).ending
+        → ((field : FieldView) → field.end ≤ length line → IsClosed (behind field).ending) → IsClosed (after_chain behind answer).ending
     by (chain.Field field) decided later = later field decided
     by (chain.Done place) decided later = tt
     by (chain.Fault fault) decided later = tt

@@ -19,7 +19,7 @@ use Rattle.cm_blocks.specs.declared.node.Node.{Node}
 use Rattle.cm_blocks.specs.Chain.{ChainLeads, Leads, at_node, by_default, chain_at, code_of, is_confirm, is_line_end, on_default, on_text, or_later, past_skip, typed, walk}
 use Rattle.cm_blocks.specs.Fault.{grammar_fault}
 use Rattle.cm_blocks.specs.Setting.{Setting}
-use Rattle.cm_blocks.specs.Taken.{Taken}
+use Rattle.cm_blocks.specs.FieldView.{FieldView}
 use Rattle.cm_blocks.specs.Trial.{looked_of, next_of, trial}
 use Rattle.cm_blocks.specs.Well.{IsWell}
 use Rattle.cm_blocks.proofs.Trials.{trial_is_local}
@@ -108,7 +108,7 @@ walk_keeps s front more other at number looked code (block ∷ blocks) taken_blo
         let never : Wants number ≡ Takes taken_block role next value seen end = sym first ∙ is in cc
 
 -- a walk whose answer is a field
-record IsTyped (number start : ℕ) (walked : Walk) (field : Taken) : Type 0 where
+record IsTyped (number start : ℕ) (walked : Walk) (field : FieldView) : Type 0 where
   block : ℕ
   role : Role
   next : ℕ
@@ -118,12 +118,12 @@ record IsTyped (number start : ℕ) (walked : Walk) (field : Taken) : Type 0 whe
   is : walked ≡ Takes block role next value looked end
   need : field.need ≡ start + looked
 
-field_of_choice : (test : Bool) (place : ℕ) (taken field : Taken)
+field_of_choice : (test : Bool) (place : ℕ) (taken field : FieldView)
     → (if test then chain.Done place else chain.Field taken) ≡ chain.Field field → taken ≡ field
 field_of_choice true place taken field is = cc
 field_of_choice false place taken field is = cc
 
-typed_field : (number start : ℕ) (walked : Walk) (field : Taken) → typed number start walked ≡ chain.Field field
+typed_field : (number start : ℕ) (walked : Walk) (field : FieldView) → typed number start walked ≡ chain.Field field
     → IsTyped number start walked field
 typed_field number start (Takes block role next value looked end) field is =
     let same = field_of_choice (is_confirm value) end _ field is in
@@ -135,12 +135,12 @@ typed_field number start (Takes block role next value looked end) field is =
       looked = looked;
       end = end;
       is = refl;
-      need = sym (ap (λ (taken : Taken). taken.need) same);
+      need = sym (ap (λ (taken : FieldView). taken.need) same);
     }
 typed_field number start (Wants block) field is = cc
 typed_field number start (Fails code) field is = cc
 
-text_keeps : (s : Setting) (number : ℕ) (node : Node) (front more other : List ℕ) (start : ℕ) (field : Taken)
+text_keeps : (s : Setting) (number : ℕ) (node : Node) (front more other : List ℕ) (start : ℕ) (field : FieldView)
     → field.need ≤ start + length front → (on_text s number node (front ++ more) start).chain ≡ chain.Field field
     → (on_text s number node (front ++ other) start).chain ≡ chain.Field field
 text_keeps s number node front more other start field within is =
@@ -155,7 +155,7 @@ line_end_same [] more other some = absurd (omega arith)
 line_end_same (byte ∷ front) more other some = refl
 
 default_keeps : (s : Setting) (number : ℕ) (node : Node) (front more other : List ℕ) (start : ℕ) (default : Option (List ℕ))
-    (field : Taken) → 0 < length front → field.need ≤ start + length front
+    (field : FieldView) → 0 < length front → field.need ≤ start + length front
     → (by_default s number node (front ++ more) start default).chain ≡ chain.Field field
     → (by_default s number node (front ++ other) start default).chain ≡ chain.Field field
 default_keeps s number node front more other start None field some within is = text_keeps s number node front more other start field within is
@@ -170,12 +170,12 @@ default_keeps s number node front more other start (Some text) field some within
     by false true equal is = cc
     by false false equal is = text_keeps s number node front more other start field within is
 
-need_of : (nodes at size : ℕ) (answer : Chain) (field : Taken) → ChainLeads nodes at size answer → answer ≡ chain.Field field → at < field.need
+need_of : (nodes at size : ℕ) (answer : Chain) (field : FieldView) → ChainLeads nodes at size answer → answer ≡ chain.Field field → at < field.need
 need_of nodes at size answer field leads is =
     let all : Leads nodes at size field = subst (ChainLeads nodes at size) is leads in
     omega (arith, all.start, all.need)
 
-node_keeps : (s : Setting) (number : ℕ) (node : Node) (front more other : List ℕ) (at : ℕ) (field : Taken)
+node_keeps : (s : Setting) (number : ℕ) (node : Node) (front more other : List ℕ) (at : ℕ) (field : FieldView)
     → IsWell s.graph node → 0 < length s.graph.nodes → at ≤ length front → field.need ≤ length front
     → (past_skip s number node (front ++ more) at (skip node.raw (front ++ more) at)).chain ≡ chain.Field field
     → (past_skip s number node (front ++ other) at (skip node.raw (front ++ other) at)).chain ≡ chain.Field field
@@ -201,7 +201,7 @@ node_keeps s number node front more other at field well some within need is =
         subst (λ (rest : List ℕ). (by_default s number node rest start node.default).chain ≡ chain.Field field) (sym second) kept in
         subst (λ (found : Option ℕ). (past_skip s number node (front ++ other) at found).chain ≡ chain.Field field) (sym same) there
 
-pub chain_keeps : (s : Setting) → grammar_fault s.graph ≡ None → (number : ℕ) (front more other : List ℕ) (at : ℕ) (field : Taken)
+pub chain_keeps : (s : Setting) → grammar_fault s.graph ≡ None → (number : ℕ) (front more other : List ℕ) (at : ℕ) (field : FieldView)
     → at ≤ length front → (chain_at s number (front ++ more) at).chain ≡ chain.Field field → field.need ≤ length front
     → (chain_at s number (front ++ other) at).chain ≡ chain.Field field
 unfolding chain_at

@@ -18,7 +18,7 @@ use Rattle.cm_blocks.specs.Chain.{at_node, by_default, chain_at, typed, walk}
 use Rattle.cm_blocks.specs.Fault.{grammar_fault, has_phrase}
 use Rattle.cm_blocks.specs.Parse.{IsLast, IsParse, Parse, Parses, after_chain, ending_of, open_at, parse_from, parse_of, with_fields}
 use Rattle.cm_blocks.specs.Setting.{Setting}
-use Rattle.cm_blocks.specs.Taken.{Taken}
+use Rattle.cm_blocks.specs.FieldView.{FieldView}
 use Rattle.cm_blocks.specs.Trial.{trial}
 use Rattle.cm_blocks.specs.Well.{IsWell}
 use Rattle.cm_blocks.proofs.Wells.{well_node}
@@ -31,11 +31,11 @@ parses_from s text zero node at =
 parses_from s text (suc room) node at =
     by (chain_at s node text at).chain refl (λ field. parses_from s text room field.next field.end)
   where
-    behind : Taken → Parse
+    behind : FieldView → Parse
     behind field = parse_from s text room field.next field.end
 
     by : (answer : Chain) → (chain_at s node text at).chain ≡ answer
-        → ((field : Taken) → Parses s text room field.next field.end (behind field).fields (behind field).ending)
+        → ((field : FieldView) → Parses s text room field.next field.end (behind field).fields (behind field).ending)
         → Parses s text (suc room) node at (after_chain behind answer).fields (after_chain behind answer).ending
     by (chain.Field field) is later =
         let rest = later field in
@@ -55,7 +55,7 @@ unfolding parse_of
 parse_of_parses s node text = parses_from s text 64 node 0
 
 -- any parse from a place on is that one
-only_from : (s : Setting) (text : List ℕ) (room node at : ℕ) (fields : List Taken) (ends : Ending)
+only_from : (s : Setting) (text : List ℕ) (room node at : ℕ) (fields : List FieldView) (ends : Ending)
     → Parses s text room node at fields ends
     → let parse : Parse = record { fields = fields; ending = ends } in parse ≡ parse_from s text room node at
 only_from s text zero node at [] ends parses = ap (λ (e : Ending). let parse : Parse = record { fields = []; ending = e } in parse) parses.ending
@@ -74,9 +74,9 @@ only_from s text (suc room) node at (field ∷ fields) ends parses =
     let rest = only_from s text room field.next field.end fields ends
     (record { few = omega (arith, parses.few); follow = parses.follow.1; ending = parses.ending; last = λ below. parses.last (omega arith) }) in
     ap (with_fields (field ∷ [])) rest
-    ∙ sym (ap (after_chain (λ (field : Taken). parse_from s text room field.next field.end)) parses.follow.0)
+    ∙ sym (ap (after_chain (λ (field : FieldView). parse_from s text room field.next field.end)) parses.follow.0)
 
-pub parses_are_parse_of : (s : Setting) (node : ℕ) (text : List ℕ) (fields : List Taken) (ends : Ending)
+pub parses_are_parse_of : (s : Setting) (node : ℕ) (text : List ℕ) (fields : List FieldView) (ends : Ending)
     → IsParse s node text fields ends → (fields ≡ (parse_of s node text).fields) × (ends ≡ (parse_of s node text).ending)
 unfolding parse_of
 parses_are_parse_of s node text fields ends parses =
@@ -146,7 +146,7 @@ chain_starts s number none below =
 start_from : (s : Setting) (room number : ℕ) → (chain_at s number [] 0).chain ≡ chain.Open (record { node = number; block = Some 0; at = 0 })
     → parse_from s [] room number 0 ≡ record { fields = []; ending = open_at number 0 }
 start_from s zero number is = ap (λ (answer : Chain). let parse : Parse = record { fields = []; ending = ending_of answer } in parse) is
-start_from s (suc room) number is = ap (after_chain (λ (field : Taken). parse_from s [] room field.next field.end)) is
+start_from s (suc room) number is = ap (after_chain (λ (field : FieldView). parse_from s [] room field.next field.end)) is
 
 pub start_is_open : (s : Setting) → grammar_fault s.graph ≡ None → (number : ℕ) → number < length s.graph.nodes
     → parse_of s number [] ≡ record { fields = []; ending = open_at number 0 }

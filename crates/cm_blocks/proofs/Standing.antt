@@ -9,7 +9,7 @@ use Rattle.cm_blocks.specs.Fault.{grammar_fault}
 use Rattle.cm_blocks.specs.Kept.{BeginsWith, common, kept, needing}
 use Rattle.cm_blocks.specs.Parse.{Parse, after_chain, node_behind, parse_from, parse_of, place_behind, with_fields}
 use Rattle.cm_blocks.specs.Setting.{Setting}
-use Rattle.cm_blocks.specs.Taken.{Taken}
+use Rattle.cm_blocks.specs.FieldView.{FieldView}
 use Rattle.cm_blocks.proofs.Keeping.{chain_keeps}
 use Rattle.cm_blocks.proofs.Walks.{chain_leads}
 
@@ -45,7 +45,7 @@ parts (byte ∷ old) (letter ∷ new) = by (byte == letter) refl (parts old new)
 
 -- the parse of a text is these fields, few enough, and what comes behind them; they lie within so many bytes, and
 -- lead to one of so many nodes
-pub record GoesOn (s : Setting) (text : List ℕ) (room node at size : ℕ) (fields : List Taken) : Type 0 where
+pub record GoesOn (s : Setting) (text : List ℕ) (room node at size : ℕ) (fields : List FieldView) : Type 0 where
   pub few : length fields ≤ room
   pub leads : node < length s.graph.nodes → node_behind node fields < length s.graph.nodes
   pub place : place_behind at fields ≤ size
@@ -54,7 +54,7 @@ pub record GoesOn (s : Setting) (text : List ℕ) (room node at size : ℕ) (fie
 
 no_fields : (s : Setting) (text : List ℕ) (room node at size : ℕ) → at ≤ size → GoesOn s text room node at size []
 no_fields s text room node at size within =
-    let all : room ≡ room - length {A = Taken} [] = omega arith in
+    let all : room ≡ room - length {A = FieldView} [] = omega arith in
     record {
       few = omega arith;
       leads = λ below. below;
@@ -62,7 +62,7 @@ no_fields s text room node at size within =
       parse = ap (λ (left : ℕ). parse_from s text left node at) all;
     }
 
-one_field : (s : Setting) (text : List ℕ) (room node at size : ℕ) (field : Taken) (fields : List Taken)
+one_field : (s : Setting) (text : List ℕ) (room node at size : ℕ) (field : FieldView) (fields : List FieldView)
     → (chain_at s node text at).chain ≡ chain.Field field → field.next < length s.graph.nodes
     → GoesOn s text room field.next field.end size fields → GoesOn s text (suc room) node at size (field ∷ fields)
 one_field s text room node at size field fields is next later =
@@ -72,7 +72,7 @@ one_field s text room node at size field fields is next later =
       leads = λ below. later.leads next;
       place = later.place;
       parse =
-          ap (after_chain (λ (field : Taken). parse_from s text room field.next field.end)) is
+          ap (after_chain (λ (field : FieldView). parse_from s text room field.next field.end)) is
           ∙ ap (with_fields (field ∷ [])) later.parse
           ∙ ap (λ (left : ℕ). with_fields (field ∷ fields) (parse_from s text left (node_behind field.next fields) (place_behind field.end fields))) left;
     }
@@ -90,11 +90,11 @@ keeps_from s none front more other (suc room) node at within =
     stop : GoesOn s (front ++ other) (suc room) node at (length front) []
     stop = no_fields s (front ++ other) (suc room) node at (length front) within
 
-    behind : Taken → Parse
+    behind : FieldView → Parse
     behind field = parse_from s (front ++ more) room field.next field.end
 
     by : (answer : Chain) → (chain_at s node (front ++ more) at).chain ≡ answer
-        → ((field : Taken) → field.end ≤ length front → GoesOn s (front ++ other) room field.next field.end (length front)
+        → ((field : FieldView) → field.end ≤ length front → GoesOn s (front ++ other) room field.next field.end (length front)
         (needing (length front) (behind field).fields))
         → GoesOn s (front ++ other) (suc room) node at (length front) (needing (length front) (after_chain behind answer).fields)
     by (chain.Field field) is later = choice (nat_le field.need (length front)) refl

@@ -17,7 +17,7 @@ use Rattle.cm_blocks.specs.declared.node.Block.{Block}
 use Rattle.cm_blocks.specs.declared.node.Node.{Node}
 use Rattle.cm_blocks.specs.Grammar.{Graph}
 use Rattle.cm_blocks.specs.Setting.{Setting}
-use Rattle.cm_blocks.specs.Taken.{Taken}
+use Rattle.cm_blocks.specs.FieldView.{FieldView}
 use Rattle.cm_blocks.specs.Trial.{looked_of, next_of, price, trial}
 
 -- the code of a refusal, or the one before it
@@ -155,7 +155,7 @@ unfoldable pub chain_at : Setting → ℕ → List ℕ → ℕ → Counted
 chain_at s number text at = at_node s number text at (slice_get s.graph.nodes number)
 
 -- a field leads to a node of the grammar, lies behind the place and in the text, and needs its own bytes
-pub record Leads (nodes at size : ℕ) (field : Taken) : Type 0 where
+pub record Leads (nodes at size : ℕ) (field : FieldView) : Type 0 where
   pub next : field.next < nodes
   pub start : at ≤ field.start
   pub end : field.start ≤ field.end

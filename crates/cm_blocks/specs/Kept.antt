@@ -7,10 +7,10 @@ use Rattle.cm_blocks.specs.declared.field.TheConstants.{FIELD_LIMIT}
 use Rattle.cm_blocks.specs.Chain.{chain_at}
 use Rattle.cm_blocks.specs.Parse.{node_behind, parse_of, place_behind}
 use Rattle.cm_blocks.specs.Setting.{Setting}
-use Rattle.cm_blocks.specs.Taken.{Taken}
+use Rattle.cm_blocks.specs.FieldView.{FieldView}
 
 -- the fields before the first that needs more than so many bytes
-abbrev pub needing : ℕ → List Taken → List Taken
+abbrev pub needing : ℕ → List FieldView → List FieldView
 needing size [] = []
 needing size (field ∷ fields) = if nat_le field.need size then field ∷ needing size fields else []
 
@@ -19,11 +19,11 @@ abbrev pub common : List ℕ → List ℕ → ℕ
 common old new = common_prefix_len (λ byte other. byte == other) old new
 
 -- the fields of the old text that its common beginning with the new one decides
-unfoldable pub kept : Setting → ℕ → List ℕ → List ℕ → List Taken
+unfoldable pub kept : Setting → ℕ → List ℕ → List ℕ → List FieldView
 kept s node old new = needing (common old new) (parse_of s node old).fields
 
 -- what comes behind a field costs more; behind any other answer there is nothing
-abbrev pub cost_after : (Taken → ℕ) → Chain → ℕ
+abbrev pub cost_after : (FieldView → ℕ) → Chain → ℕ
 cost_after behind (chain.Field field) = behind field
 cost_after behind (chain.Done place) = 0
 cost_after behind (chain.Fault fault) = 0
@@ -38,7 +38,7 @@ cost_from s text (suc room) node at =
     + cost_after (λ field. cost_from s text room field.next field.end) (chain_at s node text at).chain
 
 -- what the parse of a text costs behind fields that are kept
-abbrev pub cost_behind : Setting → ℕ → List ℕ → List Taken → ℕ
+abbrev pub cost_behind : Setting → ℕ → List ℕ → List FieldView → ℕ
 cost_behind s node text fields =
     cost_from s text (FIELD_LIMIT - length fields) (node_behind node fields) (place_behind 0 fields)
 
@@ -47,6 +47,6 @@ unfoldable pub cost : Setting → ℕ → List ℕ → List ℕ → ℕ
 cost s node old new = cost_behind s node new (kept s node old new)
 
 -- the whole list begins with this one
-pub record BeginsWith (front whole : List Taken) : Type 0 where
-  pub rest : List Taken
+pub record BeginsWith (front whole : List FieldView) : Type 0 where
+  pub rest : List FieldView
   pub joined : whole ≡ front ++ rest

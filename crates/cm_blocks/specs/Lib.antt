@@ -5,7 +5,7 @@ pub mod Kept
 pub mod Keyword
 pub mod Parse
 pub mod Setting
-pub mod Taken
+pub mod FieldView
 pub mod Trial
 pub mod Well
 pub mod Words

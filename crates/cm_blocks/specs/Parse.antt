@@ -8,10 +8,10 @@ use Rattle.cm_blocks.specs.declared.field.Ending.TheVariants as ending
 use Rattle.cm_blocks.specs.declared.field.TheConstants.{FIELD_LIMIT}
 use Rattle.cm_blocks.specs.Chain.{chain_at}
 use Rattle.cm_blocks.specs.Setting.{Setting}
-use Rattle.cm_blocks.specs.Taken.{Taken}
+use Rattle.cm_blocks.specs.FieldView.{FieldView}
 
 pub record Parse : Type 0 where
-  pub fields : List Taken
+  pub fields : List FieldView
   pub ending : Ending
 
 -- how a parse ends whose next trial answers so; a field is one too many
@@ -22,11 +22,11 @@ ending_of (chain.Fault fault) = ending.Fault fault
 ending_of (chain.Open place) = ending.Open place
 
 -- behind these fields the parse goes on so
-abbrev pub with_fields : List Taken → Parse → Parse
+abbrev pub with_fields : List FieldView → Parse → Parse
 with_fields fields parse = record { fields = fields ++ parse.fields; ending = parse.ending }
 
 -- the parse after a chain has answered: its field and what comes behind it, or the ending
-abbrev pub after_chain : (Taken → Parse) → Chain → Parse
+abbrev pub after_chain : (FieldView → Parse) → Chain → Parse
 after_chain behind (chain.Field field) = with_fields (field ∷ []) (behind field)
 after_chain behind (chain.Done place) = record { fields = []; ending = ending.Done }
 after_chain behind (chain.Fault fault) = record { fields = []; ending = ending.Fault fault }
@@ -43,16 +43,16 @@ unfoldable pub parse_of : Setting → ℕ → List ℕ → Parse
 parse_of s node text = parse_from s text FIELD_LIMIT node 0
 
 -- the node and the place behind fields, or those from which they are sought
-abbrev pub node_behind : ℕ → List Taken → ℕ
+abbrev pub node_behind : ℕ → List FieldView → ℕ
 node_behind node [] = node
 node_behind node (field ∷ fields) = node_behind field.next fields
 
-abbrev pub place_behind : ℕ → List Taken → ℕ
+abbrev pub place_behind : ℕ → List FieldView → ℕ
 place_behind at [] = at
 place_behind at (field ∷ fields) = place_behind field.end fields
 
 -- each field is what the chain answers behind the one before
-abbrev pub Follow : Setting → List ℕ → ℕ → ℕ → List Taken → Type 0
+abbrev pub Follow : Setting → List ℕ → ℕ → ℕ → List FieldView → Type 0
 Follow s text node at [] = Unit {0}
 Follow s text node at (field ∷ fields) =
     ((chain_at s node text at).chain ≡ chain.Field field) × Follow s text field.next field.end fields
@@ -65,7 +65,7 @@ IsLast (chain.Fault fault) = Unit {0}
 IsLast (chain.Open place) = Unit {0}
 
 -- from a node and a place on, a text has these fields, of which there is room for so many, and ends so
-pub record Parses (s : Setting) (text : List ℕ) (room node at : ℕ) (fields : List Taken) (ends : Ending)
+pub record Parses (s : Setting) (text : List ℕ) (room node at : ℕ) (fields : List FieldView) (ends : Ending)
     : Type 0 where
   pub few : length fields ≤ room
   pub follow : Follow s text node at fields
@@ -74,7 +74,7 @@ pub record Parses (s : Setting) (text : List ℕ) (room node at : ℕ) (fields :
       → IsLast (chain_at s (node_behind node fields) text (place_behind at fields)).chain
 
 -- the fields and the ending are the parse of the whole text
-abbrev pub IsParse : Setting → ℕ → List ℕ → List Taken → Ending → Type 0
+abbrev pub IsParse : Setting → ℕ → List ℕ → List FieldView → Ending → Type 0
 IsParse s node text fields ends = Parses s text FIELD_LIMIT node 0 fields ends
 
 -- the start of a parse: the first block of the node wants more

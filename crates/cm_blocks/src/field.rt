@@ -24,9 +24,9 @@ pub struct Field {
 }
 
 impl Model for Field {
-    ghost use Rattle.cm_blocks.specs.Taken.{Taken};
+    ghost use Rattle.cm_blocks.specs.FieldView.{FieldView};
 
-    ghost Value = { Taken };
+    ghost Value = { FieldView };
 
     ghost view = { λ field. record {
       node = field.node;

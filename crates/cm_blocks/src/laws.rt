@@ -11,7 +11,7 @@ ghost use Rattle.cm_blocks.specs.Fault.{grammar_fault};
 ghost use Rattle.cm_blocks.specs.Kept.{BeginsWith, kept};
 ghost use Rattle.cm_blocks.specs.Parse.{IsClosed, IsParse, open_at, parse_of};
 ghost use Rattle.cm_blocks.specs.Setting.{Setting};
-ghost use Rattle.cm_blocks.specs.Taken.{Taken};
+ghost use Rattle.cm_blocks.specs.FieldView.{FieldView};
 ghost use Rattle.cm_blocks.specs.Trial.{trial};
 
 /// What a function decides, with any flags, on the first bytes of a text it decides on every text that begins with
@@ -24,7 +24,7 @@ pub fn trials_are_local()
 /// A field is the same on every text that begins with as many bytes as the field needs.
 pub fn a_field_needs_no_more()
     ensures { (s : Setting) → grammar_fault s.graph ≡ None → (node : ℕ) → (front more other : List ℕ)
-        → (at : ℕ) → (field : Taken) → at ≤ length front
+        → (at : ℕ) → (field : FieldView) → at ≤ length front
         → (chain_at s node (front ++ more) at).chain ≡ chain.Field field → field.need ≤ length front
         → (chain_at s node (front ++ other) at).chain ≡ chain.Field field }
 {}
@@ -33,7 +33,7 @@ pub fn a_field_needs_no_more()
 pub fn one_parse()
     ensures is_one { (s : Setting) → (node : ℕ) → (text : List ℕ)
         → IsParse s node text (parse_of s node text).fields (parse_of s node text).ending }
-    ensures no_other { (s : Setting) → (node : ℕ) → (text : List ℕ) → (fields : List Taken)
+    ensures no_other { (s : Setting) → (node : ℕ) → (text : List ℕ) → (fields : List FieldView)
         → (ending : Ending) → IsParse s node text fields ending
         → (fields ≡ (parse_of s node text).fields) × (ending ≡ (parse_of s node text).ending) }
 {}

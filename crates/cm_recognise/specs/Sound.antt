@@ -10,7 +10,7 @@ use Rattle.cm_blocks.specs.declared.node.Block.{Block}
 use Rattle.cm_blocks.specs.declared.node.Node.{Node}
 use Rattle.cm_blocks.specs.Chain.{chain_at}
 use Rattle.cm_blocks.specs.Setting.{Setting}
-use Rattle.cm_blocks.specs.Taken.{Taken}
+use Rattle.cm_blocks.specs.FieldView.{FieldView}
 
 -- from a place of the line on a field of this node begins at `start`, and of its blocks this one is the first that
 -- wants more bytes
@@ -23,7 +23,7 @@ pub record Waits (s : Setting) (number b : ℕ) (block : Block) (line : List ℕ
 
 -- the answer is a field that this block of the node takes from the text between two places, and that leads to `next`
 pub record TakesField (number b start end next : ℕ) (answer : Chain) : Type 0 where
-  pub field : Taken
+  pub field : FieldView
   pub is : answer ≡ chain.Field field
   pub node : field.node ≡ number
   pub block : field.block ≡ b

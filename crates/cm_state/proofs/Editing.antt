@@ -14,13 +14,13 @@ use Rattle.cm_blocks.proofs.Closing.{finished_closes}
 use Rattle.cm_blocks.proofs.Parsing.{parse_of_parses}
 use Rattle.cm_blocks.proofs.Standing.{kept_begins}
 use Rattle.cm_state.specs.Edit.{before_fault, completed, completion, edit, edited, is_end}
-use Rattle.cm_state.specs.Held.{Held, IsReady, at_start, met_line, parse_held, text_of}
+use Rattle.cm_state.specs.SessionState.{SessionState, IsReady, at_start, met_line, parse_held, text_of}
 use Rattle.cm_state.specs.Stack.{Starts}
 use Rattle.cm_state.specs.declared.prompt.Prompt.{Prompt}
 use Rattle.cm_state.proofs.Starting.{kept_starts, met_ending, met_fields, none_costs, none_starts}
 
 -- a key behind a finished text meets an empty line
-abbrev pub Renews : Held → Held → Type 0
+abbrev pub Renews : SessionState → SessionState → Type 0
 Renews old renewed =
     renewed ≡ record old {
       line = met_line old;
@@ -30,7 +30,7 @@ Renews old renewed =
     }
 
 -- the line is edited, with what a key puts in that completes it
-abbrev pub Types : Setting → Held → Held → KeyClass → ℕ → Type 0
+abbrev pub Types : Setting → SessionState → SessionState → KeyClass → ℕ → Type 0
 Types s renewed typed class key =
     typed ≡ record renewed {
       line = edit class key renewed.line renewed.kept (completion s class renewed.ending renewed.line).bytes;
@@ -39,7 +39,7 @@ Types s renewed typed class key =
     }
 
 -- the edited line with its parse is what the key leaves
-edited_with_parse : (s : Setting) (old now : Held) (key : ℕ)
+edited_with_parse : (s : Setting) (old now : SessionState) (key : ℕ)
     → now ≡ record old {
       line = edit (class_of key) key (met_line old) old.kept (completed s old (class_of key)).bytes;
       is_finished = is_end (class_of key);
@@ -51,7 +51,7 @@ edited_with_parse : (s : Setting) (old now : Held) (key : ℕ)
 unfolding edited
 edited_with_parse s old now key same parse =
     let line = edit (class_of key) key (met_line old) old.kept (completed s old (class_of key)).bytes in
-    let node : now.node ≡ old.node = ap (λ (h : Held). h.node) same in
+    let node : now.node ≡ old.node = ap (λ (h : SessionState). h.node) same in
     let text : text_of now ≡ (if is_end (class_of key) then finished line else line) = ap text_of same in
     let whole : parse_held now ≡ parse_of s old.node (if is_end (class_of key) then finished line else line) = cc in
     let fields : now.fields ≡ (parse_of s old.node (if is_end (class_of key) then finished line else line)).fields =
@@ -61,11 +61,11 @@ edited_with_parse s old now key same parse =
     cc
 
 -- what is held is the parse of the text, and so ready for a key
-pub record Stands (s : Setting) (now : Held) : Type 0 where
+pub record Stands (s : Setting) (now : SessionState) : Type 0 where
   pub parse : IsParse s now.node (text_of now) now.fields now.ending
   pub ready : IsReady s now
 
-stands : (s : Setting) (now : Held) → now.node < length s.graph.nodes → parse_held now ≡ parse_of s now.node (text_of now)
+stands : (s : Setting) (now : SessionState) → now.node < length s.graph.nodes → parse_held now ≡ parse_of s now.node (text_of now)
     → Stands s now
 stands s now below parse = record {
   parse =
@@ -79,11 +79,11 @@ stands s now below parse = record {
 }
 
 -- the fields that are left before the parse goes on are those that are kept
-pub record Trims (s : Setting) (old trimmed : Held) : Type 0 where
+pub record Trims (s : Setting) (old trimmed : SessionState) : Type 0 where
   pub node : trimmed.node ≡ old.node
   pub fields : trimmed.fields ≡ kept s old.node (met_line old) (text_of trimmed)
 
-pub trims : (s : Setting) (old renewed typed trimmed : Held) (class : KeyClass) (key size : ℕ) → grammar_fault s.graph ≡ None
+pub trims : (s : Setting) (old renewed typed trimmed : SessionState) (class : KeyClass) (key size : ℕ) → grammar_fault s.graph ≡ None
     → IsReady s old
     → Renews old renewed
     → Types s renewed typed class key
@@ -92,32 +92,32 @@ pub trims : (s : Setting) (old renewed typed trimmed : Held) (class : KeyClass) 
 unfolding kept
 trims s old renewed typed trimmed class key size none ready renew type front keep =
     let text : text_of trimmed ≡ text_of typed = ap text_of keep in
-    let line : renewed.line ≡ met_line old = ap (λ (h : Held). h.line) renew in
+    let line : renewed.line ≡ met_line old = ap (λ (h : SessionState). h.line) renew in
     let same : size ≡ common (met_line old) (text_of trimmed) = cc in
     let node : trimmed.node ≡ old.node = cc in
     let met : typed.fields ≡ (parse_of s old.node (met_line old)).fields =
-    ap (λ (h : Held). h.fields) type ∙ ap (λ (h : Held). h.fields) renew ∙ met_fields s old none ready in
-    let fields : trimmed.fields ≡ needing size typed.fields = ap (λ (h : Held). h.fields) keep in
+    ap (λ (h : SessionState). h.fields) type ∙ ap (λ (h : SessionState). h.fields) renew ∙ met_fields s old none ready in
+    let fields : trimmed.fields ≡ needing size typed.fields = ap (λ (h : SessionState). h.fields) keep in
     record { node = node; fields = cc }
 
 -- behind them the parse goes on
-pub trimmed_starts : (s : Setting) (old trimmed : Held) → grammar_fault s.graph ≡ None → IsReady s old → Trims s old trimmed
+pub trimmed_starts : (s : Setting) (old trimmed : SessionState) → grammar_fault s.graph ≡ None → IsReady s old → Trims s old trimmed
     → Starts s trimmed.node (text_of trimmed) trimmed.fields
 trimmed_starts s old trimmed none ready trim =
     rw (trim.fields, trim.node) (kept_starts s none old.node ready.node (met_line old) (text_of trimmed))
 
 -- what a key puts in is what completes the line that it meets
-pub met_completion : (s : Setting) (old renewed : Held) (class : KeyClass) → grammar_fault s.graph ≡ None → IsReady s old
+pub met_completion : (s : Setting) (old renewed : SessionState) (class : KeyClass) → grammar_fault s.graph ≡ None → IsReady s old
     → Renews old renewed → completion s class renewed.ending renewed.line ≡ completed s old class
 met_completion s old renewed class none ready renew =
-    let line : renewed.line ≡ met_line old = ap (λ (h : Held). h.line) renew in
+    let line : renewed.line ≡ met_line old = ap (λ (h : SessionState). h.line) renew in
     let ends : renewed.ending ≡ (parse_of s old.node (met_line old)).ending =
-    ap (λ (h : Held). h.ending) renew ∙ met_ending s old none ready in
+    ap (λ (h : SessionState). h.ending) renew ∙ met_ending s old none ready in
     ap (λ (ends : Ending). completion s class ends renewed.line) ends
     ∙ ap (λ (line : List ℕ). completion s class (parse_of s old.node (met_line old)).ending line) line
 
 -- the line with its parse, over the steps: the line is renewed, edited, and its parse held
-edited_is : (s : Setting) (old renewed typed trimmed now : Held) (class : KeyClass) (key size : ℕ) → class ≡ class_of key
+edited_is : (s : Setting) (old renewed typed trimmed now : SessionState) (class : KeyClass) (key size : ℕ) → class ≡ class_of key
     → completion s class renewed.ending renewed.line ≡ completed s old class
     → Renews old renewed
     → Types s renewed typed class key
@@ -129,13 +129,13 @@ edited_is s old renewed typed trimmed now class key size is met renew type keep 
     edited_with_parse s old now key (cc) parse
 
 -- what the key leaves, and what it costs
-pub record Takes (s : Setting) (old now : Held) (key spent : ℕ) : Type 0 where
+pub record Takes (s : Setting) (old now : SessionState) (key spent : ℕ) : Type 0 where
   pub edited : now ≡ edited s old key
   pub stands : Stands s now
   pub keeps : BeginsWith (kept s old.node (met_line old) (text_of now)) now.fields
   pub cost : spent ≡ cost s old.node (met_line old) (text_of now)
 
-pub takes : (s : Setting) (old renewed typed trimmed now : Held) (class : KeyClass) (key size spent : ℕ)
+pub takes : (s : Setting) (old renewed typed trimmed now : SessionState) (class : KeyClass) (key size spent : ℕ)
     → grammar_fault s.graph ≡ None → IsReady s old → class ≡ class_of key
     → Renews old renewed
     → Types s renewed typed class key
@@ -148,7 +148,7 @@ pub takes : (s : Setting) (old renewed typed trimmed now : Held) (class : KeyCla
     → Takes s old now key spent
 unfolding cost
 takes s old renewed typed trimmed now class key size spent none ready is renew type keep trim rest hold held costs =
-    let node : now.node ≡ trimmed.node = ap (λ (h : Held). h.node) hold in
+    let node : now.node ≡ trimmed.node = ap (λ (h : SessionState). h.node) hold in
     let text : text_of now ≡ text_of trimmed = ap text_of hold in
     let parse : parse_held now ≡ parse_of s now.node (text_of now) = rw (node, text) held in
     let start : now.node ≡ old.node = node ∙ trim.node in
@@ -166,7 +166,7 @@ takes s old renewed typed trimmed now class key size spent none ready is renew t
     }
 
 -- a whole line behind a start
-pub record Finishes (s : Setting) (start now : Held) (line : List ℕ) (spent : ℕ) : Type 0 where
+pub record Finishes (s : Setting) (start now : SessionState) (line : List ℕ) (spent : ℕ) : Type 0 where
   pub edited : now ≡ edited s start 13
   pub parse : IsParse s start.node (finished line) now.fields now.ending
   pub ready : IsReady s now
@@ -178,24 +178,24 @@ unfolding class_of is_text
 end_key = refl
 
 -- the line in place of the empty one of a start
-abbrev Fills : Held → Held → ℕ → Prompt → Option (List ℕ) → List ℕ → Type 0
+abbrev Fills : SessionState → SessionState → ℕ → Prompt → Option (List ℕ) → List ℕ → Type 0
 Fills started typed node prompt bytes line =
     (started ≡ at_start node prompt bytes) × (typed ≡ record started { line = line; is_finished = true; kept = None })
 
-filled : (started typed : Held) (node : ℕ) (prompt : Prompt) (bytes : Option (List ℕ)) (line : List ℕ)
+filled : (started typed : SessionState) (node : ℕ) (prompt : Prompt) (bytes : Option (List ℕ)) (line : List ℕ)
     → Fills started typed node prompt bytes line
     → typed ≡ record (at_start node prompt None) { line = line; is_finished = true }
 filled started typed node prompt bytes line fills =
-    fills.1 ∙ ap (λ (h : Held). let filled : Held = record h { line = line; is_finished = true; kept = None } in filled) fills.0
+    fills.1 ∙ ap (λ (h : SessionState). let filled : SessionState = record h { line = line; is_finished = true; kept = None } in filled) fills.0
 
-pub whole_starts : (s : Setting) (started typed : Held) (node : ℕ) (prompt : Prompt) (bytes : Option (List ℕ)) (line : List ℕ)
+pub whole_starts : (s : Setting) (started typed : SessionState) (node : ℕ) (prompt : Prompt) (bytes : Option (List ℕ)) (line : List ℕ)
     → grammar_fault s.graph ≡ None → node < length s.graph.nodes → Fills started typed node prompt bytes line
     → Starts s typed.node (text_of typed) typed.fields
 whole_starts s started typed node prompt bytes line none below fills =
     let is = filled started typed node prompt bytes line fills in
-    subst (λ (h : Held). Starts s h.node (text_of h) h.fields) (sym is) (none_starts s none node below (finished line))
+    subst (λ (h : SessionState). Starts s h.node (text_of h) h.fields) (sym is) (none_starts s none node below (finished line))
 
-pub finishes : (s : Setting) (started typed now : Held) (node : ℕ) (prompt : Prompt) (bytes : Option (List ℕ)) (line : List ℕ) (spent : ℕ)
+pub finishes : (s : Setting) (started typed now : SessionState) (node : ℕ) (prompt : Prompt) (bytes : Option (List ℕ)) (line : List ℕ) (spent : ℕ)
     → grammar_fault s.graph ≡ None → node < length s.graph.nodes → Fills started typed node prompt bytes line
     → now.kept ≡ (if typed.is_finished then before_fault typed.line now.ending else None)
     → now ≡ record typed { fields = now.fields; ending = now.ending; kept = now.kept }
@@ -204,7 +204,7 @@ pub finishes : (s : Setting) (started typed now : Held) (node : ℕ) (prompt : P
     → Finishes s (record (at_start node prompt bytes) { line = line }) now line spent
 finishes s started typed now node prompt bytes line spent none below fills rest hold held costs =
     let is = filled started typed node prompt bytes line fills in
-    let start : Held = record (at_start node prompt bytes) { line = line } in
+    let start : SessionState = record (at_start node prompt bytes) { line = line } in
     let at : now.node ≡ node = cc in
     let text : text_of now ≡ finished line = cc in
     let whole : parse_held now ≡ parse_of s node (finished line) = cc in
@@ -217,6 +217,6 @@ finishes s started typed now node prompt bytes line spent none below fills rest 
       decided =
           subst IsClosed (ap (λ (parse : Parse). parse.ending) (sym whole)) (finished_closes s none node line);
       cost =
-          costs ∙ ap (λ (h : Held). cost_behind s h.node (text_of h) h.fields) is
+          costs ∙ ap (λ (h : SessionState). cost_behind s h.node (text_of h) h.fields) is
           ∙ sym (none_costs s none node below (finished line));
     }

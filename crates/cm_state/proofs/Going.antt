@@ -8,13 +8,13 @@ use Rattle.cm_blocks.specs.Chain.{chain_at}
 use Rattle.cm_blocks.specs.Kept.{cost_after, cost_from}
 use Rattle.cm_blocks.specs.Parse.{IsLast, Parse, after_chain, ending_of, parse_from, with_fields}
 use Rattle.cm_blocks.specs.Setting.{Setting}
-use Rattle.cm_blocks.specs.Taken.{Taken}
+use Rattle.cm_blocks.specs.FieldView.{FieldView}
 
-abbrev parsed : Ending → List Taken → Parse
+abbrev parsed : Ending → List FieldView → Parse
 parsed ends fields = record { fields = fields; ending = ends }
 
 -- behind these fields stands one more, and the parse goes on behind it
-pub record Turns (s : Setting) (text : List ℕ) (fields : List Taken) (node at : ℕ) (field : Taken) : Type 0 where
+pub record Turns (s : Setting) (text : List ℕ) (fields : List FieldView) (node at : ℕ) (field : FieldView) : Type 0 where
   pub parse : with_fields fields (parse_from s text (FIELD_LIMIT - length fields) node at)
       ≡ with_fields (fields ++ field ∷ [])
       (parse_from s text (FIELD_LIMIT - length (fields ++ field ∷ [])) field.next field.end)
@@ -22,7 +22,7 @@ pub record Turns (s : Setting) (text : List ℕ) (fields : List Taken) (node at 
       ≡ (chain_at s node text at).spent
       + cost_from s text (FIELD_LIMIT - length (fields ++ field ∷ [])) field.next field.end
 
-pub turns : (s : Setting) (text : List ℕ) (fields : List Taken) (node at : ℕ) (field : Taken)
+pub turns : (s : Setting) (text : List ℕ) (fields : List FieldView) (node at : ℕ) (field : FieldView)
     → (chain_at s node text at).chain ≡ chain.Field field → length fields < FIELD_LIMIT → Turns s text fields node at field
 turns s text fields node at field is few =
     let left = FIELD_LIMIT - length (fields ++ field ∷ []) in
@@ -31,22 +31,22 @@ turns s text fields node at field is few =
     record {
       parse =
           ap (λ (room : ℕ). with_fields fields (parse_from s text room node at)) room
-          ∙ ap (λ (answer : Chain). with_fields fields (after_chain (λ (field : Taken). parse_from s text left field.next field.end) answer)) is
+          ∙ ap (λ (answer : Chain). with_fields fields (after_chain (λ (field : FieldView). parse_from s text left field.next field.end) answer)) is
           ∙ ap (parsed later.ending) (sym (append_assoc fields (field ∷ []) later.fields));
       cost =
           ap (λ (room : ℕ). cost_from s text room node at) room
-          ∙ ap (λ (answer : Chain). (chain_at s node text at).spent + cost_after (λ (field : Taken). cost_from s text left field.next field.end) answer) is;
+          ∙ ap (λ (answer : Chain). (chain_at s node text at).spent + cost_after (λ (field : FieldView). cost_from s text left field.next field.end) answer) is;
     }
 
 -- behind these fields the parse ends so
-pub record Ends (s : Setting) (text : List ℕ) (fields : List Taken) (room node at : ℕ) (ends : Ending) : Type 0 where
+pub record Ends (s : Setting) (text : List ℕ) (fields : List FieldView) (room node at : ℕ) (ends : Ending) : Type 0 where
   pub parse : with_fields fields (parse_from s text room node at) ≡ parsed ends fields
   pub cost : cost_from s text room node at ≡ (chain_at s node text at).spent
 
-ends_so : (s : Setting) (text : List ℕ) (fields : List Taken) (room node at : ℕ) (answer : Chain)
+ends_so : (s : Setting) (text : List ℕ) (fields : List FieldView) (room node at : ℕ) (answer : Chain)
     → (chain_at s node text at).chain ≡ answer
-    → ((behind : Taken → Parse) → after_chain behind answer ≡ parsed (ending_of answer) [])
-    → ((behind : Taken → ℕ) → cost_after behind answer ≡ 0) → Ends s text fields room node at (ending_of answer)
+    → ((behind : FieldView → Parse) → after_chain behind answer ≡ parsed (ending_of answer) [])
+    → ((behind : FieldView → ℕ) → cost_after behind answer ≡ 0) → Ends s text fields room node at (ending_of answer)
 ends_so s text fields zero node at answer is stop free = record {
   parse =
       ap (λ (answer : Chain). with_fields fields (parsed (ending_of answer) [])) is
@@ -54,8 +54,8 @@ ends_so s text fields zero node at answer is stop free = record {
   cost = refl;
 }
 ends_so s text fields (suc room) node at answer is stop free =
-    let behind : Taken → Parse = λ (field : Taken). parse_from s text room field.next field.end in
-    let later : Taken → ℕ = λ (field : Taken). cost_from s text room field.next field.end in
+    let behind : FieldView → Parse = λ (field : FieldView). parse_from s text room field.next field.end in
+    let later : FieldView → ℕ = λ (field : FieldView). cost_from s text room field.next field.end in
     let nothing : cost_after later (chain_at s node text at).chain ≡ 0 = ap (cost_after later) is ∙ free later in
     record {
       parse =
@@ -65,7 +65,7 @@ ends_so s text fields (suc room) node at answer is stop free =
     }
 
 -- where the chain takes no field
-pub ends_there : (s : Setting) (text : List ℕ) (fields : List Taken) (room node at : ℕ) (answer : Chain)
+pub ends_there : (s : Setting) (text : List ℕ) (fields : List FieldView) (room node at : ℕ) (answer : Chain)
     → (chain_at s node text at).chain ≡ answer → IsLast answer → Ends s text fields room node at (ending_of answer)
 ends_there s text fields room node at (chain.Field field) is last = absurd last
 ends_there s text fields room node at (chain.Done place) is last =
@@ -76,7 +76,7 @@ ends_there s text fields room node at (chain.Open place) is last =
     ends_so s text fields room node at (chain.Open place) is (λ behind. refl) (λ behind. refl)
 
 -- where there is no room for the field that it takes
-pub ends_full : (s : Setting) (text : List ℕ) (fields : List Taken) (room node at : ℕ) (answer : Chain)
+pub ends_full : (s : Setting) (text : List ℕ) (fields : List FieldView) (room node at : ℕ) (answer : Chain)
     → (chain_at s node text at).chain ≡ answer → room ≡ 0 → Ends s text fields room node at (ending_of answer)
 ends_full s text fields zero node at answer is none = record {
   parse =

@@ -11,7 +11,7 @@ use Rattle.cm_line.specs.declared.key.KeyClass.TheVariants.{Text, End, Rub, Word
 use Rattle.cm_line.specs.Keys.{class_of}
 use Rattle.cm_line.specs.Word.{word_start}
 use Rattle.cm_state.specs.Edit.{edit}
-use Rattle.cm_state.specs.Held.{Held, met_line}
+use Rattle.cm_state.specs.SessionState.{SessionState, met_line}
 
 -- text bytes alone
 abbrev pub ArePlain : List ℕ → Type 0
@@ -102,7 +102,7 @@ edit_by_class Part key line kept inserted text is kept_is longer_is = longer_is
 edit_by_class Help key line kept inserted text is kept_is longer_is = is
 edit_by_class Other key line kept inserted text is kept_is longer_is = is
 
-pub edit_is_line : (held : Held) (key : ℕ) (inserted : List ℕ) → IsLine (met_line held) → IfSome held.kept IsLine
+pub edit_is_line : (held : SessionState) (key : ℕ) (inserted : List ℕ) → IsLine (met_line held) → IfSome held.kept IsLine
     → IsLine (met_line held ++ inserted) → IsLine (edit (class_of key) key (met_line held) held.kept inserted)
 edit_is_line held key inserted is kept longer =
     edit_by_class (class_of key) key (met_line held) held.kept inserted (text_key_is_text key) is kept longer

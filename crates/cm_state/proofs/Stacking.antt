@@ -4,23 +4,23 @@ use Rattle.std.proofs.lemmas.List.{map-append}
 use Rattle.cm_blocks.specs.declared.field.TheConstants.{FIELD_LIMIT}
 use Rattle.cm_blocks.specs.Kept.{needing}
 use Rattle.cm_blocks.specs.Parse.{node_behind, place_behind}
-use Rattle.cm_blocks.specs.Taken.{Taken}
+use Rattle.cm_blocks.specs.FieldView.{FieldView}
 use Rattle.cm_state.specs.Stack.{first_needing, somes}
 
-abbrev some : Taken → Option Taken
+abbrev some : FieldView → Option FieldView
 some field = Some field
 
-somes_map : (fields : List Taken) → somes (map (λ field. Some field) fields) ≡ fields
+somes_map : (fields : List FieldView) → somes (map (λ field. Some field) fields) ≡ fields
 somes_map [] = refl
 somes_map (field ∷ fields) = ap (λ rest. field ∷ rest) (somes_map fields)
 
 -- one field more than these
-pub record Pushed (new : List (Option Taken)) (fields : List Taken) (field : Taken) : Type 0 where
+pub record Pushed (new : List (Option FieldView)) (fields : List FieldView) (field : FieldView) : Type 0 where
   pub all : new ≡ map (λ field. Some field) (somes new)
   pub few : length (somes new) ≤ FIELD_LIMIT
   pub more : somes new ≡ fields ++ field ∷ []
 
-pub pushed : (old new : List (Option Taken)) (fields : List Taken) (field : Taken) → old ≡ map (λ field. Some field) (somes old)
+pub pushed : (old new : List (Option FieldView)) (fields : List FieldView) (field : FieldView) → old ≡ map (λ field. Some field) (somes old)
     → somes old ≡ fields → length fields < FIELD_LIMIT → new ≡ old ++ Some field ∷ [] → Pushed new fields field
 pushed old new fields field all is few push =
     let whole : new ≡ map (λ field. Some field) (fields ++ field ∷ []) =
@@ -34,13 +34,13 @@ pushed old new fields field all is few push =
     }
 
 -- a place within has its field
-some_at : (fields : List Taken) (number : ℕ) (d : Option Taken) → number < length fields
+some_at : (fields : List FieldView) (number : ℕ) (d : Option FieldView) → number < length fields
     → slice_get fields number ≡ get_or (map (λ field. Some field) fields) number d
 some_at [] number d within = absurd (omega arith)
 some_at (field ∷ fields) zero d within = refl
 some_at (field ∷ fields) (suc number) d within = some_at fields number d (omega arith)
 
-pub item_at : (items slice : List (Option Taken)) (fields : List Taken) (number index : ℕ) (item : Option Taken)
+pub item_at : (items slice : List (Option FieldView)) (fields : List FieldView) (number index : ℕ) (item : Option FieldView)
     → items ≡ map (λ field. Some field) (somes items) → somes items ≡ fields → slice ≡ items → index ≡ number → number < length fields
     → item ≡ get_or slice index item → slice_get fields number ≡ item
 item_at items slice fields number index item all is same at within get =
@@ -48,13 +48,13 @@ item_at items slice fields number index item all is same at within get =
     ∙ ap (λ list. get_or list number item) (ap (map (λ field. Some field)) (sym is) ∙ sym all ∙ sym same)
     ∙ ap (λ number. get_or slice number item) (sym at) ∙ sym get
 
-pub never_none : (fields : List Taken) (number : ℕ) → number < length fields → slice_get fields number ≡ None → ⊥
+pub never_none : (fields : List FieldView) (number : ℕ) → number < length fields → slice_get fields number ≡ None → ⊥
 never_none [] number within none = absurd (omega arith)
 never_none (field ∷ fields) zero within none = cc
 never_none (field ∷ fields) (suc number) within none = never_none fields number (omega arith) none
 
 -- where the first field stands that needs more
-first_needing_is : (size number : ℕ) (fields : List Taken)
+first_needing_is : (size number : ℕ) (fields : List FieldView)
     → first_needing size number (map (λ field. Some field) fields) ≡ number + length (needing size fields)
 first_needing_is size number [] = omega arith
 first_needing_is size number (field ∷ fields) = by (nat_le field.need size) (first_needing_is size (number + 1) fields)
@@ -65,7 +65,7 @@ first_needing_is size number (field ∷ fields) = by (nat_le field.need size) (f
     by true later = omega (arith, later)
     by false later = omega arith
 
-take_needing : (size : ℕ) (fields : List Taken)
+take_needing : (size : ℕ) (fields : List FieldView)
     → take (length (needing size fields)) (map (λ field. Some field) fields) ≡ map (λ field. Some field) (needing size fields)
 take_needing size [] = refl
 take_needing size (field ∷ fields) = by (nat_le field.need size) (take_needing size fields)
@@ -77,7 +77,7 @@ take_needing size (field ∷ fields) = by (nat_le field.need size) (take_needing
     by true later = ap (λ rest. some field ∷ rest) later
     by false later = refl
 
-needing_few : (size : ℕ) (fields : List Taken) → length (needing size fields) ≤ length fields
+needing_few : (size : ℕ) (fields : List FieldView) → length (needing size fields) ≤ length fields
 needing_few size [] = omega arith
 needing_few size (field ∷ fields) = by (nat_le field.need size) (needing_few size fields)
   where
@@ -87,12 +87,12 @@ needing_few size (field ∷ fields) = by (nat_le field.need size) (needing_few s
     by false later = omega arith
 
 -- the fields before it
-pub record Cut (size : ℕ) (old new : List (Option Taken)) : Type 0 where
+pub record Cut (size : ℕ) (old new : List (Option FieldView)) : Type 0 where
   pub all : new ≡ map (λ field. Some field) (somes new)
   pub few : length (somes new) ≤ length (somes old)
   pub fields : somes new ≡ needing size (somes old)
 
-pub cut : (size count : ℕ) (old slice new : List (Option Taken)) → old ≡ map (λ field. Some field) (somes old)
+pub cut : (size count : ℕ) (old slice new : List (Option FieldView)) → old ≡ map (λ field. Some field) (somes old)
     → slice ≡ old → count ≡ first_needing size 0 slice → new ≡ take count old → Cut size old new
 cut size count old slice new all same first truncate =
     let place : count ≡ 0 + length (needing size (somes old)) =
@@ -108,7 +108,7 @@ cut size count old slice new all same first truncate =
     }
 
 -- what stands behind the last field
-last_node : (start : ℕ) (fields : List Taken) (number : ℕ) (field : Taken) → number + 1 ≡ length fields
+last_node : (start : ℕ) (fields : List FieldView) (number : ℕ) (field : FieldView) → number + 1 ≡ length fields
     → slice_get fields number ≡ Some field → node_behind start fields ≡ field.next
 last_node start [] number field last is = absurd (omega arith)
 last_node start (first ∷ []) zero field last is = cc
@@ -117,7 +117,7 @@ last_node start (first ∷ second ∷ fields) zero field last is = absurd (omega
 last_node start (first ∷ second ∷ fields) (suc number) field last is =
     last_node first.next (second ∷ fields) number field (omega arith) is
 
-last_place : (at : ℕ) (fields : List Taken) (number : ℕ) (field : Taken) → number + 1 ≡ length fields
+last_place : (at : ℕ) (fields : List FieldView) (number : ℕ) (field : FieldView) → number + 1 ≡ length fields
     → slice_get fields number ≡ Some field → place_behind at fields ≡ field.end
 last_place at [] number field last is = absurd (omega arith)
 last_place at (first ∷ []) zero field last is = cc
@@ -126,13 +126,13 @@ last_place at (first ∷ second ∷ fields) zero field last is = absurd (omega a
 last_place at (first ∷ second ∷ fields) (suc number) field last is =
     last_place first.end (second ∷ fields) number field (omega arith) is
 
-pub node_of_last : (start : ℕ) (fields : List Taken) (field : Taken) → slice_get fields (length fields - 1) ≡ Some field
+pub node_of_last : (start : ℕ) (fields : List FieldView) (field : FieldView) → slice_get fields (length fields - 1) ≡ Some field
     → node_behind start fields ≡ field.next
 node_of_last start [] field is = cc
 node_of_last start (first ∷ rest) field is =
     last_node start (first ∷ rest) (length (first ∷ rest) - 1) field (omega arith) is
 
-pub place_of_last : (at : ℕ) (fields : List Taken) (field : Taken) → slice_get fields (length fields - 1) ≡ Some field
+pub place_of_last : (at : ℕ) (fields : List FieldView) (field : FieldView) → slice_get fields (length fields - 1) ≡ Some field
     → place_behind at fields ≡ field.end
 place_of_last at [] field is = cc
 place_of_last at (first ∷ rest) field is =

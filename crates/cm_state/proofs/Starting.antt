@@ -9,11 +9,11 @@ use Rattle.cm_blocks.specs.Grammar.{Graph}
 use Rattle.cm_blocks.specs.Kept.{cost, cost_behind, kept, needing}
 use Rattle.cm_blocks.specs.Parse.{IsParse, Parse, open_at, parse_of}
 use Rattle.cm_blocks.specs.Setting.{Setting}
-use Rattle.cm_blocks.specs.Taken.{Taken}
+use Rattle.cm_blocks.specs.FieldView.{FieldView}
 use Rattle.cm_blocks.proofs.Parsing.{parse_of_parses, start_is_open}
 use Rattle.cm_blocks.proofs.Standing.{kept_goes_on}
 use Rattle.cm_blocks.proofs.Wells.{sizes}
-use Rattle.cm_state.specs.Held.{Held, IsReady, at_start, met_line}
+use Rattle.cm_state.specs.SessionState.{SessionState, IsReady, at_start, met_line}
 use Rattle.cm_state.specs.Stack.{Starts}
 use Rattle.cm_state.specs.declared.prompt.Prompt.{Prompt}
 
@@ -38,17 +38,17 @@ some_node graph none =
 
 -- so is what holds no more than a start
 pub started_is_ready : (s : Setting) → grammar_fault s.graph ≡ None → (node : ℕ) → node < length s.graph.nodes
-    → (prompt : Prompt) → (kept : Option (List ℕ)) → (held : Held) → held ≡ at_start node prompt kept → IsReady s held
+    → (prompt : Prompt) → (kept : Option (List ℕ)) → (held : SessionState) → held ≡ at_start node prompt kept → IsReady s held
 started_is_ready s none node below prompt kept held is =
     subst (IsReady s) (sym is) (start_is_ready s none node below prompt kept)
 
-pub new_is_ready : (s : Setting) → grammar_fault s.graph ≡ None → (prompt : Prompt) → (kept : Option (List ℕ)) → (held : Held)
+pub new_is_ready : (s : Setting) → grammar_fault s.graph ≡ None → (prompt : Prompt) → (kept : Option (List ℕ)) → (held : SessionState)
     → held ≡ at_start 0 prompt kept → IsReady s held
 new_is_ready s none prompt kept held is =
     started_is_ready s none 0 (some_node s.graph none) prompt kept held is
 
 -- the fields that a key finds are those of the line that it meets
-pub met_fields : (s : Setting) (held : Held) → grammar_fault s.graph ≡ None → IsReady s held
+pub met_fields : (s : Setting) (held : SessionState) → grammar_fault s.graph ≡ None → IsReady s held
     → (if held.is_finished then [] else held.fields) ≡ (parse_of s held.node (met_line held)).fields
 met_fields s held none ready = by held.is_finished refl
   where
@@ -58,7 +58,7 @@ met_fields s held none ready = by held.is_finished refl
     by false is = ap (λ (parse : Parse). parse.fields) (ready.parse is)
 
 -- and so is the ending
-pub met_ending : (s : Setting) (held : Held) → grammar_fault s.graph ≡ None → IsReady s held
+pub met_ending : (s : Setting) (held : SessionState) → grammar_fault s.graph ≡ None → IsReady s held
     → (if held.is_finished then open_at held.node 0 else held.ending) ≡ (parse_of s held.node (met_line held)).ending
 met_ending s held none ready = by held.is_finished refl
   where
@@ -93,4 +93,4 @@ pub none_costs : (s : Setting) → grammar_fault s.graph ≡ None → (node : �
     → cost s node [] new ≡ cost_behind s node new []
 unfolding cost
 none_costs s none node below new =
-    ap (λ (fields : List Taken). cost_behind s node new fields) (none_kept s none node below new)
+    ap (λ (fields : List FieldView). cost_behind s node new fields) (none_kept s none node below new)

@@ -14,7 +14,7 @@ use Rattle.cm_blocks.specs.Setting.{Setting}
 use Rattle.cm_help.specs.Help.{help_text}
 use Rattle.cm_state.specs.declared.prompt.Prompt.{Prompt}
 use Rattle.cm_state.specs.declared.prompt.Prompt.TheVariants.{Main, Sub}
-use Rattle.cm_state.specs.Held.{Held, met_line}
+use Rattle.cm_state.specs.SessionState.{SessionState, met_line}
 use Rattle.cm_state.specs.Edit.{completed, edited}
 
 -- a TAB is shown as one space
@@ -53,7 +53,7 @@ ring false = []
 
 -- the echo of a key on a line of this size, with or without kept bytes, that left the session so; a key that completes
 -- shows the bytes that came to the line, and rings or not
-abbrev pub echo_of : Setting → KeyClass → ℕ → ℕ → Bool → Bool → Held → List ℕ
+abbrev pub echo_of : Setting → KeyClass → ℕ → ℕ → Bool → Bool → SessionState → List ℕ
 echo_of s Text key size kept rings now = if nat_lt size LINE_LIMIT then screen_byte key ∷ [] else bell
 echo_of s Rub key size kept rings now = taken_away size (length now.line)
 echo_of s Word key size kept rings now = taken_away size (length now.line)
@@ -68,7 +68,7 @@ echo_of s End key size kept rings now = end_of_line ++ complaint now.ending
 echo_of s class key size kept rings now = bell
 
 -- the bytes that a key shows
-unfoldable pub echo : Setting → Held → ℕ → List ℕ
+unfoldable pub echo : Setting → SessionState → ℕ → List ℕ
 echo s held key =
     let class = class_of key in
     echo_of s class key (length (met_line held)) (is_some held.kept) (completed s held class).bell (edited s held key)

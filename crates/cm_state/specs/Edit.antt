@@ -13,7 +13,7 @@ use Rattle.cm_blocks.specs.Setting.{Setting}
 use Rattle.cm_recognise.specs.declared.insertion.Insertion.{Insertion}
 use Rattle.cm_recognise.specs.declared.insertion.Mode.TheVariants as modes
 use Rattle.cm_recognise.specs.Insertion.{insertion}
-use Rattle.cm_state.specs.Held.{Held, met_line}
+use Rattle.cm_state.specs.SessionState.{SessionState, met_line}
 
 -- what a key of this class puts into a line whose parse ends so: ESC and control-F complete it
 abbrev pub completion : Setting → KeyClass → Ending → List ℕ → Insertion
@@ -48,11 +48,11 @@ before_fault line ending.Done = None
 before_fault line (ending.Fault fault) = Some (take fault.at line)
 
 -- what a key puts into the line that it meets
-abbrev pub completed : Setting → Held → KeyClass → Insertion
+abbrev pub completed : Setting → SessionState → KeyClass → Insertion
 completed s held class = completion s class (parse_of s held.node (met_line held)).ending (met_line held)
 
 -- the session after a key: the line, finished where the key is an end, and the parse of that text
-unfoldable pub edited : Setting → Held → ℕ → Held
+unfoldable pub edited : Setting → SessionState → ℕ → SessionState
 edited s held key =
     let class = class_of key in
     let line = edit class key (met_line held) held.kept (completed s held class).bytes in

@@ -11,8 +11,8 @@ use Rattle.cm_fields.specs.Code.{code_number}
 use Rattle.cm_blocks.specs.declared.field.Fault.{Fault}
 use Rattle.cm_blocks.specs.declared.field.Ending.{Ending}
 use Rattle.cm_blocks.specs.declared.field.Ending.TheVariants as ending
-use Rattle.cm_blocks.specs.Taken.{Taken}
-use Rattle.cm_state.specs.Held.{Held}
+use Rattle.cm_blocks.specs.FieldView.{FieldView}
+use Rattle.cm_state.specs.SessionState.{SessionState}
 
 -- a number behind a text
 unfoldable pub marked : List ℕ → ℕ → List ℕ
@@ -35,7 +35,7 @@ unfoldable pub head_log : ℕ → ℕ → Ending → List ℕ
 head_log key size ending = hex key ++ marked (codes " ") size ++ ending_log ending
 
 -- ` NODE.BLOCK`
-unfoldable pub block_log : Taken → List ℕ
+unfoldable pub block_log : FieldView → List ℕ
 block_log field = marked (codes " ") field.node ++ marked (codes ".") field.block
 
 -- a day, with `-` before the number of one before 1-JAN-1970
@@ -79,20 +79,20 @@ default_log true = codes "="
 default_log false = []
 
 -- `@START-END`, and `=` where it was taken from the default
-unfoldable pub place_log : Taken → List ℕ
+unfoldable pub place_log : FieldView → List ℕ
 place_log field = marked (codes "@") field.start ++ marked (codes "-") field.end ++ default_log field.defaulted
 
 -- ` NODE.BLOCKVALUE@START-END`
-unfoldable pub field_log : Taken → List ℕ
+unfoldable pub field_log : FieldView → List ℕ
 field_log field = block_log field ++ value_log field.value ++ place_log field
 
-unfoldable pub fields_log : List Taken → List ℕ
+unfoldable pub fields_log : List FieldView → List ℕ
 fields_log fields = flat_map field_log fields
 
 unfoldable pub line_feed : List ℕ
 line_feed = 10 ∷ []
 
 -- the head, each field, and a line feed
-unfoldable pub log_line : ℕ → Held → List ℕ
+unfoldable pub log_line : ℕ → SessionState → List ℕ
 log_line key held =
     head_log key (length held.line) held.ending ++ fields_log held.fields ++ line_feed

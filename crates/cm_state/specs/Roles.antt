@@ -2,7 +2,7 @@
 use Rattle.std.specs.Prelude.{ℕ, ◌==◌, Bool, List, find, Option}
 use Rattle.cm_blocks.specs.declared.function.Role.{Role}
 use Rattle.cm_blocks.specs.declared.function.Role.TheVariants as roles
-use Rattle.cm_blocks.specs.Taken.{Taken}
+use Rattle.cm_blocks.specs.FieldView.{FieldView}
 
 -- the number of a role, by which two are compared
 abbrev pub role_number : Role → ℕ
@@ -20,5 +20,5 @@ abbrev pub is_role : Role → Role → Bool
 is_role wanted role = role_number role == role_number wanted
 
 -- the first field of a role
-abbrev pub field_of : Role → List Taken → Option Taken
+abbrev pub field_of : Role → List FieldView → Option FieldView
 field_of wanted fields = find (λ field. is_role wanted field.role) fields

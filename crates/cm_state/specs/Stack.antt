@@ -3,23 +3,23 @@ use Rattle.std.specs.Prelude.{◌≡◌, ℕ, ◌+◌, ◌-◌, ◌<◌, ◌≤�
 use Rattle.cm_blocks.specs.declared.field.TheConstants.{FIELD_LIMIT}
 use Rattle.cm_blocks.specs.Parse.{node_behind, parse_from, parse_of, place_behind, with_fields}
 use Rattle.cm_blocks.specs.Setting.{Setting}
-use Rattle.cm_blocks.specs.Taken.{Taken}
+use Rattle.cm_blocks.specs.FieldView.{FieldView}
 
 -- the fields before the first place that has none
-abbrev pub somes : List (Option Taken) → List Taken
+abbrev pub somes : List (Option FieldView) → List FieldView
 somes [] = []
 somes (None ∷ more) = []
 somes (Some field ∷ more) = field ∷ somes more
 
 -- the place, counted from this number on, of the first field that needs more than so many bytes
-abbrev pub first_needing : ℕ → ℕ → List (Option Taken) → ℕ
+abbrev pub first_needing : ℕ → ℕ → List (Option FieldView) → ℕ
 first_needing size number [] = number
 first_needing size number (None ∷ more) = number
 first_needing size number (Some field ∷ more) =
     if nat_le field.need size then first_needing size (number + 1) more else number
 
 -- the parse of a text begins with these fields, and goes on behind them at a node of the grammar and in the text
-pub record Starts (s : Setting) (start : ℕ) (text : List ℕ) (fields : List Taken) : Type 0 where
+pub record Starts (s : Setting) (start : ℕ) (text : List ℕ) (fields : List FieldView) : Type 0 where
   pub few : length fields ≤ FIELD_LIMIT
   pub node : node_behind start fields < length s.graph.nodes
   pub place : place_behind 0 fields ≤ length text

@@ -7,7 +7,7 @@ ghost use Rattle.cm_blocks.specs.Kept.{BeginsWith, kept};
 ghost use Rattle.cm_blocks.specs.Parse.{IsParse, open_at, parse_of};
 ghost use Rattle.cm_blocks.specs.Setting.{Setting};
 ghost use Rattle.cm_state.specs.Edit.{edit};
-ghost use Rattle.cm_state.specs.Held.{Held, IsReady, at_start, met_line};
+ghost use Rattle.cm_state.specs.SessionState.{SessionState, IsReady, at_start, met_line};
 ghost use Rattle.cm_state.specs.declared.prompt.Prompt.{Prompt};
 
 /// What a new session holds, and what one holds that begins a line at a node of a grammar, is the parse of its empty
@@ -26,7 +26,7 @@ pub fn a_start_is_ready()
 /// What a key makes of a line is a line, where the bytes kept for control-H are one, and the line is one with what a
 /// key puts in that completes it.
 pub fn the_edit_is_a_line()
-    ensures { (held : Held) → (key : ℕ) → (inserted : List ℕ) → IsLine (met_line held) → IfSome held.kept IsLine
+    ensures { (held : SessionState) → (key : ℕ) → (inserted : List ℕ) → IsLine (met_line held) → IfSome held.kept IsLine
         → IsLine (met_line held ++ inserted) → IsLine (edit (class_of key) key (met_line held) held.kept inserted) }
 {}
 

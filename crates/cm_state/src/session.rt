@@ -15,7 +15,7 @@ ghost use Rattle.cm_blocks.specs.Parse.{IsClosed, IsParse, open_at, parse_of};
 ghost use Rattle.cm_blocks.specs.Setting.{Setting, setting};
 ghost use Rattle.cm_state.specs.Edit.{before_fault, completed, edited};
 ghost use Rattle.cm_state.specs.Echo.{echo, echo_of, prompt_text};
-ghost use Rattle.cm_state.specs.Held.{Held, IsReady, at_start, met_line, parse_held, text_of};
+ghost use Rattle.cm_state.specs.SessionState.{SessionState, IsReady, at_start, met_line, parse_held, text_of};
 ghost use Rattle.cm_state.specs.Log.{log_line};
 ghost use Rattle.cm_state.specs.Roles.{field_of, is_role};
 ghost use Rattle.cm_state.specs.Stack.{Starts};
@@ -67,9 +67,9 @@ pub struct Session<R: Rules> {
 
 impl<R: Rules> Model for Session<R> {
     ghost use Rattle.cm_state.specs.Front.{front};
-    ghost use Rattle.cm_state.specs.Held.{Held};
+    ghost use Rattle.cm_state.specs.SessionState.{SessionState};
 
-    ghost Value = { Held };
+    ghost Value = { SessionState };
 
     ghost view = { λ s. record {
       node = s.node;

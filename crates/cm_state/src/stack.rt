@@ -18,10 +18,10 @@ pub(crate) struct Stack {
 impl Model for Stack {
     ghost use Rattle.std.specs.Prelude.{◌≡◌, ◌≤◌, List, Some, length, map};
     ghost use Rattle.cm_blocks.specs.declared.field.TheConstants.{FIELD_LIMIT};
-    ghost use Rattle.cm_blocks.specs.Taken.{Taken};
+    ghost use Rattle.cm_blocks.specs.FieldView.{FieldView};
     ghost use Rattle.cm_state.specs.Stack.{somes};
 
-    ghost Value = { List Taken };
+    ghost Value = { List FieldView };
 
     ghost view = { λ stack. somes stack.fields.items };
 

@@ -8,8 +8,8 @@ use Rattle.cm_fields.specs.declared.value.Value.{Value}
 use Rattle.cm_fields.specs.declared.value.Value.TheVariants as values
 use Rattle.cm_blocks.specs.declared.function.Role.{Role}
 use Rattle.cm_blocks.specs.declared.function.Role.TheVariants as roles
-use Rattle.cm_blocks.specs.Taken.{Taken}
-use Rattle.cm_state.specs.Held.{Held, text_of}
+use Rattle.cm_blocks.specs.FieldView.{FieldView}
+use Rattle.cm_state.specs.SessionState.{SessionState, text_of}
 use Rattle.cm_state.specs.Roles.{field_of}
 use Rattle.eg_lamps.specs.declared.lamps.Change.TheVariants.{Set, Dim, Note}
 use Rattle.eg_lamps.specs.declared.lamps.Command.{Command}
@@ -18,8 +18,8 @@ use Rattle.eg_lamps.specs.declared.command.TheConstants.{NO_ROOM, STEP}
 use Rattle.eg_lamps.specs.declared.grammar.TheConstants.{DIM, LIST, NAME, QUIT}
 
 -- what the first field of a role stands for
-abbrev pub value_of : Role → List Taken → Option Value
-value_of role fields = option_map (λ (field : Taken). field.value) (field_of role fields)
+abbrev pub value_of : Role → List FieldView → Option Value
+value_of role fields = option_map (λ (field : FieldView). field.value) (field_of role fields)
 
 -- the number of a room, or one that no room has
 abbrev pub room_of : Option Value → ℕ
@@ -54,7 +54,7 @@ by_verb (Some (values.Key entry code)) room value text = named code room value t
 by_verb verb room value text = commands.Nothing
 
 -- the field of role Verb names the command, that of role What its room, and that of role Value how much or what
-abbrev pub command_of : Held → Command
+abbrev pub command_of : SessionState → Command
 command_of held =
     by_verb (value_of roles.Verb held.fields) (room_of (value_of roles.What held.fields))
     (value_of roles.Value held.fields) (text_of held)

@@ -6,7 +6,7 @@ use Rattle.cm_state.specs.declared.turn.Turn.{Turn}
 use Rattle.cm_state.specs.declared.turn.Turn.TheVariants as turns
 use Rattle.cm_state.specs.Echo.{echo, prompt_text}
 use Rattle.cm_state.specs.Edit.{edited}
-use Rattle.cm_state.specs.Held.{at_start}
+use Rattle.cm_state.specs.SessionState.{at_start}
 use Rattle.cm_state.specs.Turn.{turn_of}
 use Rattle.eg_lamps.specs.declared.lamps.Command.{Command}
 use Rattle.eg_lamps.specs.declared.lamps.Command.TheVariants as commands

@@ -10,7 +10,7 @@ ghost use Rattle.cm_blocks.specs.Grammar.{hook_count};
 ghost use Rattle.cm_blocks.specs.Setting.{setting};
 ghost use Rattle.cm_state.specs.Echo.{echo, prompt_text};
 ghost use Rattle.cm_state.specs.Edit.{edited};
-ghost use Rattle.cm_state.specs.Held.{IsReady, at_start};
+ghost use Rattle.cm_state.specs.SessionState.{IsReady, at_start};
 ghost use Rattle.cm_state.specs.Turn.{put_of, turn_of};
 ghost use Rattle.eg_lamps.specs.Command.{command_of};
 ghost use Rattle.eg_lamps.specs.End.{CommandCut, EndCause, Ends, Took, TurnCut, number_of};

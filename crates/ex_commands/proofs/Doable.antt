@@ -9,7 +9,7 @@ use Rattle.cm_blocks.specs.Parse.{IsParse}
 use Rattle.cm_blocks.specs.declared.node.Block.{Block}
 use Rattle.cm_blocks.specs.declared.node.Node.{Node}
 use Rattle.cm_blocks.specs.Setting.{Setting, setting}
-use Rattle.cm_blocks.specs.Taken.{Taken}
+use Rattle.cm_blocks.specs.FieldView.{FieldView}
 use Rattle.cm_state.specs.Roles.{field_of}
 use Rattle.ex_grammar.specs.ExecRules.{exec_meanings}
 use Rattle.ex_grammar.specs.Graph.{exec_graph}
@@ -28,11 +28,11 @@ use Rattle.ex_commands.proofs.Trying.{IsTried}
 use Rattle.ex_commands.proofs.Verbs.{grown_target, made_target, names_grown, names_made, names_old, not_true, old_directory}
 
 -- a line of the grammar over the catalogue of a state
-abbrev line_over : State → List ℕ → List Taken → Line
+abbrev line_over : State → List ℕ → List FieldView → Line
 line_over state text fields = record { graph = exec_graph; catalogue = catalogue_of state; text = text; fields = fields }
 
 -- the premise of all that follows
-record IsTyped (state : State) (text : List ℕ) (fields : List Taken) : Type 0 where
+record IsTyped (state : State) (text : List ℕ) (fields : List FieldView) : Type 0 where
   lawful : IsCatalogue (catalogue_of state)
   ends : Ending
   parse : IsParse (setting exec_graph (catalogue_of state) exec_meanings) COMMANDS text fields ends
@@ -44,34 +44,34 @@ on_may state command None may = tt
 on_may state command (Some it) may = may it refl
 
 -- a field that is there, of a role
-of_field : {A : Type 0} (field : Option Taken) (mean : Taken → Option A) (it : A) → option_and_then mean field ≡ Some it
-    → (found : Taken) × (field ≡ Some found) × (mean found ≡ Some it)
+of_field : {A : Type 0} (field : Option FieldView) (mean : FieldView → Option A) (it : A) → option_and_then mean field ≡ Some it
+    → (found : FieldView) × (field ≡ Some found) × (mean found ≡ Some it)
 of_field None mean it is = cc
 of_field (Some found) mean it is = (found, refl, is)
 
 -- the files of a line are in a directory that is there
-files_there : (state : State) (text : List ℕ) (fields : List Taken) → IsTyped state text fields → (place : Place)
+files_there : (state : State) (text : List ℕ) (fields : List FieldView) → IsTyped state text fields → (place : Place)
     → place_in (line_over state text fields) (field_of roles.Files fields) ≡ Some place → IsSource place state
 files_there state text fields typed place is =
     let it = of_field (field_of roles.Files fields) _ place is in
     let read = files_read (catalogue_of state) text fields typed.ends typed.parse it.0 it.1 in
     place_there state _ _ it.0.value place (field_meant (catalogue_of state) typed.lawful text it.0 reads_files files_names read) it.2
 
-source_there : (state : State) (text : List ℕ) (fields : List Taken) → IsTyped state text fields → (field : Taken) (place : Place)
+source_there : (state : State) (text : List ℕ) (fields : List FieldView) → IsTyped state text fields → (field : FieldView) (place : Place)
     → field_of roles.Source fields ≡ Some field → place_in (line_over state text fields) (Some field) ≡ Some place → IsSource place state
 source_there state text fields typed field place found is =
     let read = source_read (catalogue_of state) text fields typed.ends typed.parse field found in
     place_there state _ _ field.value place (field_meant (catalogue_of state) typed.lawful text field reads_source source_names read) is
 
 -- so are those of the source
-sources_there : (state : State) (text : List ℕ) (fields : List Taken) → IsTyped state text fields → (place : Place)
+sources_there : (state : State) (text : List ℕ) (fields : List FieldView) → IsTyped state text fields → (place : Place)
     → place_in (line_over state text fields) (field_of roles.Source fields) ≡ Some place → IsSource place state
 sources_there state text fields typed place is =
     let it = of_field (field_of roles.Source fields) _ place is in
     source_there state text fields typed it.0 place it.1 it.2
 
 -- behind COPY and RENAME files can be made of the target
-target_there : (state : State) (text : List ℕ) (fields : List Taken) → IsTyped state text fields → (verb : Taken)
+target_there : (state : State) (text : List ℕ) (fields : List FieldView) → IsTyped state text fields → (verb : FieldView)
     → field_of roles.Verb fields ≡ Some verb → names_made (keyword_code verb.value) ≡ true → (place : Place)
     → place_in (line_over state text fields) (field_of roles.Target fields) ≡ Some place → IsTarget place state.directories
 target_there state text fields typed verb verb_is made place is =
@@ -80,7 +80,7 @@ target_there state text fields typed verb verb_is made place is =
     field_target state typed.lawful text it.0 (flags_of exec_graph it.0) place read it.2
 
 -- behind APPEND it is one file
-one_there : (state : State) (text : List ℕ) (fields : List Taken) → IsTyped state text fields → (verb : Taken)
+one_there : (state : State) (text : List ℕ) (fields : List FieldView) → IsTyped state text fields → (verb : FieldView)
     → field_of roles.Verb fields ≡ Some verb → names_grown (keyword_code verb.value) ≡ true → (place : Place)
     → place_in (line_over state text fields) (field_of roles.Target fields) ≡ Some place
     → IsOneFile place state.directories
@@ -90,7 +90,7 @@ one_there state text fields typed verb verb_is grown place is =
     field_one state typed.lawful text it.0 (flags_of exec_graph it.0) place read it.2
 
 -- the directory of BUILD has a name that it may have
-build_may : (state : State) (text : List ℕ) (fields : List Taken) → IsTyped state text fields → (name : List ℕ)
+build_may : (state : State) (text : List ℕ) (fields : List FieldView) → IsTyped state text fields → (name : List ℕ)
     → directory_in (line_over state text fields) (field_of roles.Files fields) ≡ Some name → is_directory_name name ≡ true
 build_may state text fields typed name is =
     let it = of_field (field_of roles.Files fields) _ name is in
@@ -98,7 +98,7 @@ build_may state text fields typed name is =
     directory_formed state typed.lawful _ it.0.value name (field_meant (catalogue_of state) typed.lawful text it.0 reads_files files_names read) it.2
 
 -- a field is of one block
-same_block : (s : Setting) (text : List ℕ) (field : Taken) (first second : IsTried s text field) → first.block ≡ second.block
+same_block : (s : Setting) (text : List ℕ) (field : FieldView) (first second : IsTried s text field) → first.block ≡ second.block
 same_block s text field first second =
     let node : Some first.node ≡ Some second.node = sym first.node_is ∙ second.node_is in
     let same : first.node ≡ second.node = cc in
@@ -107,7 +107,7 @@ same_block s text field first second =
     cc
 
 -- that of CONNECT and EXPUNGE is there
-old_may : (state : State) (text : List ℕ) (fields : List Taken) → IsTyped state text fields → (verb : Taken)
+old_may : (state : State) (text : List ℕ) (fields : List FieldView) → IsTyped state text fields → (verb : FieldView)
     → field_of roles.Verb fields ≡ Some verb → names_old (keyword_code verb.value) ≡ true → (name : List ℕ)
     → directory_in (line_over state text fields) (field_of roles.Files fields) ≡ Some name → has_directory name state.directories ≡ true
 old_may state text fields typed verb verb_is old name is =
@@ -132,13 +132,13 @@ between_may state command (Some source) None may = tt
 between_may state command (Some source) (Some target) may = may source target refl refl
 
 -- COPY
-copies_may : (state : State) (text : List ℕ) (fields : List Taken) → IsTyped state text fields → (verb : Taken)
+copies_may : (state : State) (text : List ℕ) (fields : List FieldView) → IsTyped state text fields → (verb : FieldView)
     → field_of roles.Verb fields ≡ Some verb → names_made (keyword_code verb.value) ≡ true
     → MayAct (copies (line_over state text fields) (field_of roles.Source fields)
     (place_in (line_over state text fields) (field_of roles.Target fields))) state
 copies_may state text fields typed verb verb_is made = by (field_of roles.Source fields) refl
   where
-    by : (from : Option Taken) → field_of roles.Source fields ≡ from
+    by : (from : Option FieldView) → field_of roles.Source fields ≡ from
         → MayAct (copies (line_over state text fields) from (place_in (line_over state text fields) (field_of roles.Target fields))) state
     by None found = tt
     by (Some from) found =
@@ -153,7 +153,7 @@ copies_may state text fields typed verb verb_is made = by (field_of roles.Source
         )))
 
 -- RENAME
-renames_may : (state : State) (text : List ℕ) (fields : List Taken) → IsTyped state text fields → (verb : Taken)
+renames_may : (state : State) (text : List ℕ) (fields : List FieldView) → IsTyped state text fields → (verb : FieldView)
     → field_of roles.Verb fields ≡ Some verb → names_made (keyword_code verb.value) ≡ true
     → MayAct (between commands.Rename (place_in (line_over state text fields) (field_of roles.Source fields))
     (place_in (line_over state text fields) (field_of roles.Target fields))) state
@@ -165,7 +165,7 @@ renames_may state text fields typed verb verb_is made =
     ))
 
 -- APPEND
-appends_may : (state : State) (text : List ℕ) (fields : List Taken) → IsTyped state text fields → (verb : Taken)
+appends_may : (state : State) (text : List ℕ) (fields : List FieldView) → IsTyped state text fields → (verb : FieldView)
     → field_of roles.Verb fields ≡ Some verb → names_grown (keyword_code verb.value) ≡ true
     → MayAct (between commands.Append (place_in (line_over state text fields) (field_of roles.Source fields))
     (place_in (line_over state text fields) (field_of roles.Target fields))) state
@@ -191,7 +191,7 @@ there_may state None may = tt
 there_may state (Some name) may = may name refl
 
 -- the command of a keyword
-named_may : (state : State) (text : List ℕ) (fields : List Taken) → IsTyped state text fields → (verb : Taken)
+named_may : (state : State) (text : List ℕ) (fields : List FieldView) → IsTyped state text fields → (verb : FieldView)
     → field_of roles.Verb fields ≡ Some verb → MayAct (named (line_over state text fields) (keyword_code verb.value)) state
 named_may state text fields typed verb verb_is =
     choose APPEND _ _ (λ is. appends_may state text fields typed verb verb_is is)
@@ -215,13 +215,13 @@ named_may state text fields typed verb verb_is =
     choose wanted first later may rest =
         holds_of_choice (λ (command : Command). MayAct command state) (keyword_code verb.value == wanted) first later may (λ other. rest)
 
-pub line_may_act : (state : State) (text : List ℕ) (fields : List Taken) (ends : Ending) → IsCatalogue (catalogue_of state)
+pub line_may_act : (state : State) (text : List ℕ) (fields : List FieldView) (ends : Ending) → IsCatalogue (catalogue_of state)
     → IsParse (setting exec_graph (catalogue_of state) exec_meanings) COMMANDS text fields ends
     → MayAct (command_of (line_over state text fields)) state
 unfolding command_of
 line_may_act state text fields ends lawful parse = by (field_of roles.Verb fields) refl
   where
-    by : (verb : Option Taken) → field_of roles.Verb fields ≡ verb
-        → MayAct (option_map_or (λ (verb : Taken). named (line_over state text fields) (keyword_code verb.value)) verb commands.Empty) state
+    by : (verb : Option FieldView) → field_of roles.Verb fields ≡ verb
+        → MayAct (option_map_or (λ (verb : FieldView). named (line_over state text fields) (keyword_code verb.value)) verb commands.Empty) state
     by None is = tt
     by (Some verb) is = named_may state text fields (record { lawful = lawful; ends = ends; parse = parse }) verb is

@@ -26,7 +26,7 @@ use Rattle.cm_blocks.specs.declared.node.Block.{Block}
 use Rattle.cm_blocks.specs.declared.node.Node.{Node}
 use Rattle.cm_blocks.specs.Parse.{IsParse}
 use Rattle.cm_blocks.specs.Setting.{Setting, setting}
-use Rattle.cm_blocks.specs.Taken.{Taken}
+use Rattle.cm_blocks.specs.FieldView.{FieldView}
 use Rattle.cm_blocks.specs.Trial.{trial}
 use Rattle.cm_state.specs.Roles.{field_of, is_role}
 use Rattle.ex_grammar.specs.ExecRules.{exec_meanings, logical_verdict, rule_verdict}
@@ -103,7 +103,7 @@ all_pass_at test (first ∷ more) (suc place) it passes is =
     all_pass_at test more place it (and_parts (test first) (list_all test more) passes).1 is
 
 -- a field's block fits its role
-pub field_fits : (c : Catalogue) (text : List ℕ) (field : Taken)
+pub field_fits : (c : Catalogue) (text : List ℕ) (field : FieldView)
     → (tried : IsTried (setting exec_graph c exec_meanings) text field) → fits_role field.role tried.block.function ≡ true
 field_fits c text field tried =
     let node = all_pass_at node_fits exec_graph.nodes field.node tried.node nodes_fit tried.node_is in
@@ -132,39 +132,39 @@ value_fits roles.Value function same fits = fits
 value_fits role function same fits = cc
 
 -- the fields of a parse by their roles, and what their blocks read
-pub record IsRead (c : Catalogue) (text : List ℕ) (reads : Function → Bool) (field : Taken) : Type 0 where
+pub record IsRead (c : Catalogue) (text : List ℕ) (reads : Function → Bool) (field : FieldView) : Type 0 where
   pub tried : IsTried (setting exec_graph c exec_meanings) text field
   pub by_function : reads tried.block.function ≡ true
 
-read_by : (c : Catalogue) (text : List ℕ) (fields : List Taken) (ends : Ending) (role : Role) (reads : Function → Bool)
+read_by : (c : Catalogue) (text : List ℕ) (fields : List FieldView) (ends : Ending) (role : Role) (reads : Function → Bool)
     → ((other : Role) (function : Function) → is_role role other ≡ true → fits_role other function ≡ true → reads function ≡ true)
     → IsParse (setting exec_graph c exec_meanings) COMMANDS text fields ends
-    → (field : Taken) → field_of role fields ≡ Some field → IsRead c text reads field
+    → (field : FieldView) → field_of role fields ≡ Some field → IsRead c text reads field
 read_by c text fields ends role reads fitting parse field is =
-    let found = first_tried (setting exec_graph c exec_meanings) text COMMANDS 0 (λ (field : Taken). is_role role field.role) fields field parse.follow is in
+    let found = first_tried (setting exec_graph c exec_meanings) text COMMANDS 0 (λ (field : FieldView). is_role role field.role) fields field parse.follow is in
     record {
       tried = found.0;
       by_function = fitting field.role found.0.block.function found.1 (field_fits c text field found.0);
     }
 
-pub source_read : (c : Catalogue) (text : List ℕ) (fields : List Taken) (ends : Ending)
+pub source_read : (c : Catalogue) (text : List ℕ) (fields : List FieldView) (ends : Ending)
     → IsParse (setting exec_graph c exec_meanings) COMMANDS text fields ends
-    → (field : Taken) → field_of roles.Source fields ≡ Some field → IsRead c text reads_source field
+    → (field : FieldView) → field_of roles.Source fields ≡ Some field → IsRead c text reads_source field
 source_read c text fields ends = read_by c text fields ends roles.Source reads_source source_fits
 
-pub target_read : (c : Catalogue) (text : List ℕ) (fields : List Taken) (ends : Ending)
+pub target_read : (c : Catalogue) (text : List ℕ) (fields : List FieldView) (ends : Ending)
     → IsParse (setting exec_graph c exec_meanings) COMMANDS text fields ends
-    → (field : Taken) → field_of roles.Target fields ≡ Some field → IsRead c text reads_target field
+    → (field : FieldView) → field_of roles.Target fields ≡ Some field → IsRead c text reads_target field
 target_read c text fields ends = read_by c text fields ends roles.Target reads_target target_fits
 
-pub files_read : (c : Catalogue) (text : List ℕ) (fields : List Taken) (ends : Ending)
+pub files_read : (c : Catalogue) (text : List ℕ) (fields : List FieldView) (ends : Ending)
     → IsParse (setting exec_graph c exec_meanings) COMMANDS text fields ends
-    → (field : Taken) → field_of roles.Files fields ≡ Some field → IsRead c text reads_files field
+    → (field : FieldView) → field_of roles.Files fields ≡ Some field → IsRead c text reads_files field
 files_read c text fields ends = read_by c text fields ends roles.Files reads_files files_fits
 
-pub value_read : (c : Catalogue) (text : List ℕ) (fields : List Taken) (ends : Ending)
+pub value_read : (c : Catalogue) (text : List ℕ) (fields : List FieldView) (ends : Ending)
     → IsParse (setting exec_graph c exec_meanings) COMMANDS text fields ends
-    → (field : Taken) → field_of roles.Value fields ≡ Some field → IsRead c text reads_value field
+    → (field : FieldView) → field_of roles.Value fields ≡ Some field → IsRead c text reads_value field
 value_read c text fields ends = read_by c text fields ends roles.Value reads_value value_fits
 
 -- what such a function accepts has short parts
@@ -226,13 +226,13 @@ value_size c (Hook id) flags rest at value looked end reads is =
 value_size c function flags rest at value looked end reads is = cc
 
 -- where a field of that size stands
-place_short : (test : Bool) (default : Option (List ℕ)) (text : List ℕ) (field : Taken) (said : List ℕ) (at end : ℕ)
+place_short : (test : Bool) (default : Option (List ℕ)) (text : List ℕ) (field : FieldView) (said : List ℕ) (at end : ℕ)
     → StandsIn test default text field said at end → end ≤ at + NAME_LIMIT → field.end ≤ field.start + NAME_LIMIT
 place_short false default text field said at end stands short = (let first = stands.1 in let last = stands.2 in omega arith)
 place_short true default text field said at end stands short = (let last = stands.3 in omega arith)
 
 -- of all that is read as a name
-field_said : (c : Catalogue) (text : List ℕ) (field : Taken) (reads : Function → Bool)
+field_said : (c : Catalogue) (text : List ℕ) (field : FieldView) (reads : Function → Bool)
     → ((function : Function) → reads function ≡ true → reads_places function ≡ true)
     → IsRead c text reads field → IsSaid field.value
 field_said c text field reads named read =
@@ -240,7 +240,7 @@ field_said c text field reads named read =
     trial_said (setting exec_graph c exec_meanings) tried.block.function tried.block.flags (drop tried.at tried.said) tried.at field.value
     tried.looked tried.end (named tried.block.function read.by_function) tried.accepts
 
-value_short : (c : Catalogue) (text : List ℕ) (field : Taken) → IsRead c text reads_value field → field.end ≤ field.start + NAME_LIMIT
+value_short : (c : Catalogue) (text : List ℕ) (field : FieldView) → IsRead c text reads_value field → field.end ≤ field.start + NAME_LIMIT
 value_short c text field read =
     let tried = read.tried in
     place_short field.defaulted tried.node.default text field tried.said tried.at tried.end tried.stands
@@ -264,25 +264,25 @@ files_names Directory reads = refl
 files_names function reads = cc
 
 -- of a field that may not be there
-said_in : (fields : List Taken) (role : Role) → ((field : Taken) → field_of role fields ≡ Some field → IsSaid field.value)
+said_in : (fields : List FieldView) (role : Role) → ((field : FieldView) → field_of role fields ≡ Some field → IsSaid field.value)
     → IsSaidIn (field_of role fields)
 said_in fields role said = by (field_of role fields) refl
   where
-    by : (found : Option Taken) → field_of role fields ≡ found → IsSaidIn found
+    by : (found : Option FieldView) → field_of role fields ≡ found → IsSaidIn found
     by None found = tt
     by (Some field) found = said field found
 
-name_in : (fields : List Taken) (role : Role)
-    → ((field : Taken) → field_of role fields ≡ Some field → field.end ≤ field.start + NAME_LIMIT)
+name_in : (fields : List FieldView) (role : Role)
+    → ((field : FieldView) → field_of role fields ≡ Some field → field.end ≤ field.start + NAME_LIMIT)
     → IsNameIn (field_of role fields)
 name_in fields role said = by (field_of role fields) refl
   where
-    by : (found : Option Taken) → field_of role fields ≡ found → IsNameIn found
+    by : (found : Option FieldView) → field_of role fields ≡ found → IsNameIn found
     by None found = tt
     by (Some field) found = said field found
 
 -- what is read as a name in a line of the grammar is no longer than one
-pub names_are_short : (c : Catalogue) (text : List ℕ) (fields : List Taken) (ends : Ending)
+pub names_are_short : (c : Catalogue) (text : List ℕ) (fields : List FieldView) (ends : Ending)
     → IsParse (setting exec_graph c exec_meanings) COMMANDS text fields ends → HasShortNames fields
 names_are_short c text fields ends parse = record {
   source = said_in fields roles.Source (λ field is. field_said c text field reads_source source_names (source_read c text fields ends parse field is));

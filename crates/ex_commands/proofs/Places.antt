@@ -13,7 +13,7 @@ use Rattle.cm_files.specs.Spec.{are_parts, directory_read, is_path, is_pattern, 
 use Rattle.cm_files.proofs.Fronts.{part_more}
 use Rattle.cm_files.proofs.Typed.{read_of}
 use Rattle.cm_blocks.specs.Setting.{Setting}
-use Rattle.cm_blocks.specs.Taken.{Taken}
+use Rattle.cm_blocks.specs.FieldView.{FieldView}
 use Rattle.ex_commands.specs.Command.{said_of}
 use Rattle.ex_commands.proofs.Trying.{IsTried, StandsIn}
 
@@ -153,7 +153,7 @@ moved_part whole at size place order within =
     ∙ take-take (place.end - place.start) (size - place.start) (drop (at + place.start) whole) (omega arith))
 
 -- a part of a field, as it is read and as it is said
-pub said_part : (s : Setting) (text : List ℕ) (field : Taken) (tried : IsTried s text field) (size : ℕ) (place : Span)
+pub said_part : (s : Setting) (text : List ℕ) (field : FieldView) (tried : IsTried s text field) (size : ℕ) (place : Span)
     → place.start ≤ place.end → place.end ≤ size → size < length (drop tried.at tried.said)
     → part (said_of s.graph text field) (moved tried.at place) ≡ part (take size (drop tried.at tried.said)) place
 said_part s text field tried size place order within inside = by field.defaulted tried.stands

@@ -27,7 +27,7 @@ use Rattle.cm_files.specs.Spec.{is_long, part, read_spec}
 use Rattle.cm_blocks.specs.declared.function.Function.{Function}
 use Rattle.cm_blocks.specs.declared.function.Function.TheVariants as functions
 use Rattle.cm_blocks.specs.Setting.{setting}
-use Rattle.cm_blocks.specs.Taken.{Taken}
+use Rattle.cm_blocks.specs.FieldView.{FieldView}
 use Rattle.cm_blocks.specs.Trial.{trial}
 use Rattle.ex_grammar.specs.ExecRules.{exec_meanings}
 use Rattle.ex_grammar.specs.Graph.{exec_graph}
@@ -52,7 +52,7 @@ run_text is_part rest = take (prefix_len is_part rest) rest
 abbrev pub SaysParts : List ℕ → ℕ → List ℕ → Type 0
 SaysParts text at run = (place : Span) → place.start ≤ place.end → place.end ≤ length run → part text (moved at place) ≡ part run place
 
-run_says : (c : Catalogue) (text : List ℕ) (field : Taken) (tried : IsTried (setting exec_graph c exec_meanings) text field)
+run_says : (c : Catalogue) (text : List ℕ) (field : FieldView) (tried : IsTried (setting exec_graph c exec_meanings) text field)
     → (prefix_len is_file (drop tried.at tried.said) == length (drop tried.at tried.said)) ≡ false
     → SaysParts (said_of exec_graph text field) tried.at (run_text is_file (drop tried.at tried.said))
 run_says c text field tried ends place order within =
@@ -132,7 +132,7 @@ trial_meant c is_catalogue functions.AnyFile flags rest at text value looked end
     file_meant c is_catalogue Any flags text (run_text is_file rest) at value run.decided
 trial_meant c is_catalogue function flags rest at text value looked end reads says is = cc
 
-pub field_meant : (c : Catalogue) → IsCatalogue c → (text : List ℕ) (field : Taken) (reads : Function → Bool)
+pub field_meant : (c : Catalogue) → IsCatalogue c → (text : List ℕ) (field : FieldView) (reads : Function → Bool)
     → ((function : Function) → reads function ≡ true → reads_places function ≡ true)
     → IsRead c text reads field → IsMeant c (said_of exec_graph text field) field.value
 field_meant c is_catalogue text field reads named read =
@@ -331,7 +331,7 @@ trial_target state is_catalogue functions.OutFile flags own rest at text value l
     file_target state is_catalogue flags own text (run_text is_file rest) at value place run.decided (says run.ends) placed
 trial_target state is_catalogue function flags own rest at text value looked end place reads says is placed = cc
 
-pub field_target : (state : State) → IsCatalogue (catalogue_of state) → (text : List ℕ) (field : Taken) (own : Flags) (place : Place)
+pub field_target : (state : State) → IsCatalogue (catalogue_of state) → (text : List ℕ) (field : FieldView) (own : Flags) (place : Place)
     → IsOf (catalogue_of state) text is_made field
     → place_by (catalogue_of state) own (said_of exec_graph text field) field.value ≡ Some place → IsTarget place state.directories
 field_target state is_catalogue text field own place read placed =
@@ -430,7 +430,7 @@ trial_one state is_catalogue functions.AnyFile flags own rest at text value look
     placed
 trial_one state is_catalogue function flags own rest at text value looked end place reads says is placed = cc
 
-pub field_one : (state : State) → IsCatalogue (catalogue_of state) → (text : List ℕ) (field : Taken) (own : Flags)
+pub field_one : (state : State) → IsCatalogue (catalogue_of state) → (text : List ℕ) (field : FieldView) (own : Flags)
     (place : Place) → IsOf (catalogue_of state) text is_one field
     → place_by (catalogue_of state) own (said_of exec_graph text field) field.value ≡ Some place
     → IsOneFile place state.directories

@@ -17,19 +17,19 @@ use Rattle.cm_blocks.specs.declared.node.Node.{Node}
 use Rattle.cm_blocks.specs.Chain.{at_node, by_default, chain_at, default_place, default_rest, defaulted, is_confirm, is_line_end, on_default, on_text, past_skip, typed, walk}
 use Rattle.cm_blocks.specs.Parse.{Follow}
 use Rattle.cm_blocks.specs.Setting.{Setting}
-use Rattle.cm_blocks.specs.Taken.{Taken}
+use Rattle.cm_blocks.specs.FieldView.{FieldView}
 use Rattle.cm_blocks.specs.Trial.{next_of, trial}
 use Rattle.cm_blocks.proofs.Keeping.{walk_step}
 
 -- where a field stands whose trial was of a text from a place on: in the line, or in the default of its node, which
 -- was finished
-abbrev pub StandsIn : Bool → Option (List ℕ) → List ℕ → Taken → List ℕ → ℕ → ℕ → Type 0
+abbrev pub StandsIn : Bool → Option (List ℕ) → List ℕ → FieldView → List ℕ → ℕ → ℕ → Type 0
 StandsIn false default text field said at end = (said ≡ text) × (at ≡ field.start) × (end ≡ field.end)
 StandsIn true default text field said at end =
     (word : List ℕ) × (default ≡ Some word) × (said ≡ finished word) × (field.end ≡ field.start)
 
 -- the block of a node that took a field, and what its trial accepted
-pub record IsTried (s : Setting) (text : List ℕ) (field : Taken) : Type 0 where
+pub record IsTried (s : Setting) (text : List ℕ) (field : FieldView) : Type 0 where
   pub node : Node
   pub block : Block
   pub said : List ℕ
@@ -100,7 +100,7 @@ walk_found s rest at number looked code (block ∷ blocks) taken role next value
         let never : Wants number ≡ Takes taken role next value seen end = sym first ∙ is in cc
 
 -- a field of a chain, by what its walk took
-record IsField (number : ℕ) (defaulted : Bool) (walked : Walk) (start : ℕ) (field : Taken) : Type 0 where
+record IsField (number : ℕ) (defaulted : Bool) (walked : Walk) (start : ℕ) (field : FieldView) : Type 0 where
   taken : ℕ
   role : Role
   next : ℕ
@@ -116,12 +116,12 @@ record IsField (number : ℕ) (defaulted : Bool) (walked : Walk) (start : ℕ) (
   role_is : field.role ≡ role
   next_is : field.next ≡ next
 
-field_of_choice : (test : Bool) (place : ℕ) (taken field : Taken)
+field_of_choice : (test : Bool) (place : ℕ) (taken field : FieldView)
     → (if test then chain.Done place else chain.Field taken) ≡ chain.Field field → taken ≡ field
 field_of_choice true place taken field is = cc
 field_of_choice false place taken field is = cc
 
-typed_field : (number start : ℕ) (walked : Walk) (field : Taken) → typed number start walked ≡ chain.Field field
+typed_field : (number start : ℕ) (walked : Walk) (field : FieldView) → typed number start walked ≡ chain.Field field
     → (it : IsField number false walked start field) × (field.end ≡ it.end)
 typed_field number start (Takes block role next value looked end) field is =
     let same = field_of_choice (is_confirm value) end _ field is in (
@@ -133,20 +133,20 @@ typed_field number start (Takes block role next value looked end) field is =
         looked = looked;
         end = end;
         is = refl;
-        node_is = sym (ap (λ (taken : Taken). taken.node) same);
-        block_is = sym (ap (λ (taken : Taken). taken.block) same);
-        value_is = sym (ap (λ (taken : Taken). taken.value) same);
-        start_is = sym (ap (λ (taken : Taken). taken.start) same);
-        defaulted_is = sym (ap (λ (taken : Taken). taken.defaulted) same);
-        role_is = sym (ap (λ (taken : Taken). taken.role) same);
-        next_is = sym (ap (λ (taken : Taken). taken.next) same);
+        node_is = sym (ap (λ (taken : FieldView). taken.node) same);
+        block_is = sym (ap (λ (taken : FieldView). taken.block) same);
+        value_is = sym (ap (λ (taken : FieldView). taken.value) same);
+        start_is = sym (ap (λ (taken : FieldView). taken.start) same);
+        defaulted_is = sym (ap (λ (taken : FieldView). taken.defaulted) same);
+        role_is = sym (ap (λ (taken : FieldView). taken.role) same);
+        next_is = sym (ap (λ (taken : FieldView). taken.next) same);
       },
-      sym (ap (λ (taken : Taken). taken.end) same),
+      sym (ap (λ (taken : FieldView). taken.end) same),
     )
 typed_field number start (Wants block) field is = cc
 typed_field number start (Fails code) field is = cc
 
-default_field : (number start : ℕ) (walked : Walk) (field : Taken) → defaulted number start walked ≡ chain.Field field
+default_field : (number start : ℕ) (walked : Walk) (field : FieldView) → defaulted number start walked ≡ chain.Field field
     → (it : IsField number true walked start field) × (field.end ≡ start)
 default_field number start (Takes block role next value looked end) field is =
     let same = field_of_choice (is_confirm value) start _ field is in (
@@ -158,26 +158,26 @@ default_field number start (Takes block role next value looked end) field is =
         looked = looked;
         end = end;
         is = refl;
-        node_is = sym (ap (λ (taken : Taken). taken.node) same);
-        block_is = sym (ap (λ (taken : Taken). taken.block) same);
-        value_is = sym (ap (λ (taken : Taken). taken.value) same);
-        start_is = sym (ap (λ (taken : Taken). taken.start) same);
-        defaulted_is = sym (ap (λ (taken : Taken). taken.defaulted) same);
-        role_is = sym (ap (λ (taken : Taken). taken.role) same);
-        next_is = sym (ap (λ (taken : Taken). taken.next) same);
+        node_is = sym (ap (λ (taken : FieldView). taken.node) same);
+        block_is = sym (ap (λ (taken : FieldView). taken.block) same);
+        value_is = sym (ap (λ (taken : FieldView). taken.value) same);
+        start_is = sym (ap (λ (taken : FieldView). taken.start) same);
+        defaulted_is = sym (ap (λ (taken : FieldView). taken.defaulted) same);
+        role_is = sym (ap (λ (taken : FieldView). taken.role) same);
+        next_is = sym (ap (λ (taken : FieldView). taken.next) same);
       },
-      sym (ap (λ (taken : Taken). taken.end) same),
+      sym (ap (λ (taken : FieldView). taken.end) same),
     )
 default_field number start (Wants block) field is = cc
 default_field number start (Fails code) field is = cc
 
 -- a field is one of the node that is sought
-record IsTriedAt (s : Setting) (text : List ℕ) (number : ℕ) (field : Taken) : Type 0 where
+record IsTriedAt (s : Setting) (text : List ℕ) (number : ℕ) (field : FieldView) : Type 0 where
   tried : IsTried s text field
   number_is : field.node ≡ number
 
 -- what a walk over a text took is tried there
-tried : (s : Setting) (text : List ℕ) (number : ℕ) (node : Node) (said : List ℕ) (at start : ℕ) (defaulted : Bool) (field : Taken)
+tried : (s : Setting) (text : List ℕ) (number : ℕ) (node : Node) (said : List ℕ) (at start : ℕ) (defaulted : Bool) (field : FieldView)
     → slice_get s.graph.nodes number ≡ Some node
     → (it : IsField number defaulted (walk s (drop at said) at 0 0 NotConfirmed node.chain) start field)
     → StandsIn defaulted node.default text field said at it.end → IsTriedAt s text number field
@@ -200,14 +200,14 @@ tried s text number node said at start defaulted field node_is it stands =
     } in
     record { tried = trial; number_is = it.node_is }
 
-text_tried : (s : Setting) (number : ℕ) (node : Node) (text : List ℕ) (start : ℕ) (field : Taken)
+text_tried : (s : Setting) (number : ℕ) (node : Node) (text : List ℕ) (start : ℕ) (field : FieldView)
     → slice_get s.graph.nodes number ≡ Some node → (on_text s number node (drop start text) start).chain ≡ chain.Field field
     → IsTriedAt s text number field
 text_tried s number node text start field node_is is =
     let it = typed_field number start (walk s (drop start text) start 0 0 NotConfirmed node.chain) field is in
     tried s text number node text start start false field node_is it.0 (refl, sym it.0.start_is, sym it.1)
 
-default_tried : (s : Setting) (number : ℕ) (node : Node) (text word : List ℕ) (start : ℕ) (field : Taken)
+default_tried : (s : Setting) (number : ℕ) (node : Node) (text word : List ℕ) (start : ℕ) (field : FieldView)
     → slice_get s.graph.nodes number ≡ Some node → node.default ≡ Some word
     → (on_default s number node start word).chain ≡ chain.Field field → IsTriedAt s text number field
 default_tried s number node text word start field node_is default_is is =
@@ -216,7 +216,7 @@ default_tried s number node text word start field node_is default_is is =
     tried s text number node (finished word) (default_place node.raw word) start true field node_is it.0
     (word, default_is, refl, it.1 ∙ sym it.0.start_is)
 
-choice_tried : (s : Setting) (number : ℕ) (node : Node) (text : List ℕ) (start : ℕ) (default : Option (List ℕ)) (field : Taken)
+choice_tried : (s : Setting) (number : ℕ) (node : Node) (text : List ℕ) (start : ℕ) (default : Option (List ℕ)) (field : FieldView)
     → slice_get s.graph.nodes number ≡ Some node → node.default ≡ default
     → (by_default s number node (drop start text) start default).chain ≡ chain.Field field → IsTriedAt s text number field
 choice_tried s number node text start None field node_is default_is is = text_tried s number node text start field node_is is
@@ -228,7 +228,7 @@ choice_tried s number node text start (Some word) field node_is default_is is = 
     by true is = default_tried s number node text word start field node_is default_is is
     by false is = text_tried s number node text start field node_is is
 
-skip_tried : (s : Setting) (number : ℕ) (node : Node) (text : List ℕ) (at : ℕ) (found : Option ℕ) (field : Taken)
+skip_tried : (s : Setting) (number : ℕ) (node : Node) (text : List ℕ) (at : ℕ) (found : Option ℕ) (field : FieldView)
     → slice_get s.graph.nodes number ≡ Some node → (past_skip s number node text at found).chain ≡ chain.Field field
     → IsTriedAt s text number field
 skip_tried s number node text at None field node_is is = cc
@@ -236,7 +236,7 @@ skip_tried s number node text at (Some start) field node_is is =
     choice_tried s number node text start node.default field node_is refl is
 
 -- a field that a chain takes
-chain_tried_at : (s : Setting) (number : ℕ) (text : List ℕ) (at : ℕ) (field : Taken)
+chain_tried_at : (s : Setting) (number : ℕ) (text : List ℕ) (at : ℕ) (field : FieldView)
     → (chain_at s number text at).chain ≡ chain.Field field → IsTriedAt s text number field
 unfolding chain_at
 chain_tried_at s number text at field is = by (slice_get s.graph.nodes number) refl is
@@ -246,16 +246,16 @@ chain_tried_at s number text at field is = by (slice_get s.graph.nodes number) r
     by None found is = cc
     by (Some node) found is = skip_tried s number node text at (skip node.raw text at) field found is
 
-pub chain_tried : (s : Setting) (number : ℕ) (text : List ℕ) (at : ℕ) (field : Taken)
+pub chain_tried : (s : Setting) (number : ℕ) (text : List ℕ) (at : ℕ) (field : FieldView)
     → (chain_at s number text at).chain ≡ chain.Field field → IsTried s text field
 chain_tried s number text at field is = (chain_tried_at s number text at field is).tried
 
-pub chain_number : (s : Setting) (number : ℕ) (text : List ℕ) (at : ℕ) (field : Taken)
+pub chain_number : (s : Setting) (number : ℕ) (text : List ℕ) (at : ℕ) (field : FieldView)
     → (chain_at s number text at).chain ≡ chain.Field field → field.node ≡ number
 chain_number s number text at field is = (chain_tried_at s number text at field is).number_is
 
 -- the first field that passes a test
-pub first_tried : (s : Setting) (text : List ℕ) (node at : ℕ) (test : Taken → Bool) (fields : List Taken) (field : Taken)
+pub first_tried : (s : Setting) (text : List ℕ) (node at : ℕ) (test : FieldView → Bool) (fields : List FieldView) (field : FieldView)
     → Follow s text node at fields → find test fields ≡ Some field → IsTried s text field × (test field ≡ true)
 first_tried s text node at test [] field follow is = cc
 first_tried s text node at test (first ∷ fields) field follow is =
@@ -265,5 +265,5 @@ first_tried s text node at test (first ∷ fields) field follow is =
         → (find test fields ≡ Some field → IsTried s text field × (test field ≡ true)) → IsTried s text field × (test field ≡ true)
     by true passes is later =
         let same : first ≡ field = cc in
-        subst (λ (it : Taken). IsTried s text it × (test it ≡ true)) same (chain_tried s node text at first follow.0, passes)
+        subst (λ (it : FieldView). IsTried s text it × (test it ≡ true)) same (chain_tried s node text at first follow.0, passes)
     by false passes is later = later is

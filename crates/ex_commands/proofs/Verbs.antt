@@ -23,7 +23,7 @@ use Rattle.cm_blocks.specs.Grammar.{Graph}
 use Rattle.cm_blocks.specs.Keyword.{code_at, entry_position, key_value}
 use Rattle.cm_blocks.specs.Parse.{Follow, IsParse}
 use Rattle.cm_blocks.specs.Setting.{setting}
-use Rattle.cm_blocks.specs.Taken.{Taken}
+use Rattle.cm_blocks.specs.FieldView.{FieldView}
 use Rattle.cm_blocks.specs.Trial.{entry_next, keyword_next, next_of, table_of, trial}
 use Rattle.cm_state.specs.Roles.{field_of, is_role}
 use Rattle.ex_grammar.specs.ExecRules.{exec_meanings}
@@ -128,12 +128,12 @@ plain_next graph block value plain = by value
     by value = refl
 
 -- a field of such a node
-record IsInside (branch : Branch) (c : Catalogue) (text : List ℕ) (field : Taken) : Type 0 where
+record IsInside (branch : Branch) (c : Catalogue) (text : List ℕ) (field : FieldView) : Type 0 where
   tried : IsTried (setting exec_graph c exec_meanings) text field
   read : (not (is_role branch.role tried.block.role) || branch.reads tried.block) ≡ true
   next : branch.inside field.next ≡ true
 
-stay_of : (branch : Branch) → IsBranch branch → (c : Catalogue) (text : List ℕ) (node at : ℕ) (field : Taken)
+stay_of : (branch : Branch) → IsBranch branch → (c : Catalogue) (text : List ℕ) (node at : ℕ) (field : FieldView)
     → branch.inside node ≡ true
     → (chain_at (setting exec_graph c exec_meanings) node text at).chain ≡ chain.Field field
     → IsInside branch c text field
@@ -158,13 +158,13 @@ stay_of branch is_branch c text node at field inside is =
     }
 
 -- a field whose block passes a test
-pub record IsOf (c : Catalogue) (text : List ℕ) (reads : Block → Bool) (field : Taken) : Type 0 where
+pub record IsOf (c : Catalogue) (text : List ℕ) (reads : Block → Bool) (field : FieldView) : Type 0 where
   pub tried : IsTried (setting exec_graph c exec_meanings) text field
   pub read : reads tried.block ≡ true
 
 -- the first field of the role, from such a node on
-found_inside : (branch : Branch) → IsBranch branch → (c : Catalogue) (text : List ℕ) (node at : ℕ) (fields : List Taken)
-    (field : Taken) → branch.inside node ≡ true → Follow (setting exec_graph c exec_meanings) text node at fields
+found_inside : (branch : Branch) → IsBranch branch → (c : Catalogue) (text : List ℕ) (node at : ℕ) (fields : List FieldView)
+    (field : FieldView) → branch.inside node ≡ true → Follow (setting exec_graph c exec_meanings) text node at fields
     → field_of branch.role fields ≡ Some field → IsOf c text branch.reads field
 found_inside branch is_branch c text node at [] field inside follow is = cc
 found_inside branch is_branch c text node at (first ∷ fields) field inside follow is =
@@ -200,7 +200,7 @@ key_says c flags table rest at value looked end is =
     by (Err code) is = cc
 
 -- the first field of a line: it is of one of the first node's blocks
-first_field : (c : Catalogue) (text : List ℕ) (at : ℕ) (field : Taken)
+first_field : (c : Catalogue) (text : List ℕ) (at : ℕ) (field : FieldView)
     → (chain_at (setting exec_graph c exec_meanings) COMMANDS text at).chain ≡ chain.Field field
     → (block : Block) × (field.role ≡ block.role) × (field.next ≡ next_of exec_graph block field.value)
     × (((block ≡ confirm) ⊎ ((block ≡ keyword command_table roles.Verb)
@@ -233,13 +233,13 @@ first_field c text at field is =
     by (suc (suc place)) block flags rest at looked end found accepts = cc
 
 -- what finds none of the first field goes on behind it
-behind_first : (test : Taken → Bool) (first : Taken) (fields : List Taken) (found : Option Taken) → test first ≡ false
+behind_first : (test : FieldView → Bool) (first : FieldView) (fields : List FieldView) (found : Option FieldView) → test first ≡ false
     → find test (first ∷ fields) ≡ found → find test fields ≡ found
 behind_first test first fields found other is = rw other at is
 
 -- behind such a command the field of the role is read by such a block
-behind_verb : (branch : Branch) → IsBranch branch → (c : Catalogue) (text : List ℕ) (fields : List Taken)
-    (ends : Ending) (verb field : Taken) → IsParse (setting exec_graph c exec_meanings) COMMANDS text fields ends
+behind_verb : (branch : Branch) → IsBranch branch → (c : Catalogue) (text : List ℕ) (fields : List FieldView)
+    (ends : Ending) (verb field : FieldView) → IsParse (setting exec_graph c exec_meanings) COMMANDS text fields ends
     → field_of roles.Verb fields ≡ Some verb → branch.names (keyword_code verb.value) ≡ true
     → field_of branch.role fields ≡ Some field → IsOf c text branch.reads field
 behind_verb branch is_branch c text [] ends verb field parse verb_is named is = cc
@@ -250,7 +250,7 @@ behind_verb branch is_branch c text (first ∷ fields) ends verb field parse ver
     behind : branch.inside first.next ≡ true → is_role branch.role first.role ≡ false → IsOf c text branch.reads field
     behind next other =
         found_inside branch is_branch c text first.next first.end fields field next parse.follow.1
-        (behind_first (λ (it : Taken). is_role branch.role it.role) first fields (Some field) other is)
+        (behind_first (λ (it : FieldView). is_role branch.role it.role) first fields (Some field) other is)
 
     by : (block : Block) → first.role ≡ block.role → first.next ≡ next_of exec_graph block first.value
         → (block ≡ confirm) ⊎ ((block ≡ keyword command_table roles.Verb)
@@ -263,10 +263,10 @@ behind_verb branch is_branch c text (first ∷ fields) ends verb field parse ver
     by block role next (inr said) =
         let is_verb : first.role ≡ roles.Verb = role ∙ ap (λ (it : Block). it.role) said.0 in
         let test : is_role roles.Verb first.role ≡ true = ap (is_role roles.Verb) is_verb in
-        let found : find (λ (field : Taken). is_role roles.Verb field.role) (first ∷ fields) ≡ Some first = rw test refl in
+        let found : find (λ (field : FieldView). is_role roles.Verb field.role) (first ∷ fields) ≡ Some first = rw test refl in
         let same : first ≡ verb = (let both = sym found ∙ verb_is in cc) in
         let code : branch.names (code_at (table_of exec_graph command_table) said.1.0) ≡ true =
-        ap (λ (value : Value). branch.names (keyword_code value)) (sym said.1.1 ∙ ap (λ (it : Taken). it.value) same)
+        ap (λ (value : Value). branch.names (keyword_code value)) (sym said.1.1 ∙ ap (λ (it : FieldView). it.value) same)
         ∙ named in
         let leads_to : next_of exec_graph block first.value ≡ entry_next (table_of exec_graph command_table) said.1.0 =
         ap (λ (it : Block). next_of exec_graph it first.value) said.0 ∙ ap (next_of exec_graph (keyword command_table roles.Verb)) said.1.1 in
@@ -293,7 +293,7 @@ old_is : IsBranch old_branch
 unfolding exec_graph exec_nodes first_nodes source_nodes target_blocks append_blocks delete_blocks type_blocks information_blocks define_blocks build_blocks print_blocks subcommand_blocks exec_tables command_entries topic_entries
 old_is = record { none = refl; ends = refl; nodes = refl; commands = refl; some = refl; other = refl }
 
-pub old_directory : (c : Catalogue) (text : List ℕ) (fields : List Taken) (ends : Ending) (verb field : Taken)
+pub old_directory : (c : Catalogue) (text : List ℕ) (fields : List FieldView) (ends : Ending) (verb field : FieldView)
     → IsParse (setting exec_graph c exec_meanings) COMMANDS text fields ends → field_of roles.Verb fields ≡ Some verb
     → names_old (keyword_code verb.value) ≡ true → field_of roles.Files fields ≡ Some field → IsOf c text is_old field
 old_directory = behind_verb old_branch old_is
@@ -318,7 +318,7 @@ made_is : IsBranch made_branch
 unfolding exec_graph exec_nodes first_nodes source_nodes target_blocks append_blocks delete_blocks type_blocks information_blocks define_blocks build_blocks print_blocks subcommand_blocks exec_tables command_entries topic_entries
 made_is = record { none = refl; ends = refl; nodes = refl; commands = refl; some = refl; other = refl }
 
-pub made_target : (c : Catalogue) (text : List ℕ) (fields : List Taken) (ends : Ending) (verb field : Taken)
+pub made_target : (c : Catalogue) (text : List ℕ) (fields : List FieldView) (ends : Ending) (verb field : FieldView)
     → IsParse (setting exec_graph c exec_meanings) COMMANDS text fields ends → field_of roles.Verb fields ≡ Some verb
     → names_made (keyword_code verb.value) ≡ true → field_of roles.Target fields ≡ Some field
     → IsOf c text is_made field
@@ -343,7 +343,7 @@ grown_is : IsBranch grown_branch
 unfolding exec_graph exec_nodes first_nodes source_nodes target_blocks append_blocks delete_blocks type_blocks information_blocks define_blocks build_blocks print_blocks subcommand_blocks exec_tables command_entries topic_entries
 grown_is = record { none = refl; ends = refl; nodes = refl; commands = refl; some = refl; other = refl }
 
-pub grown_target : (c : Catalogue) (text : List ℕ) (fields : List Taken) (ends : Ending) (verb field : Taken)
+pub grown_target : (c : Catalogue) (text : List ℕ) (fields : List FieldView) (ends : Ending) (verb field : FieldView)
     → IsParse (setting exec_graph c exec_meanings) COMMANDS text fields ends → field_of roles.Verb fields ≡ Some verb
     → names_grown (keyword_code verb.value) ≡ true → field_of roles.Target fields ≡ Some field
     → IsOf c text is_one field

@@ -21,7 +21,7 @@ pub record IsDone (before now : Told) (act : Act) (left : State) (answer : Acted
 
 -- memory was wanting where it may be: nothing is put, and nothing changes
 pub record IsLacking (before now : Told) (lacks : Bool) (start left : State) : Type 0 where
-  pub may_lack : lacks ≡ true
+  pub may_allocate : lacks ≡ true
   pub told : now ≡ before
   pub state : left ≡ start
 
@@ -54,12 +54,12 @@ ActCause before now answers.Data = now ≡ before
 ActCause before now answers.Logout = now ≡ before
 
 -- the commands that take memory
-abbrev pub may_lack : Command → Bool
-may_lack (commands.Append from to) = true
-may_lack (commands.Build directory) = true
-may_lack (commands.Copy from to) = true
-may_lack (commands.Rename from to) = true
-may_lack command = false
+abbrev pub may_allocate : Command → Bool
+may_allocate (commands.Append from to) = true
+may_allocate (commands.Build directory) = true
+may_allocate (commands.Copy from to) = true
+may_allocate (commands.Rename from to) = true
+may_allocate command = false
 
 -- the directory is one of the state
 abbrev pub IsThere : Option (List ℕ) → State → Type 0

@@ -12,7 +12,7 @@ use Rattle.cm_blocks.specs.declared.function.Role.TheVariants as roles
 use Rattle.cm_blocks.specs.declared.node.Block.{Block}
 use Rattle.cm_blocks.specs.declared.node.Node.{Node}
 use Rattle.cm_blocks.specs.Grammar.{Graph}
-use Rattle.cm_blocks.specs.Taken.{Taken}
+use Rattle.cm_blocks.specs.FieldView.{FieldView}
 use Rattle.cm_blocks.specs.Words.{no_flags}
 use Rattle.cm_state.specs.Roles.{field_of}
 use Rattle.ex_grammar.specs.declared.code.TheConstants.{APPEND, BUILD, CONNECT, COPY, DEFINE, DELETE, DIRECTORY, EXPUNGE, INFORMATION, LOGOUT, REMARK, RENAME, TYPE, UNDELETE}
@@ -25,25 +25,25 @@ pub record Line : Type 0 where
   pub graph : Graph
   pub catalogue : Catalogue
   pub text : List ℕ
-  pub fields : List Taken
+  pub fields : List FieldView
 
 -- the node whose chain took a field, and the block
-abbrev pub node_of : Graph → Taken → Option Node
+abbrev pub node_of : Graph → FieldView → Option Node
 node_of graph field = slice_get graph.nodes field.node
 
-abbrev pub block_of : Graph → Taken → Option Block
+abbrev pub block_of : Graph → FieldView → Option Block
 block_of graph field = option_and_then (λ node. slice_get node.chain field.block) (node_of graph field)
 
 -- the flags under which it was read
-abbrev pub flags_of : Graph → Taken → Flags
+abbrev pub flags_of : Graph → FieldView → Flags
 flags_of graph field = option_map_or (λ (block : Block). block.flags) (block_of graph field) no_flags
 
 -- the text that stands for it where the line ends before it: the default of its node
-abbrev pub default_of : Graph → Taken → List ℕ
+abbrev pub default_of : Graph → FieldView → List ℕ
 default_of graph field = unwrap_or (option_and_then (λ node. node.default) (node_of graph field)) []
 
 -- the text that it is a part of, in a line of this text: that, or the default
-abbrev pub said_of : Graph → List ℕ → Taken → List ℕ
+abbrev pub said_of : Graph → List ℕ → FieldView → List ℕ
 said_of graph text field = if field.defaulted then default_of graph field else text
 
 -- a part of a text, in upper case
@@ -51,7 +51,7 @@ abbrev pub upper : List ℕ → Span → List ℕ
 upper text place = map to_ascii_uppercase (part text place)
 
 -- its bytes, in upper case
-abbrev pub name_of : Graph → List ℕ → Taken → List ℕ
+abbrev pub name_of : Graph → List ℕ → FieldView → List ℕ
 name_of graph text field = upper (said_of graph text field) (record { start = field.start; end = field.end })
 
 -- the name of the directory with this number
@@ -86,19 +86,19 @@ is_token values.Token = true
 is_token value = false
 
 -- what the field of a role is for a line
-abbrev pub place_in : Line → Option Taken → Option Place
+abbrev pub place_in : Line → Option FieldView → Option Place
 place_in line =
     option_and_then (λ field.
     place_by line.catalogue (flags_of line.graph field) (said_of line.graph line.text field) field.value)
 
-abbrev pub directory_in : Line → Option Taken → Option (List ℕ)
+abbrev pub directory_in : Line → Option FieldView → Option (List ℕ)
 directory_in line =
     option_and_then (λ field. directory_by line.catalogue (said_of line.graph line.text field) field.value)
 
-abbrev pub code_in : Option Taken → ℕ
-code_in field = option_map_or (λ (field : Taken). keyword_code field.value) field 0
+abbrev pub code_in : Option FieldView → ℕ
+code_in field = option_map_or (λ (field : FieldView). keyword_code field.value) field 0
 
-abbrev pub name_in : Line → Option Taken → Option (List ℕ)
+abbrev pub name_in : Line → Option FieldView → Option (List ℕ)
 name_in line = option_map (name_of line.graph line.text)
 
 -- a command on files, on a directory or on a name; where none is said there is nothing to do
@@ -115,7 +115,7 @@ abbrev pub between : (Place → Place → Command) → Option Place → Option P
 between command from to = on (λ files. command files.0 files.1) (both from to)
 
 -- from the terminal, or from files
-abbrev pub copies : Line → Option Taken → Option Place → Command
+abbrev pub copies : Line → Option FieldView → Option Place → Command
 copies line None to = commands.Empty
 copies line (Some from) to =
     if is_token from.value then on commands.CopyTty to
@@ -148,5 +148,5 @@ named line verb =
 -- the field of role Verb names the command; a line without fields is empty
 unfoldable pub command_of : Line → Command
 command_of line =
-    option_map_or (λ (verb : Taken). named line (keyword_code verb.value)) (field_of roles.Verb line.fields)
+    option_map_or (λ (verb : FieldView). named line (keyword_code verb.value)) (field_of roles.Verb line.fields)
     commands.Empty

@@ -7,13 +7,13 @@ use Rattle.cm_fields.specs.declared.value.Value.TheVariants as values
 use Rattle.cm_files.specs.Catalogue.{Catalogue}
 use Rattle.cm_blocks.specs.declared.function.Role.TheVariants as roles
 use Rattle.cm_blocks.specs.Grammar.{Graph}
-use Rattle.cm_blocks.specs.Taken.{Taken}
-use Rattle.cm_state.specs.Held.{Held, text_of}
+use Rattle.cm_blocks.specs.FieldView.{FieldView}
+use Rattle.cm_state.specs.SessionState.{SessionState, text_of}
 use Rattle.cm_state.specs.Roles.{field_of}
 use Rattle.ex_commands.specs.Command.{Line}
 
 -- the line that a session holds
-abbrev pub line_of : Graph → Catalogue → Held → Line
+abbrev pub line_of : Graph → Catalogue → SessionState → Line
 line_of graph catalogue held =
     record { graph = graph; catalogue = catalogue; text = text_of held; fields = held.fields }
 
@@ -28,14 +28,14 @@ IsSaid (values.File kind spec directory) = IsShort spec.name × IsShort spec.kin
 IsSaid (values.NewDirectory place) = place.end ≤ place.start + NAME_LIMIT
 IsSaid value = Unit {0}
 
-abbrev pub IsSaidIn : Option Taken → Type 0
+abbrev pub IsSaidIn : Option FieldView → Type 0
 IsSaidIn field = IfSome field (λ it. IsSaid it.value)
 
-abbrev pub IsNameIn : Option Taken → Type 0
+abbrev pub IsNameIn : Option FieldView → Type 0
 IsNameIn field = IfSome field (λ it. it.end ≤ it.start + NAME_LIMIT)
 
 -- the parts of a line that are read as names are no longer than one
-pub record HasShortNames (fields : List Taken) : Type 0 where
+pub record HasShortNames (fields : List FieldView) : Type 0 where
   pub source : IsSaidIn (field_of roles.Source fields)
   pub target : IsSaidIn (field_of roles.Target fields)
   pub files : IsSaidIn (field_of roles.Files fields)

@@ -7,7 +7,7 @@ ghost use Rattle.ex_store.specs.Plan.{IsSource, sources};
 ghost use Rattle.ex_commands.specs.declared.command.Command.TheVariants as commands;
 ghost use Rattle.ex_store.specs.State.{State, has_directory};
 ghost use Rattle.ex_commands.specs.Act.{act_of, begins, expunges, lists, logs_out, marks, refuses, undefines};
-ghost use Rattle.ex_commands.specs.Answer.{ActCause, Answers, IsThere, MayAct, answer_by, may_lack};
+ghost use Rattle.ex_commands.specs.Answer.{ActCause, Answers, IsThere, MayAct, answer_by, may_allocate};
 
 use crate::acted::answer_by;
 use crate::lines::{Lines, count_files, put_lines, put_listing};
@@ -29,7 +29,7 @@ use ex_store::{Place, Store};
 pub fn act<S: Sink>(store: &mut Store, command: &Command, moment: u64, sink: &mut S) -> Acted
     requires { MayAct command.now store.old.state }
     ensures acts { Answers (S.told sink.old) (S.told sink.new) (act_of command.now moment store.old.state)
-        (may_lack command.now) store.old.state store.new.state result }
+        (may_allocate command.now) store.old.state store.new.state result }
     ensures later { S.faults sink.old ≤ S.faults sink.new }
     ensures cause { ActCause (S.faults sink.old) (S.faults sink.new) result }
 {

@@ -3,7 +3,7 @@ ghost use Rattle.std.specs.Prelude.{ℕ, List, ◌≡◌, ◌↔◌};
 ghost use Rattle.cm_blocks.specs.declared.field.Ending.TheVariants as ending;
 ghost use Rattle.cm_blocks.specs.Parse.{IsParse};
 ghost use Rattle.cm_blocks.specs.Setting.{setting};
-ghost use Rattle.cm_blocks.specs.Taken.{Taken};
+ghost use Rattle.cm_blocks.specs.FieldView.{FieldView};
 ghost use Rattle.cm_fields.specs.declared.code.Code.{Code};
 ghost use Rattle.cm_files.specs.Catalogue.{IsCatalogue};
 ghost use Rattle.cm_state.specs.Echo.{refusal};
@@ -21,7 +21,7 @@ ghost use Rattle.ex_commands.specs.Command.{command_of};
 
 /// What a line commands can be done: the directories are there, and names and numbers have their forms.
 pub fn a_line_may_act()
-    ensures { (state : State) (text : List ℕ) (fields : List Taken) → IsCatalogue (catalogue_of state)
+    ensures { (state : State) (text : List ℕ) (fields : List FieldView) → IsCatalogue (catalogue_of state)
         → IsParse (setting exec_graph (catalogue_of state) exec_meanings) COMMANDS text fields ending.Done
         → MayAct (command_of (record {
           graph = exec_graph;

@@ -4,7 +4,7 @@ ghost use Rattle.cm_blocks.specs.Parse.{IsParse};
 ghost use Rattle.cm_blocks.specs.Setting.{setting};
 ghost use Rattle.cm_blocks.specs.declared.field.Ending.TheVariants as ending;
 ghost use Rattle.cm_blocks.specs.declared.function.Role.TheVariants as roles;
-ghost use Rattle.cm_state.specs.Held.{text_of};
+ghost use Rattle.cm_state.specs.SessionState.{text_of};
 ghost use Rattle.cm_state.specs.Roles.{field_of};
 ghost use Rattle.ex_grammar.specs.ExecRules.{exec_meanings};
 ghost use Rattle.ex_grammar.specs.Graph.{exec_graph};

@@ -4,7 +4,7 @@ ghost use Rattle.std.specs.Option.{option_map};
 ghost use Rattle.std.specs.Str.{IsAscii};
 ghost use Rattle.cm_text.specs.declared.name.TheConstants.{NAME_LIMIT};
 ghost use Rattle.cm_files.specs.Spec.{part};
-ghost use Rattle.cm_state.specs.Held.{text_of};
+ghost use Rattle.cm_state.specs.SessionState.{text_of};
 ghost use Rattle.ex_commands.specs.Command.{block_of, default_of, directory_by, directory_name, flags_of, node_of, place_by, said_of, upper};
 ghost use Rattle.ex_commands.specs.Said.{IsSaid, IsShort};
 

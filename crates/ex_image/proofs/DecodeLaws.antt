@@ -1,7 +1,7 @@
 -- What one who reads an image may rest on.
 use Rattle.std.proofs.Common.{◌≡◌, IfOk, IfErr, Result, ℕ, Bool, true, false, List, Ok, Err, refl}
 use Rattle.std.proofs.lemmas.Bool.{false≢true}
-use Rattle.ex_store.specs.State.{Held, State, has_directory}
+use Rattle.ex_store.specs.State.{StoreWithRoom, State, has_directory}
 use Rattle.ex_store.specs.WellFormed.{IsDraft}
 use Rattle.ex_image.specs.declared.fault.ImageFault.{ImageFault}
 use Rattle.ex_image.specs.declared.fault.ImageFault.TheVariants.{Bad, NoMemory}
@@ -77,14 +77,14 @@ pub ended_there : (bytes : List ℕ) (reading : Reading) (rest : List ℕ) → M
 ended_there bytes reading rest made ended = connected_there bytes reading rest made (ended_late reading.last ended)
 
 -- where an image was read, or the first wrong record is told, no other store comes of an image
-pub only_told : (bytes : List ℕ) (result : Result Held ImageFault) → IfOk result (λ store. IsImage bytes store.state)
+pub only_told : (bytes : List ℕ) (result : Result StoreWithRoom ImageFault) → IfOk result (λ store. IsImage bytes store.state)
     → IfErr result (λ fault. Tells bytes fault) → (wanted : State) → IsImage bytes wanted → IsStore result wanted
 only_told bytes (Ok store) image bad wanted other = one_state bytes store.state wanted image other
 only_told bytes (Err (Bad at kind)) image bad wanted other = absurd (never_bad bytes wanted at kind other bad)
 only_told bytes (Err NoMemory) image bad wanted other = tt
 
 -- and no other place is told
-pub first_told : (bytes : List ℕ) (result : Result Held ImageFault) → IfOk result (λ store. IsImage bytes store.state)
+pub first_told : (bytes : List ℕ) (result : Result StoreWithRoom ImageFault) → IfOk result (λ store. IsImage bytes store.state)
     → IfErr result (λ fault. Tells bytes fault) → (place : ℕ) (kind : Kind) → FirstBad bytes place kind
     → IsBadAt result place kind
 first_told bytes (Ok store) image bad place kind other = absurd (never_bad bytes store.state place kind image other)

@@ -4,7 +4,7 @@ use Rattle.ex_image.specs.declared.fault.ImageFault.{ImageFault}
 use Rattle.ex_image.specs.declared.fault.ImageFault.TheVariants.{Bad, NoMemory}
 use Rattle.ex_image.specs.declared.fault.Kind.{Kind}
 use Rattle.ex_image.specs.Grammar.{FirstBad}
-use Rattle.ex_store.specs.State.{Held, State}
+use Rattle.ex_store.specs.State.{StoreWithRoom, State}
 
 -- the first wrong record is told
 abbrev pub Tells : List ℕ → ImageFault → Type 0
@@ -12,13 +12,13 @@ Tells bytes (Bad at kind) = FirstBad bytes at kind
 Tells bytes NoMemory = Unit {0}
 
 -- a store of this state, unless memory is wanting
-abbrev pub IsStore : Result Held ImageFault → State → Type 0
+abbrev pub IsStore : Result StoreWithRoom ImageFault → State → Type 0
 IsStore (Ok store) wanted = store.state ≡ wanted
 IsStore (Err (Bad at kind)) wanted = ⊥
 IsStore (Err NoMemory) wanted = Unit {0}
 
 -- this fault, unless memory is wanting
-abbrev pub IsBadAt : Result Held ImageFault → ℕ → Kind → Type 0
+abbrev pub IsBadAt : Result StoreWithRoom ImageFault → ℕ → Kind → Type 0
 IsBadAt (Ok store) place fault = ⊥
 IsBadAt (Err (Bad at kind)) place fault = (at ≡ place) × (kind ≡ fault)
 IsBadAt (Err NoMemory) place fault = Unit {0}

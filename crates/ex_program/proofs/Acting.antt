@@ -16,7 +16,7 @@ use Rattle.ex_store.specs.State.{State, defined, undefined}
 use Rattle.ex_store.specs.declared.place.Place.{Place}
 use Rattle.ex_store.specs.declared.row.Row.{Row}
 use Rattle.ex_commands.specs.Act.{Act, act_of, begins, does, lists, plays, refuses, undefines}
-use Rattle.ex_commands.specs.Answer.{IsCut, IsDone, IsLacking, may_lack}
+use Rattle.ex_commands.specs.Answer.{IsCut, IsDone, IsLacking, may_allocate}
 use Rattle.ex_commands.specs.declared.acted.Acted.{Acted}
 use Rattle.ex_commands.specs.declared.acted.Acted.TheVariants as answers
 use Rattle.ex_commands.specs.declared.command.Command.{Command}
@@ -60,7 +60,7 @@ left_behind world left command answers.NoMemory = refl
 left_behind world left command answers.Failed = refl
 
 -- where memory may be wanting for a command it may be at its key
-may_want : (command : Command) → may_lack command ≡ true → wants command ≡ true
+may_want : (command : Command) → may_allocate command ≡ true → wants command ≡ true
 may_want (commands.CopyTty to) lacks = refl
 may_want command lacks = lacks
 
@@ -135,10 +135,10 @@ module _ (world : World) (command : Command) (act : Act) (told acted : Told) (le
   )
 
   -- memory was wanting
-  pub lacked_behind : IsLacking told acted (may_lack command) world.state left
+  pub lacked_behind : IsLacking told acted (may_allocate command) world.state left
       → Behind acted (record world { state = left; moments = moments }) steps.NoMemory
   lacked_behind lacking = (
-    may_want command lacking.may_lack,
+    may_want command lacking.may_allocate,
     lacking.told,
     ap (λ (it : State). left_of (record world { state = it; moments = moments })) lacking.state
         ∙ ap (λ (it : List ℕ). left_of (record world { moments = it }))

@@ -5,7 +5,7 @@ use Rattle.cm_io.specs.Told.{Told, add, AddsPart}
 use Rattle.cm_io.proofs.Adding.{add_none, add_append}
 use Rattle.cm_state.specs.declared.prompt.Prompt.TheVariants.{Main}
 use Rattle.cm_state.specs.Echo.{prompt_text}
-use Rattle.cm_state.specs.Held.{Held, at_start}
+use Rattle.cm_state.specs.SessionState.{SessionState, at_start}
 use Rattle.ex_grammar.specs.declared.node.TheConstants.{COMMANDS}
 use Rattle.ex_store.specs.State.{State}
 use Rattle.ex_program.specs.declared.course.Course.{Course}
@@ -42,7 +42,7 @@ runs_first writes a b course started line held stands keys screen log moments st
   log = log ∙ sym (add_none a.log);
   world =
       ap (λ left. starting a.state left) (sym moments)
-      ∙ ap (λ (session : Held). record (starting a.state b.moments) { session = session }) (sym started)
+      ∙ ap (λ (session : SessionState). record (starting a.state b.moments) { session = session }) (sym started)
       ∙ ap (λ (state : State). record (starting a.state b.moments) { session = course.session; state = state }) (sym held)
       ∙ ap (λ (typing : Option Typing). record (going course b.moments) { typing = typing }) (sym line);
   state = stands;

@@ -8,7 +8,7 @@ use Rattle.cm_line.specs.Keys.{class_of}
 use Rattle.cm_blocks.specs.Kept.{cost}
 use Rattle.cm_state.specs.Echo.{echo}
 use Rattle.cm_state.specs.Edit.{edited}
-use Rattle.cm_state.specs.Held.{Held, met_line, text_of}
+use Rattle.cm_state.specs.SessionState.{SessionState, met_line, text_of}
 use Rattle.cm_state.specs.Log.{log_line}
 use Rattle.cm_state.specs.Turn.{put_of, turn_of}
 use Rattle.cm_state.specs.declared.turn.Turn.{Turn}
@@ -158,7 +158,7 @@ not_failed turns.Failed other = absurd (other refl)
 
 -- the line takes a key
 module _ (world : World) (key : ℕ) (line : world.typing ≡ None) (going : world.ended ≡ false)
-    (typed : Held) (turn : Turn) (told echoed : Told) (other : turn ≡ turns.Failed → ⊥)
+    (typed : SessionState) (turn : Turn) (told echoed : Told) (other : turn ≡ turns.Failed → ⊥)
     (is_typed : typed ≡ edited (exec_setting world.state) world.session key)
     (is_put : Adds told echoed (echo (exec_setting world.state) world.session key) (put_of turn)) where
   echo_whole : echoed ≡ add told (echo (exec_setting world.state) world.session key)
@@ -169,7 +169,7 @@ module _ (world : World) (key : ℕ) (line : world.typing ≡ None) (going : wor
       → Took writes world key (outputs told log) (outputs echoed now) next steps.LogFailed
   cut_line_log writes log now next left part =
       cut_log world key None line going writes told echoed log now next left echo_whole
-      (subst (λ (held : Held). AddsPart log now (if writes then log_line key held else [])) is_typed part)
+      (subst (λ (held : SessionState). AddsPart log now (if writes then log_line key held else [])) is_typed part)
 
   pub took_line : (writes : Bool) (screen log logged : Told) (next : World) (came : Step)
       → (put_of turn ≡ Done → turn ≡ turn_of (class_of key) typed.ending)
@@ -178,10 +178,10 @@ module _ (world : World) (key : ℕ) (line : world.typing ≡ None) (going : wor
       → Took writes world key (outputs told log) (outputs screen logged) next came
   took_line writes screen log logged next came is_turn is_logged does =
       took_by world key None line going writes told echoed screen log logged next came echo_whole
-      (is_logged ∙ ap (λ (held : Held). add log (if writes then log_line key held else [])) is_typed)
+      (is_logged ∙ ap (λ (held : SessionState). add log (if writes then log_line key held else [])) is_typed)
       (subst (λ (it : Turn). Turned (with_key world key) it echoed screen next came)
-      (is_turn (not_failed turn other) ∙ ap (λ (held : Held). turn_of (class_of key) held.ending) is_typed)
-      (subst (λ (held : Held). Turned (record world { session = held }) turn echoed screen next came) is_typed does))
+      (is_turn (not_failed turn other) ∙ ap (λ (held : SessionState). turn_of (class_of key) held.ending) is_typed)
+      (subst (λ (held : SessionState). Turned (record world { session = held }) turn echoed screen next came) is_typed does))
 
 -- what a turn of a file does from this world on
 abbrev pub DataTurned : World → Typing → DataTurn → Told → Told → World → Step → Type 0
@@ -244,13 +244,13 @@ module _ (world : World) (key : ℕ) (typing : Typing) (is : world.typing ≡ So
       (subst (λ (it : List ℕ). DataTurned (typed_in world (typed_as typing it)) (typed_as typing it) turn echoed screen next came) is_bytes does)))
 
 -- a line's key costs the trials of the text that it leaves
-pub counted_line : (world : World) (key : ℕ) → world.typing ≡ None → world.ended ≡ false → (typed : Held) (before now : ℕ)
+pub counted_line : (world : World) (key : ℕ) → world.typing ≡ None → world.ended ≡ false → (typed : SessionState) (before now : ℕ)
     → typed ≡ edited (exec_setting world.state) world.session key
     → now ≡ before + cost (exec_setting world.state) world.session.node (met_line world.session) (text_of typed)
     → now ≡ before + key_cost world key
 counted_line world key line going typed before now is_typed rise =
     counted world key None line going before now
-    (rise ∙ ap (λ (held : Held). before + cost (exec_setting world.state) world.session.node (met_line world.session) (text_of held)) is_typed)
+    (rise ∙ ap (λ (held : SessionState). before + cost (exec_setting world.state) world.session.node (met_line world.session) (text_of held)) is_typed)
 
 -- a file's key costs nothing
 pub counted_data : (world : World) (key : ℕ) → IsTrue (is_some world.typing) → world.ended ≡ false → (before : ℕ) → before ≡ before + key_cost world key

@@ -6,7 +6,7 @@ use Rattle.cm_io.specs.Pieces.{hex}
 use Rattle.cm_blocks.specs.Kept.{cost}
 use Rattle.cm_state.specs.declared.prompt.Prompt.TheVariants.{Main}
 use Rattle.cm_state.specs.Echo.{echo, prompt_text}
-use Rattle.cm_state.specs.Held.{met_line, text_of}
+use Rattle.cm_state.specs.SessionState.{met_line, text_of}
 use Rattle.cm_state.specs.Log.{log_line}
 use Rattle.ex_commands.specs.Typed.{echo_text, edit, turn_of}
 use Rattle.ex_commands.specs.declared.data.DataTurn.{DataTurn}

@@ -7,7 +7,7 @@ use Rattle.cm_state.specs.declared.turn.Turn.{Turn}
 use Rattle.cm_state.specs.declared.turn.Turn.TheVariants as turn
 use Rattle.cm_state.specs.Echo.{prompt_text}
 use Rattle.cm_state.specs.Edit.{edited}
-use Rattle.cm_state.specs.Held.{Held, IsReady, at_start, text_of}
+use Rattle.cm_state.specs.SessionState.{SessionState, IsReady, at_start, text_of}
 use Rattle.cm_state.specs.Turn.{turn_of}
 use Rattle.ex_grammar.specs.declared.node.TheConstants.{COMMANDS}
 use Rattle.ex_grammar.specs.Graph.{exec_graph}
@@ -15,7 +15,7 @@ use Rattle.ex_store.specs.Plan.{IsTarget}
 use Rattle.ex_store.specs.State.{State, catalogue_of}
 use Rattle.ex_store.specs.declared.place.Place.{Place}
 use Rattle.ex_commands.specs.Act.{Act, act_of, writes}
-use Rattle.ex_commands.specs.Answer.{may_lack}
+use Rattle.ex_commands.specs.Answer.{may_allocate}
 use Rattle.ex_commands.specs.Command.{command_of}
 use Rattle.ex_commands.specs.declared.acted.Acted.{Acted}
 use Rattle.ex_commands.specs.declared.acted.Acted.TheVariants as answers
@@ -30,7 +30,7 @@ use Rattle.ex_program.specs.declared.course.Typing.{Typing}
 -- the session, the state of the file machine, the file that is being typed in, the moments to come, and whether LOGOUT
 -- has acted
 pub record World : Type 0 where
-  pub session : Held
+  pub session : SessionState
   pub state : State
   pub typing : Option Typing
   pub moments : List ℕ
@@ -123,7 +123,7 @@ act_bytes act = act.reply ++ prompt_behind act.answer
 -- memory may be wanting for a command, and for the file that is to be typed in
 abbrev pub wants : Command → Bool
 wants (commands.CopyTty to) = true
-wants command = may_lack command
+wants command = may_allocate command
 
 -- what a key that came to this leads to; only a confirmed line acts
 unfoldable pub world_after_turn : World → Turn → World

@@ -13,7 +13,7 @@ ghost use Rattle.cm_blocks.specs.Setting.{setting};
 ghost use Rattle.cm_blocks.specs.declared.field.Ending.TheVariants as ending;
 ghost use Rattle.cm_state.specs.Echo.{echo, prompt_text};
 ghost use Rattle.cm_state.specs.Edit.{edited};
-ghost use Rattle.cm_state.specs.Held.{IsReady, at_start, met_line, text_of};
+ghost use Rattle.cm_state.specs.SessionState.{IsReady, at_start, met_line, text_of};
 ghost use Rattle.cm_state.specs.Log.{log_line};
 ghost use Rattle.cm_state.specs.Turn.{put_of, turn_of};
 ghost use Rattle.ex_commands.specs.Answer.{MayAct};

@@ -12,7 +12,7 @@ use Rattle.ex_store.specs.Building.{with_directory}
 use Rattle.ex_store.specs.Adding.{Outcome, new_row}
 use Rattle.ex_store.specs.Plan.{Planned}
 use Rattle.ex_store.specs.Rows.{added, filled, row_at, without}
-use Rattle.ex_store.specs.State.{Held, State}
+use Rattle.ex_store.specs.State.{StoreWithRoom, State}
 use Rattle.ex_store.specs.WellFormed.{AreRows, IsWellFormed}
 
 -- a directory to be made or changed; how many generations are kept where files are added; what is done with the
@@ -79,7 +79,7 @@ count_made None = 0
 count_made (Some directory) = 1
 
 -- it can be done on what is held: it leads to a state that may be, and there is room for what is made
-pub record IsFor (change : Change) (held : Held) : Type 0 where
+pub record IsFor (change : Change) (held : StoreWithRoom) : Type 0 where
   pub sound : IsWellFormed (applied change held.state)
   pub directories : length held.state.directories + count_made change.directory ≤ held.directory_room
   pub rows : length held.state.rows + length change.steps ≤ held.row_room

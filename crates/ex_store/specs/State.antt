@@ -21,7 +21,7 @@ pub record State : Type 0 where
   pub queue : List QueueEntry
 
 -- the state, and for how many directories and files there is room
-pub record Held : Type 0 where
+pub record StoreWithRoom : Type 0 where
   pub state : State
   pub directory_room : ℕ
   pub row_room : ℕ

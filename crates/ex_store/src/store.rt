@@ -26,10 +26,10 @@ pub struct Store {
 
 impl Model for Store {
     ghost use Rattle.std.specs.Prelude.{vec_capacity};
-    ghost use Rattle.ex_store.specs.State.{Held, State};
+    ghost use Rattle.ex_store.specs.State.{StoreWithRoom, State};
     ghost use Rattle.ex_store.specs.WellFormed.{IsWellFormed};
 
-    ghost Value = { Held };
+    ghost Value = { StoreWithRoom };
 
     ghost view = { λ it. record {
       state = record {

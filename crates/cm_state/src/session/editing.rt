@@ -9,7 +9,7 @@ ghost use Rattle.cm_blocks.specs.Setting.{setting};
 ghost use Rattle.cm_recognise.specs.Insertion.{insertion};
 ghost use Rattle.cm_state.specs.Edit.{completion, edit, is_end};
 ghost use Rattle.cm_state.specs.Front.{front};
-ghost use Rattle.cm_state.specs.Held.{met_line, text_of};
+ghost use Rattle.cm_state.specs.SessionState.{met_line, text_of};
 
 use crate::Session;
 use crate::held::open_at;

@@ -4,7 +4,7 @@ ghost use Rattle.cm_blocks.specs.Fault.{grammar_fault};
 ghost use Rattle.cm_blocks.specs.Grammar.{hook_count};
 ghost use Rattle.cm_blocks.specs.Setting.{Setting, setting};
 ghost use Rattle.cm_hooks.specs.Ties.{Ties, count};
-ghost use Rattle.cm_state.specs.Held.{IsReady};
+ghost use Rattle.cm_state.specs.SessionState.{IsReady};
 
 use super::setting::{Shelf, grammar_and_hooks};
 use crate::{Prompt, Session, Turn};

@@ -4,7 +4,7 @@ ghost use Rattle.cm_blocks.specs.Grammar.{hook_count};
 ghost use Rattle.cm_blocks.specs.Parse.{IsParse};
 ghost use Rattle.cm_blocks.specs.Setting.{setting};
 ghost use Rattle.cm_hooks.specs.Ties.{Ties, count};
-ghost use Rattle.cm_state.specs.Held.{IsReady, text_of};
+ghost use Rattle.cm_state.specs.SessionState.{IsReady, text_of};
 ghost use Rattle.ex_grammar.specs.ExecRules.{exec_meanings, rule_completion, rule_help, rule_verdict};
 ghost use Rattle.ex_grammar.specs.Graph.{exec_graph};
 ghost use Rattle.ex_store.specs.State.{catalogue_of, has_directory};

@@ -1,5 +1,5 @@
 use Rattle.std.proofs.Common.{false, ap}
-use Rattle.ex_store.specs.State.{Held}
+use Rattle.ex_store.specs.State.{StoreWithRoom}
 use Rattle.ex_commands.proofs.Acting.{refused_to_undefine}
 use Rattle.ex_commands.proofs.acts.undefine.Goals as goal
 
@@ -7,4 +7,4 @@ pub returns-in-Err-clause-acts : goal.returns-in-Err-clause-acts
 returns-in-Err-clause-acts g c =
     let clauses = rw c.as_str.ensures.value at c.undefine.ensures in
     refused_to_undefine _ _ c.args.name.now c.args.store.now.state _ _ c.in-Err.code _ c.in-Err.is clauses.answer
-    (ap (λ (held : Held). held.state) clauses.gone) (c.refuse.ensures.acts c.args.store.now.state false)
+    (ap (λ (held : StoreWithRoom). held.state) clauses.gone) (c.refuse.ensures.acts c.args.store.now.state false)

@@ -2,7 +2,7 @@ use Rattle.std.proofs.Common.{refl, subst, sym}
 use Rattle.cm_blocks.specs.Parse.{IsParse}
 use Rattle.cm_blocks.specs.Setting.{Setting}
 use Rattle.cm_blocks.specs.declared.field.Ending.TheVariants.{Done}
-use Rattle.cm_state.specs.Held.{text_of}
+use Rattle.cm_state.specs.SessionState.{text_of}
 use Rattle.ex_commands.specs.Answer.{MayAct}
 use Rattle.ex_commands.specs.declared.command.Command.{Command}
 use Rattle.ex_grammar.specs.Graph.{exec_graph}

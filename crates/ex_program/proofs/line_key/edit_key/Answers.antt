@@ -5,7 +5,7 @@ use Rattle.cm_blocks.specs.Setting.{Setting}
 use Rattle.cm_io.specs.Told.{Adds}
 use Rattle.cm_state.specs.Echo.{echo}
 use Rattle.cm_state.specs.Edit.{edited}
-use Rattle.cm_state.specs.Held.{IsReady, met_line, text_of}
+use Rattle.cm_state.specs.SessionState.{IsReady, met_line, text_of}
 use Rattle.cm_state.specs.Turn.{put_of}
 use Rattle.ex_program.proofs.ExecSetting.{is_exec}
 use Rattle.ex_program.proofs.line_key.edit_key.Goals as goal

@@ -8,7 +8,7 @@ use Rattle.cm_line.specs.Keys.{class_of}
 use Rattle.cm_line.specs.declared.key.KeyClass.{KeyClass}
 use Rattle.cm_line.specs.declared.key.KeyClass.TheVariants.{End, Stop}
 use Rattle.cm_state.specs.Edit.{edited}
-use Rattle.cm_state.specs.Held.{Held, IsReady, text_of}
+use Rattle.cm_state.specs.SessionState.{SessionState, IsReady, text_of}
 use Rattle.cm_state.specs.Turn.{put_of, turn_of}
 use Rattle.cm_state.specs.declared.turn.Turn.{Turn}
 use Rattle.cm_state.specs.declared.turn.Turn.TheVariants as turns
@@ -36,24 +36,24 @@ done_of Stop ending is = absurd (other is) where
 done_of class ending is = absurd (edited_other is)
 
 -- a key keeps the node
-same_node : (s : Setting) (old : Held) (key : ℕ) → (edited s old key).node ≡ old.node
+same_node : (s : Setting) (old : SessionState) (key : ℕ) → (edited s old key).node ≡ old.node
 unfolding edited
 same_node s old key = refl
 
-confirmed_parse : (s : Setting) (old typed : Held) (key : ℕ) (turn : Turn) → old.node ≡ COMMANDS → typed ≡ edited s old key
+confirmed_parse : (s : Setting) (old typed : SessionState) (key : ℕ) (turn : Turn) → old.node ≡ COMMANDS → typed ≡ edited s old key
     → IsParse s typed.node (text_of typed) typed.fields typed.ending → (put_of turn ≡ Done → turn ≡ turn_of (class_of key) typed.ending)
     → turn ≡ turns.Confirmed → IsParse s COMMANDS (text_of typed) typed.fields endings.Done
 confirmed_parse s old typed key turn at is_typed parse is_turn confirmed =
-    subst (λ (it : ℕ). IsParse s it (text_of typed) typed.fields endings.Done) (ap (λ (held : Held). held.node) is_typed ∙ same_node s old key ∙ at)
+    subst (λ (it : ℕ). IsParse s it (text_of typed) typed.fields endings.Done) (ap (λ (held : SessionState). held.node) is_typed ∙ same_node s old key ∙ at)
     (subst (λ (it : Ending). IsParse s typed.node (text_of typed) typed.fields it)
     (done_of (class_of key) typed.ending (sym (is_turn (ap (λ (it : Turn). put_of it) confirmed)) ∙ confirmed)) parse)
 
 -- the course stays at a key
-at_key : (course : Course) (key : ℕ) (typed : Held) → IsAtKey course → typed ≡ edited (exec_setting course.store.state) course.session key
+at_key : (course : Course) (key : ℕ) (typed : SessionState) → IsAtKey course → typed ≡ edited (exec_setting course.store.state) course.session key
     → IsReady (exec_setting course.store.state) typed → IsAtKey (record course { session = typed })
 at_key course key typed at is_typed ready = record {
   line = λ none. ready;
-  node = λ none. ap (λ (held : Held). held.node) is_typed ∙ same_node (exec_setting course.store.state) course.session key ∙ at.node none;
+  node = λ none. ap (λ (held : SessionState). held.node) is_typed ∙ same_node (exec_setting course.store.state) course.session key ∙ at.node none;
   typing = at.typing;
 }
 

@@ -1,6 +1,6 @@
 use Rattle.std.proofs.Common.{◌∙◌, ap, arith, refl, sym}
 use Rattle.cm_state.specs.declared.prompt.Prompt.TheVariants.{Main}
-use Rattle.cm_state.specs.Held.{at_start}
+use Rattle.cm_state.specs.SessionState.{at_start}
 use Rattle.ex_grammar.specs.declared.node.TheConstants.{COMMANDS}
 use Rattle.ex_program.specs.declared.course.Course.{Course}
 use Rattle.ex_program.proofs.Running.{cut_first, runs_cut, runs_ended, runs_first, runs_lacked, runs_more, runs_out, runs_over, runs_unlogged, runs_unread}

@@ -2,7 +2,7 @@ use Rattle.std.proofs.Common.{◌+◌, ℕ, ap, refl, ◌∙◌, arith}
 use Rattle.cm_blocks.specs.Kept.{cost_behind}
 use Rattle.cm_blocks.specs.Setting.{Setting, setting}
 use Rattle.cm_recognise.specs.declared.insertion.Insertion.{Insertion}
-use Rattle.cm_state.specs.Held.{text_of}
+use Rattle.cm_state.specs.SessionState.{text_of}
 use Rattle.cm_state.proofs.Editing.{Takes, met_completion, takes, trimmed_starts, trims}
 use Rattle.cm_state.proofs.session.Session.take.Given.{Over}
 use Rattle.cm_state.proofs.session.Session.take.Goals as goal

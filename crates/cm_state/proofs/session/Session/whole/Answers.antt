@@ -1,6 +1,6 @@
 use Rattle.std.proofs.Common.{◌≡◌, ◌+◌, ℕ, ap, refl, ◌∙◌, arith}
 use Rattle.cm_blocks.specs.Setting.{setting}
-use Rattle.cm_state.specs.Held.{Held}
+use Rattle.cm_state.specs.SessionState.{SessionState}
 use Rattle.cm_state.proofs.Editing.{finishes, whole_starts}
 use Rattle.cm_state.proofs.session.Session.whole.Goals as goal
 
@@ -17,7 +17,7 @@ returns-clause-edited g c =
     let done = finishes s c.start-2.new.self c.finish.new.self c.hold.new.self c.args.node _ _ c.args.line.now _
     c.has_no_fault.ensures c.requires.node (c.start-2.ensures, c.finish.ensures)
     c.hold.ensures.kept c.hold.ensures.same c.hold.ensures.parse refl in
-    let prompt : c.start.inside.prompt ≡ c.args.self.now.prompt = ap (λ (held : Held). held.prompt) c.start.view_is in
+    let prompt : c.start.inside.prompt ≡ c.args.self.now.prompt = ap (λ (held : SessionState). held.prompt) c.start.view_is in
     rw prompt at done.edited
 
 pub returns-clause-parse : goal.returns-clause-parse

@@ -1,5 +1,5 @@
 use Rattle.cm_blocks.specs.Setting.{setting}
-use Rattle.cm_state.specs.Held.{IsReady}
+use Rattle.cm_state.specs.SessionState.{IsReady}
 use Rattle.cm_state.proofs.tests.run.run_of.Given as goal
 
 -- the session is ready for the next key

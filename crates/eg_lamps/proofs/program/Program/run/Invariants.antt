@@ -1,6 +1,6 @@
 use Rattle.std.proofs.Common.{◌≡◌}
 use Rattle.std.specs.Bool.{IsTrue}
-use Rattle.cm_state.specs.Held.{IsReady}
+use Rattle.cm_state.specs.SessionState.{IsReady}
 use Rattle.eg_lamps.specs.Setting.{lamp_setting}
 use Rattle.eg_lamps.proofs.Running.{Runs}
 use Rattle.eg_lamps.proofs.program.Program.run.Given as goal

@@ -1,6 +1,6 @@
 use Rattle.std.proofs.Common.{◌≡◌}
 use Rattle.cm_blocks.specs.Setting.{setting}
-use Rattle.cm_state.specs.Held.{IsReady}
+use Rattle.cm_state.specs.SessionState.{IsReady}
 use Rattle.ex_grammar.specs.ExecRules.{exec_meanings}
 use Rattle.ex_grammar.specs.declared.node.TheConstants.{COMMANDS}
 use Rattle.ex_store.specs.State.{catalogue_of}

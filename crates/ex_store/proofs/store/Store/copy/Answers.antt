@@ -11,7 +11,7 @@ use Rattle.ex_store.specs.Plan.{planned}
 use Rattle.ex_store.specs.Positions.{elements_at}
 use Rattle.ex_store.specs.Ready.{Change}
 use Rattle.ex_store.specs.Selection.{is_meant}
-use Rattle.ex_store.specs.State.{Held, keep_of}
+use Rattle.ex_store.specs.State.{StoreWithRoom, keep_of}
 use Rattle.ex_store.proofs.Marking.{positions_fit}
 use Rattle.ex_store.proofs.Preparing.{IsOver, is_over, made_by, refused_by}
 use Rattle.ex_store.proofs.store.Store.copy.Goals as goal
@@ -20,13 +20,13 @@ pub copies-requires-clause-within : goal.copies-requires-clause-within
 copies-requires-clause-within c =
     positions_fit (is_meant c.args.from.now.flags.deleted c.args.from.now c.args.self.now.state) c.args.self.now.state.rows
     c.deref-2.result.now c.deref-3.result.now c.positions-positions.result.items
-    (c.deref-2.ensures.value ∙ ap (λ (held : Held). held.state.rows) c.self.view_is) c.deref-3.ensures.0 c.positions-positions.ensures
+    (c.deref-2.ensures.value ∙ ap (λ (held : StoreWithRoom). held.state.rows) c.self.view_is) c.deref-3.ensures.0 c.positions-positions.ensures
 
 over : (c : goal.After-copies) → IsOver c.args.self.now.state c.args.from.now c.deref.result.now (elements_at c.deref-2.result.now c.deref-3.result.now) c.deref-2.result.now
 over c =
     is_over c.args.self.now.state c.args.from.now c.deref.result.now c.deref-2.result.now c.deref-3.result.now c.positions-positions.result.items
-    (c.deref.ensures.value ∙ ap (λ (held : Held). held.state.directories) c.self.view_is)
-    (c.deref-2.ensures.value ∙ ap (λ (held : Held). held.state.rows) c.self.view_is) c.deref-3.ensures.0 c.positions-positions.ensures
+    (c.deref.ensures.value ∙ ap (λ (held : StoreWithRoom). held.state.directories) c.self.view_is)
+    (c.deref-2.ensures.value ∙ ap (λ (held : StoreWithRoom). held.state.rows) c.self.view_is) c.deref-3.ensures.0 c.positions-positions.ensures
 
 -- a copy, of any directories, sources and rows
 abbrev copy : ℕ → Place → List Directory → List Row → List Row → Result Outcome Code

@@ -4,12 +4,12 @@ use Rattle.std.proofs.lemmas.List.{with_items_is}
 use Rattle.ex_store.specs.Positions.{positions_from}
 use Rattle.ex_store.specs.Rows.{with_mark}
 use Rattle.ex_store.specs.Selection.{is_meant}
-use Rattle.ex_store.specs.State.{Held}
+use Rattle.ex_store.specs.State.{StoreWithRoom}
 use Rattle.ex_store.proofs.Marking.{length-positions_from, marked_rows, positions_fit, rows_marked, well_formed_with_rows, where_passing}
 use Rattle.ex_store.proofs.store.Store.mark.Goals as goal
 
 rows_are : (c : goal.After-deref) → c.deref_mut.result.now ≡ c.args.self.now.state.rows
-rows_are c = c.deref_mut.ensures.value ∙ ap (λ (held : Held). held.state.rows) c.self.view_is
+rows_are c = c.deref_mut.ensures.value ∙ ap (λ (held : StoreWithRoom). held.state.rows) c.self.view_is
 
 pub set_marks-requires : goal.set_marks-requires
 set_marks-requires c =
@@ -21,7 +21,7 @@ kept c =
     with_items_is c.self.inside.rows c.set_marks.new.rows (omega (arith, c.set_marks.auto.rows, c.deref_mut.ensures.len))
     ∙ marked_rows (is_meant c.args.files.now.flags.deleted c.args.files.now c.args.self.now.state) true c.self.inside.rows.items
     c.deref_mut.result.now c.set_marks.new.rows c.deref.result.now c.positions-positions.result.items c.deref_mut.ensures.value c.deref.ensures.0
-    (c.positions-positions.ensures ∙ ap (λ (held : Held). positions_from (is_meant c.args.files.now.flags.deleted c.args.files.now c.args.self.now.state) 0 held.state.rows) (sym c.self.view_is))
+    (c.positions-positions.ensures ∙ ap (λ (held : StoreWithRoom). positions_from (is_meant c.args.files.now.flags.deleted c.args.files.now c.args.self.now.state) 0 held.state.rows) (sym c.self.view_is))
     c.set_marks.ensures
 
 pub invariant_of-self : goal.invariant_of-self

@@ -13,7 +13,7 @@ use Rattle.ex_store.specs.Ready.{Change}
 use Rattle.ex_store.specs.Renaming.{all_renamed}
 use Rattle.ex_store.specs.Rows.{by_row}
 use Rattle.ex_store.specs.Selection.{is_meant}
-use Rattle.ex_store.specs.State.{Held, keep_of}
+use Rattle.ex_store.specs.State.{StoreWithRoom, keep_of}
 use Rattle.ex_store.proofs.Marking.{positions_fit}
 use Rattle.ex_store.proofs.Preparing.{IsOver, is_over, made_by, refused_by}
 use Rattle.ex_store.proofs.Renames.{distinct_meant}
@@ -24,19 +24,19 @@ pub renames-requires-clause-within : goal.renames-requires-clause-within
 renames-requires-clause-within c =
     positions_fit (is_meant c.args.from.now.flags.deleted c.args.from.now c.args.self.now.state) c.args.self.now.state.rows
     c.deref-2.result.now c.deref-3.result.now c.positions-positions.result.items
-    (c.deref-2.ensures.value ∙ ap (λ (held : Held). held.state.rows) c.self.view_is) c.deref-3.ensures.0 c.positions-positions.ensures
+    (c.deref-2.ensures.value ∙ ap (λ (held : StoreWithRoom). held.state.rows) c.self.view_is) c.deref-3.ensures.0 c.positions-positions.ensures
 
 over : (c : After-deref-3) → IsOver c.args.self.now.state c.args.from.now c.deref.result.now (elements_at c.deref-2.result.now c.deref-3.result.now) c.deref-2.result.now
 over c =
     is_over c.args.self.now.state c.args.from.now c.deref.result.now c.deref-2.result.now c.deref-3.result.now c.positions-positions.result.items
-    (c.deref.ensures.value ∙ ap (λ (held : Held). held.state.directories) c.self.view_is)
-    (c.deref-2.ensures.value ∙ ap (λ (held : Held). held.state.rows) c.self.view_is) c.deref-3.ensures.0 c.positions-positions.ensures
+    (c.deref.ensures.value ∙ ap (λ (held : StoreWithRoom). held.state.directories) c.self.view_is)
+    (c.deref-2.ensures.value ∙ ap (λ (held : StoreWithRoom). held.state.rows) c.self.view_is) c.deref-3.ensures.0 c.positions-positions.ensures
 
 pub renames-requires-clause-distinct : goal.renames-requires-clause-distinct
 renames-requires-clause-distinct c =
     rw (over c).sources_are
     (distinct_meant (is_meant c.args.from.now.flags.deleted c.args.from.now c.args.self.now.state) c.args.self.now.state.rows
-    (subst (λ (held : Held). ascends by_row held.state.rows ≡ true) c.self.view_is c.self.invariant.draft.rows.ascend))
+    (subst (λ (held : StoreWithRoom). ascends by_row held.state.rows ≡ true) c.self.view_is c.self.invariant.draft.rows.ascend))
 
 -- a renaming, of any directories, sources and rows
 abbrev rename : Place → List Directory → List Row → List Row → Result Outcome Code

@@ -3,7 +3,7 @@ use Rattle.ex_store.specs.Adding.{admitted}
 use Rattle.ex_store.specs.Copying.{own_key}
 use Rattle.ex_store.specs.Plan.{keep_at}
 use Rattle.ex_store.specs.Rows.{total}
-use Rattle.ex_store.specs.State.{Held, keep_of}
+use Rattle.ex_store.specs.State.{StoreWithRoom, keep_of}
 use Rattle.ex_store.specs.WellFormed.{IsWellFormed}
 use Rattle.ex_store.proofs.Writing.{adds_one, asked_is, write_nameless, write_ready, write_refused, write_sound, written_row}
 use Rattle.ex_store.proofs.store.Store.write.Goals as goal
@@ -14,7 +14,7 @@ returns-then-lacks_name-clause-refused c =
 
 pub returns-in-Err-clause-refused : goal.returns-in-Err-clause-refused
 returns-in-Err-clause-refused c =
-    let rows = ap (λ (held : Held). held.state.rows) c.self.view_is in
+    let rows = ap (λ (held : StoreWithRoom). held.state.rows) c.self.view_is in
     let asked : c.admitted.result ≡ admitted (own_key c.args.to.now) c.args.to.now.generation (length c.args.bytes) c.args.self.now.state.rows =
     asked_is (own_key c.args.to.now) c.own_key-key.result c.args.to.now.generation (length c.args.bytes) c.len.result c.total-all.result
     c.args.self.now.state.rows c.deref-2.result.now c.admitted.result c.own_key-key.ensures (c.deref-2.ensures.value ∙ rows)
@@ -25,7 +25,7 @@ returns-in-Err-clause-refused c =
 -- the row is admitted
 admits : (c : goal.In-Ok-one_add) → admitted (own_key c.args.to.now) c.args.to.now.generation (length c.args.bytes) c.args.self.now.state.rows ≡ Ok c.in-Ok.generation
 admits c =
-    let rows = ap (λ (held : Held). held.state.rows) c.self.view_is in
+    let rows = ap (λ (held : StoreWithRoom). held.state.rows) c.self.view_is in
     let asked : c.admitted.result ≡ admitted (own_key c.args.to.now) c.args.to.now.generation (length c.args.bytes) c.args.self.now.state.rows =
     asked_is (own_key c.args.to.now) c.own_key-key.result c.args.to.now.generation (length c.args.bytes) c.len.result c.total-all.result
     c.args.self.now.state.rows c.deref-2.result.now c.admitted.result c.own_key-key.ensures (c.deref-2.ensures.value ∙ rows)
@@ -43,12 +43,12 @@ pub returns-in-Ok-one_add-clause-ready : goal.returns-in-Ok-one_add-clause-ready
 returns-in-Ok-one_add-clause-ready c =
     let keep_is : c.keep_of-keep.result ≡ keep_at c.args.to.now c.args.self.now.state =
     c.keep_of-keep.ensures ∙ ap (λ (name : List ℕ). keep_of name c.deref-3.result.now) c.as_bytes.ensures.value
-    ∙ ap (keep_of c.args.to.now.directory) (c.deref-3.ensures.value ∙ ap (λ (held : Held). held.state.directories) c.self.view_is) in
+    ∙ ap (keep_of c.args.to.now.directory) (c.deref-3.ensures.value ∙ ap (λ (held : StoreWithRoom). held.state.directories) c.self.view_is) in
     write_ready c.args.self.now.state c.args.to.now c.args.bytes c.args.moment c.keep_of-keep.result c.in-Ok.generation c.in-Ok-one_add.ready (sym c.lacks_name.ensures ∙ c.if-lacks_name.false)
     (admits c) keep_is (adds c)
 
 pub returns-in-Ok-one_add-clause-sound : goal.returns-in-Ok-one_add-clause-sound
 returns-in-Ok-one_add-clause-sound c =
-    let well = subst (λ (held : Held). IsWellFormed held.state) c.self.view_is c.self.invariant in
+    let well = subst (λ (held : StoreWithRoom). IsWellFormed held.state) c.self.view_is c.self.invariant in
     write_sound c.args.self.now.state c.args.to.now c.args.bytes c.args.moment c.keep_of-keep.result c.in-Ok.generation c.in-Ok-one_add.ready well c.requires
     (sym c.lacks_name.ensures ∙ c.if-lacks_name.false) (admits c) (adds c)

@@ -4,33 +4,33 @@ use Rattle.cm_text.specs.Text.{finished}
 use Rattle.cm_blocks.specs.declared.field.Ending.{Ending}
 use Rattle.cm_blocks.specs.Parse.{Parse, open_at, parse_of}
 use Rattle.cm_blocks.specs.Setting.{Setting}
-use Rattle.cm_blocks.specs.Taken.{Taken}
+use Rattle.cm_blocks.specs.FieldView.{FieldView}
 use Rattle.cm_state.specs.declared.prompt.Prompt.{Prompt}
 
 -- the line, whether it is finished, its parse from a node on, and the bytes kept for control-H
-pub record Held : Type 0 where
+pub record SessionState : Type 0 where
   pub node : ℕ
   pub prompt : Prompt
   pub line : List ℕ
   pub is_finished : Bool
-  pub fields : List Taken
+  pub fields : List FieldView
   pub ending : Ending
   pub kept : Option (List ℕ)
 
 -- the whole text: the line, or the line and the CR that finished it
-abbrev pub text_of : Held → List ℕ
+abbrev pub text_of : SessionState → List ℕ
 text_of held = if held.is_finished then finished held.line else held.line
 
 -- the line that a key meets: none behind a finished text
-abbrev pub met_line : Held → List ℕ
+abbrev pub met_line : SessionState → List ℕ
 met_line held = if held.is_finished then [] else held.line
 
 -- the parse that is held
-abbrev pub parse_held : Held → Parse
+abbrev pub parse_held : SessionState → Parse
 parse_held held = record { fields = held.fields; ending = held.ending }
 
 -- an empty line that nothing is known of yet
-abbrev pub at_start : ℕ → Prompt → Option (List ℕ) → Held
+abbrev pub at_start : ℕ → Prompt → Option (List ℕ) → SessionState
 at_start node prompt kept = record {
   node = node;
   prompt = prompt;
@@ -43,6 +43,6 @@ at_start node prompt kept = record {
 
 -- ready for a key under a grammar, a catalogue and the meanings of hooks: the start node is one of the grammar,
 -- and unless the line is finished, its parse is held
-pub record IsReady (s : Setting) (held : Held) : Type 0 where
+pub record IsReady (s : Setting) (held : SessionState) : Type 0 where
   pub node : held.node < length s.graph.nodes
   pub parse : held.is_finished ≡ false → parse_held held ≡ parse_of s held.node held.line

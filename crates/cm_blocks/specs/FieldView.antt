@@ -5,7 +5,7 @@ use Rattle.cm_blocks.specs.declared.function.Role.{Role}
 
 -- the node and the block that took it, its value and place, how many bytes decide it, whether it was taken
 -- from the default, what it is for, and the node that follows
-pub record Taken : Type 0 where
+pub record FieldView : Type 0 where
   pub node : ℕ
   pub block : ℕ
   pub value : Value
