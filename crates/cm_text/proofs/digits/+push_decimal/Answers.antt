@@ -1,15 +1,15 @@
 use Rattle.std.proofs.Common.{ap, arith, length, length-append, append_assoc}
 use Rattle.std.proofs.lemmas.Fmt.{decimal_step}
-use Rattle.cm_io.proofs.Digits.{length_decimal_step}
-use Rattle.cm_io.proofs.pieces.+push_decimal.Goals as goal
+use Rattle.cm_text.proofs.Decimal.{length_decimal_step}
+use Rattle.cm_text.proofs.digits.+push_decimal.Goals as goal
 
-pub push-requires-else-number-lt10 : goal.push-requires-else-number-lt10
-push-requires-else-number-lt10 t c =
+pub push_digit-requires-else-number-lt10-clause-room : goal.push_digit-requires-else-number-lt10-clause-room
+push_digit-requires-else-number-lt10-clause-room t c =
     let before = simp length-append at (ap length c.push_decimal.ensures) in
     let step = length_decimal_step c.args.number c.if-number-lt10.false (omega arith) in
-    (omega arith, omega (arith, before, step))
+    omega (arith, before, step)
 
 pub returns-else-number-lt10 : goal.returns-else-number-lt10
 returns-else-number-lt10 t c =
     let step = decimal_step c.args.number c.if-number-lt10.false (omega arith) in
-    rw (c.push-else-number-lt10.ensures.items, c.push_decimal.ensures, step) (simp append_assoc)
+    rw (c.push_digit-else-number-lt10.ensures, c.push_decimal.ensures, step) (simp append_assoc)
