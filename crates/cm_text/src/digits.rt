@@ -10,7 +10,8 @@ pub const DIGIT_LIMIT: usize = 20;
 /// The decimal digits of a number, with no zero before them.
 #[tactic(auto, using(crate::proofs::Decimal::decimal_fits))]
 pub fn decimal_digits(number: u64) -> ArrayString<DIGIT_LIMIT>
-    ensures { result.bytes ≡ decimal number }
+    ensures digits { result.bytes ≡ decimal number }
+    ensures size { length result.bytes ≤ DIGIT_LIMIT }
 {
     let mut digits = ArrayString::new();
     push_decimal(&mut digits, number);
