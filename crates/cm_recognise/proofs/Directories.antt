@@ -32,7 +32,7 @@ use Rattle.cm_files.proofs.Sections.{all_implies, behind_first, closed_reads, cl
 use Rattle.cm_recognise.specs.declared.found.Found.{Found}
 use Rattle.cm_recognise.specs.declared.found.Found.TheVariants.{Nobody, One, Several}
 use Rattle.cm_recognise.specs.declared.outcome.Outcome.TheVariants.{Whole}
-use Rattle.cm_recognise.specs.FileOutcome.{by_opened, completed, directory_outcome, opened, unclosed, user_outcome}
+use Rattle.cm_recognise.specs.FileOutcome.{directory_completion, completed, directory_outcome, opened, unclosed, user_outcome}
 use Rattle.cm_recognise.specs.Found.{directory_like, found_directories, found_users, missing, user_like}
 use Rattle.cm_recognise.specs.Outcome.{plain_outcome}
 use Rattle.cm_recognise.proofs.Coming.{found_comes}
@@ -400,13 +400,13 @@ directory_sound c is_catalogue new atom bytes more at next after meant device wa
         )
 
     by_typed : (found : Option (List ℕ)) → opened atom ≡ found → directory false c atom at ≡ More
-        → by_opened c next (plain_outcome next (directory false c (atom ++ 32 ∷ []) at)) found ≡ Whole bytes after
+        → directory_completion c next (plain_outcome next (directory false c (atom ++ 32 ∷ []) at)) found ≡ Whole bytes after
         → TakesNamed (directory false c) atom bytes more at × (next ≡ after)
     by_typed None found wants is = plain false wants is
     by_typed (Some typed) found wants is = by_found typed found wants (found_directories c typed) refl is
 
     by_new : (new : Bool) → directory new c atom at ≡ More
-        → (if new then plain_outcome next (directory new c (atom ++ 32 ∷ []) at) else by_opened c next (plain_outcome next (directory new c (atom ++ 32 ∷ []) at)) (opened atom)) ≡ Whole bytes after
+        → (if new then plain_outcome next (directory new c (atom ++ 32 ∷ []) at) else directory_completion c next (plain_outcome next (directory new c (atom ++ 32 ∷ []) at)) (opened atom)) ≡ Whole bytes after
         → TakesNamed (directory new c) atom bytes more at × (next ≡ after)
     by_new true wants is = plain true wants is
     by_new false wants is = by_typed (opened atom) refl wants is
