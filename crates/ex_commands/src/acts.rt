@@ -18,15 +18,23 @@ use cm_fields::Code;
 use cm_io::{Put, Sink};
 use cm_text::Name;
 use ex_store::{Place, Store};
+use std::alloc::Global;
 
 /// Does a command at a moment, in seconds since 1-JAN-1970, and puts the reply to it.
 ///
 /// The answer is Refused(code) exactly where the command is refused with that code; the reason is put, and nothing
 /// changes. It is Data for COPY TTY: that is not refused, whose file is typed in next, and Logout for LOGOUT. NoMemory
 /// comes only for APPEND, BUILD, COPY and RENAME, and nothing is put or changed. Failed comes only where the sink
-/// failed: a part of what is to be put is put, and the command has acted all the same.
+/// failed: a part of what is to be put is put, and the command has acted all the same. The memory for files is that
+/// of the store; none but that is taken today.
 #[tactic(auto, using(crate::proofs::Parts::pieces), unfolding(crate::specs::Act::act_of))]
-pub fn act<S: Sink>(store: &mut Store, command: &Command, moment: u64, sink: &mut S) -> Acted
+pub fn act<S: Sink>(
+    _alloc: Global,
+    store: &mut Store,
+    command: &Command,
+    moment: u64,
+    sink: &mut S,
+) -> Acted
     requires { MayAct command.now store.old.state }
     ensures acts { Answers (S.told sink.old) (S.told sink.new) (act_of command.now moment store.old.state)
         (may_allocate command.now) store.old.state store.new.state result }

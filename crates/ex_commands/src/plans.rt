@@ -14,6 +14,7 @@ use cm_io::Sink;
 use cm_text::Name;
 use ex_generations::Bytes;
 use ex_store::{Place, Plan, Refusal, Store};
+use std::alloc::Global;
 
 // Does all of a plan, or nothing where it is refused. Its lines are put before it is done, and then it is done
 // whatever the sink said.
@@ -131,9 +132,11 @@ pub(crate) fn append<S: Sink>(
 ///
 /// The answer is Refused(code) exactly where the file is refused with that code; the reason is put, and nothing
 /// changes. With NoMemory nothing is put or changed. Failed comes only where the sink failed: a part of what is to be
-/// put is put, and the file is written, or refused, all the same.
+/// put is put, and the file is written, or refused, all the same. The memory for files is that of the store; none but
+/// that is taken today.
 #[tactic(auto, unfolding(crate::specs::Act::writes))]
 pub fn write_data<S: Sink>(
+    _alloc: Global,
     store: &mut Store,
     to: &Place,
     typed: Data,
