@@ -2,6 +2,7 @@ pub mod Beside
 pub mod Choosing
 pub mod Fielding
 pub mod Fronts
+pub mod LogicalNames
 pub mod Multitude
 pub mod Ordered
 pub mod Sections

@@ -33,7 +33,6 @@ many_is_catalogue unmarked count few = record {
   directories_ascend = refl;
   directory_names = refl;
   connected_within = omega arith;
-  logical_ascend = refl;
   logical_within = refl;
   rows_ascend = ascend unmarked 1 count;
   rows_within = are_rows unmarked 1 count (omega arith) (omega arith);
