@@ -39,6 +39,3 @@ pub use std_host::StdHost;
 pub use std_log::StdLog;
 pub use std_sink::StdSink;
 pub use std_source::StdSource;
-
-#[cfg(test)]
-mod tests;

@@ -155,6 +155,3 @@ impl Table {
         listed::next_listed(&self.entries, from, atom)
     }
 }
-
-#[cfg(test)]
-mod tests;

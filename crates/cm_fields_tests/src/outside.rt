@@ -1,5 +1,5 @@
 // Each object once, through the bounds by which programs use it.
-use crate::{
+use cm_io::{
     Clock, CountSink, Got, Host, Loaded, MemClock, MemHost, MemSink, MemSource, Put, Sink, Source,
     StdClock, StdHost, StdSink, StdSource, put_decimal, put_hex, put_line, put_times,
 };

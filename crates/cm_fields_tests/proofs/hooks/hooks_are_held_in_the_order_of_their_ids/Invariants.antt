@@ -3,7 +3,7 @@ use Rattle.cm_hooks.specs.declared.answer.Answer.TheVariants.{Yes, No}
 use Rattle.cm_hooks.specs.declared.answer.Tail.TheVariants as tails
 use Rattle.cm_hooks.specs.Meanings.{Meanings}
 use Rattle.cm_hooks.specs.Ties.{Ties}
-use Rattle.cm_hooks.proofs.hooks.tests.hooks_are_held_in_the_order_of_their_ids.Given as goal
+use Rattle.cm_fields_tests.proofs.hooks.hooks_are_held_in_the_order_of_their_ids.Given as goal
 
 -- the meanings of the sample
 abbrev sample : Meanings
