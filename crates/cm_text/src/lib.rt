@@ -4,6 +4,7 @@
 mod alike;
 mod bytes;
 mod case;
+pub mod laws;
 mod name;
 mod shown;
 mod text;
