@@ -42,6 +42,3 @@ pub use std_log::StdLog;
 pub use std_sink::StdSink;
 pub use std_source::StdSource;
 pub use writer::Writer;
-
-#[cfg(test)]
-mod tests;

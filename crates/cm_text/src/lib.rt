@@ -5,6 +5,7 @@ mod alike;
 mod bytes;
 mod case;
 mod digits;
+pub mod laws;
 mod name;
 mod shown;
 mod text;
