@@ -2,7 +2,6 @@ pub mod Beside
 pub mod Choosing
 pub mod Fielding
 pub mod Fronts
-pub mod Multitude
 pub mod Ordered
 pub mod Sections
 pub mod Spending
