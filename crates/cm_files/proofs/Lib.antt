@@ -3,7 +3,6 @@ pub mod Choosing
 pub mod Fielding
 pub mod Fronts
 pub mod LogicalNames
-pub mod Multitude
 pub mod Ordered
 pub mod Sections
 pub mod Spending

@@ -47,6 +47,3 @@ pub trait Names {
         ensures value { slice_get (rows_of (catalogue self.now) directory) i ≡ Some (row_of directory result) }
         ensures short { (length result.name.now ≤ NAME_LIMIT) × (length result.kind.now ≤ NAME_LIMIT) };
 }
-
-#[cfg(test)]
-mod tests;
