@@ -1,5 +1,5 @@
 // Laws of a run, and of what can't stand at its end.
-ghost use Rattle.std.specs.Prelude.{◌≡◌, ◌≢◌, ◌⊎◌, ◌+◌, ◌<◌, ◌≤◌, ℕ, Bool, true, false, List, [], ◌∷◌, ◌++◌, length, None};
+ghost use Rattle.std.specs.Prelude.{◌≡◌, ◌≢◌, ◌⊎◌, ◌+◌, ◌^◌, ◌<◌, ◌≤◌, ℕ, Bool, true, false, List, [], ◌∷◌, ◌++◌, length, None};
 ghost use Rattle.cm_blocks.specs.declared.field.Fault.{Fault};
 ghost use Rattle.cm_io.specs.Told.{AddsPart, Bytes, add};
 ghost use Rattle.cm_state.specs.declared.turn.Turn.{Turn};
@@ -13,6 +13,8 @@ ghost use Rattle.ex_program.specs.Step.{left_of};
 ghost use Rattle.ex_program.specs.World.{World, data_reply, key_turn, turn_reply, world_after_data, world_after_turn};
 ghost use Rattle.ex_program.specs.declared.course.Typing.{Typing};
 ghost use Rattle.ex_program.specs.declared.run.TheConstants.{KEY_LIMIT};
+ghost use Rattle.ex_program.specs.declared.start.TheConstants.{IMAGE_LIMIT};
+ghost use Rattle.ex_program.specs.declared.words.TheConstants.{LONGEST_WORD, MOST_WORDS};
 
 use crate::Status;
 use cm_state::Turn;
@@ -147,4 +149,13 @@ pub fn a_host_fault_comes_behind_the_run()
     ensures { (writes : Bool) → (a b : Scene) → Ran writes a b Status.HostFault → b.keys ≡ a.keys
         → IsQuiet a.screen_faults b.screen_faults → IsQuiet a.log_faults b.log_faults
         → IsQuiet a.keys_faults b.keys_faults → a.keys ≡ [] }
+{}
+
+/// The numbers of a run: the most keys that it takes, the most bytes of the file that it begins from, the most words
+/// that it is given, and the most bytes of a word.
+pub fn these_are_the_numbers()
+    ensures keys { KEY_LIMIT ≡ 2 ^ 24 }
+    ensures image { IMAGE_LIMIT ≡ 2 ^ 24 }
+    ensures words { MOST_WORDS ≡ 4 }
+    ensures word { LONGEST_WORD ≡ 255 }
 {}

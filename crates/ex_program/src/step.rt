@@ -17,7 +17,6 @@ use cm_io::{Clock, Sink};
 use std::sync::ledger::Ledger;
 
 /// What a key of a run came to.
-#[derive(Clone, Copy, Debug)]
 pub enum Step {
     /// The run goes on.
     More,

@@ -1,5 +1,4 @@
 /// Why a run takes no more keys.
-#[derive(Clone, Copy, Debug)]
 pub enum Stop {
     /// LOGOUT has acted.
     LoggedOut,

@@ -51,7 +51,7 @@ impl Model for Words {
 }
 
 /// What words ask for.
-#[derive(Clone, Copy)]
+#[derive(Drop)]
 pub struct Form<'a> {
     /// Whether the log is written.
     pub logs: bool,

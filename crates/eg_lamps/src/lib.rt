@@ -1,0 +1,15 @@
+//! The lamps of named rooms, and the run that dims them: keys in, the screen and a status out.
+#![tactic(auto)]
+
+mod command;
+mod grammar;
+mod lamps;
+pub mod laws;
+mod program;
+pub mod rooms;
+
+pub use command::command_of;
+pub use grammar::grammar;
+pub use lamps::{Change, Command, Lamp, dark_lamps, obey};
+pub use program::{Parser, Program, Status, house};
+pub use rooms::RoomRules;

@@ -1,0 +1,81 @@
+// Runs that a fault of the outside cuts short.
+use crate::given::{are_at, leaves, outcome_of};
+use cm_io::NoMemory;
+use eg_lamps::Status;
+use std::test::Fail;
+
+const KEYS: &[u8] = b"S H 50\rS H 101\r";
+
+// A run that a fault cuts short, and what is to stand at its end.
+#[derive(Clone, Copy)]
+struct Cut<'a> {
+    failing_get: Option<u32>,
+    room: u32,
+    status: Status,
+    screen: &'a [u8],
+    brightness: u64,
+    left: &'a [u8],
+}
+
+fn is_so(runtime: &HostRuntime, cut: &Cut<'_>) -> Result<bool, NoMemory> {
+    let mut outcome = outcome_of(runtime, KEYS, cut.failing_get, cut.room)?;
+    Ok(
+        outcome.status == cut.status
+            && outcome.screen.bytes() == cut.screen
+            && are_at(&outcome.program, [cut.brightness, 0, 0, 0])
+            && leaves(&mut outcome.keys, cut.left),
+    )
+}
+
+#[test]
+fn stops_where_the_keys_fail(rt: HostRuntime) -> Result<(), Fail> {
+    let cut = Cut {
+        failing_get: Some(8),
+        room: 4096,
+        status: Status::ReadFault,
+        screen: b"@S H 50\r\n@S",
+        brightness: 50,
+        left: b" H 101\r",
+    };
+    assert!(rt; is_so(&rt, &cut)?);
+    Ok(())
+}
+
+// A run on a screen with so much room.
+fn on_screen<'a>(room: u32, screen: &'a [u8], brightness: u64, left: &'a [u8]) -> Cut<'a> {
+    Cut {
+        failing_get: None,
+        room,
+        status: Status::WriteFault,
+        screen,
+        brightness,
+        left,
+    }
+}
+
+#[test]
+fn takes_no_key_behind_a_failed_screen(rt: HostRuntime) -> Result<(), Fail> {
+    // In the first prompt, in an echo, in that of the key that confirms, in the next prompt and in a reply.
+    for cut in [
+        on_screen(0, b"", 0, KEYS),
+        on_screen(5, b"@S H ", 0, b"0\rS H 101\r"),
+        on_screen(8, b"@S H 50\r", 0, b"S H 101\r"),
+        on_screen(9, b"@S H 50\r\n", 50, b"S H 101\r"),
+        on_screen(20, b"@S H 50\r\n@S H 101\r\n?", 50, b""),
+    ] {
+        assert!(rt; is_so(&rt, &cut)?, "{}", cut.room);
+    }
+    Ok(())
+}
+
+#[test]
+fn each_status_has_its_number(rt: HostRuntime) {
+    for (status, number) in [
+        (Status::Done, 0),
+        (Status::ReadFault, 1),
+        (Status::WriteFault, 2),
+        (Status::NoMemory, 3),
+    ] {
+        assert_eq!(rt; status.number(), number);
+    }
+}

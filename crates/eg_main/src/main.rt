@@ -1,0 +1,71 @@
+//! The program of `./lamps`: the run of the lamps over the standard streams.
+#![tactic(auto)]
+
+ghost use Rattle.std.specs.Prelude.{◌≡◌, ◌<◌};
+ghost use Rattle.eg_lamps.specs.Rooms.{room_completion, room_help, room_verdict};
+
+use cm_blocks::Steps;
+use cm_hooks::{Answer, Hook, Hooks, Tail};
+use cm_io::{Sink, Source, StdSink, StdSource};
+use cm_text::Name;
+use eg_lamps::{Parser, Program, RoomRules, Status, grammar, house, rooms};
+use std::marker::Brand;
+use std::process::ExitCode;
+use std::sync::ledger::{Blank, Ledger};
+
+/// Runs the program over the standard streams, and ends with its status.
+fn main(rt: HostRuntime) -> ExitCode {
+    let mut program = Program::new();
+    let mut keys = StdSource::new(&rt);
+    let mut screen = StdSink::new(&rt);
+    let status = run_with_hook::<StdSource, StdSink, Brand>(
+        &rt,
+        Blank::new(1),
+        &mut program,
+        &mut keys,
+        &mut screen,
+    );
+    ExitCode::from(status.number())
+}
+
+// Boxes the hook, makes the grammar and the counter of trials, and runs the program.
+#[tactic(auto, using(eg_lamps::proofs::LampSetting::is_lamp, eg_lamps::proofs::LampSetting::enough_hooks))]
+fn run_with_hook<K: Source, S: Sink, L: Ledger>(
+    rt: &HostRuntime,
+    blank: Blank,
+    program: &mut Program,
+    keys: &mut K,
+    screen: &mut S,
+) -> Status
+    requires name { blank.name ≡ L.name }
+    requires parts { blank.parts ≡ L.parts }
+    requires some { 0 < L.parts }
+{
+    let alloc = rt.alloc();
+    let verdict = |atom: &[u8]| -> Answer
+        ensures { result ≡ room_verdict atom.now }
+    { rooms::verdict(atom) };
+    let completion = |atom: &[u8]| -> Tail
+        ensures { result ≡ room_completion atom.now }
+    { rooms::completion(atom) };
+    let help = || -> Name
+        ensures { result ≡ room_help }
+    { rooms::help() };
+    let (Ok(verdict), Ok(completion), Ok(help), Ok(grammar)) = (
+        Box::new(alloc, verdict),
+        Box::new(alloc, completion),
+        Box::new(alloc, help),
+        grammar(alloc),
+    ) else {
+        return Status::NoMemory;
+    };
+    let mut hooks: Hooks<RoomRules> = Hooks::new();
+    let _ = hooks.push(Hook::new(0, verdict, completion, help));
+    let mut steps: Steps<L> = Steps::new(rt, blank);
+    let parser = Parser {
+        grammar,
+        names: house(),
+        hooks: &hooks,
+    };
+    program.run(&parser, keys, screen, &mut steps)
+}

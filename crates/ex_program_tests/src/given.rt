@@ -1,0 +1,138 @@
+// What the runs of the tests are given, and what is to stand at their ends.
+ghost use Rattle.std.specs.Prelude.{◌≡◌, ◌≤◌, ◌<◌, length};
+ghost use Rattle.ex_grammar.specs.ExecRules.{rule_completion, rule_help, rule_verdict};
+
+use cm_blocks::Steps;
+use cm_hooks::{Answer, Hook, Hooks, Tail};
+use cm_io::{Clock, Host, MemClock, MemHost, MemSink, MemSource, NoMemory, Sink, Source};
+use cm_text::Name;
+use ex_grammar::{ExecRules, rule_completion, rule_help, rule_verdict};
+use ex_program::{Status, Words, exec20};
+use std::marker::Brand;
+use std::sync::ledger::{Blank, Ledger};
+
+// What a run is given behind its words, and what of it fails. The moments are 1, 2, 3 and so on, or all 0.
+#[derive(Clone, Copy)]
+pub struct Given<'a> {
+    pub keys: &'a [u8],
+    pub input: Option<&'a [u8]>,
+    pub has_moments: bool,
+    pub failing_get: Option<u32>,
+    pub failing_call: Option<u32>,
+    pub screen_room: u32,
+    pub log_room: u32,
+    pub file_room: u32,
+}
+
+// What stands at the end of a run.
+#[derive(Drop)]
+pub struct Outcome {
+    pub status: Status,
+    pub keys: MemSource,
+    pub screen: MemSink,
+    pub log: MemSink,
+    pub host: MemHost,
+    pub clock: MemClock,
+}
+
+pub(crate) fn words_of(texts: &[&str]) -> Words {
+    let mut words = Words::new();
+    for text in texts {
+        words.push(text);
+    }
+    words
+}
+
+// A run over a host that has the file IN, or nothing.
+pub(crate) fn outcome_of(
+    runtime: &HostRuntime,
+    words: &Words,
+    given: &Given<'_>,
+) -> Result<Outcome, NoMemory> {
+    let mut outcome = before(runtime, given)?;
+    outcome.status = run_with_rules::<MemHost, MemSource, MemSink, MemSink, MemClock, Brand>(
+        runtime,
+        Blank::new(1),
+        words,
+        &mut outcome.host,
+        &mut outcome.keys,
+        &mut outcome.screen,
+        &mut outcome.log,
+        &mut outcome.clock,
+    );
+    Ok(outcome)
+}
+
+// What stands before it, with a status that is none yet.
+fn before(runtime: &HostRuntime, given: &Given<'_>) -> Result<Outcome, NoMemory> {
+    let alloc = runtime.alloc();
+    Ok(Outcome {
+        status: Status::NoMemory,
+        keys: MemSource::new(alloc, given.keys, given.failing_get)?,
+        screen: MemSink::new(alloc, given.screen_room)?,
+        log: MemSink::new(alloc, given.log_room)?,
+        host: host_of(runtime, given)?,
+        clock: clock_of(runtime, given.has_moments)?,
+    })
+}
+
+fn host_of(runtime: &HostRuntime, given: &Given<'_>) -> Result<MemHost, NoMemory> {
+    match given.failing_call {
+        Some(call) => MemHost::new(runtime.alloc(), "IN", given.input, given.file_room, &[call]),
+        None => MemHost::new(runtime.alloc(), "IN", given.input, given.file_room, &[]),
+    }
+}
+
+fn clock_of(runtime: &HostRuntime, has_moments: bool) -> Result<MemClock, NoMemory> {
+    if has_moments {
+        MemClock::new(runtime.alloc(), &[1, 2, 3, 4, 5, 6, 7, 8])
+    } else {
+        MemClock::new(runtime.alloc(), &[])
+    }
+}
+// Boxes the EXEC's rules, makes the counter for this ledger, and runs `exec20`, as its program does.
+pub(crate) fn run_with_rules<H: Host, K: Source, S: Sink, W: Sink, C: Clock, L: Ledger>(
+    rt: &HostRuntime,
+    blank: Blank,
+    words: &Words,
+    host: &mut H,
+    keys: &mut K,
+    screen: &mut S,
+    log: &mut W,
+    clock: &mut C,
+) -> Status
+    requires name { blank.name ≡ L.name }
+    requires parts { blank.parts ≡ L.parts }
+    requires some { 0 < L.parts }
+{
+    let alloc = rt.alloc();
+    let mut hooks: Hooks<ExecRules> = Hooks::new();
+    for id in 0..3u8 {
+        let verdict = move |atom: &[u8]| -> Answer
+            requires id { id < 3 }
+            requires short { length atom.now ≤ 255 }
+            ensures { result ≡ rule_verdict id atom.now }
+        { rule_verdict(id, atom) };
+        let completion = move |atom: &[u8]| -> Tail
+            requires id { id < 3 }
+            requires short { length atom.now ≤ 255 }
+            ensures { result ≡ rule_completion id atom.now }
+        { rule_completion(id, atom) };
+        let help = move || -> Name
+            requires { id < 3 }
+            ensures { result ≡ rule_help id }
+        { rule_help(id) };
+        let (Ok(verdict), Ok(completion), Ok(help)) = (
+            Box::new(alloc, verdict),
+            Box::new(alloc, completion),
+            Box::new(alloc, help),
+        ) else {
+            return Status::NoMemory;
+        };
+        let _ = hooks.push(Hook::new(id, verdict, completion, help));
+    }
+    let mut steps: Steps<L> = Steps::new(rt, blank);
+    exec20(
+        alloc, words, host, keys, screen, log, clock, &hooks, &mut steps,
+    )
+}

@@ -1,0 +1,27 @@
+//! Runs of `exec20` by example, over objects in memory.
+#![tactic(auto)]
+
+#[cfg(test)]
+mod case;
+#[cfg(test)]
+mod commands;
+#[cfg(test)]
+mod costs;
+#[cfg(test)]
+mod cut;
+#[cfg(test)]
+mod faults;
+#[cfg(test)]
+mod files;
+#[cfg(test)]
+mod given;
+#[cfg(test)]
+mod images;
+#[cfg(test)]
+mod limit;
+#[cfg(test)]
+mod notation;
+#[cfg(test)]
+mod whole;
+#[cfg(test)]
+mod words;
