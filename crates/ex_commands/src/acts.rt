@@ -29,7 +29,6 @@ use std::alloc::Global;
 /// comes only for APPEND, BUILD, COPY and RENAME, and nothing is put or changed. Failed comes only where the sink
 /// failed: a part of what is to be put is put, and the command has acted all the same. The memory for files is that
 /// of the store; none but that is taken today.
-#[tactic(auto)]
 pub fn act<S: Sink>(
     _alloc: Global,
     store: &mut Store,

@@ -125,13 +125,32 @@ pub(crate) fn append<S: Sink>(
     play(store, plan, Origin::Files, moment, out)
 }
 
+// Writes what was typed in as a file.
+#[tactic(auto, unfolding(crate::specs::Act::writes))]
+fn write<S: Sink>(
+    store: &mut Store,
+    to: &Place,
+    typed: Data,
+    moment: u64,
+    out: &mut Writer<'_, S>,
+) -> Acted
+    requires { IsTarget to.now store.old.state.directories }
+    ensures { Outcome S.Sink out.old out.new (writes to.now typed moment store.old.state) true store.old.state
+        store.new.state result }
+{
+    let plan = Plan::Write {
+        to: to.copy(),
+        bytes: Bytes::new(typed.into_vec()),
+    };
+    play(store, plan, Origin::Terminal, moment, out)
+}
+
 /// Writes what was typed in as a file, at a moment, and puts the reply to it.
 ///
 /// The answer is Refused(code) exactly where the file is refused with that code; the reason is put, and nothing
 /// changes. With NoMemory nothing is put or changed. Failed comes only where the sink failed: a part of what is to be
 /// put is put, and the file is written, or refused, all the same. The memory for files is that of the store; none but
 /// that is taken today.
-#[tactic(auto, unfolding(crate::specs::Act::writes))]
 pub fn write_data<S: Sink>(
     _alloc: Global,
     store: &mut Store,
@@ -146,11 +165,7 @@ pub fn write_data<S: Sink>(
     ensures later { S.faults sink.old ≤ S.faults sink.new }
     ensures cause { ActCause (S.faults sink.old) (S.faults sink.new) result }
 {
-    let plan = Plan::Write {
-        to: to.copy(),
-        bytes: Bytes::new(typed.into_vec()),
-    };
     let mut out = Writer::new(sink);
-    let answer = play(store, plan, Origin::Terminal, moment, &mut out);
+    let answer = write(store, to, typed, moment, &mut out);
     answer_by(answer, out.went())
 }
