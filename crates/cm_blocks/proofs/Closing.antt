@@ -27,6 +27,7 @@ use Rattle.cm_blocks.specs.declared.chain.Walk.{Walk}
 use Rattle.cm_blocks.specs.declared.chain.Walk.TheVariants.{Takes, Wants, Fails}
 use Rattle.cm_blocks.specs.declared.field.Chain.{Chain}
 use Rattle.cm_blocks.specs.declared.field.Chain.TheVariants as chain
+use Rattle.cm_blocks.specs.declared.field.TheConstants.{FIELD_LIMIT}
 use Rattle.cm_blocks.specs.declared.function.Function.{Function}
 use Rattle.cm_blocks.specs.declared.function.Function.TheVariants.{Key, Switch, Noise, Number, Word, Quoted, Token, Date, User, Directory, InFile, OutFile, AnyFile, Text, Comma, Confirm, Hook}
 use Rattle.cm_blocks.specs.declared.node.Block.{Block}
@@ -213,4 +214,4 @@ closed_from s none line (suc room) node at within =
 pub finished_closes : (s : Setting) → grammar_fault s.graph ≡ None → (node : ℕ) (line : List ℕ)
     → IsClosed (parse_of s node (finished line)).ending
 unfolding parse_of
-finished_closes s none node line = closed_from s none line 64 node 0 (omega arith)
+finished_closes s none node line = closed_from s none line FIELD_LIMIT node 0 (omega arith)

@@ -10,6 +10,7 @@ use Rattle.cm_blocks.specs.declared.chain.Walk.TheVariants.{Wants}
 use Rattle.cm_blocks.specs.declared.field.Chain.{Chain}
 use Rattle.cm_blocks.specs.declared.field.Chain.TheVariants as chain
 use Rattle.cm_blocks.specs.declared.field.Ending.{Ending}
+use Rattle.cm_blocks.specs.declared.field.TheConstants.{FIELD_LIMIT}
 use Rattle.cm_blocks.specs.declared.function.Function.{Function}
 use Rattle.cm_blocks.specs.declared.function.Function.TheVariants.{Key, Switch, Noise, Number, Word, Quoted, Token, Date, User, Directory, InFile, OutFile, AnyFile, Text, Comma, Confirm, Hook}
 use Rattle.cm_blocks.specs.declared.node.Block.{Block}
@@ -52,7 +53,7 @@ parses_from s text (suc room) node at =
 pub parse_of_parses : (s : Setting) (node : ℕ) (text : List ℕ)
     → IsParse s node text (parse_of s node text).fields (parse_of s node text).ending
 unfolding parse_of
-parse_of_parses s node text = parses_from s text 64 node 0
+parse_of_parses s node text = parses_from s text FIELD_LIMIT node 0
 
 -- any parse from a place on is that one
 only_from : (s : Setting) (text : List ℕ) (room node at : ℕ) (fields : List FieldView) (ends : Ending)
@@ -80,7 +81,7 @@ pub parses_are_parse_of : (s : Setting) (node : ℕ) (text : List ℕ) (fields :
     → IsParse s node text fields ends → (fields ≡ (parse_of s node text).fields) × (ends ≡ (parse_of s node text).ending)
 unfolding parse_of
 parses_are_parse_of s node text fields ends parses =
-    let same = only_from s text 64 node 0 fields ends parses in
+    let same = only_from s text FIELD_LIMIT node 0 fields ends parses in
     (ap (λ (parse : Parse). parse.fields) same, ap (λ (parse : Parse). parse.ending) same)
 
 -- nothing is decided of no bytes
@@ -152,4 +153,4 @@ start_from s (suc room) number is = ap (after_chain (λ (field : FieldView). par
 pub start_is_open : (s : Setting) → grammar_fault s.graph ≡ None → (number : ℕ) → number < length s.graph.nodes
     → parse_of s number [] ≡ record { fields = []; ending = open_at number 0 }
 unfolding parse_of
-start_is_open s none number below = start_from s 64 number (chain_starts s number none below)
+start_is_open s none number below = start_from s FIELD_LIMIT number (chain_starts s number none below)

@@ -7,6 +7,7 @@ use Rattle.std.proofs.lemmas.Bool.Decides.{nat_tests}
 use Rattle.std.proofs.lemmas.List.Sums.{AllPass-from_list_all}
 use Rattle.std.proofs.lemmas.Option.{slice_get_read}
 use Rattle.cm_tables.specs.declared.entry.Entry.{Entry}
+use Rattle.cm_blocks.specs.declared.fault.TheConstants.{BLOCK_LIMIT, NODE_LIMIT}
 use Rattle.cm_blocks.specs.declared.grammar.GrammarFault.{GrammarFault}
 use Rattle.cm_blocks.specs.declared.node.Block.{Block}
 use Rattle.cm_blocks.specs.declared.node.Node.{Node}
@@ -47,9 +48,9 @@ pub sizes : (graph : Graph) → grammar_fault graph ≡ None → has_size graph 
 unfolding grammar_fault
 sizes graph none = (passes (has_size graph) _ _ none).passed
 
-pub nodes_few : (graph : Graph) → grammar_fault graph ≡ None → length graph.nodes ≤ 1024
+pub nodes_few : (graph : Graph) → grammar_fault graph ≡ None → length graph.nodes ≤ NODE_LIMIT
 nodes_few graph none =
-    let sized = and_parts (nat_lt 0 (length graph.nodes) && nat_le (length graph.nodes) 1024) _ (sizes graph none) in
+    let sized = and_parts (nat_lt 0 (length graph.nodes) && nat_le (length graph.nodes) NODE_LIMIT) _ (sizes graph none) in
     let few = and_parts (nat_lt 0 (length graph.nodes)) _ sized.0 in
     grind (arith, nat_tests)
 
@@ -87,7 +88,7 @@ limit_of (first ∷ more) (suc place) node found = let later = limit_of more pla
 -- the tests that a node passes which has no fault
 record Tests (tables : List (List Entry)) (count : ℕ) (node : Node) : Type 0 where
   some : (length node.chain == 0) ≡ false
-  few : nat_lt 16 (length node.chain) ≡ false
+  few : nat_lt BLOCK_LIMIT (length node.chain) ≡ false
   have_tables : list_all (λ (block : Block). has_table tables block.function) node.chain ≡ true
   lead : list_all (leads_within tables count) node.chain ≡ true
   texts : (option_map_or is_shown node.default true && list_all has_texts node.chain) ≡ true
@@ -97,7 +98,7 @@ tests : (tables : List (List Entry)) (count number : ℕ) (node : Node) → node
     → Tests tables count node
 tests tables count number node none =
     let first = fails (length node.chain == 0) _ _ none in
-    let second = fails (nat_lt 16 (length node.chain)) _ _ first.none in
+    let second = fails (nat_lt BLOCK_LIMIT (length node.chain)) _ _ first.none in
     let third = passes (list_all (λ (block : Block). has_table tables block.function) node.chain) _ _ second.none in
     let fourth = passes (list_all (leads_within tables count) node.chain) _ _ third.none in
     let fifth = passes (option_map_or is_shown node.default true && list_all has_texts node.chain) _ _ fourth.none in

@@ -3,8 +3,10 @@ ghost use Rattle.std.specs.Prelude.{◌≡◌, ◌<◌, ◌≤◌, ◌++◌, ℕ
 ghost use Rattle.cm_text.specs.Text.{finished};
 ghost use Rattle.cm_fields.specs.Local.{IsLocal};
 ghost use Rattle.cm_files.specs.declared.flags.Flags.{Flags};
+ghost use Rattle.cm_blocks.specs.declared.fault.TheConstants.{BLOCK_LIMIT, NODE_LIMIT, TABLE_LIMIT};
 ghost use Rattle.cm_blocks.specs.declared.field.Chain.TheVariants as chain;
 ghost use Rattle.cm_blocks.specs.declared.field.Ending.{Ending};
+ghost use Rattle.cm_blocks.specs.declared.field.TheConstants.{FIELD_LIMIT};
 ghost use Rattle.cm_blocks.specs.declared.function.Function.{Function};
 ghost use Rattle.cm_blocks.specs.Chain.{chain_at};
 ghost use Rattle.cm_blocks.specs.Fault.{grammar_fault};
@@ -13,6 +15,14 @@ ghost use Rattle.cm_blocks.specs.Parse.{IsClosed, IsParse, open_at, parse_of};
 ghost use Rattle.cm_blocks.specs.Setting.{Setting};
 ghost use Rattle.cm_blocks.specs.FieldView.{FieldView};
 ghost use Rattle.cm_blocks.specs.Trial.{trial};
+
+/// The most nodes, tables and blocks of a grammar, and the most fields of a line.
+pub fn these_are_the_numbers()
+    ensures nodes { NODE_LIMIT ≡ 1024 }
+    ensures tables { TABLE_LIMIT ≡ 64 }
+    ensures blocks { BLOCK_LIMIT ≡ 16 }
+    ensures fields { FIELD_LIMIT ≡ 64 }
+{}
 
 /// What a function decides, with any flags, on the first bytes of a text it decides on every text that begins with
 /// them.

@@ -1,3 +1,4 @@
+pub mod Candidates
 pub mod Coming
 pub mod Completing
 pub mod Directories

@@ -62,19 +62,23 @@ abbrev pub generation_like : Bool → List ℕ → List ℕ → FileRow → Opti
 generation_like deleted name kind row =
     if agree row.deleted deleted && (equals row.name name && equals row.kind kind) then Some row.generation else None
 
+-- what texts say together
+abbrev pub found_of : List (List ℕ) → Found
+found_of texts = gather with_text Nobody texts
+
 -- the directories, the users, the names of files, and the types of the files of one name, that begin with what is
 -- typed
 abbrev pub found_directories : Catalogue → List ℕ → Found
-found_directories c typed = gather with_text Nobody (filter_map (directory_like typed) c.directories)
+found_directories c typed = found_of (filter_map (directory_like typed) c.directories)
 
 abbrev pub found_users : Catalogue → List ℕ → Found
-found_users c typed = gather with_text Nobody (filter_map (user_like typed) c.directories)
+found_users c typed = found_of (filter_map (user_like typed) c.directories)
 
 abbrev pub found_names : List FileRow → Bool → List ℕ → Found
-found_names rows deleted typed = gather with_text Nobody (filter_map (name_like deleted typed) rows)
+found_names rows deleted typed = found_of (filter_map (name_like deleted typed) rows)
 
 abbrev pub found_kinds : List FileRow → Bool → List ℕ → List ℕ → Found
-found_kinds rows deleted name typed = gather with_text Nobody (filter_map (kind_like deleted name typed) rows)
+found_kinds rows deleted name typed = found_of (filter_map (kind_like deleted name typed) rows)
 
 -- the highest generation of the files of one name and type
 abbrev pub highest : List FileRow → Bool → List ℕ → List ℕ → Option ℕ

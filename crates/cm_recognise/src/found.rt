@@ -10,7 +10,7 @@ use cm_files::Names;
 use cm_text::{NAME_LIMIT, begins_with, common_len, equals};
 
 /// What texts say together that begin with what is typed.
-#[derive(Debug, Drop)]
+#[derive(Drop)]
 pub(crate) enum Found {
     /// There is none.
     Nobody,

@@ -1,7 +1,10 @@
 //! Laws of recognition.
-ghost use Rattle.std.specs.Prelude.{◌≡◌, ◌+◌, ◌≤◌, ◌++◌, ℕ, List, None, Some, drop, false, length};
+ghost use Rattle.std.specs.Prelude.{◌≡◌, ◌≢◌, ◌+◌, ◌≤◌, ◌++◌, ℕ, List, [], None, Some, drop, false, length, true};
+ghost use Rattle.std.specs.Io.{StartsWith};
+ghost use Rattle.std.specs.List.{AllByRecursion};
 ghost use Rattle.cm_text.specs.Text.{IsLine};
 ghost use Rattle.cm_text.specs.declared.text.TheConstants.{LINE_LIMIT};
+ghost use Rattle.cm_tables.specs.Common.{AllBeginWith};
 ghost use Rattle.cm_files.specs.Catalogue.{IsCatalogue};
 ghost use Rattle.cm_hooks.specs.Meanings.{IsLawful};
 ghost use Rattle.cm_blocks.specs.declared.field.Ending.TheVariants as ending;
@@ -10,10 +13,12 @@ ghost use Rattle.cm_blocks.specs.Chain.{chain_at};
 ghost use Rattle.cm_blocks.specs.Fault.{grammar_fault};
 ghost use Rattle.cm_blocks.specs.Setting.{Setting};
 ghost use Rattle.cm_blocks.specs.Well.{AreTables};
+ghost use Rattle.cm_recognise.specs.declared.found.Found.TheVariants.{Nobody, One, Several};
 ghost use Rattle.cm_recognise.specs.declared.outcome.Outcome.TheVariants.{Whole};
 ghost use Rattle.cm_recognise.specs.declared.insertion.Mode.{Mode};
 ghost use Rattle.cm_recognise.specs.declared.insertion.Mode.TheVariants as modes;
-ghost use Rattle.cm_recognise.specs.Insertion.{behind, default_put, insertion};
+ghost use Rattle.cm_recognise.specs.Found.{found_of};
+ghost use Rattle.cm_recognise.specs.Insertion.{behind, default_put, insertion, is_asked};
 ghost use Rattle.cm_recognise.specs.Outcome.{outcome};
 ghost use Rattle.cm_recognise.specs.Sound.{HasDevice, TakesField, Waits};
 
@@ -31,14 +36,32 @@ pub fn a_whole_completion_is_taken()
         (chain_at s number (line ++ (bytes ++ behind s.graph next)) at).chain }
 {}
 
-/// Such a completion is what ESC puts in, with what stands behind a whole field and no bell, where no default stands
-/// for the field and it fits into the line.
+/// Such a completion is what the key puts in that asks the block, ESC or control-F, with what stands behind a whole
+/// field and no bell, where it fits into the line; ESC where no default stands for the field.
 pub fn a_whole_completion_is_put_in()
     ensures { (s : Setting) → (line : List ℕ) → IsLine line → (number b at start : ℕ) → (block : Block)
-        → (waits : Waits s number b block line at start)
-        → default_put (drop start line) waits.node.default ≡ None → (bytes : List ℕ) → (next : ℕ)
-        → outcome s modes.Escape block (drop start line) start ≡ Whole bytes next
+        → (waits : Waits s number b block line at start) → (mode : Mode) → is_asked mode block.function ≡ true
+        → (mode ≡ modes.Escape → default_put (drop start line) waits.node.default ≡ None)
+        → (bytes : List ℕ) → (next : ℕ) → outcome s mode block (drop start line) start ≡ Whole bytes next
         → length line + length (bytes ++ behind s.graph next) ≤ LINE_LIMIT
-        → insertion s (ending.Open (record { node = number; block = Some b; at = start })) line modes.Escape
+        → insertion s (ending.Open (record { node = number; block = Some b; at = start })) line mode
         ≡ record { bytes = bytes ++ behind s.graph next; bell = false } }
+{}
+
+/// Of texts that may be meant, as users, directories, names and types of files, none is found exactly where there is
+/// none, and one exactly where there are some and all of them are that one.
+pub fn one_is_found_where_all_are_alike()
+    ensures nobody { (texts : List (List ℕ)) → found_of texts ≡ Nobody → texts ≡ [] }
+    ensures one { (texts : List (List ℕ)) → (text : List ℕ) → texts ≢ []
+        → AllByRecursion (λ other. other ≡ text) texts → found_of texts ≡ One text }
+    ensures alike { (texts : List (List ℕ)) → (text : List ℕ) → found_of texts ≡ One text
+        → (texts ≢ []) × AllByRecursion (λ other. other ≡ text) texts }
+{}
+
+/// What several of them share is the longest text that all of them begin with.
+pub fn what_several_share_is_the_longest()
+    ensures shared { (texts : List (List ℕ)) → (front : List ℕ) → found_of texts ≡ Several front
+        → AllBeginWith texts front }
+    ensures longest { (texts : List (List ℕ)) → (front other : List ℕ) → found_of texts ≡ Several front
+        → AllBeginWith texts other → StartsWith front other }
 {}

@@ -70,19 +70,19 @@ shared-longest : (text other front : List ℕ) → StartsWith text front → Sta
 shared-longest text other front first second =
     take-take (length front) (common_prefix_len nat_eq text other) text (shared-most text other front first second) ∙ first
 
-fold-first : (text : List ℕ) (texts : List (List ℕ)) → StartsWith text (fold shared text texts)
+pub fold-first : (text : List ℕ) (texts : List (List ℕ)) → StartsWith text (fold shared text texts)
 fold-first text [] = take_all (length text) text (omega arith)
 fold-first text (other ∷ texts) =
     starts-trans text (shared text other) _ (shared-first text other) (fold-first (shared text other) texts)
 
-fold-all : (text : List ℕ) (texts : List (List ℕ)) → AllBeginWith texts (fold shared text texts)
+pub fold-all : (text : List ℕ) (texts : List (List ℕ)) → AllBeginWith texts (fold shared text texts)
 fold-all text [] = tt
 fold-all text (other ∷ texts) = (
   starts-trans other (shared text other) _ (shared-second text other) (fold-first (shared text other) texts),
   fold-all (shared text other) texts,
 )
 
-fold-longest : (text : List ℕ) (texts : List (List ℕ)) (front : List ℕ) → StartsWith text front
+pub fold-longest : (text : List ℕ) (texts : List (List ℕ)) (front : List ℕ) → StartsWith text front
     → AllBeginWith texts front
     → StartsWith (fold shared text texts) front
 fold-longest text [] front first all = first
