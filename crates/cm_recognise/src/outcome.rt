@@ -106,7 +106,7 @@ fn shared_outcome(table: &Table, atom: &[u8]) -> Outcome
     if table.has_text(atom) {
         return Outcome::Nothing;
     }
-    Outcome::Part(copied(table.common(atom)))
+    Outcome::Part(copied(table.common(atom).as_bytes()))
 }
 
 // How a keyword goes on, or a switch behind its slash.

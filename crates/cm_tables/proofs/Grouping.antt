@@ -110,7 +110,9 @@ candidates_in atom entries start group is =
 pub listed_in : (atom : List ℕ) (entries : List Entry) (start : ℕ) (group : List Entry) (place : ℕ)
     → IsGroup atom entries start group → listed_of (place + start) group atom ≡ listed_of place entries atom
 listed_in atom entries start group place is =
-    sym (passing_in (is_listed atom) atom entries start group (λ entry fails. neither (is_plain entry.flag) _ fails) is place)
+    sym
+    (passing_in (is_listed atom) atom entries start group (λ entry fails. neither (is_plain entry.flag) _ fails) is
+    place)
 
 -- what stands behind the atom is the same wherever the entries stand
 rests_anywhere : (place other : ℕ) (entries : List Entry) (atom : List ℕ)
@@ -122,9 +124,11 @@ rests_anywhere place other (first ∷ more) atom =
     behind : ℕ × Entry → List ℕ
     behind e = drop (length atom) e.1.text
 
+    with_first : ℕ → Bool → List (ℕ × Entry)
+    with_first n test = cond test ((n, first) ∷ candidates_from (n + 1) more atom) (candidates_from (n + 1) more atom)
+
     by : (test : Bool) → rests_from (place + 1) more atom ≡ rests_from (other + 1) more atom
-        → map behind (cond test ((place, first) ∷ candidates_from (place + 1) more atom) (candidates_from (place + 1) more atom))
-        ≡ map behind (cond test ((other, first) ∷ candidates_from (other + 1) more atom) (candidates_from (other + 1) more atom))
+        → map behind (with_first place test) ≡ map behind (with_first other test)
     by true later = ap (λ rest. behind (0, first) ∷ rest) later
     by false later = later
 
@@ -222,7 +226,8 @@ position_first atom entries start first more is equal =
     let place : position_or_len test (is.before ++ rest) ≡ length is.before =
     first_behind test is.before rest none ∙ (omega (arith, here)) in
     let size : length (is.before ++ rest) ≡ length is.before + length rest = length-append is.before rest in
-    let within : ltb (position_or_len test (is.before ++ rest)) (length (is.before ++ rest)) ≡ true = grind (arith, nat_tests) in
+    let within : ltb (position_or_len test (is.before ++ rest)) (length (is.before ++ rest)) ≡ true =
+    grind (arith, nat_tests) in
     ap (position test) is.parts ∙ (rw within (ap Some (place ∙ sym is.at)))
 
 -- and where it is not, there is no such entry
@@ -270,7 +275,8 @@ position_missing atom entries start [] is at = sym (position_nowhere atom entrie
 position_missing atom entries start (next ∷ more) is at = cc
 
 -- some entry passes exactly where one has a place
-pub is_some_position : (test : Entry → Bool) (entries : List Entry) → is_some (position test entries) ≡ list_any test entries
+pub is_some_position : (test : Entry → Bool) (entries : List Entry)
+    → is_some (position test entries) ≡ list_any test entries
 is_some_position test entries = by (ltb (position_or_len test entries) (length entries)) ∙ any entries
   where
     by : (passes : Bool) → is_some (cond passes (Some (position_or_len test entries)) None) ≡ passes
@@ -282,6 +288,7 @@ is_some_position test entries = by (ltb (position_or_len test entries) (length e
     any (first ∷ more) = one (test first) (any more)
       where
         one : (passes : Bool) → ltb (position_or_len test more) (length more) ≡ list_any test more
-            → ltb (cond (not passes) (1 + position_or_len test more) 0) (suc (length more)) ≡ (passes || list_any test more)
+            → ltb (cond (not passes) (1 + position_or_len test more) 0) (suc (length more))
+            ≡ (passes || list_any test more)
         one true later = grind (arith, nat_tests)
         one false later = sym (sym later ∙ grind (arith, nat_tests))

@@ -1,5 +1,5 @@
 -- What a search by halving finds in a table.
-use Rattle.std.proofs.Common.{◌≡◌, ℕ, zero, suc, ◌<◌, ◌≤◌, true, false, List, [], ◌∷◌, ◌++◌, length, length-take, get_or, take, drop, arith, refl, ap, sym, subst, ◌∙◌}
+use Rattle.std.proofs.Common.{◌≡◌, ℕ, Bool, zero, suc, ◌<◌, ◌≤◌, true, false, List, [], ◌∷◌, ◌++◌, length, length-take, get_or, take, drop, arith, refl, ap, sym, subst, ◌∙◌}
 use Rattle.std.specs.Char.{to_ascii_lowercase}
 use Rattle.std.specs.Cmp.Lexicographic.{slice_cmp}
 use Rattle.std.specs.List.{AllByRecursion, AllWithin, list_all}
@@ -123,13 +123,20 @@ below_most Greater Less le is = absurd (omega arith)
 below_most Greater Equal le is = absurd (omega arith)
 below_most Greater Greater le is = cc
 
--- so a test of the place parts them
+-- an entry stands below those that begin with the atom, or not above them
+abbrev pub is_below : List ℕ → Entry → Bool
+is_below atom entry = is_lt (place entry.text atom)
+
+abbrev pub is_no_higher : List ℕ → Entry → Bool
+is_no_higher atom entry = is_le (place entry.text atom)
+
+-- so each of the two tests parts them
 parted_lt : (atom : List ℕ) (entries : List Entry) → IsNonDecreasingBy (index_of atom) entries
-    → IsPartitionedBy (λ (entry : Entry). is_lt (place entry.text atom)) entries
+    → IsPartitionedBy (is_below atom) entries
 parted_lt atom entries rise i j d le within is = below_least _ _ (rise i j d le within) is
 
 parted_le : (atom : List ℕ) (entries : List Entry) → IsNonDecreasingBy (index_of atom) entries
-    → IsPartitionedBy (λ (entry : Entry). is_le (place entry.text atom)) entries
+    → IsPartitionedBy (is_no_higher atom) entries
 parted_le atom entries rise i j d le within is = below_most _ _ (rise i j d le within) is
 
 -- an entry begins with the atom exactly where its place is among those that do
@@ -194,30 +201,36 @@ all_both P Q R join [] (suc n) all some = tt
 all_both P Q R join (x ∷ xs) zero all some = tt
 all_both P Q R join (x ∷ xs) (suc n) all some = (join x all.0 some.0, all_both P Q R join xs n all.1 some.1)
 
+-- those that a test passes stand before this place, and the others from it on
+abbrev pub IsPoint : (Entry → Bool) → List Entry → ℕ → Type 0
+IsPoint test entries place = IsPartitionPoint (λ entry. test entry ≡ true) (λ entry. test entry ≡ false) entries place
+
 -- the two points that the searches find part the entries
 parts_is : (atom : List ℕ) (entries : List Entry) (start size : ℕ) → start ≤ length entries
-    → size ≤ length (drop start entries)
-    → IsPartitionPoint (λ (e : Entry). is_lt (place e.text atom) ≡ true) (λ (e : Entry). is_lt (place e.text atom) ≡ false) entries start
-    → IsPartitionPoint (λ (e : Entry). is_le (place e.text atom) ≡ true) (λ (e : Entry). is_le (place e.text atom) ≡ false) (drop start entries) size
+    → size ≤ length (drop start entries) → IsPoint (is_below atom) entries start
+    → IsPoint (is_no_higher atom) (drop start entries) size
     → IsGroup atom entries start (take size (drop start entries))
-parts_is atom entries start size most fits first second = record {
-  before = take start entries;
-  behind = drop size (drop start entries);
-  parts = sym (ap (λ rest. take start entries ++ rest) (take-append-drop size (drop start entries))
-      ∙ take-append-drop start entries);
-  at = simp length-take (omega (arith, most));
-  none_before = all_as _ _ (λ e is. begins_at e.text atom ∙ not_begins _ is) _ (all_taken _ entries start first.0 most);
-  among = all_both _ _ _ (λ e low high. begins_at e.text atom ∙ begins _ low high) _ size
-      (all_dropped _ entries start first.1) (all_taken _ _ size second.0 fits);
-  none_behind = all_as _ _ (λ e is. begins_at e.text atom ∙ nor_begins _ is) _ (all_dropped _ _ size second.1);
-}
+parts_is atom entries start size most fits first second =
+    record {
+      before = take start entries;
+      behind = drop size (drop start entries);
+      parts =
+          sym
+          (ap (λ rest. take start entries ++ rest) (take-append-drop size (drop start entries))
+          ∙ take-append-drop start entries);
+      at = simp length-take (omega (arith, most));
+      none_before =
+          all_as _ _ (λ e is. begins_at e.text atom ∙ not_begins _ is) _ (all_taken _ entries start first.0 most);
+      among =
+          all_both _ _ _ (λ e low high. begins_at e.text atom ∙ begins _ low high) _ size
+          (all_dropped _ entries start first.1) (all_taken _ _ size second.0 fits);
+      none_behind = all_as _ _ (λ e is. begins_at e.text atom ∙ nor_begins _ is) _ (all_dropped _ _ size second.1);
+    }
 
 pub group_is : (atom : List ℕ) (entries behind group : List Entry) (start size : ℕ) → Ascends entries
     → behind ≡ drop start entries → group ≡ take size behind → start ≤ length entries → size ≤ length behind
-    → (IsPartitionedBy (λ (e : Entry). is_lt (place e.text atom)) entries
-    → IsPartitionPoint (λ (e : Entry). is_lt (place e.text atom) ≡ true) (λ (e : Entry). is_lt (place e.text atom) ≡ false) entries start)
-    → (IsPartitionedBy (λ (e : Entry). is_le (place e.text atom)) behind
-    → IsPartitionPoint (λ (e : Entry). is_le (place e.text atom) ≡ true) (λ (e : Entry). is_le (place e.text atom) ≡ false) behind size)
+    → (IsPartitionedBy (is_below atom) entries → IsPoint (is_below atom) entries start)
+    → (IsPartitionedBy (is_no_higher atom) behind → IsPoint (is_no_higher atom) behind size)
     → IsGroup atom entries start group
 group_is atom entries behind group start size up rest some most fits first second =
     let rise = places_rise atom entries up in
@@ -226,4 +239,4 @@ group_is atom entries behind group start size up rest some most fits first secon
     subst (IsGroup atom entries start) (sym (some ∙ ap (take size) rest))
     (parts_is atom entries start size most (subst (λ (xs : List Entry). size ≤ length xs) rest fits)
     (first (parted_lt atom entries rise))
-    (subst (λ (xs : List Entry). IsPartitionPoint (λ (e : Entry). is_le (place e.text atom) ≡ true) (λ (e : Entry). is_le (place e.text atom) ≡ false) xs size) rest parted))
+    (subst (λ (xs : List Entry). IsPoint (is_no_higher atom) xs size) rest parted))

@@ -1,3 +1,4 @@
+pub mod AsciiLemmas
 pub mod CommonLemmas
 pub mod FoundLemmas
 pub mod Grouping

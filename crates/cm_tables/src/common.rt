@@ -1,13 +1,14 @@
 // How the entries go on alike that an atom may abbreviate.
 ghost use Rattle.std.specs.Prelude.{◌≡◌, ◌≤◌, drop, length};
 ghost use Rattle.std.specs.Option.{option_copied, option_map_or};
+ghost use Rattle.std.specs.Str.{IsAscii};
 ghost use Rattle.cm_tables.specs.Common.{common, shared};
 ghost use Rattle.cm_tables.specs.Search.{Ascends};
 
 use crate::Entry;
 use crate::group::group_of;
 use crate::search::may_abbreviate;
-use cm_text::{NAME_LIMIT, common_len};
+use cm_text::{NAME_LIMIT, Name, common_len};
 
 // The longest text that both begin with.
 fn shared<'a>(text: &'a [u8], other: &[u8]) -> &'a [u8]
@@ -39,7 +40,7 @@ fn shared_with<'a>(found: Option<&'a [u8]>, text: &'a [u8]) -> &'a [u8]
 
 // The longest text with which all entries go on that the atom may abbreviate.
 #[tactic(auto, unfolding(crate::specs::Common::common), using(crate::proofs::CommonLemmas::atom_fits))]
-pub(crate) fn common<'a>(entries: &'a [Entry], atom: &[u8]) -> &'a [u8]
+fn common_text<'a>(entries: &'a [Entry], atom: &[u8]) -> &'a [u8]
     requires { Ascends entries.now }
     ensures value { result.now ≡ common entries.now atom.now }
     ensures within { length result.now ≤ NAME_LIMIT }
@@ -52,4 +53,27 @@ pub(crate) fn common<'a>(entries: &'a [Entry], atom: &[u8]) -> &'a [u8]
         }
     }
     found.unwrap_or(&[])
+}
+
+// The name with this text.
+#[tactic(auto, using(crate::proofs::AsciiLemmas::text_of_ascii))]
+fn name_of(text: &[u8]) -> Name
+    requires ascii { IsAscii text.now }
+    requires short { length text.now ≤ NAME_LIMIT }
+    ensures { result ≡ text.now }
+{
+    match str::from_utf8(text) {
+        Ok(text) => Name::new(text),
+        Err(_) => unreachable!(),
+    }
+}
+
+// The same as a name, since keywords are ASCII.
+#[tactic(auto, using(crate::proofs::AsciiLemmas::common_is_ascii))]
+pub(crate) fn common(entries: &[Entry], atom: &[u8]) -> Name
+    requires { Ascends entries.now }
+    ensures value { result ≡ common entries.now atom.now }
+    ensures within { length result ≤ NAME_LIMIT }
+{
+    name_of(common_text(entries, atom))
 }

@@ -7,7 +7,7 @@ ghost use Rattle.cm_tables.specs.Order.{table_fault};
 
 use crate::fault::{ENTRY_LIMIT, table_fault};
 use crate::{Entry, common, listed, search};
-use cm_text::NAME_LIMIT;
+use cm_text::{NAME_LIMIT, Name};
 use std::marker::Model;
 use thiserror::Error;
 
@@ -138,9 +138,9 @@ impl Table {
     /// The longest text with which all entries go on behind the atom that it may abbreviate, so that it can be
     /// completed as far as it is certain (COMND's recognition). It is empty where there is no such entry.
     #[tactic(auto, using(crate::proofs::Grouping::ascends_of))]
-    pub fn common(&self, atom: &[u8]) -> &[u8]
-        ensures value { result.now ≡ common self.now atom.now }
-        ensures within { length result.now ≤ NAME_LIMIT }
+    pub fn common(&self, atom: &[u8]) -> Name
+        ensures value { result ≡ common self.now atom.now }
+        ensures within { length result ≤ NAME_LIMIT }
     {
         common::common(&self.entries, atom)
     }

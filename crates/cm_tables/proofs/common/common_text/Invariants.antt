@@ -4,7 +4,7 @@ use Rattle.std.specs.Option.{IfSome, option_copied}
 use Rattle.cm_text.specs.declared.name.TheConstants.{NAME_LIMIT}
 use Rattle.cm_tables.specs.Common.{rests, shared}
 use Rattle.cm_tables.proofs.CommonLemmas.{rests_from, sharing}
-use Rattle.cm_tables.proofs.common.common.Given as goal
+use Rattle.cm_tables.proofs.common.common_text.Given as goal
 
 abbrev pub invariant-loop-entry : goal.invariant-loop-entry
 invariant-loop-entry l =
