@@ -2,9 +2,9 @@
 ghost use Rattle.std.specs.Prelude.{◌≤◌};
 ghost use Rattle.cm_files.specs.declared.generation.TheConstants.{GENERATION_LIMIT};
 
-use super::cases::{Subject, hold, numbered};
-use super::many::Many;
-use super::sample::Sample;
+use crate::cases::{Subject, hold, numbered, told};
+use crate::many::Many;
+use crate::sample::Sample;
 use cm_fields::Gen;
 use cm_files::{Names, Sought, read_spec, select, selects};
 use cm_text::LINE_LIMIT;
@@ -68,20 +68,20 @@ impl Subject for Listings {
         let (few, short) = looks(1024, self.is_last, &sought);
         let (more, long) = looks(4096, self.is_last, &sought);
         let are_few = u64::from(long) <= 4 * u64::from(short) + 16 && long <= 5 * 4096;
-        Ok(format!(in alloc; "{few} {more} {are_few}")?)
+        told(alloc, &(few, more, are_few))
     }
 }
 
 const LISTINGS: &str = "\
-    deleted *.*.* => 1023 4095 true\n\
-    deleted *.* => 1 1 true\n\
-    deleted *.*.0 => 1 1 true\n\
-    deleted *.*.-2 => 1 1 true\n\
-    deleted *.*.2 => 1 1 true\n\
-    deleted *.*.-1 => 0 0 true\n\
-    *.*.0 => 1 1 true\n\
-    *.*.-2 => 1 1 true\n\
-    *.*.* => 1 1 true";
+    deleted *.*.* => (1023, 4095, true)\n\
+    deleted *.* => (1, 1, true)\n\
+    deleted *.*.0 => (1, 1, true)\n\
+    deleted *.*.-2 => (1, 1, true)\n\
+    deleted *.*.2 => (1, 1, true)\n\
+    deleted *.*.-1 => (0, 0, true)\n\
+    *.*.0 => (1, 1, true)\n\
+    *.*.-2 => (1, 1, true)\n\
+    *.*.* => (1, 1, true)";
 
 // All but one of the files are seen, or one alone, which is the first or the last.
 #[test]
@@ -96,8 +96,7 @@ struct Next;
 impl Subject for Next {
     fn answer(&self, alloc: Global, given: &str) -> Result<String, Fail> {
         let (from, rest) = numbered(given)?;
-        let next = select(&Sample, 0, &sought(rest)?, u32::from(from));
-        Ok(format!(in alloc; "{next:?}")?)
+        told(alloc, &select(&Sample, 0, &sought(rest)?, u32::from(from)))
     }
 }
 

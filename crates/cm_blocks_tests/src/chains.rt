@@ -9,11 +9,10 @@ ghost use Rattle.cm_blocks.specs.declared.node.Node.{Node};
 ghost use Rattle.cm_blocks.specs.Chain.{chain_at};
 ghost use Rattle.cm_blocks.specs.Setting.{setting};
 
-use super::grammars::{block, entry, node};
-use super::setting::answer_chains;
-use cm_blocks::{Function, Grammar, Node, Role};
+use crate::grammars::{entry, nodes_of};
+use crate::setting::answer_chains;
+use cm_blocks::{Function, Grammar, Role};
 use cm_tables::Table;
-use cm_text::Name;
 use std::alloc::Global;
 use std::test::Fail;
 
@@ -27,60 +26,56 @@ fn tables(alloc: Global) -> Result<Vec<Table>, Fail> {
     Ok(tables)
 }
 
-// Each node has its blocks, its default, and whether it is raw.
-fn nodes(alloc: Global) -> Result<Vec<Node>, Fail> {
-    let number = || block(Function::Number, Role::Value, 1);
-    let word = || block(Function::Word, Role::What, 2);
-    let text = || block(Function::Text, Role::None, 1);
-    let comma = || block(Function::Comma, Role::None, 7);
-    let confirm = || block(Function::Confirm, Role::None, 0);
-    let quoted = || block(Function::Quoted, Role::Value, 1);
-    let key = || block(Function::Key(0), Role::Verb, 0);
-    let switch = || block(Function::Switch(1), Role::Sub, 0);
-    let hook = || block(Function::Hook(0), Role::Files, 6);
-    let noise = || block(Function::Noise(Name::new("FROM")), Role::None, 1);
-    let token = || block(Function::Token(Name::new("12")), Role::None, 1);
-    let mut nodes = Vec::new(alloc);
-    nodes.push(node(
-        vec![in alloc; number(), word(), confirm()]?,
-        Some("7"),
-        false,
-    ))?;
-    nodes.push(node(vec![in alloc; confirm()]?, None, false))?;
-    nodes.push(node(vec![in alloc; number(), text()]?, None, true))?;
-    nodes.push(node(vec![in alloc; number(), text()]?, None, false))?;
-    nodes.push(node(vec![in alloc; word(), confirm()]?, Some(" !x! AB"), false))?;
-    nodes.push(node(vec![in alloc; word(), text()]?, Some("!x!A"), true))?;
-    nodes.push(node(vec![in alloc; confirm()]?, Some(""), false))?;
-    nodes.push(node(vec![in alloc; comma(), number()]?, Some("A"), false))?;
-    nodes.push(node(vec![in alloc; key(), switch(), hook()]?, None, false))?;
-    nodes.push(node(vec![in alloc; number(), token()]?, None, false))?;
-    nodes.push(node(vec![in alloc; noise()]?, None, false))?;
-    nodes.push(node(vec![in alloc; confirm(), quoted()]?, None, false))?;
-    nodes.push(node(vec![in alloc; key()]?, Some("R"), false))?;
-    Ok(nodes)
-}
+// Each node has its blocks and its default.
+const NODES: &str = "Number>1 Word>2 Confirm =7/\
+    Confirm/\
+    raw Number>1 Text>1/\
+    Number>1 Text>1/\
+    Word>2 Confirm = !x! AB/\
+    raw Word>2 Text>1 =!x!A/\
+    Confirm =/\
+    Comma>7 Number>1 =A/\
+    Key:0 Switch:1 Hook:0>6/\
+    Number>1 Token>1/\
+    Noise>1/\
+    Confirm Quoted>1/\
+    Key:0 =R";
 
 fn grammar(alloc: Global) -> Result<Grammar, Fail> {
-    Ok(Grammar::new(nodes(alloc)?, tables(alloc)?)?)
+    Ok(Grammar::new(nodes_of(alloc, NODES)?, tables(alloc)?)?)
 }
 
 // The number looks at as many bytes as the word that is taken, or at more than the token. Comments count, but in no raw
 // node. The entry of a keyword or a switch leads on.
-const OF_THE_TEXT: &str = "0 0 8\r => 0.0 Number(8) 0..1 2 text Value 1
-0 1 A 8, => 0.0 Number(8) 2..3 4 text Value 1
-0 0  !x!8 \r => 0.0 Number(8) 4..5 6 text Value 1
-0 0 12A\r => 0.1 Word(Span { start: 0, end: 3 }) 0..3 4 text What 2
-9 0 12A, => 9.1 Token 0..2 4 text None 1
-2 0  !x!5\r => 2.1 Text(Span { start: 1, end: 5 }) 1..5 6 text None 1
-3 0  !x!5\r => 3.0 Number(5) 4..5 6 text Value 1
-7 0 ,A => 7.0 Comma 0..1 1 text None 7
-10 0 A\r => 10.0 Noise(false) 0..0 1 text None 1
-10 0  (FR)X => 10.0 Noise(true) 1..5 5 text None 1
-11 0 \"A\"  => 11.1 Quoted(Span { start: 1, end: 2 }) 0..3 4 text Value 1
-8 0 ru  => 8.0 Key { entry: 1, code: 60 } 0..2 3 text Verb 3
-8 0 /A: => 8.1 Switch { entry: 0, code: 70 } 0..3 3 text Sub 4
-8 0  AB\r => 8.2 Hook { id: 0, value: 2 } 1..3 4 text Files 6";
+const OF_THE_TEXT: &str = "\
+    0 0 8\r => Field(Field { node: 0, block: 0, value: Number(8), start: 0, end: 1, need: 2, defaulted: false, \
+    role: Value, next: 1 })\n\
+    0 1 A 8, => Field(Field { node: 0, block: 0, value: Number(8), start: 2, end: 3, need: 4, defaulted: false, \
+    role: Value, next: 1 })\n\
+    0 0  !x!8 \r => Field(Field { node: 0, block: 0, value: Number(8), start: 4, end: 5, need: 6, defaulted: false, \
+    role: Value, next: 1 })\n\
+    0 0 12A\r => Field(Field { node: 0, block: 1, value: Word(Span { start: 0, end: 3 }), start: 0, end: 3, \
+    need: 4, defaulted: false, role: What, next: 2 })\n\
+    9 0 12A, => Field(Field { node: 9, block: 1, value: Token, start: 0, end: 2, need: 4, defaulted: false, \
+    role: None, next: 1 })\n\
+    2 0  !x!5\r => Field(Field { node: 2, block: 1, value: Text(Span { start: 1, end: 5 }), start: 1, end: 5, \
+    need: 6, defaulted: false, role: None, next: 1 })\n\
+    3 0  !x!5\r => Field(Field { node: 3, block: 0, value: Number(5), start: 4, end: 5, need: 6, defaulted: false, \
+    role: Value, next: 1 })\n\
+    7 0 ,A => Field(Field { node: 7, block: 0, value: Comma, start: 0, end: 1, need: 1, defaulted: false, \
+    role: None, next: 7 })\n\
+    10 0 A\r => Field(Field { node: 10, block: 0, value: Noise(false), start: 0, end: 0, need: 1, defaulted: false, \
+    role: None, next: 1 })\n\
+    10 0  (FR)X => Field(Field { node: 10, block: 0, value: Noise(true), start: 1, end: 5, need: 5, \
+    defaulted: false, role: None, next: 1 })\n\
+    11 0 \"A\"  => Field(Field { node: 11, block: 1, value: Quoted(Span { start: 1, end: 2 }), start: 0, end: 3, \
+    need: 4, defaulted: false, role: Value, next: 1 })\n\
+    8 0 ru  => Field(Field { node: 8, block: 0, value: Key { entry: 1, code: 60 }, start: 0, end: 2, need: 3, \
+    defaulted: false, role: Verb, next: 3 })\n\
+    8 0 /A: => Field(Field { node: 8, block: 1, value: Switch { entry: 0, code: 70 }, start: 0, end: 3, need: 3, \
+    defaulted: false, role: Sub, next: 4 })\n\
+    8 0  AB\r => Field(Field { node: 8, block: 2, value: Hook { id: 0, value: 2 }, start: 1, end: 3, need: 4, \
+    defaulted: false, role: Files, next: 6 })";
 
 #[test]
 fn takes_fields_of_the_text(rt: HostRuntime) -> Result<(), Fail> {
@@ -88,13 +83,21 @@ fn takes_fields_of_the_text(rt: HostRuntime) -> Result<(), Fail> {
 }
 
 // The spans are places in the default, whose comments count as those of the text do.
-const OF_THE_DEFAULT: &str = "0 0 \r => 0.0 Number(7) 0..0 1 default Value 1
-0 0  \r => 0.0 Number(7) 1..1 2 default Value 1
-0 1 A\r => 0.0 Number(7) 1..1 2 default Value 1
-0 1 A;x\r => 0.0 Number(7) 3..3 4 default Value 1
-4 0  \r => 4.0 Word(Span { start: 5, end: 7 }) 1..1 2 default What 2
-5 0 \r => 5.1 Text(Span { start: 0, end: 4 }) 0..0 1 default None 1
-12 0 \r => 12.0 Key { entry: 1, code: 60 } 0..0 1 default Verb 3";
+const OF_THE_DEFAULT: &str = "\
+    0 0 \r => Field(Field { node: 0, block: 0, value: Number(7), start: 0, end: 0, need: 1, defaulted: true, \
+    role: Value, next: 1 })\n\
+    0 0  \r => Field(Field { node: 0, block: 0, value: Number(7), start: 1, end: 1, need: 2, defaulted: true, \
+    role: Value, next: 1 })\n\
+    0 1 A\r => Field(Field { node: 0, block: 0, value: Number(7), start: 1, end: 1, need: 2, defaulted: true, \
+    role: Value, next: 1 })\n\
+    0 1 A;x\r => Field(Field { node: 0, block: 0, value: Number(7), start: 3, end: 3, need: 4, defaulted: true, \
+    role: Value, next: 1 })\n\
+    4 0  \r => Field(Field { node: 4, block: 0, value: Word(Span { start: 5, end: 7 }), start: 1, end: 1, need: 2, \
+    defaulted: true, role: What, next: 2 })\n\
+    5 0 \r => Field(Field { node: 5, block: 1, value: Text(Span { start: 0, end: 4 }), start: 0, end: 0, need: 1, \
+    defaulted: true, role: None, next: 1 })\n\
+    12 0 \r => Field(Field { node: 12, block: 0, value: Key { entry: 1, code: 60 }, start: 0, end: 0, need: 1, \
+    defaulted: true, role: Verb, next: 3 })";
 
 #[test]
 fn takes_fields_of_the_default(rt: HostRuntime) -> Result<(), Fail> {

@@ -2,7 +2,7 @@
 ghost use Rattle.std.specs.Prelude.{length};
 ghost use Rattle.cm_files.specs.Spec.{IsPartOf};
 
-use super::cases::{Subject, hold};
+use crate::cases::{Subject, hold, told};
 use cm_fields::{Span, Spec};
 use cm_files::{SpecFault, is_logical_name, part, read_spec};
 use cm_text::LINE_LIMIT;
@@ -33,20 +33,20 @@ impl Subject for Parts {
         let directory = part_of(text, spec.directory)?;
         let name = part_of(text, spec.name)?;
         let kind = part_of(text, spec.kind)?;
-        Ok(format!(in alloc; "{device:?} {directory:?} {name:?} {kind:?}")?)
+        told(alloc, &(device, directory, name, kind))
     }
 }
 
-const PARTS: &str = "A => None None Some(\"A\") None
-A. => None None Some(\"A\") Some(\"\")
-A.B => None None Some(\"A\") Some(\"B\")
-A.B. => None None Some(\"A\") Some(\"B\")
-A..1 => None None Some(\"A\") Some(\"\")
-PS: => Some(\"PS\") None None None
-<A.B> => None Some(\"A.B\") None None
-PS:<A> => Some(\"PS\") Some(\"A\") None None
-x-1:<S*.%>$_*.T%.0 => Some(\"x-1\") Some(\"S*.%\") Some(\"$_*\") Some(\"T%\")
-*.*.* => None None Some(\"*\") Some(\"*\")";
+const PARTS: &str = "A => (None, None, Some(\"A\"), None)
+A. => (None, None, Some(\"A\"), Some(\"\"))
+A.B => (None, None, Some(\"A\"), Some(\"B\"))
+A.B. => (None, None, Some(\"A\"), Some(\"B\"))
+A..1 => (None, None, Some(\"A\"), Some(\"\"))
+PS: => (Some(\"PS\"), None, None, None)
+<A.B> => (None, Some(\"A.B\"), None, None)
+PS:<A> => (Some(\"PS\"), Some(\"A\"), None, None)
+x-1:<S*.%>$_*.T%.0 => (Some(\"x-1\"), Some(\"S*.%\"), Some(\"$_*\"), Some(\"T%\"))
+*.*.* => (None, None, Some(\"*\"), Some(\"*\"))";
 
 #[test]
 fn parts_are_told(rt: HostRuntime) -> Result<(), Fail> {
@@ -64,8 +64,7 @@ struct Generations;
 
 impl Subject for Generations {
     fn answer(&self, alloc: Global, given: &str) -> Result<String, Fail> {
-        let spec = read(given)??;
-        Ok(format!(in alloc; "{:?}", spec.generation)?)
+        told(alloc, &read(given)??.generation)
     }
 }
 
@@ -136,8 +135,7 @@ struct LogicalNames;
 
 impl Subject for LogicalNames {
     fn answer(&self, alloc: Global, given: &str) -> Result<String, Fail> {
-        let is_one = is_logical_name(given.as_bytes());
-        Ok(format!(in alloc; "{is_one}")?)
+        told(alloc, &is_logical_name(given.as_bytes()))
     }
 }
 

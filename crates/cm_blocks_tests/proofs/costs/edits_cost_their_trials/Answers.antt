@@ -8,7 +8,7 @@ use Rattle.cm_blocks.specs.Keyword.{entry_position}
 use Rattle.cm_blocks.specs.Kept.{cost, kept}
 use Rattle.cm_blocks.specs.Parse.{parse_of}
 use Rattle.cm_blocks.specs.Trial.{trial}
-use Rattle.cm_blocks_tests.proofs.tests.costs.edits_cost_their_trials.Goals as goal
+use Rattle.cm_blocks_tests.proofs.costs.edits_cost_their_trials.Goals as goal
 
 pub returns : goal.returns
 unfolding cost kept parse_of chain_at trial entry_position look begins_with equals word_of is_blank is_word

@@ -2,9 +2,9 @@
 ghost use Rattle.std.specs.Prelude.{◌≡◌, ◌<◌, ◌==◌, [], IfOk, if◌then◌else◌, length};
 ghost use Rattle.cm_hooks.specs.Ties.{Ties};
 
-use super::cases::{compare, numbered, place_of, sides};
-use super::sample::Sample;
-use cm_blocks::{Chain, Field, Grammar, Steps, try_chain};
+use crate::cases::{compare, numbered, place_of, sides, told};
+use crate::sample::Sample;
+use cm_blocks::{Grammar, Steps, try_chain};
 use cm_hooks::{Answer, Hook, Hooks, Rules, Tail};
 use cm_text::Name;
 use std::alloc::Global;
@@ -58,23 +58,6 @@ fn hooks(alloc: Global) -> Result<Hooks<Sizes>, Fail>
     Ok(hooks)
 }
 
-// The node and the number of the block of a field, its value, its place, how many bytes it needs, whether it is of the
-// default, its role and the next node.
-fn field_text(alloc: Global, field: &Field) -> Result<String, Fail> {
-    let (node, block, value) = (field.node(), field.block(), field.value());
-    let (start, end, need) = (field.start(), field.end(), field.need());
-    let from = if field.defaulted() { "default" } else { "text" };
-    let (role, next) = (field.role(), field.next());
-    Ok(format!(in alloc; "{node}.{block} {value:?} {start}..{end} {need} {from} {role:?} {next}")?)
-}
-
-fn chain_text(alloc: Global, chain: &Chain) -> Result<String, Fail> {
-    match chain {
-        Chain::Field(field) => field_text(alloc, field),
-        other => Ok(format!(in alloc; "{other:?}")?),
-    }
-}
-
 // The node that a case gives answers on its text, from the place that it gives.
 fn answers_case<L: Ledger>(
     alloc: Global,
@@ -92,15 +75,16 @@ fn answers_case<L: Ledger>(
         return Err(Fail::new("no such node or hook"));
     }
     let chain = try_chain(grammar, node, given.text, given.at, &Sample, hooks, steps);
-    let answer = chain_text(alloc, &chain)?;
+    let answer = told(alloc, &chain)?;
     compare(case, answer.as_str(), wanted)
 }
 
+// The bytes of the cases, since a ledger cannot be picked where a text is passed.
 fn answer_counted<L: Ledger>(
     rt: &HostRuntime,
     blank: Blank,
     grammar: &Grammar,
-    cases: &str,
+    cases: &[u8],
 ) -> Result<(), Fail>
     requires name { blank.name ≡ L.name }
     requires parts { blank.parts ≡ L.parts }
@@ -108,7 +92,7 @@ fn answer_counted<L: Ledger>(
 {
     let hooks = hooks(rt.alloc())?;
     let mut steps: Steps<L> = Steps::new(rt, blank);
-    for case in cases.lines() {
+    for case in str::from_utf8(cases)?.lines() {
         answers_case(rt.alloc(), grammar, &hooks, &mut steps, case)?;
     }
     Ok(())
@@ -116,5 +100,5 @@ fn answer_counted<L: Ledger>(
 
 // The nodes of a grammar answer on each case as it wants.
 pub(crate) fn answer_chains(rt: &HostRuntime, grammar: &Grammar, cases: &str) -> Result<(), Fail> {
-    answer_counted::<Brand>(rt, Blank::new(1), grammar, cases)
+    answer_counted::<Brand>(rt, Blank::new(1), grammar, cases.as_bytes())
 }

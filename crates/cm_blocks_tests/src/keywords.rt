@@ -1,7 +1,7 @@
 // Keywords and switches by example.
 
-use super::cases::{Subject, hold, place_of};
-use super::grammars::entry;
+use crate::cases::{Subject, hold, place_of, told};
+use crate::grammars::entry;
 use cm_blocks::{key, switch};
 use cm_tables::{Entry, Flag, Table};
 use cm_text::Name;
@@ -14,8 +14,7 @@ struct Keywords<'a>(&'a Table);
 impl<'a> Subject for Keywords<'a> {
     fn answer(&self, alloc: Global, given: &str) -> Result<String, Fail> {
         let given = place_of(given)?;
-        let tried = key(self.0, given.text, given.at);
-        Ok(format!(in alloc; "{tried:?}")?)
+        told(alloc, &key(self.0, given.text, given.at))
     }
 }
 
@@ -25,8 +24,7 @@ struct Switches<'a>(&'a Table);
 impl<'a> Subject for Switches<'a> {
     fn answer(&self, alloc: Global, given: &str) -> Result<String, Fail> {
         let given = place_of(given)?;
-        let tried = switch(self.0, given.text, given.at);
-        Ok(format!(in alloc; "{tried:?}")?)
+        told(alloc, &switch(self.0, given.text, given.at))
     }
 }
 

@@ -3,11 +3,17 @@ ghost use Rattle.std.specs.Prelude.{◌≤◌, IfOk, length};
 
 use cm_text::TEXT_LIMIT;
 use std::alloc::Global;
+use std::fmt::Debug;
 use std::test::Fail;
 
 // What answers on what a case gives, in words.
 pub(crate) trait Subject {
     fn answer(&self, alloc: Global, given: &str) -> Result<String, Fail>;
+}
+
+// A value as `{:?}` shows it.
+pub(crate) fn told<D: Debug>(alloc: Global, value: &D) -> Result<String, Fail> {
+    Ok(format!(in alloc; "{value:?}")?)
 }
 
 // The two sides of a case.

@@ -1,6 +1,6 @@
 // What patterns mean, and that it is found soon.
 
-use super::cases::{Subject, hold};
+use crate::cases::{Subject, hold, told};
 use cm_files::matches;
 use std::alloc::Global;
 use std::test::Fail;
@@ -11,8 +11,7 @@ struct Patterns;
 impl Subject for Patterns {
     fn answer(&self, alloc: Global, given: &str) -> Result<String, Fail> {
         let (pattern, name) = given.split_once('/').ok_or("a pattern is given first")?;
-        let is_meant = matches(pattern.as_bytes(), name.as_bytes());
-        Ok(format!(in alloc; "{is_meant}")?)
+        told(alloc, &matches(pattern.as_bytes(), name.as_bytes()))
     }
 }
 

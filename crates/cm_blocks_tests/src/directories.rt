@@ -1,7 +1,7 @@
 // Directories and users by example.
 
-use super::cases::{Subject, hold, place_of, text_of};
-use super::sample::Sample;
+use crate::cases::{Subject, hold, place_of, text_of, told};
+use crate::sample::Sample;
 use cm_files::{directory, user};
 use std::alloc::Global;
 use std::test::Fail;
@@ -13,8 +13,7 @@ struct Directories {
 
 impl Subject for Directories {
     fn answer(&self, alloc: Global, given: &str) -> Result<String, Fail> {
-        let tried = directory(self.new, &Sample, text_of(given)?, 0);
-        Ok(format!(in alloc; "{tried:?}")?)
+        told(alloc, &directory(self.new, &Sample, text_of(given)?, 0))
     }
 }
 
@@ -23,8 +22,7 @@ struct Users;
 impl Subject for Users {
     fn answer(&self, alloc: Global, given: &str) -> Result<String, Fail> {
         let given = place_of(given)?;
-        let tried = user(&Sample, given.text, given.at);
-        Ok(format!(in alloc; "{tried:?}")?)
+        told(alloc, &user(&Sample, given.text, given.at))
     }
 }
 
