@@ -32,6 +32,19 @@ file 2 0 -> X..1@5=XYZ",
 }
 
 #[test]
+fn a_store_tells_what_a_file_holds(rt: HostRuntime) {
+    let mut store = store_behind(&rt, "files B.T A.T; build SMITH; put <SMITH>X XYZ 5");
+    in_turn(
+        &rt,
+        &mut store,
+        "\
+file 0 0 -> A.T.1@20=A.T
+file 0 1 -> B.T.1@10=B.T
+file 1 0 -> X..1@5=XYZ",
+    );
+}
+
+#[test]
 fn a_store_tells_its_logical_names(rt: HostRuntime) {
     let mut store = sample(&rt);
     in_turn(
