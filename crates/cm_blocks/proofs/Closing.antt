@@ -7,6 +7,7 @@ use Rattle.std.proofs.lemmas.List.{drop-append-le}
 use Rattle.cm_text.specs.Bytes.{is_name, is_word}
 use Rattle.cm_text.specs.Text.{finished}
 use Rattle.cm_tables.specs.declared.entry.Entry.{Entry}
+use Rattle.cm_dates.specs.Date.{date_of}
 use Rattle.cm_fields.specs.declared.code.Code.{Code}
 use Rattle.cm_fields.specs.declared.code.Code.TheVariants.{NotConfirmed}
 use Rattle.cm_fields.specs.declared.trial.Try.{Try}
@@ -27,7 +28,7 @@ use Rattle.cm_blocks.specs.declared.chain.Walk.TheVariants.{Takes, Wants, Fails}
 use Rattle.cm_blocks.specs.declared.field.Chain.{Chain}
 use Rattle.cm_blocks.specs.declared.field.Chain.TheVariants as chain
 use Rattle.cm_blocks.specs.declared.function.Function.{Function}
-use Rattle.cm_blocks.specs.declared.function.Function.TheVariants.{Key, Switch, Noise, Number, Word, Quoted, Token, User, Directory, InFile, OutFile, AnyFile, Text, Comma, Confirm, Hook}
+use Rattle.cm_blocks.specs.declared.function.Function.TheVariants.{Key, Switch, Noise, Number, Word, Quoted, Token, Date, User, Directory, InFile, OutFile, AnyFile, Text, Comma, Confirm, Hook}
 use Rattle.cm_blocks.specs.declared.node.Block.{Block}
 use Rattle.cm_blocks.specs.declared.node.Node.{Node}
 use Rattle.cm_blocks.specs.Chain.{Counted, at_node, by_default, chain_at, default_place, default_rest, defaulted, is_confirm, is_line_end, on_default, on_text, or_later, past_skip, typed, walk}
@@ -92,6 +93,7 @@ trial_decides s Number flags phrase = run_decides is_word (λ at. number_of) ref
 trial_decides s Word flags phrase = run_decides is_word word_of refl
 trial_decides s Quoted flags phrase = quoted_decides
 trial_decides s (Token text) flags phrase = token_decides text (shown_has_no_end text (and_parts _ (is_shown text) phrase).1)
+trial_decides s Date flags phrase = run_decides is_word (λ at. date_of) refl
 trial_decides s User flags phrase = user_decides s.catalogue
 trial_decides s Directory flags phrase = directory_decides flags.new s.catalogue
 trial_decides s InFile flags phrase = file_decides s.catalogue In flags

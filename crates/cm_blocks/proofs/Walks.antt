@@ -5,6 +5,7 @@ use Rattle.std.specs.List.{All, list_all}
 use Rattle.std.proofs.lemmas.Bool.Decides.{nat_tests}
 use Rattle.cm_text.specs.Bytes.{is_name, is_word}
 use Rattle.cm_tables.specs.declared.entry.Entry.{Entry}
+use Rattle.cm_dates.specs.Date.{date_of}
 use Rattle.cm_fields.specs.declared.code.Code.{Code}
 use Rattle.cm_fields.specs.declared.trial.Try.{Try}
 use Rattle.cm_fields.specs.declared.trial.Try.TheVariants.{Accept, Refuse, More}
@@ -26,7 +27,7 @@ use Rattle.cm_hooks.specs.Field.{hook_of}
 use Rattle.cm_blocks.specs.declared.chain.Walk.{Walk}
 use Rattle.cm_blocks.specs.declared.chain.Walk.TheVariants.{Takes, Wants, Fails}
 use Rattle.cm_blocks.specs.declared.function.Function.{Function}
-use Rattle.cm_blocks.specs.declared.function.Function.TheVariants.{Key, Switch, Noise, Number, Word, Quoted, Token, User, Directory, InFile, OutFile, AnyFile, Text, Comma, Confirm, Hook}
+use Rattle.cm_blocks.specs.declared.function.Function.TheVariants.{Key, Switch, Noise, Number, Word, Quoted, Token, Date, User, Directory, InFile, OutFile, AnyFile, Text, Comma, Confirm, Hook}
 use Rattle.cm_blocks.specs.declared.node.Block.{Block}
 use Rattle.cm_blocks.specs.declared.node.Node.{Node}
 use Rattle.cm_blocks.specs.Chain.{ChainLeads, Counted, at_node, by_default, chain_at, default_place, default_rest, defaulted, is_confirm, is_line_end, or_later, past_skip, typed, walk}
@@ -55,6 +56,7 @@ trial_reaches s Quoted flags rest at value looked end phrase is = quoted_reaches
 trial_reaches s (Token text) flags rest at value looked end phrase is =
     let some = and_parts (nat_lt 0 (length text)) _ phrase in
     token_reaches text rest at value looked end (let test = some.0 in grind (arith, nat_tests)) is
+trial_reaches s Date flags rest at value looked end phrase is = run_reaches is_word date_of rest at value looked end is
 trial_reaches s User flags rest at value looked end phrase is = user_reaches s.catalogue rest at value looked end is
 trial_reaches s Directory flags rest at value looked end phrase is = directory_reaches flags.new s.catalogue rest at value looked end is
 trial_reaches s InFile flags rest at value looked end phrase is = file_reaches s.catalogue In flags rest at value looked end is

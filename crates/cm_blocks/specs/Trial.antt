@@ -2,6 +2,7 @@
 use Rattle.std.specs.Prelude.{ℕ, ◌+◌, List, [], slice_get}
 use Rattle.std.specs.Option.{option_map_or}
 use Rattle.cm_tables.specs.declared.entry.Entry.{Entry}
+use Rattle.cm_dates.specs.Date.{date}
 use Rattle.cm_fields.specs.declared.trial.Try.{Try}
 use Rattle.cm_fields.specs.declared.value.FileKind.TheVariants.{In, Out, Any}
 use Rattle.cm_fields.specs.declared.trial.Try.TheVariants.{Accept, Refuse, More}
@@ -16,7 +17,7 @@ use Rattle.cm_files.specs.declared.flags.Flags.{Flags}
 use Rattle.cm_files.specs.Fields.{directory, file, user}
 use Rattle.cm_hooks.specs.Field.{hook}
 use Rattle.cm_blocks.specs.declared.function.Function.{Function}
-use Rattle.cm_blocks.specs.declared.function.Function.TheVariants.{Key, Switch, Noise, Number, Word, Quoted, Token, User, Directory, InFile, OutFile, AnyFile, Text, Comma, Confirm, Hook}
+use Rattle.cm_blocks.specs.declared.function.Function.TheVariants.{Key, Switch, Noise, Number, Word, Quoted, Token, Date, User, Directory, InFile, OutFile, AnyFile, Text, Comma, Confirm, Hook}
 use Rattle.cm_blocks.specs.declared.node.Block.{Block}
 use Rattle.cm_blocks.specs.Grammar.{Graph}
 use Rattle.cm_blocks.specs.Keyword.{key, switch}
@@ -36,6 +37,7 @@ trial s Number flags rest at = number rest at
 trial s Word flags rest at = word rest at
 trial s Quoted flags rest at = quoted rest at
 trial s (Token text) flags rest at = token text rest at
+trial s Date flags rest at = date rest at
 trial s User flags rest at = user s.catalogue rest at
 trial s Directory flags rest at = directory flags.new s.catalogue rest at
 trial s InFile flags rest at = file s.catalogue In flags rest at

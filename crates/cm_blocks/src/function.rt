@@ -18,6 +18,8 @@ pub enum Function {
     Quoted,
     /// This text (.CMTOK).
     Token(Name),
+    /// A date (.CMTAD).
+    Date,
     /// A user (.CMUSR).
     User,
     /// A directory, where the flag `new` says so one that may not be there yet (.CMDIR).

@@ -22,6 +22,3 @@ pub use keyword::{key, switch};
 pub use node::{Block, Blocks, Node};
 pub use steps::Steps;
 pub use trial::try_function;
-
-#[cfg(test)]
-mod tests;

@@ -8,6 +8,7 @@ ghost use Rattle.cm_blocks.specs.Setting.{setting};
 ghost use Rattle.cm_blocks.specs.Trial.{entry_next, keyword_next, looked_of, next_of, table_of, trial};
 
 use crate::{Block, Function, Grammar, key, switch};
+use cm_dates::date;
 use cm_fields::{
     FileKind, Try, Value, comma, confirm, noise, number, quoted, text_field, token, word,
 };
@@ -43,6 +44,7 @@ pub fn try_function<N: Names, R: Rules>(
         Function::Word => word(text, at),
         Function::Quoted => quoted(text, at),
         Function::Token(phrase) => token(phrase.as_str(), text, at),
+        Function::Date => date(text, at),
         Function::User => user(names, text, at),
         Function::Directory => directory(block.flags.new, names, text, at),
         Function::InFile => file(FileKind::In, block.flags, names, text, at),

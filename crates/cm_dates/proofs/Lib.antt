@@ -5,3 +5,4 @@ pub mod MonthNames
 pub mod OneText
 pub mod Reading
 pub mod Texts
+pub mod Values

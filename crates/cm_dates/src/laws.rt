@@ -8,7 +8,7 @@ ghost use Rattle.cm_fields.specs.declared.trial.Try.TheVariants.{Accept};
 ghost use Rattle.cm_fields.specs.declared.value.Value.TheVariants.{Date};
 ghost use Rattle.cm_dates.specs.Date.{date};
 ghost use Rattle.cm_dates.specs.DayText.{IsDayText, day_text};
-ghost use Rattle.cm_dates.specs.declared.written.TheConstants.{DAY_LIMIT};
+ghost use Rattle.cm_dates.specs.declared.written.TheConstants.{DAY_LIMIT, DAY_TEXT_LIMIT};
 
 /// What a trial decides on the first bytes of a text it decides on every text that begins with them, with the
 /// same number of bytes looked at; so a decision on a text is the decision on every longer text.
@@ -37,4 +37,10 @@ pub fn a_day_has_its_text()
 pub fn a_day_has_one_text()
     ensures { (day : ℤ) → (text other : List ℕ) → IsDayText day text → IsDayText day other
         → text ≡ other }
+{}
+
+/// The last day is 31-DEC-2099, and the text of a day has at most 11 bytes.
+pub fn these_are_the_numbers()
+    ensures days { DAY_LIMIT ≡ pos 47481 }
+    ensures texts { DAY_TEXT_LIMIT ≡ 11 }
 {}

@@ -4,8 +4,6 @@
 mod field;
 pub mod laws;
 mod months;
-#[cfg(test)]
-mod tests;
 mod written;
 
 pub use field::date;

@@ -1,6 +1,5 @@
 // A day as it is shown.
-ghost use Rattle.std.specs.Prelude.{◌≡◌, ◌+◌, ◌<◌, ◌≤◌, [], ◌∷◌, ◌++◌, length, pos};
-ghost use Rattle.std.specs.Fmt.{decimal};
+ghost use Rattle.std.specs.Prelude.{◌≡◌, ◌≤◌, pos};
 ghost use Rattle.std.specs.Int.{IsInRange};
 ghost use Rattle.jiff_core.specs.Calendar.{IsBetween};
 ghost use Rattle.jiff_core.specs.Date.{epoch_day};
@@ -8,6 +7,7 @@ ghost use Rattle.cm_dates.specs.DayText.{IsDayText, date_text, day_text};
 
 use crate::months::month_name;
 use arrayvec::ArrayString;
+use cm_text::decimal_digits;
 use jiff_core::civil;
 
 /// The last day that a date field can have, 31-DEC-2099.
@@ -48,33 +48,10 @@ fn date_text(year: u16, month: u8, day: u8) -> ArrayString<DAY_TEXT_LIMIT>
     ensures { result.bytes ≡ date_text year month day }
 {
     let mut text = ArrayString::new();
-    push_decimal(&mut text, u16::from(day));
+    text.push_str(decimal_digits(u64::from(day)).as_str());
     text.push_str("-");
     text.push_str(month_name(month));
     text.push_str("-");
-    push_decimal(&mut text, year);
+    text.push_str(decimal_digits(u64::from(year)).as_str());
     text
-}
-
-// Puts the decimal digits of a number, with no zero before them, behind a text.
-fn push_decimal(text: &mut ArrayString<DAY_TEXT_LIMIT>, number: u16)
-    requires { length text.old.bytes + length (decimal number) ≤ DAY_TEXT_LIMIT }
-    ensures bytes { text.new.bytes ≡ text.old.bytes ++ decimal number }
-    ensures size { length text.new.bytes ≡ length text.old.bytes + length (decimal number) }
-{
-    if number < 10 {
-        push_digit(text, number as u8);
-    } else {
-        push_decimal(text, number / 10);
-        push_digit(text, (number % 10) as u8);
-    }
-}
-
-// Puts the digit of a number below 10 behind a text.
-fn push_digit(text: &mut ArrayString<DAY_TEXT_LIMIT>, number: u8)
-    requires digit { number < 10 }
-    requires room { length text.old.bytes < DAY_TEXT_LIMIT }
-    ensures { text.new.bytes ≡ text.old.bytes ++ (48 + number) ∷ [] }
-{
-    text.push(char::from(b'0' + number));
 }

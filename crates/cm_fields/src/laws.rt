@@ -9,6 +9,7 @@ ghost use Rattle.cm_fields.specs.Quoted.{quoted};
 ghost use Rattle.cm_fields.specs.Run.{number, word};
 ghost use Rattle.cm_fields.specs.Skip.{skip};
 ghost use Rattle.cm_fields.specs.Text.{text_field};
+ghost use Rattle.cm_fields.specs.declared.digits.TheConstants.{NUMBER_LIMIT};
 
 /// What a trial decides on the first bytes of a text it decides on every text that begins with them, with the
 /// same number of bytes looked at; so a decision on a text is the decision on every longer text.
@@ -52,4 +53,9 @@ pub fn finished_texts_are_decided()
     ensures text { DecidesFinished text_field }
     ensures comma { DecidesFinished comma }
     ensures confirm { DecidesFinished confirm }
+{}
+
+/// The last number is the half of a word's range.
+pub fn these_are_the_numbers()
+    ensures numbers { NUMBER_LIMIT ≡ 34359738367 }
 {}

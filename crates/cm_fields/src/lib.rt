@@ -10,8 +10,6 @@ mod phrase;
 mod quotes;
 mod run;
 mod skipped;
-#[cfg(test)]
-mod tests;
 mod text;
 mod trial;
 mod value;

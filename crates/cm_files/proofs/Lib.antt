@@ -2,7 +2,7 @@ pub mod Beside
 pub mod Choosing
 pub mod Fielding
 pub mod Fronts
-pub mod Multitude
+pub mod LogicalNames
 pub mod Ordered
 pub mod Sections
 pub mod Spending

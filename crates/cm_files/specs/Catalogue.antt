@@ -13,7 +13,6 @@ use Rattle.cm_files.specs.declared.generation.TheConstants.{GENERATION_LIMIT}
 use Rattle.cm_files.specs.declared.row.FileRow.{FileRow}
 use Rattle.cm_files.specs.declared.row.LogicalName.{LogicalName}
 use Rattle.cm_files.specs.declared.row.Row.{Row}
-use Rattle.cm_files.specs.LogicalName.{is_logical_name}
 
 -- the names of directories, by number; the number of the connected one; what logical names stand for; the
 -- files
@@ -75,17 +74,15 @@ is_row directories row =
     && is_upper_name row.name && nat_le (length row.kind) NAME_LIMIT && is_upper_name row.kind
     && nat_lt 0 row.generation && nat_le row.generation GENERATION_LIMIT
 
--- a logical name that stands for one of so many directories
+-- a logical name of at most 39 bytes that stands for one of so many directories
 abbrev pub is_logical : ℕ → LogicalName → Bool
-is_logical directories entry =
-    nat_lt entry.directory directories && is_logical_name entry.name && is_upper_name entry.name
+is_logical directories entry = nat_lt entry.directory directories && nat_le (length entry.name) NAME_LIMIT
 
--- names, types and generations have their forms, each list ascends, and each directory meant is there
+-- directories and rows have their forms and ascend, and each directory meant is there
 pub record IsCatalogue (c : Catalogue) : Type 0 where
   pub directories_ascend : ascends by_bytes c.directories ≡ true
   pub directory_names : list_all is_directory_name c.directories ≡ true
   pub connected_within : c.connected < length c.directories
-  pub logical_ascend : ascends (on (λ entry. entry.name) by_bytes) c.logical ≡ true
   pub logical_within : list_all (is_logical (length c.directories)) c.logical ≡ true
   pub rows_ascend : ascends by_file c.rows ≡ true
   pub rows_within : list_all (is_row (length c.directories)) c.rows ≡ true

@@ -1,7 +1,6 @@
 pub mod Catalogue
 pub mod Fields
 pub mod LogicalName
-pub mod Many
 pub mod Neighbours
 pub mod OneDirectory
 pub mod Passing

@@ -16,8 +16,6 @@ mod resolution;
 mod row;
 mod selection;
 mod spec;
-#[cfg(test)]
-mod tests;
 
 pub use fields::{directory, directory_behind, file, file_behind, user};
 pub use flags::Flags;

@@ -34,33 +34,3 @@ pub fn is_logical_name(name: &[u8]) -> bool
         && !equals(name, b"DSK")
         && !equals(name, b"TTY")
 }
-
-#[cfg(test)]
-mod tests {
-    use super::*;
-
-    #[test]
-    fn logical_names_are_no_devices(rt: HostRuntime) {
-        for (name, is_logical) in [
-            ("", false),
-            ("A", true),
-            ("sys-1$_", true),
-            ("1A", false),
-            ("$A", false),
-            ("A.B", false),
-            ("A B", false),
-            ("PS", false),
-            ("ps", false),
-            ("PSI", true),
-            ("DSK", false),
-            ("dSK", false),
-            ("TTY", false),
-            ("tty", false),
-            ("TT", true),
-            ("A-NAME-OF-THIRTY-NINE-BYTES-IN-LENGTH-1", true),
-            ("A-NAME-OF-FORTY-BYTES-IN-ITS-LENGTH-OF-1", false),
-        ] {
-            assert_eq!(rt; is_logical_name(name.as_bytes()), is_logical, "{name}");
-        }
-    }
-}

@@ -5,9 +5,10 @@ ghost use Rattle.cm_files.specs.Catalogue.{Catalogue, IsCatalogue, logical_of, r
 use crate::Row;
 use cm_text::NAME_LIMIT;
 
-/// The names that a file specification may mean. Directories, logical names and files are each in ascending
-/// order of their bytes, a beginning before what is longer, and none stands twice; generations ascend by
-/// value. Each name has its form, in upper case.
+/// The names that a file specification may mean. Directories and files are each in ascending order of their
+/// bytes, a beginning before what is longer, and none stands twice; generations ascend by value. The names of
+/// both have their forms, in upper case. A logical name may be any text of at most 39 bytes, and stands for a
+/// directory that is there.
 pub trait Names {
     ghost catalogue: { Self → Catalogue };
 
@@ -46,6 +47,3 @@ pub trait Names {
         ensures value { slice_get (rows_of (catalogue self.now) directory) i ≡ Some (row_of directory result) }
         ensures short { (length result.name.now ≤ NAME_LIMIT) × (length result.kind.now ≤ NAME_LIMIT) };
 }
-
-#[cfg(test)]
-mod tests;

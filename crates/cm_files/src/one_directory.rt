@@ -84,23 +84,3 @@ impl Names for OneDirectory {
         }
     }
 }
-
-#[cfg(test)]
-mod tests {
-    use super::*;
-    use std::process::Abort;
-
-    fn tells_one_directory<N: Names>(rt: &impl Abort, names: &N, name: &str) {
-        assert_eq!(rt; names.directories(), 1);
-        assert_eq!(rt; names.directory(0), name);
-        assert_eq!(rt; names.connected(), 0);
-        assert_eq!(rt; names.logical(name.as_bytes()), None);
-        assert_eq!(rt; names.rows(0), 0);
-    }
-
-    #[test]
-    #[tactic(auto, unfolding(cm_text::specs::Bytes::is_name, cm_text::specs::Bytes::is_word))]
-    fn is_one_directory_and_no_more(rt: HostRuntime) {
-        tells_one_directory(&rt, &OneDirectory::new("LAMPS.UP-1"), "LAMPS.UP-1");
-    }
-}

@@ -4,7 +4,7 @@ use Rattle.cm_text.specs.Shown.{end_of_line}
 use Rattle.cm_tables.specs.declared.entry.Entry.{Entry}
 use Rattle.cm_tables.specs.Listed.{listed_from}
 use Rattle.cm_blocks.specs.declared.function.Function.{Function}
-use Rattle.cm_blocks.specs.declared.function.Function.TheVariants.{Key, Switch, Noise, Number, Word, Quoted, Token, User, Directory, InFile, OutFile, AnyFile, Text, Comma, Confirm, Hook}
+use Rattle.cm_blocks.specs.declared.function.Function.TheVariants.{Key, Switch, Noise, Number, Word, Quoted, Token, Date, User, Directory, InFile, OutFile, AnyFile, Text, Comma, Confirm, Hook}
 use Rattle.cm_blocks.specs.declared.node.Block.{Block}
 use Rattle.cm_blocks.specs.Grammar.{Graph}
 use Rattle.cm_blocks.specs.Trial.{table_of}
@@ -58,6 +58,7 @@ function_phrase graph meanings Number atom = codes "decimal number"
 function_phrase graph meanings Word atom = codes "word"
 function_phrase graph meanings Quoted atom = codes "quoted string"
 function_phrase graph meanings (Token text) atom = quote ++ text ++ quote
+function_phrase graph meanings Date atom = codes "date, as 5-JAN-1980"
 function_phrase graph meanings User atom = codes "user name"
 function_phrase graph meanings Directory atom = codes "directory name"
 function_phrase graph meanings InFile atom = codes "input file"

@@ -5,6 +5,3 @@ mod listing;
 mod phrase;
 
 pub use listing::help;
-
-#[cfg(test)]
-mod tests;

@@ -175,6 +175,7 @@ fn put_function<R: Rules, S: Sink>(
         Function::Word => sink.put(b"word"),
         Function::Quoted => sink.put(b"quoted string"),
         Function::Token(text) => put_between(quote(), text.as_bytes(), quote(), sink),
+        Function::Date => sink.put(b"date, as 5-JAN-1980"),
         Function::User => sink.put(b"user name"),
         Function::Directory => sink.put(b"directory name"),
         Function::InFile => sink.put(b"input file"),

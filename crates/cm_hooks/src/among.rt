@@ -81,6 +81,3 @@ pub fn completion_among(names: &[&str], atom: &[u8]) -> Tail
     }
     tail
 }
-
-#[cfg(test)]
-mod tests;

@@ -50,8 +50,8 @@ impl<R: Rules> Hook<R> {
         }
     }
 
-    // The id that it is stored under.
-    pub(crate) fn id(&self) -> u8
+    /// The id that it is stored under.
+    pub fn id(&self) -> u8
         ensures { result ≡ id_of self.now }
     {
         self.id

@@ -120,6 +120,3 @@ impl<R: Rules> Hooks<R> {
         self.hook(id).help()
     }
 }
-
-#[cfg(test)]
-mod tests;

@@ -1,5 +1,5 @@
 pub mod Adding
 mod Appending
-mod Digits
 pub mod Putting
 mod Repeating
+pub mod Texts

@@ -1,10 +1,12 @@
 -- The files of a host in memory.
-use Rattle.std.specs.Prelude.{◌≡◌, ℕ, ◌+◌, ◌≤◌, min, Bool, true, false, ◌==◌, List, [], length, unwrap_or, Option, Some, None, IsSome, if◌then◌else◌}
+use Rattle.std.specs.Prelude.{◌≡◌, ℕ, ◌+◌, ◌-◌, ◌≤◌, Bool, true, false, ◌==◌, List, [], ◌++◌, length, take, unwrap_or, Option, Some, None, IsSome, if◌then◌else◌}
 use Rattle.std.specs.List.{list_any}
-use Rattle.std.specs.Option.{option_or}
+use Rattle.std.specs.Option.{option_map, option_or}
 use Rattle.std.specs.Str.{bytes_eq}
-use Rattle.cm_io.specs.Fault.{last_count}
+use Rattle.cm_io.specs.Fault.{next_count, put_faults}
 use Rattle.cm_io.specs.Host.{Files}
+use Rattle.cm_io.specs.declared.sink.Put.{Put}
+use Rattle.cm_io.specs.declared.sink.Put.TheVariants.{Done, Failed}
 use Rattle.cm_io.specs.declared.mem_host.TheConstants.{FILE_NAME_LIMIT}
 use Rattle.cm_io.specs.declared.mem_host.Stage.{Stage}
 use Rattle.cm_io.specs.declared.mem_host.Stage.TheVariants.{Absent, Open, Closed}
@@ -18,6 +20,8 @@ pub record HostState : Type 0 where
   pub room : ℕ
   pub is_open : Bool
   pub calls : ℕ
+  pub loads : ℕ
+  pub creates : ℕ
   pub fails : List ℕ
   pub faults : ℕ
 
@@ -52,10 +56,6 @@ closed_at Absent = Absent
 closed_at Open = Closed
 closed_at Closed = Closed
 
--- the number of the next call; it stays at its last value
-abbrev pub next_call : ℕ → ℕ
-next_call call = min (call + 1) last_count
-
 -- the call is not to fail, no other output is there, and the name is not too long
 abbrev pub CanCreate : HostState → List ℕ → Type 0
 CanCreate host name =
@@ -67,3 +67,48 @@ abbrev pub CanWrite : HostState → List ℕ → Type 0
 CanWrite host bytes =
     (is_listed host.fails host.calls ≡ false)
     × (length (unwrap_or host.output []) + length bytes ≤ host.room)
+
+-- what a load leaves: the numbers of calls and of faults
+abbrev pub behind_load : HostState → HostState
+behind_load host = record host {
+  calls = next_count host.calls;
+  loads = next_count host.loads;
+  faults = if is_listed host.fails host.calls then next_count host.faults else host.faults;
+}
+
+-- what a create leaves: the output, empty and open; where it fails, none is open, and the files are as before
+abbrev pub behind_create : HostState → List ℕ → Put → HostState
+behind_create host name Done = record host {
+  output_name = name;
+  output = Some [];
+  is_open = true;
+  calls = next_count host.calls;
+  creates = next_count host.creates;
+}
+behind_create host name Failed = record host {
+  is_open = false;
+  calls = next_count host.calls;
+  creates = next_count host.creates;
+  faults = next_count host.faults;
+}
+
+-- how much of the bytes a write appends to these: what fits, or nothing where the call is to fail
+abbrev pub part_written : HostState → List ℕ → List ℕ → List ℕ
+part_written host content bytes =
+    if is_listed host.fails host.calls then [] else take (host.room - length content) bytes
+
+-- what a write leaves
+abbrev pub behind_write : HostState → List ℕ → Put → HostState
+behind_write host bytes put = record host {
+  output = option_map (λ content. content ++ part_written host content bytes) host.output;
+  calls = next_count host.calls;
+  faults = put_faults host.faults put;
+}
+
+-- what a close leaves: the files as they are, none of them open
+abbrev pub behind_close : HostState → Put → HostState
+behind_close host put = record host {
+  is_open = false;
+  calls = next_count host.calls;
+  faults = put_faults host.faults put;
+}

@@ -7,3 +7,4 @@ pub mod Loading
 pub mod Pieces
 pub mod Memory
 pub mod HeldFiles
+pub mod Writer

@@ -1,5 +1,5 @@
 // A sink that counts.
-ghost use Rattle.std.specs.Prelude.{◌≡◌, ◌≤◌};
+ghost use Rattle.std.specs.Prelude.{◌≡◌, ◌≤◌, []};
 ghost use Rattle.cm_io.specs.Fault.{PutCause};
 ghost use Rattle.cm_io.specs.Told.{Adds, Number};
 
@@ -43,6 +43,7 @@ impl Sink for CountSink {
 
     #[tactic(auto, unfolding(crate::specs::Told::add))]
     fn put(&mut self, bytes: &[u8]) -> Put
+        ensures nothing { bytes.now ≡ [] → result ≡ Put.Done }
         ensures bytes { Adds (Number self.old) (Number self.new) bytes.now result }
         ensures later { 0 ≤ 0 }
         ensures cause { PutCause 0 0 result }

@@ -2,7 +2,7 @@
 ghost use Rattle.std.specs.Prelude.{◌≡◌, ◌≤◌, ◌↔◌, ℕ, Bool, false, List, IsTrue};
 ghost use Rattle.cm_io.specs.Host.{Files, KeepsOthers, Creates, Writes};
 ghost use Rattle.cm_io.specs.Loading.{Loads, IsWithin, LoadCause};
-ghost use Rattle.cm_io.specs.Fault.{PutCause};
+ghost use Rattle.cm_io.specs.Fault.{PutCause, next_count};
 
 use crate::Put;
 use std::alloc::Global;
@@ -36,6 +36,12 @@ pub trait Host {
     /// The name of the open file.
     ghost target: { Self → List ℕ };
 
+    /// How many loads it was asked. The count stays at its last value once that is reached.
+    ghost loads: { Self → ℕ };
+
+    /// How many creates it was asked. The count stays at its last value once that is reached.
+    ghost creates: { Self → ℕ };
+
     /// How often it has failed. The count stays at its last value once that is reached.
     ghost faults: { Self → ℕ };
 
@@ -46,6 +52,8 @@ pub trait Host {
         ensures files { IsTrue tells → (name : List ℕ) → files self.new name ≡ files self.old name }
         ensures open { is_open self.new ≡ is_open self.old }
         ensures target { IsTrue tells → target self.new ≡ target self.old }
+        ensures asked { loads self.new ≡ next_count (loads self.old) }
+        ensures creates { creates self.new ≡ creates self.old }
         ensures later { faults self.old ≤ faults self.new }
         ensures cause { LoadCause (faults self.old) (faults self.new) result };
 
@@ -56,6 +64,8 @@ pub trait Host {
         ensures target { IsTrue tells → result ≡ Put.Done → target self.new ≡ name.now }
         ensures file { IsTrue tells → Creates (files self.old name.now) (files self.new name.now) result }
         ensures others { IsTrue tells → KeepsOthers name.now (files self.old) (files self.new) }
+        ensures asked { creates self.new ≡ next_count (creates self.old) }
+        ensures loads { loads self.new ≡ loads self.old }
         ensures later { faults self.old ≤ faults self.new }
         ensures cause { PutCause (faults self.old) (faults self.new) result };
 
@@ -67,6 +77,8 @@ pub trait Host {
         ensures file { IsTrue tells → Writes (files self.old (target self.old))
             (files self.new (target self.old)) bytes.now result }
         ensures others { IsTrue tells → KeepsOthers (target self.old) (files self.old) (files self.new) }
+        ensures loads { loads self.new ≡ loads self.old }
+        ensures creates { creates self.new ≡ creates self.old }
         ensures later { faults self.old ≤ faults self.new }
         ensures cause { PutCause (faults self.old) (faults self.new) result };
 
@@ -75,6 +87,8 @@ pub trait Host {
         requires { IsTrue (is_open self.old) }
         ensures closes { is_open self.new ≡ false }
         ensures files { IsTrue tells → (name : List ℕ) → files self.new name ≡ files self.old name }
+        ensures loads { loads self.new ≡ loads self.old }
+        ensures creates { creates self.new ≡ creates self.old }
         ensures later { faults self.old ≤ faults self.new }
         ensures cause { PutCause (faults self.old) (faults self.new) result };
 }

@@ -5,6 +5,7 @@ mod clock;
 mod count_sink;
 mod fault;
 mod host;
+pub mod laws;
 mod mem_clock;
 mod mem_host;
 mod mem_sink;
@@ -22,16 +23,17 @@ mod std_read;
 mod std_sink;
 mod std_source;
 mod std_write;
+mod writer;
 
 pub use clock::Clock;
 pub use count_sink::CountSink;
 pub use host::{Host, Loaded};
 pub use mem_clock::MemClock;
-pub use mem_host::MemHost;
+pub use mem_host::{FILE_NAME_LIMIT, MemHost};
 pub use mem_sink::MemSink;
 pub use mem_source::MemSource;
 pub use no_memory::NoMemory;
-pub use pieces::{put_decimal, put_hex, put_line, put_times};
+pub use pieces::{put_decimal, put_hex, put_line};
 pub use sink::{Put, Sink};
 pub use source::{Got, Source};
 pub use std_clock::StdClock;
@@ -39,6 +41,4 @@ pub use std_host::StdHost;
 pub use std_log::StdLog;
 pub use std_sink::StdSink;
 pub use std_source::StdSource;
-
-#[cfg(test)]
-mod tests;
+pub use writer::Writer;

@@ -1,10 +1,10 @@
 // A host in memory.
 ghost use Rattle.std.specs.Prelude.{◌≡◌, ◌≤◌, ◌↔◌, ℕ, true, false, List, [], None, IsTrue, IfOk};
 ghost use Rattle.std.specs.Option.{option_map};
-ghost use Rattle.cm_io.specs.Fault.{PutCause};
+ghost use Rattle.cm_io.specs.Fault.{PutCause, next_count};
 ghost use Rattle.cm_io.specs.Host.{KeepsOthers, Creates, Writes};
 ghost use Rattle.cm_io.specs.Loading.{Loads, IsWithin, LoadCause};
-ghost use Rattle.cm_io.specs.HeldFiles.{is_listed, closed_at, next_call};
+ghost use Rattle.cm_io.specs.HeldFiles.{is_listed, closed_at, behind_load, behind_create, behind_write, behind_close};
 
 use crate::fault::raised;
 use crate::reserved::Reserved;
@@ -13,8 +13,8 @@ use arrayvec::ArrayString;
 use std::alloc::Global;
 use std::marker::Model;
 
-// The most bytes of a file's name.
-const FILE_NAME_LIMIT: usize = 255;
+/// The most bytes of the name of a file that is created in memory.
+pub const FILE_NAME_LIMIT: usize = 255;
 
 // Whether the output was created, and whether it is open.
 #[derive(Clone, Copy, PartialEq, Eq)]
@@ -35,6 +35,8 @@ pub struct MemHost {
     output: Reserved,
     stage: Stage,
     calls: u64,
+    loads: u64,
+    creates: u64,
     fails: Vec<u32>,
     faults: u64,
 }
@@ -53,6 +55,8 @@ impl Model for MemHost {
       room = host.output.room;
       is_open = is_open_at host.stage;
       calls = host.calls;
+      loads = host.loads;
+      creates = host.creates;
       fails = host.fails.items;
       faults = host.faults;
     } };
@@ -78,6 +82,8 @@ impl MemHost {
           room = room;
           is_open = false;
           calls = 0;
+          loads = 0;
+          creates = 0;
           fails = fails.now;
           faults = 0;
         }) }
@@ -93,6 +99,8 @@ impl MemHost {
             output: Reserved::new(alloc, room as usize)?,
             stage: Stage::Absent,
             calls: 0,
+            loads: 0,
+            creates: 0,
             fails: fails.to_vec(alloc)?,
             faults: 0,
         })
@@ -136,6 +144,10 @@ impl Host for MemHost {
 
     ghost target = { λ host. host.output_name };
 
+    ghost loads = { λ host. host.loads };
+
+    ghost creates = { λ host. host.creates };
+
     ghost faults = { λ host. host.faults };
 
     fn load(&mut self, alloc: Global, name: &str, limit: u32) -> Loaded
@@ -145,16 +157,16 @@ impl Host for MemHost {
             → (name : List ℕ) → files_of self.new name ≡ files_of self.old name }
         ensures open { self.new.is_open ≡ self.old.is_open }
         ensures target { IsTrue true → self.new.output_name ≡ self.old.output_name }
+        ensures asked { self.new.loads ≡ next_count self.old.loads }
+        ensures creates { self.new.creates ≡ self.old.creates }
         ensures later { self.old.faults ≤ self.new.faults }
         ensures cause { LoadCause self.old.faults self.new.faults result }
         ensures failed { (result ≡ Loaded.Failed) ↔ IsTrue (is_listed self.old.fails self.old.calls) }
-        ensures counts { self.new ≡ record self.old {
-          calls = next_call self.old.calls;
-          faults = self.new.faults;
-        } }
+        ensures leaves { self.new ≡ behind_load self.old }
     {
         let is_listed = is_listed(&self.fails, self.calls);
-        self.calls = self.calls.saturating_add(1);
+        self.calls = raised(self.calls);
+        self.loads = raised(self.loads);
         if is_listed {
             self.faults = raised(self.faults);
             return Loaded::Failed;
@@ -177,15 +189,16 @@ impl Host for MemHost {
         ensures file { IsTrue true
             → Creates (files_of self.old name.now) (files_of self.new name.now) result }
         ensures others { IsTrue true → KeepsOthers name.now (files_of self.old) (files_of self.new) }
+        ensures asked { self.new.creates ≡ next_count self.old.creates }
+        ensures loads { self.new.loads ≡ self.old.loads }
         ensures later { self.old.faults ≤ self.new.faults }
         ensures cause { PutCause self.old.faults self.new.faults result }
         ensures done { (result ≡ Put.Done) ↔ CanCreate self.old name.now }
-        ensures counts { self.new.calls ≡ next_call self.old.calls }
-        ensures fails { self.new.fails ≡ self.old.fails }
-        ensures room { self.new.room ≡ self.old.room }
+        ensures leaves { self.new ≡ behind_create self.old name.now result }
     {
         let is_listed = is_listed(&self.fails, self.calls);
-        self.calls = self.calls.saturating_add(1);
+        self.calls = raised(self.calls);
+        self.creates = raised(self.creates);
         let is_free = self.stage == Stage::Absent || self.output_name.as_str() == name;
         if is_listed || !is_free || name.len() > FILE_NAME_LIMIT {
             self.stage = closed(self.stage);
@@ -208,15 +221,15 @@ impl Host for MemHost {
             (files_of self.new self.old.output_name) bytes.now result }
         ensures others { IsTrue true
             → KeepsOthers self.old.output_name (files_of self.old) (files_of self.new) }
+        ensures loads { self.new.loads ≡ self.old.loads }
+        ensures creates { self.new.creates ≡ self.old.creates }
         ensures later { self.old.faults ≤ self.new.faults }
         ensures cause { PutCause self.old.faults self.new.faults result }
         ensures done { (result ≡ Put.Done) ↔ CanWrite self.old bytes.now }
-        ensures counts { self.new.calls ≡ next_call self.old.calls }
-        ensures fails { self.new.fails ≡ self.old.fails }
-        ensures room { self.new.room ≡ self.old.room }
+        ensures leaves { self.new ≡ behind_write self.old bytes.now result }
     {
         let is_listed = is_listed(&self.fails, self.calls);
-        self.calls = self.calls.saturating_add(1);
+        self.calls = raised(self.calls);
         if is_listed {
             self.faults = raised(self.faults);
             return Put::Failed;
@@ -233,15 +246,15 @@ impl Host for MemHost {
         ensures closes { self.new.is_open ≡ false }
         ensures files { IsTrue true
             → (name : List ℕ) → files_of self.new name ≡ files_of self.old name }
+        ensures loads { self.new.loads ≡ self.old.loads }
+        ensures creates { self.new.creates ≡ self.old.creates }
         ensures later { self.old.faults ≤ self.new.faults }
         ensures cause { PutCause self.old.faults self.new.faults result }
         ensures done { (result ≡ Put.Done) ↔ (is_listed self.old.fails self.old.calls ≡ false) }
-        ensures counts { self.new.calls ≡ next_call self.old.calls }
-        ensures fails { self.new.fails ≡ self.old.fails }
-        ensures room { self.new.room ≡ self.old.room }
+        ensures leaves { self.new ≡ behind_close self.old result }
     {
         let is_listed = is_listed(&self.fails, self.calls);
-        self.calls = self.calls.saturating_add(1);
+        self.calls = raised(self.calls);
         self.stage = closed(self.stage);
         if is_listed {
             self.faults = raised(self.faults);

@@ -1,6 +1,6 @@
 // A sink in memory.
 ghost use Rattle.std.specs.Prelude.{◌≡◌, ◌≤◌, ◌↔◌, ◌+◌, ◌-◌, ◌++◌, [], length, take, IfOk};
-ghost use Rattle.cm_io.specs.Fault.{PutCause};
+ghost use Rattle.cm_io.specs.Fault.{PutCause, put_faults};
 ghost use Rattle.cm_io.specs.Told.{Adds, Bytes};
 
 use crate::fault::raised;
@@ -54,14 +54,16 @@ impl Sink for MemSink {
 
     #[tactic(auto, using(crate::proofs::Adding::adds_prefix), unfolding(crate::specs::Told::add))]
     fn put(&mut self, bytes: &[u8]) -> Put
+        ensures nothing { bytes.now ≡ [] → result ≡ Put.Done }
         ensures bytes { Adds (Bytes self.old.bytes) (Bytes self.new.bytes) bytes.now result }
         ensures later { self.old.faults ≤ self.new.faults }
         ensures cause { PutCause self.old.faults self.new.faults result }
         ensures done { (result ≡ Put.Done)
             ↔ (length self.old.bytes + length bytes.now ≤ self.old.room) }
-        ensures fits { self.new.bytes
-            ≡ self.old.bytes ++ take (self.old.room - length self.old.bytes) bytes.now }
-        ensures room { self.new.room ≡ self.old.room }
+        ensures leaves { self.new ≡ record self.old {
+          bytes = self.old.bytes ++ take (self.old.room - length self.old.bytes) bytes.now;
+          faults = put_faults self.old.faults result;
+        } }
     {
         if self.bytes.append(bytes) {
             return Put::Done;

@@ -1,41 +1,33 @@
-// Bytes that are put often: lines, numbers, and pieces that come again.
-ghost use Rattle.std.specs.Prelude.{◌≡◌, ◌≤◌, ◌<◌, ◌+◌, ◌++◌, length};
+// One line or one number, put on a sink.
+ghost use Rattle.std.specs.Prelude.{◌≡◌, ◌≤◌, ◌<◌, ◌+◌, ◌++◌};
 ghost use Rattle.std.specs.Fmt.{decimal};
 ghost use Rattle.cm_io.specs.Told.{Adds};
 ghost use Rattle.cm_io.specs.Fault.{PutCause};
 ghost use Rattle.cm_text.specs.Shown.{end_of_line};
-ghost use Rattle.cm_io.specs.Pieces.{hex, hex_digit, times};
+ghost use Rattle.cm_io.specs.Pieces.{hex, hex_digit};
 
-use crate::{Put, Sink};
-use arrayvec::ArrayVec;
-use cm_text::end_of_line;
-
-// The most decimal digits that a number of 64 bits has.
-const DIGIT_LIMIT: usize = 20;
+use crate::{Put, Sink, Writer};
 
 /// Puts some bytes and the end of their line, CR and LF.
-#[tactic(auto, using(crate::proofs::Adding::two_pieces))]
 pub fn put_line<S: Sink>(bytes: &[u8], sink: &mut S) -> Put
     ensures bytes { Adds (S.told sink.old) (S.told sink.new) (bytes.now ++ end_of_line) result }
     ensures later { S.faults sink.old ≤ S.faults sink.new }
     ensures cause { PutCause (S.faults sink.old) (S.faults sink.new) result }
 {
-    if let Put::Failed = sink.put(bytes) {
-        return Put::Failed;
-    }
-    sink.put(end_of_line())
+    let mut out = Writer::new(sink);
+    out.put_line(bytes);
+    out.went()
 }
 
 /// Puts the decimal digits of a number, with no zero before them.
-#[tactic(auto, using(crate::proofs::Digits::decimal_fits))]
 pub fn put_decimal<S: Sink>(number: u64, sink: &mut S) -> Put
     ensures bytes { Adds (S.told sink.old) (S.told sink.new) (decimal number) result }
     ensures later { S.faults sink.old ≤ S.faults sink.new }
     ensures cause { PutCause (S.faults sink.old) (S.faults sink.new) result }
 {
-    let mut digits = ArrayVec::new();
-    push_decimal(&mut digits, number);
-    sink.put(digits.as_slice())
+    let mut out = Writer::new(sink);
+    out.put_decimal(number);
+    out.went()
 }
 
 /// Puts the two hexadecimal digits of a byte, letters in lower case.
@@ -44,39 +36,14 @@ pub fn put_hex<S: Sink>(byte: u8, sink: &mut S) -> Put
     ensures later { S.faults sink.old ≤ S.faults sink.new }
     ensures cause { PutCause (S.faults sink.old) (S.faults sink.new) result }
 {
-    sink.put(&hex_digits(byte))
+    let mut out = Writer::new(sink);
+    out.put_hex(byte);
+    out.went()
 }
 
-/// Puts a piece a number of times.
-#[tactic(auto, using(crate::proofs::Repeating::turns))]
-pub fn put_times<S: Sink>(count: u32, piece: &[u8], sink: &mut S) -> Put
-    ensures bytes { Adds (S.told sink.old) (S.told sink.new) (times count piece.now) result }
-    ensures later { S.faults sink.old ≤ S.faults sink.new }
-    ensures cause { PutCause (S.faults sink.old) (S.faults sink.new) result }
-{
-    for turn in 0..count {
-        if sink.put(piece) == Put::Failed {
-            return Put::Failed;
-        }
-    }
-    Put::Done
-}
-
-#[tactic(auto, using(std::proofs::lemmas::Fmt::decimal_digit, std::proofs::lemmas::Fmt::decimal_step, crate::proofs::Digits::length_decimal_step,))]
-fn push_decimal(digits: &mut ArrayVec<u8, DIGIT_LIMIT>, number: u64)
-    requires { length digits.old.items + length (decimal number) ≤ DIGIT_LIMIT }
-    ensures { digits.new.items ≡ digits.old.items ++ decimal number }
-{
-    if number < 10 {
-        digits.push(b'0' + number as u8);
-    } else {
-        push_decimal(digits, number / 10);
-        digits.push(b'0' + (number % 10) as u8);
-    }
-}
-
+// The two hexadecimal digits of a byte.
 #[tactic(auto, unfolding(crate::specs::Pieces::hex))]
-fn hex_digits(byte: u8) -> [u8; 2]
+pub(crate) fn hex_digits(byte: u8) -> [u8; 2]
     ensures { result ≡ hex byte }
 {
     [hex_digit(byte / 16), hex_digit(byte % 16)]

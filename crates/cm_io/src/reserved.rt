@@ -49,6 +49,7 @@ impl Reserved {
 
     // Appends what fits, and tells whether all did.
     pub(crate) fn append(&mut self, more: &[u8]) -> bool
+        ensures nothing { more.now ≡ [] → IsTrue result }
         ensures all { IsTrue result ↔ (length self.old.bytes + length more.now ≤ self.old.room) }
         ensures appended { IsTrue result
             → self.new ≡ record self.old { bytes = self.old.bytes ++ more.now } }

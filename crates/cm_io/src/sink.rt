@@ -1,5 +1,5 @@
 // What bytes are put to.
-ghost use Rattle.std.specs.Prelude.{◌≤◌, ℕ};
+ghost use Rattle.std.specs.Prelude.{◌≡◌, ◌≤◌, ℕ, []};
 ghost use Rattle.cm_io.specs.Told.{Told, Adds};
 ghost use Rattle.cm_io.specs.Fault.{PutCause};
 
@@ -20,8 +20,9 @@ pub trait Sink {
     /// How often it has failed. The count stays at its last value once that is reached.
     ghost faults: { Self → ℕ };
 
-    /// Puts the bytes behind those that were put before.
+    /// Puts the bytes behind those that were put before. To put no bytes cannot fail.
     fn put(&mut self, bytes: &[u8]) -> Put
+        ensures nothing { bytes.now ≡ [] → result ≡ Put.Done }
         ensures bytes { Adds (told self.old) (told self.new) bytes.now result }
         ensures later { faults self.old ≤ faults self.new }
         ensures cause { PutCause (faults self.old) (faults self.new) result };

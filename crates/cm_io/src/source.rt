@@ -1,5 +1,6 @@
 // What bytes are got from.
-ghost use Rattle.std.specs.Prelude.{◌≤◌, ℕ, Bool, List, IsTrue};
+ghost use Rattle.std.specs.Prelude.{◌≡◌, ◌≤◌, ℕ, Bool, List, IsTrue};
+ghost use Rattle.cm_io.specs.Fault.{next_count};
 ghost use Rattle.cm_io.specs.Source.{Takes, GotCause};
 
 /// What a get gave.
@@ -21,11 +22,15 @@ pub trait Source {
     /// The bytes that are left.
     ghost left: { Self → List ℕ };
 
+    /// How many gets it was asked. The count stays at its last value once that is reached.
+    ghost gets: { Self → ℕ };
+
     /// How often it has failed. The count stays at its last value once that is reached.
     ghost faults: { Self → ℕ };
 
     /// Gets the next byte.
     fn get(&mut self) -> Got
+        ensures asked { gets self.new ≡ next_count (gets self.old) }
         ensures bytes { IsTrue tells → Takes (left self.old) (left self.new) result }
         ensures later { faults self.old ≤ faults self.new }
         ensures cause { GotCause (faults self.old) (faults self.new) result };

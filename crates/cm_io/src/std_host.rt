@@ -10,31 +10,41 @@ use std::fs::File;
 use std::io::Write;
 use std::marker::Model;
 
-/// The files of the system. Each write is done at once. Contracts see its faults, and whether a file is open.
+/// The files of the system. Each write is done at once. Contracts see whether a file is open,
+/// how many loads and creates it was asked, and its faults.
 #[derive(Drop)]
 pub struct StdHost {
     rt: HostRuntime,
     file: Option<File>,
+    loads: u64,
+    creates: u64,
     faults: u64,
 }
 
 impl Model for StdHost {
     ghost use Rattle.std.specs.Prelude.{is_some};
-    ghost use Rattle.cm_io.specs.Memory.{Opening};
+    ghost use Rattle.cm_io.specs.Memory.{HostCounts};
 
-    ghost Value = { Opening };
+    ghost Value = { HostCounts };
 
-    ghost view = { λ host. record { is_open = is_some host.file; faults = host.faults } };
+    ghost view = { λ host. record {
+      is_open = is_some host.file;
+      loads = host.loads;
+      creates = host.creates;
+      faults = host.faults;
+    } };
 }
 
 impl StdHost {
     /// The files of this system, none open.
     pub fn new(rt: &HostRuntime) -> StdHost
-        ensures { result ≡ record { is_open = false; faults = 0 } }
+        ensures { result ≡ record { is_open = false; loads = 0; creates = 0; faults = 0 } }
     {
         StdHost {
             rt: *rt,
             file: None,
+            loads: 0,
+            creates: 0,
             faults: 0,
         }
     }
@@ -49,9 +59,14 @@ impl Host for StdHost {
 
     ghost target = { λ _. [] };
 
+    ghost loads = { λ host. host.loads };
+
+    ghost creates = { λ host. host.creates };
+
     ghost faults = { λ host. host.faults };
 
     fn load(&mut self, alloc: Global, name: &str, limit: u32) -> Loaded {
+        self.loads = raised(self.loads);
         let loaded = load_file(&self.rt, alloc, name, limit);
         if let Loaded::Failed = loaded {
             self.faults = raised(self.faults);
@@ -60,6 +75,7 @@ impl Host for StdHost {
     }
 
     fn create(&mut self, name: &str) -> Put {
+        self.creates = raised(self.creates);
         match File::create(&self.rt, name) {
             Ok(file) => {
                 self.file = Some(file);

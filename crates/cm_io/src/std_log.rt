@@ -79,6 +79,9 @@ impl Sink for StdLog {
 
     #[tactic(auto, using(crate::proofs::Adding::adds_nothing), unfolding(crate::specs::Told::add))]
     fn put(&mut self, bytes: &[u8]) -> Put {
+        if bytes.is_empty() {
+            return Put::Done;
+        }
         if self.make_room(bytes.len()) && self.hold(bytes) {
             return Put::Done;
         }

@@ -42,6 +42,9 @@ impl Sink for StdSink {
 
     #[tactic(auto, using(crate::proofs::Adding::adds_nothing), unfolding(crate::specs::Told::add))]
     fn put(&mut self, bytes: &[u8]) -> Put {
+        if bytes.is_empty() {
+            return Put::Done;
+        }
         if write_whole(&mut self.output, bytes) {
             return Put::Done;
         }

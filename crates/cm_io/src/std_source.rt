@@ -11,23 +11,26 @@ use std::marker::Model;
 const READ_LIMIT: usize = 4096;
 
 /// Standard input. It reads what has come, at most 4096 bytes at a time, and waits for no more.
-/// A read that gives nothing is the end. Contracts see its faults.
+/// A read that gives nothing is the end. Contracts see how many gets it
+/// was asked, and its faults.
 #[derive(Drop)]
 pub struct StdSource {
     input: Stdin,
     buffer: [u8; READ_LIMIT],
     next: usize,
     end: usize,
+    gets: u64,
     faults: u64,
 }
 
 impl Model for StdSource {
-    ghost use Rattle.std.specs.Prelude.{ℕ, ◌≤◌};
+    ghost use Rattle.std.specs.Prelude.{◌≤◌};
+    ghost use Rattle.cm_io.specs.Memory.{SourceCounts};
     ghost use Rattle.cm_io.specs.declared.std_source.TheConstants.{READ_LIMIT};
 
-    ghost Value = { ℕ };
+    ghost Value = { SourceCounts };
 
-    ghost view = { λ source. source.faults };
+    ghost view = { λ source. record { gets = source.gets; faults = source.faults } };
 
     ghost invariant = { λ source. (source.next ≤ source.end) × (source.end ≤ READ_LIMIT) };
 }
@@ -35,13 +38,14 @@ impl Model for StdSource {
 impl StdSource {
     /// The standard input of this process.
     pub fn new(rt: &HostRuntime) -> StdSource
-        ensures { result ≡ 0 }
+        ensures { result ≡ record { gets = 0; faults = 0 } }
     {
         StdSource {
             input: rt.stdin(),
             buffer: [0; READ_LIMIT],
             next: 0,
             end: 0,
+            gets: 0,
             faults: 0,
         }
     }
@@ -52,9 +56,12 @@ impl Source for StdSource {
 
     ghost left = { λ _. [] };
 
-    ghost faults = { λ source. source };
+    ghost gets = { λ source. source.gets };
+
+    ghost faults = { λ source. source.faults };
 
     fn get(&mut self) -> Got {
+        self.gets = raised(self.gets);
         if self.next == self.end {
             let Some(count) = read_some(&mut self.input, &mut self.buffer) else {
                 self.faults = raised(self.faults);

@@ -55,37 +55,3 @@ impl KeyClass {
         }
     }
 }
-
-#[cfg(test)]
-mod tests {
-    use super::*;
-
-    #[test]
-    fn each_key_has_its_class(rt: HostRuntime) {
-        for (key, class) in [
-            (b'\t', KeyClass::Text),
-            (b' ', KeyClass::Text),
-            (b'A', KeyClass::Text),
-            (b'>', KeyClass::Text),
-            (b'@', KeyClass::Text),
-            (b'~', KeyClass::Text),
-            (b'\r', KeyClass::End),
-            (b'\n', KeyClass::End),
-            (127, KeyClass::Rub),
-            (b'W' - 64, KeyClass::Word),
-            (b'U' - 64, KeyClass::Erase),
-            (b'R' - 64, KeyClass::Show),
-            (b'H' - 64, KeyClass::Back),
-            (b'C' - 64, KeyClass::Stop),
-            (b'[' - 64, KeyClass::Escape),
-            (b'F' - 64, KeyClass::Part),
-            (b'?', KeyClass::Help),
-            (0, KeyClass::Other),
-            (31, KeyClass::Other),
-            (128, KeyClass::Other),
-            (255, KeyClass::Other),
-        ] {
-            assert_eq!(rt; KeyClass::of(key), class, "at {key}");
-        }
-    }
-}

@@ -19,10 +19,9 @@ use Rattle.cm_fields.specs.Passed.{BeginsOther}
 use Rattle.cm_fields.specs.Try.{by_run, span}
 use Rattle.cm_files.specs.declared.row.LogicalName.{LogicalName}
 use Rattle.cm_files.specs.declared.spec.SpecFault.{SpecFault}
-use Rattle.cm_files.specs.Catalogue.{Catalogue, IsCatalogue, is_directory_name, is_logical, is_upper_name, logical_of}
+use Rattle.cm_files.specs.Catalogue.{Catalogue, IsCatalogue, is_directory_name, is_logical, logical_of}
 use Rattle.cm_files.specs.Fields as fields
 use Rattle.cm_files.specs.Fields.{directory, directory_of, has_colon_behind, is_file, is_plain_path, is_user, is_user_named, user, user_named, user_of, user_or_refused}
-use Rattle.cm_files.specs.LogicalName.{begins_with_letter, is_logical_name}
 use Rattle.cm_files.specs.Pattern.{is_wild}
 use Rattle.cm_files.specs.Resolve.{by_device, by_directory, directory_named, has_wild, is_named, or_refused, refuse, then_in}
 use Rattle.cm_files.specs.Spec.{device_read, is_long, is_path, part, read_spec, stands_at}
@@ -32,7 +31,7 @@ use Rattle.cm_files.proofs.Sections.{all_implies, behind_first, closed_reads, cl
 use Rattle.cm_recognise.specs.declared.found.Found.{Found}
 use Rattle.cm_recognise.specs.declared.found.Found.TheVariants.{Nobody, One, Several}
 use Rattle.cm_recognise.specs.declared.outcome.Outcome.TheVariants.{Whole}
-use Rattle.cm_recognise.specs.FileOutcome.{by_opened, completed, directory_outcome, opened, unclosed, user_outcome}
+use Rattle.cm_recognise.specs.FileOutcome.{directory_completion, completed, directory_outcome, opened, unclosed, user_outcome}
 use Rattle.cm_recognise.specs.Found.{directory_like, found_directories, found_users, missing, user_like}
 use Rattle.cm_recognise.specs.Outcome.{plain_outcome}
 use Rattle.cm_recognise.proofs.Coming.{found_comes}
@@ -160,7 +159,6 @@ find_passes X p q (first ∷ xs) x is all =
 
 logical_short : (c : Catalogue) → IsCatalogue c → (name : List ℕ) (directory : ℕ) → or_refused NoLogical (logical_of c name) ≡ Ok directory
     → length name ≤ NAME_LIMIT
-unfolding is_logical_name
 logical_short c is_catalogue name directory is = by (find (λ (entry : LogicalName). equals entry.name name) c.logical) refl is
   where
     by : (found : Option LogicalName) → find (λ (entry : LogicalName). equals entry.name name) c.logical ≡ found
@@ -168,13 +166,7 @@ logical_short c is_catalogue name directory is = by (find (λ (entry : LogicalNa
     by None found is = cc
     by (Some entry) found is =
         let passes = find_passes LogicalName (λ (entry : LogicalName). equals entry.name name) (is_logical (length c.directories)) c.logical entry found is_catalogue.logical_within in
-        let inner = and_parts (nat_lt entry.directory (length c.directories) && is_logical_name entry.name) (is_upper_name entry.name) passes.1 in
-        let logical = and_parts (nat_lt entry.directory (length c.directories)) (is_logical_name entry.name) inner.0 in
-        let four = and_parts (nat_le (length entry.name) NAME_LIMIT && begins_with_letter entry.name && list_all is_name entry.name && not (equals entry.name (codes "PS")) && not (equals entry.name (codes "DSK"))) _ logical.1 in
-        let three = and_parts (nat_le (length entry.name) NAME_LIMIT && begins_with_letter entry.name && list_all is_name entry.name && not (equals entry.name (codes "PS"))) _ four.0 in
-        let two = and_parts (nat_le (length entry.name) NAME_LIMIT && begins_with_letter entry.name && list_all is_name entry.name) _ three.0 in
-        let one = and_parts (nat_le (length entry.name) NAME_LIMIT && begins_with_letter entry.name) _ two.0 in
-        let size = (and_parts (nat_le (length entry.name) NAME_LIMIT) _ one.0).0 in
+        let size = (and_parts (nat_lt entry.directory (length c.directories)) _ passes.1).1 in
         let same = same_length entry.name name (equals_same entry.name name passes.0) in
         grind (arith, nat_tests)
 
@@ -400,13 +392,13 @@ directory_sound c is_catalogue new atom bytes more at next after meant device wa
         )
 
     by_typed : (found : Option (List ℕ)) → opened atom ≡ found → directory false c atom at ≡ More
-        → by_opened c next (plain_outcome next (directory false c (atom ++ 32 ∷ []) at)) found ≡ Whole bytes after
+        → directory_completion c next (plain_outcome next (directory false c (atom ++ 32 ∷ []) at)) found ≡ Whole bytes after
         → TakesNamed (directory false c) atom bytes more at × (next ≡ after)
     by_typed None found wants is = plain false wants is
     by_typed (Some typed) found wants is = by_found typed found wants (found_directories c typed) refl is
 
     by_new : (new : Bool) → directory new c atom at ≡ More
-        → (if new then plain_outcome next (directory new c (atom ++ 32 ∷ []) at) else by_opened c next (plain_outcome next (directory new c (atom ++ 32 ∷ []) at)) (opened atom)) ≡ Whole bytes after
+        → (if new then plain_outcome next (directory new c (atom ++ 32 ∷ []) at) else directory_completion c next (plain_outcome next (directory new c (atom ++ 32 ∷ []) at)) (opened atom)) ≡ Whole bytes after
         → TakesNamed (directory new c) atom bytes more at × (next ≡ after)
     by_new true wants is = plain true wants is
     by_new false wants is = by_typed (opened atom) refl wants is

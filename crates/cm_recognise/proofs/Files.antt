@@ -33,7 +33,7 @@ use Rattle.cm_files.proofs.Fronts.{by_device_more, directory_same}
 use Rattle.cm_recognise.specs.declared.file_outcome.Request.{Request}
 use Rattle.cm_recognise.specs.declared.outcome.Outcome.{Outcome}
 use Rattle.cm_recognise.specs.declared.outcome.Outcome.TheVariants.{Nothing, Whole}
-use Rattle.cm_recognise.specs.FileOutcome.{by_front, by_kind, by_meant, by_spec, file_outcome, generation_step, kind_step, meant, named_directory, opened}
+use Rattle.cm_recognise.specs.FileOutcome.{prefix_completion, by_kind, completion_in_directory, by_spec, file_outcome, generation_step, kind_step, meant, named_directory, opened}
 use Rattle.cm_recognise.specs.Found.{found_kinds, found_names, highest, missing}
 use Rattle.cm_recognise.specs.Outcome.{plain_outcome}
 use Rattle.cm_recognise.proofs.Completing.{TakesNamed, plain_named, run_named}
@@ -396,7 +396,7 @@ file_sound c is_catalogue request atom bytes more at after read flags wants is =
         by_end spec directory r means place some (place.end == length atom) refl (place.end + 1 == length atom) refl is
 
     by_directories : (spec : Spec) → read_spec atom ≡ Ok spec → (answer : Result ℕ Code) → meant c request atom spec ≡ answer
-        → by_meant c request atom plain spec answer ≡ Whole bytes after
+        → completion_in_directory c request atom plain spec answer ≡ Whole bytes after
         → TakesNamed (file c request.kind request.flags) atom bytes more at × (request.next ≡ after)
     by_directories spec reads (Err code) means is = cc
     by_directories spec reads (Ok directory) means is =
@@ -407,12 +407,12 @@ file_sound c is_catalogue request atom bytes more at after read flags wants is =
     by_read (Err fault) reads is = cc
     by_read (Ok spec) reads is = by_directories spec reads (meant c request atom spec) refl is
 
-    by_typed : (typed : Option (List ℕ)) → by_front c request atom plain typed ≡ Whole bytes after
+    by_typed : (typed : Option (List ℕ)) → prefix_completion c request atom plain typed ≡ Whole bytes after
         → TakesNamed (file c request.kind request.flags) atom bytes more at × (request.next ≡ after)
     by_typed None is = by_read (read_spec atom) refl is
     by_typed (Some typed) is = absurd (piece_never (named_directory c request.next typed) bytes after is)
 
-    by_wild : (wild : Bool) → (if wild then Nothing else by_front c request atom plain (opened atom)) ≡ Whole bytes after
+    by_wild : (wild : Bool) → (if wild then Nothing else prefix_completion c request atom plain (opened atom)) ≡ Whole bytes after
         → TakesNamed (file c request.kind request.flags) atom bytes more at × (request.next ≡ after)
     by_wild true is = cc
     by_wild false is = by_typed (opened atom) is

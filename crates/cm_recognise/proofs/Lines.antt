@@ -26,7 +26,7 @@ use Rattle.cm_hooks.specs.Meanings.{Completes, IsLawful}
 use Rattle.cm_blocks.specs.declared.field.Ending.{Ending}
 use Rattle.cm_blocks.specs.declared.field.Ending.TheVariants as ending
 use Rattle.cm_blocks.specs.declared.function.Function.{Function}
-use Rattle.cm_blocks.specs.declared.function.Function.TheVariants.{Key, Switch, Noise, Number, Word, Quoted, Token, User, Directory, InFile, OutFile, AnyFile, Text, Comma, Confirm, Hook}
+use Rattle.cm_blocks.specs.declared.function.Function.TheVariants.{Key, Switch, Noise, Number, Word, Quoted, Token, Date, User, Directory, InFile, OutFile, AnyFile, Text, Comma, Confirm, Hook}
 use Rattle.cm_blocks.specs.declared.node.Block.{Block}
 use Rattle.cm_blocks.specs.declared.node.Node.{Node}
 use Rattle.cm_blocks.specs.Fault.{grammar_fault, has_phrase, is_parenthesis, is_phrase, is_shown}
@@ -40,7 +40,7 @@ use Rattle.cm_recognise.specs.declared.insertion.Mode.{Mode}
 use Rattle.cm_recognise.specs.declared.insertion.Mode.TheVariants as modes
 use Rattle.cm_recognise.specs.declared.outcome.Outcome.{Outcome}
 use Rattle.cm_recognise.specs.declared.outcome.Outcome.TheVariants.{Nothing, Part, Piece, Whole}
-use Rattle.cm_recognise.specs.Insertion.{asked, at_block, behind, block_put, default_put, first_put, fitted, guide_behind, guide_of, insertion, is_asked, or_put, put_in, rung}
+use Rattle.cm_recognise.specs.Insertion.{asked, at_block, behind, block_put, default_put, first_put, fitted, guide_behind, guide_of, insertion, is_asked, or_put, put_in, bell_only}
 use Rattle.cm_recognise.specs.Found.{missing}
 use Rattle.cm_recognise.specs.Outcome.{by_function, entry_outcome, guide, hook_outcome, keyword_outcome, outcome, phrase_outcome, plain_outcome, switch_outcome}
 use Rattle.cm_recognise.proofs.Shown.{IsText, directory_outcome_text, file_text, user_text}
@@ -105,6 +105,7 @@ function_text s mode (Noise text) flags next atom plain named tables lawful has 
     phrase_text (guide text) next atom (guide_text text (noise_text text has))
 function_text s mode (Token text) flags next atom plain named tables lawful has short own =
     of_choice IsText (length atom == 0) Nothing _ tt (phrase_text text next atom (token_text text has))
+function_text s mode Date flags next atom plain named tables lawful has short own = own
 function_text s mode User flags next atom plain named tables lawful has short own = user_text s.catalogue named next atom
 function_text s mode Directory flags next atom plain named tables lawful has short own =
     directory_outcome_text s.catalogue named flags.new next atom plain own
@@ -217,26 +218,26 @@ record Fits (size : ℕ) (insertion : Insertion) : Type 0 where
   short : size + length insertion.bytes ≤ LINE_LIMIT
   text : AreText insertion.bytes
 
-rung_fits : (size : ℕ) → size ≤ LINE_LIMIT → Fits size rung
-rung_fits size within = record { short = omega arith; text = tt }
+bell_only_fits : (size : ℕ) → size ≤ LINE_LIMIT → Fits size bell_only
+bell_only_fits size within = record { short = omega arith; text = tt }
 
 fitted_fits : (size : ℕ) (put : Option Insertion) → size ≤ LINE_LIMIT → PutText put → Fits size (fitted size put)
-fitted_fits size None within all = rung_fits size within
+fitted_fits size None within all = bell_only_fits size within
 fitted_fits size (Some insertion) within all =
-    holds_of_choice (Fits size) (nat_le (size + length insertion.bytes) LINE_LIMIT) insertion rung
-    (λ fits. record { short = grind (arith, nat_tests); text = all }) (λ full. rung_fits size within)
+    holds_of_choice (Fits size) (nat_le (size + length insertion.bytes) LINE_LIMIT) insertion bell_only
+    (λ fits. record { short = grind (arith, nat_tests); text = all }) (λ full. bell_only_fits size within)
 
 insertion_fits : (s : Setting) (ends : Ending) (line : List ℕ) (mode : Mode) → grammar_fault s.graph ≡ None
     → IsCatalogue s.catalogue → AreTables s.graph.tables → IsLawful s.meanings → length line ≤ LINE_LIMIT
     → Fits (length line) (insertion s ends line mode)
 unfolding insertion
 insertion_fits s (ending.Open place) line mode none named tables lawful within =
-    of_choice (Fits (length line)) (nat_lt (length line) LINE_LIMIT && nat_le place.at (length line)) _ rung
+    of_choice (Fits (length line)) (nat_lt (length line) LINE_LIMIT && nat_le place.at (length line)) _ bell_only
     (fitted_fits (length line) _ within
     (at_block_text s mode line place.at place.block place.node none named tables lawful (let size = length-drop place.at line in omega arith)))
-    (rung_fits (length line) within)
-insertion_fits s ending.Done line mode none named tables lawful within = rung_fits (length line) within
-insertion_fits s (ending.Fault fault) line mode none named tables lawful within = rung_fits (length line) within
+    (bell_only_fits (length line) within)
+insertion_fits s ending.Done line mode none named tables lawful within = bell_only_fits (length line) within
+insertion_fits s (ending.Fault fault) line mode none named tables lawful within = bell_only_fits (length line) within
 
 pub line_goes_on : (s : Setting) (ends : Ending) (line : List ℕ) (mode : Mode) → grammar_fault s.graph ≡ None
     → IsCatalogue s.catalogue → AreTables s.graph.tables → IsLawful s.meanings → IsLine line

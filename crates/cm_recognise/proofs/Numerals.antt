@@ -64,8 +64,3 @@ decimal_means n low most =
 -- a number of 32 bits has at most 10 digits
 pub decimal_fits : (n : ℕ) → n < 2 ^ 32 → length (decimal n) ≤ 10
 decimal_fits n small = length-decimal-le 10 n (omega arith) (omega arith) (omega arith)
-
--- the last digit is one more
-pub length_decimal_step : (n : ℕ) → 10 ≤ n → n < 2 ^ 64 → length (decimal n) ≡ length (decimal (n / 10)) + 1
-length_decimal_step n large small =
-    ap length (decimal_step n large small) ∙ length-append (decimal (n / 10)) ((48 + n % 10) ∷ [])

@@ -1,5 +1,5 @@
 -- A function that takes what is typed and a space takes it whole, and however the text goes on behind the space.
-use Rattle.std.proofs.Common.{◌≡◌, ℕ, ◌+◌, Bool, true, false, ◌==◌, ◌&&◌, nat_lt, nat_le, if◌then◌else◌, List, [], ◌∷◌, ◌++◌, length, take, Result, Ok, Err, refl, arith, length-append}
+use Rattle.std.proofs.Common.{◌≡◌, ℕ, ◌+◌, Bool, true, false, ◌==◌, ◌&&◌, nat_lt, nat_le, if◌then◌else◌, List, [], ◌∷◌, ◌++◌, length, take, Option, Some, None, Result, Ok, Err, refl, arith, length-append}
 use Rattle.std.specs.Char.{is_ascii_digit}
 use Rattle.std.specs.List.{list_all, prefix_len}
 use Rattle.std.specs.Str.Parse.{digits_value}
@@ -8,8 +8,10 @@ use Rattle.std.proofs.lemmas.List.Folds.{prefix_len-append}
 use Rattle.std.proofs.Math.Seq.{take-append_seam}
 use Rattle.cm_text.specs.Bytes.{is_name, is_word}
 use Rattle.cm_text.specs.declared.name.TheConstants.{NAME_LIMIT}
+use Rattle.cm_dates.specs.Date.{date, date_of, dated, month_of}
+use Rattle.cm_dates.proofs.Values.{IsDateIfOk, run_is_date}
 use Rattle.cm_fields.specs.declared.code.Code.{Code}
-use Rattle.cm_fields.specs.declared.code.Code.TheVariants.{BadNumber, NumberRange, NoField, FieldLong}
+use Rattle.cm_fields.specs.declared.code.Code.TheVariants.{BadDate, BadNumber, NumberRange, NoField, FieldLong}
 use Rattle.cm_fields.specs.declared.digits.TheConstants.{NUMBER_LIMIT}
 use Rattle.cm_fields.specs.declared.trial.Try.{Try}
 use Rattle.cm_fields.specs.declared.trial.Try.TheVariants.{Accept, Refuse, More}
@@ -102,6 +104,23 @@ word_own at run =
     of_choice IsOwnIfOk (length run == 0) (Err NoField) _ tt
     (of_choice IsOwnIfOk (nat_le (length run) NAME_LIMIT) (Ok (values.Word (span at (length run)))) (Err FieldLong) tt tt)
 
+date_own : (run : List ℕ) → IsOwnIfOk (date_of run)
+date_own run = by (date_of run) (run_is_date run)
+  where
+    by : (decision : Result Value Code) → IsDateIfOk decision → IsOwnIfOk decision
+    by (Ok (values.Date day)) is = tt
+    by (Ok value) is = absurd is
+    by (Err code) is = tt
+
+-- no bytes are no date
+no_date : (month : Option ℕ) → dated [] month [] ≡ Err BadDate
+no_date None = refl
+no_date (Some month) = refl
+
+pub date_of_nothing : date_of [] ≡ Err BadDate
+unfolding date_of
+date_of_nothing = no_date (month_of [])
+
 judged_own : (id : ℕ) (answer : Answer) → IsOwnIfOk (judged id answer)
 judged_own id (Yes value) = tt
 judged_own id No = tt
@@ -123,6 +142,9 @@ number_ends rest at is = run_ends is_word number_of rest at space_no_word (numbe
 
 pub word_ends : (rest : List ℕ) (at : ℕ) → word rest at ≡ More → EndsAt (at + length rest) (word (rest ++ 32 ∷ []) at)
 word_ends rest at is = run_ends is_word (word_of at) rest at space_no_word (word_own at rest) is
+
+pub date_ends : (rest : List ℕ) (at : ℕ) → date rest at ≡ More → EndsAt (at + length rest) (date (rest ++ 32 ∷ []) at)
+date_ends rest at is = run_ends is_word date_of rest at space_no_word (date_own rest) is
 
 pub hook_ends : (verdict : ℕ → List ℕ → Answer) (id : ℕ) (rest : List ℕ) (at : ℕ) → hook verdict id rest at ≡ More
     → EndsAt (at + length rest) (hook verdict id (rest ++ 32 ∷ []) at)

@@ -26,7 +26,7 @@ use Rattle.cm_recognise.specs.declared.insertion.Mode.{Mode}
 use Rattle.cm_recognise.specs.declared.insertion.Mode.TheVariants as modes
 use Rattle.cm_recognise.specs.declared.outcome.Outcome.{Outcome}
 use Rattle.cm_recognise.specs.declared.outcome.Outcome.TheVariants.{Nothing, Part, Piece, Whole}
-use Rattle.cm_recognise.specs.FileOutcome.{as_piece, behind_kind, behind_name, by_front, by_kind, by_meant, by_opened, by_spec, completed, directory_outcome, file_outcome, generation_step, kind_step, meant, name_step, named_directory, opened, user_outcome}
+use Rattle.cm_recognise.specs.FileOutcome.{as_piece, behind_kind, behind_name, prefix_completion, by_kind, completion_in_directory, directory_completion, by_spec, completed, directory_outcome, file_outcome, generation_step, kind_step, meant, name_step, named_directory, opened, user_outcome}
 use Rattle.cm_recognise.specs.Found.{directory_like, found_directories, found_kinds, found_names, found_users, gather, highest, kind_like, missing, name_like, user_like, with_text}
 use Rattle.cm_recognise.proofs.Completing.{listed_of}
 use Rattle.cm_recognise.proofs.Lowered.{directory_name}
@@ -153,9 +153,9 @@ pub directory_outcome_text : (c : Catalogue) → IsCatalogue c → (new : Bool) 
     → IsText (directory_outcome c new next atom plain)
 unfolding directory_outcome
 directory_outcome_text c is_catalogue new next atom plain own =
-    of_choice IsText new plain (by_opened c next plain (opened atom)) own (by (opened atom))
+    of_choice IsText new plain (directory_completion c next plain (opened atom)) own (by (opened atom))
   where
-    by : (found : Option (List ℕ)) → IsText (by_opened c next plain found)
+    by : (found : Option (List ℕ)) → IsText (directory_completion c next plain found)
     by None = own
     by (Some typed) = named_text c is_catalogue next typed
 
@@ -218,7 +218,7 @@ by_kind_text c is_catalogue request directory atom name plain (Some place) own =
     (generation_text c is_catalogue request directory name (part atom place) [] plain tt own) own)
 
 meant_text : (c : Catalogue) → IsCatalogue c → (request : Request) (atom : List ℕ) (plain : Outcome) (spec : Spec) (answer : Result ℕ Code)
-    → IsText plain → IsText (by_meant c request atom plain spec answer)
+    → IsText plain → IsText (completion_in_directory c request atom plain spec answer)
 meant_text c is_catalogue request atom plain spec (Err code) own = tt
 meant_text c is_catalogue request atom plain spec (Ok directory) own =
     by_kind_text c is_catalogue request directory atom (part_or_nothing atom spec.name) plain spec.kind own
@@ -238,8 +238,8 @@ pub file_text : (c : Catalogue) → IsCatalogue c → (request : Request) (atom 
     → IsText (file_outcome c request atom plain)
 unfolding file_outcome
 file_text c is_catalogue request atom plain own =
-    of_choice IsText (list_any is_wild atom) Nothing (by_front c request atom plain (opened atom)) tt (by (opened atom))
+    of_choice IsText (list_any is_wild atom) Nothing (prefix_completion c request atom plain (opened atom)) tt (by (opened atom))
   where
-    by : (found : Option (List ℕ)) → IsText (by_front c request atom plain found)
+    by : (found : Option (List ℕ)) → IsText (prefix_completion c request atom plain found)
     by None = spec_text c is_catalogue request atom plain (read_spec atom) own
     by (Some typed) = piece_text (named_directory c request.next typed) (named_text c is_catalogue request.next typed)

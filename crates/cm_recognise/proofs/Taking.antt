@@ -28,7 +28,7 @@ use Rattle.cm_hooks.specs.declared.answer.Tail.TheVariants as tails
 use Rattle.cm_hooks.specs.Field.{hook, hook_of, judged}
 use Rattle.cm_hooks.specs.Meanings.{Completes, IsLawful, IsYes}
 use Rattle.cm_blocks.specs.declared.function.Function.{Function}
-use Rattle.cm_blocks.specs.declared.function.Function.TheVariants.{Key, Switch, Noise, Number, Word, Quoted, Token, User, Directory, InFile, OutFile, AnyFile, Text, Comma, Confirm, Hook}
+use Rattle.cm_blocks.specs.declared.function.Function.TheVariants.{Key, Switch, Noise, Number, Word, Quoted, Token, Date, User, Directory, InFile, OutFile, AnyFile, Text, Comma, Confirm, Hook}
 use Rattle.cm_blocks.specs.declared.node.Block.{Block}
 use Rattle.cm_blocks.specs.Chain.{chain_at, is_confirm}
 use Rattle.cm_blocks.specs.Fault.{grammar_fault, has_flags, has_phrase, is_parenthesis, is_phrase, is_shown}
@@ -53,7 +53,7 @@ use Rattle.cm_recognise.proofs.Going.{chain_goes_on}
 use Rattle.cm_recognise.proofs.Guides.{noise_bytes, noise_takes, phrase_completes, token_takes}
 use Rattle.cm_recognise.proofs.Keywords.{key_begins, key_takes, keyword_completes, switch_takes}
 use Rattle.cm_recognise.proofs.Lines.{behind_text, outcome_text}
-use Rattle.cm_recognise.proofs.Plains.{EndsAt, IsOwn, comma_ends, confirm_ends, file_ends, hook_ends, number_ends, quoted_closes, run_wants, run_whole, space_no_name, text_ends, word_ends}
+use Rattle.cm_recognise.proofs.Plains.{EndsAt, IsOwn, comma_ends, confirm_ends, date_ends, date_of_nothing, file_ends, hook_ends, number_ends, quoted_closes, run_wants, run_whole, space_no_name, text_ends, word_ends}
 use Rattle.cm_recognise.proofs.Shown.{IsText}
 use Rattle.cm_recognise.proofs.Spans.{run_append, run_of_all}
 use Rattle.cm_recognise.proofs.Texts.{table_none, text_append}
@@ -212,6 +212,8 @@ function_takes s mode block Word atom bytes more at next named device flags tabl
     plain_takes s (record block { function = Word }) atom bytes more at next (word_ends atom at wants) is
 function_takes s mode block Quoted atom bytes more at next named device flags tables lawful has short wants is =
     plain_takes s (record block { function = Quoted }) atom bytes more at next (quoted_closes atom at wants) is
+function_takes s mode block Date atom bytes more at next named device flags tables lawful has short wants is =
+    plain_takes s (record block { function = Date }) atom bytes more at next (date_ends atom at wants) is
 function_takes s mode block User atom bytes more at next named device flags tables lawful has short wants is =
     let taken = user_sound s.catalogue named atom bytes more at block.next next is in
     named_takes s (record block { function = User }) atom bytes more at next taken.0.value taken.0.seen taken.0.own taken.0.accepts taken.1
@@ -260,6 +262,8 @@ function_begins s mode (Hook id) flags follows bytes more at next raw named tabl
 function_begins s mode Number flags follows bytes more at next raw named tables is = cc
 function_begins s mode Word flags follows bytes more at next raw named tables is = cc
 function_begins s mode Quoted flags follows bytes more at next raw named tables is = cc
+function_begins s mode Date flags follows bytes more at next raw named tables is =
+    let never = rw date_of_nothing at is in cc
 function_begins s mode User flags follows bytes more at next raw named tables is =
     user_begins s.catalogue named raw follows bytes more next is
 function_begins s mode Directory flags follows bytes more at next raw named tables is =

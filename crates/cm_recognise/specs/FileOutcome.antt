@@ -44,13 +44,13 @@ abbrev pub named_directory : Catalogue → ℕ → List ℕ → Outcome
 named_directory c next typed = completed next typed (62 ∷ []) (found_directories c typed)
 
 -- a directory whose name is begun; `plain` is the outcome of the block's own trial
-abbrev pub by_opened : Catalogue → ℕ → Outcome → Option (List ℕ) → Outcome
-by_opened c next plain None = plain
-by_opened c next plain (Some typed) = named_directory c next typed
+abbrev pub directory_completion : Catalogue → ℕ → Outcome → Option (List ℕ) → Outcome
+directory_completion c next plain None = plain
+directory_completion c next plain (Some typed) = named_directory c next typed
 
 -- a directory; of a new one nothing is known
 unfoldable pub directory_outcome : Catalogue → Bool → ℕ → List ℕ → Outcome → Outcome
-directory_outcome c new next atom plain = if new then plain else by_opened c next plain (opened atom)
+directory_outcome c new next atom plain = if new then plain else directory_completion c next plain (opened atom)
 
 -- all generations of a file, where the block means all by none, or else this one
 abbrev pub generation_outcome : Request → List ℕ → ℕ → Outcome
@@ -105,15 +105,15 @@ meant c request atom spec =
     (then_in (by_device c atom spec.device) (by_directory c atom spec.directory))
 
 -- the files of this directory
-abbrev pub by_meant : Catalogue → Request → List ℕ → Outcome → Spec → Result ℕ Code → Outcome
-by_meant c request atom plain spec (Err code) = Nothing
-by_meant c request atom plain spec (Ok directory) =
+abbrev pub completion_in_directory : Catalogue → Request → List ℕ → Outcome → Spec → Result ℕ Code → Outcome
+completion_in_directory c request atom plain spec (Err code) = Nothing
+completion_in_directory c request atom plain spec (Ok directory) =
     by_kind request (rows_of c directory) atom (part_or_nothing atom spec.name) plain spec.kind
 
 -- a specification
 abbrev pub by_spec : Catalogue → Request → List ℕ → Outcome → Result Spec SpecFault → Outcome
 by_spec c request atom plain (Err fault) = Nothing
-by_spec c request atom plain (Ok spec) = by_meant c request atom plain spec (meant c request atom spec)
+by_spec c request atom plain (Ok spec) = completion_in_directory c request atom plain spec (meant c request atom spec)
 
 -- behind which a file goes on
 abbrev pub as_piece : Outcome → Outcome
@@ -123,11 +123,11 @@ as_piece (Piece bytes) = Piece bytes
 as_piece (Whole bytes next) = Piece bytes
 
 -- a directory whose name is begun, or else a specification
-abbrev pub by_front : Catalogue → Request → List ℕ → Outcome → Option (List ℕ) → Outcome
-by_front c request atom plain None = by_spec c request atom plain (read_spec atom)
-by_front c request atom plain (Some typed) = as_piece (named_directory c request.next typed)
+abbrev pub prefix_completion : Catalogue → Request → List ℕ → Outcome → Option (List ℕ) → Outcome
+prefix_completion c request atom plain None = by_spec c request atom plain (read_spec atom)
+prefix_completion c request atom plain (Some typed) = as_piece (named_directory c request.next typed)
 
 -- a file that is there or may be there; one with a wildcard is no one file
 unfoldable pub file_outcome : Catalogue → Request → List ℕ → Outcome → Outcome
 file_outcome c request atom plain =
-    if list_any is_wild atom then Nothing else by_front c request atom plain (opened atom)
+    if list_any is_wild atom then Nothing else prefix_completion c request atom plain (opened atom)

@@ -18,8 +18,8 @@ use Rattle.cm_recognise.specs.declared.outcome.Outcome.TheVariants.{Nothing, Par
 use Rattle.cm_recognise.specs.Outcome.{guide, outcome}
 
 -- no bytes, and a bell
-abbrev pub rung : Insertion
-rung = record { bytes = []; bell = true }
+abbrev pub bell_only : Insertion
+bell_only = record { bytes = []; bell = true }
 
 -- the guide word that a block reads, as it is typed, and a space
 abbrev pub guide_behind : Function → List ℕ
@@ -79,8 +79,8 @@ asked s modes.Part node block atom at = first_put s modes.Part atom at (drop blo
 
 -- what does not fit into a line of so many bytes is not put in
 abbrev pub fitted : ℕ → Option Insertion → Insertion
-fitted size None = rung
-fitted size (Some insertion) = if nat_le (size + length insertion.bytes) LINE_LIMIT then insertion else rung
+fitted size None = bell_only
+fitted size (Some insertion) = if nat_le (size + length insertion.bytes) LINE_LIMIT then insertion else bell_only
 
 -- at this place of the line the blocks of a node wait from this one on
 abbrev pub at_block : Setting → Mode → List ℕ → ℕ → Option ℕ → Option Node → Option Insertion
@@ -93,6 +93,6 @@ unfoldable pub insertion : Setting → Ending → List ℕ → Mode → Insertio
 insertion s (ending.Open place) line mode =
     if nat_lt (length line) LINE_LIMIT && nat_le place.at (length line)
     then fitted (length line) (at_block s mode line place.at place.block (slice_get s.graph.nodes place.node))
-    else rung
-insertion s ending.Done line mode = rung
-insertion s (ending.Fault fault) line mode = rung
+    else bell_only
+insertion s ending.Done line mode = bell_only
+insertion s (ending.Fault fault) line mode = bell_only

@@ -6,7 +6,7 @@ ghost use Rattle.cm_hooks.specs.Ties.{Ties, count};
 ghost use Rattle.cm_blocks.specs.Grammar.{hook_count};
 ghost use Rattle.cm_blocks.specs.Setting.{setting};
 ghost use Rattle.cm_blocks.specs.Well.{IsWell, IsWellBlock};
-ghost use Rattle.cm_recognise.specs.Insertion.{asked, at_block, behind, block_put, default_put, first_put, fitted, guide_behind, insertion, is_asked, put_in, rung};
+ghost use Rattle.cm_recognise.specs.Insertion.{asked, at_block, behind, block_put, default_put, first_put, fitted, guide_behind, insertion, is_asked, put_in, bell_only};
 ghost use Rattle.cm_recognise.specs.Outcome.{IsShort};
 
 use crate::Bytes;
@@ -35,8 +35,8 @@ pub struct Insertion {
 }
 
 // No bytes, and a bell.
-fn rung() -> Insertion
-    ensures { result ≡ rung }
+fn bell_only() -> Insertion
+    ensures { result ≡ bell_only }
 {
     Insertion {
         bytes: Bytes::new(),
@@ -50,12 +50,12 @@ fn fitted(size: usize, put: Option<Insertion>) -> Insertion
     ensures { result ≡ fitted size put }
 {
     match put {
-        None => rung(),
+        None => bell_only(),
         Some(insertion) => {
             if size + insertion.bytes.as_slice().len() <= LINE_LIMIT {
                 insertion
             } else {
-                rung()
+                bell_only()
             }
         }
     }
@@ -282,7 +282,7 @@ fn inserted<N: Names, R: Rules>(
                 at_block(grammar, place, line, names, hooks, mode),
             )
         }
-        _ => rung(),
+        _ => bell_only(),
     }
 }
 

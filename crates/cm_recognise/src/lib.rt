@@ -12,6 +12,3 @@ mod outcome;
 pub use bytes::Bytes;
 pub use insertion::{Insertion, Mode, complete};
 pub use outcome::Outcome;
-
-#[cfg(test)]
-mod tests;

@@ -14,6 +14,3 @@ mod turn;
 pub use prompt::Prompt;
 pub use session::Session;
 pub use turn::Turn;
-
-#[cfg(test)]
-mod tests;

@@ -38,7 +38,7 @@ length_same text other same =
     sym (length-map text to_ascii_lowercase) ∙ ap length same ∙ length-map other to_ascii_lowercase
 
 -- and each begins with the other
-begins_of_equals : (text other : List ℕ) → equals text other ≡ true → begins_with text other ≡ true
+pub begins_of_equals : (text other : List ℕ) → equals text other ≡ true → begins_with text other ≡ true
 unfolding begins_with
 begins_of_equals text other equal =
     let size = length_same text other (lower_same text other equal) in
@@ -96,7 +96,7 @@ keyword_of place before text none = by (is_keyword text) none
     by false none = cc
 
 -- and stands above the text before it
-above_of : (place : ℕ) (order : Ordering) → by_order place order ≡ None → order ≡ Less
+pub above_of : (place : ℕ) (order : Ordering) → by_order place order ≡ None → order ≡ Less
 above_of place Less none = refl
 above_of place Equal none = cc
 above_of place Greater none = cc

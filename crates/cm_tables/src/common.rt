@@ -2,8 +2,10 @@
 ghost use Rattle.std.specs.Prelude.{◌≡◌, ◌≤◌, drop, length};
 ghost use Rattle.std.specs.Option.{option_copied, option_map_or};
 ghost use Rattle.cm_tables.specs.Common.{common, shared};
+ghost use Rattle.cm_tables.specs.Search.{Ascends};
 
 use crate::Entry;
+use crate::group::group_of;
 use crate::search::may_abbreviate;
 use cm_text::{NAME_LIMIT, common_len};
 
@@ -38,11 +40,13 @@ fn shared_with<'a>(found: Option<&'a [u8]>, text: &'a [u8]) -> &'a [u8]
 // The longest text with which all entries go on that the atom may abbreviate.
 #[tactic(auto, unfolding(crate::specs::Common::common), using(crate::proofs::CommonLemmas::atom_fits))]
 pub(crate) fn common<'a>(entries: &'a [Entry], atom: &[u8]) -> &'a [u8]
+    requires { Ascends entries.now }
     ensures value { result.now ≡ common entries.now atom.now }
     ensures within { length result.now ≤ NAME_LIMIT }
 {
+    let (_, group) = group_of(entries, atom);
     let mut found = None;
-    for entry in entries {
+    for entry in group {
         if may_abbreviate(atom, entry) {
             found = Some(shared_with(found, rest(entry, atom)));
         }

@@ -1,4 +1,4 @@
-//! Laws of recognition.
+//! Laws of tables and of recognition.
 ghost use Rattle.std.specs.Prelude.{◌≡◌, ◌≢◌, ℕ, List, [], ◌++◌, None, Some, drop, length, slice_get, true};
 ghost use Rattle.std.specs.Io.{StartsWith};
 ghost use Rattle.cm_text.specs.Case.{begins_with};
@@ -6,6 +6,7 @@ ghost use Rattle.cm_tables.specs.Common.{AllBeginWith, common, rests};
 ghost use Rattle.cm_tables.specs.Look.{candidates, found_at, is_recognised, look};
 ghost use Rattle.cm_tables.specs.Order.{table_fault};
 ghost use Rattle.cm_tables.specs.declared.entry.Entry.{Entry};
+ghost use Rattle.cm_tables.specs.declared.fault.TheConstants.{ENTRY_LIMIT};
 ghost use Rattle.cm_tables.specs.declared.table.Look.TheVariants as looks;
 
 /// Behind an atom all entries that it may abbreviate go on with their common text, and with no longer one. With
@@ -29,4 +30,9 @@ pub fn a_completed_atom_is_its_entry()
     ensures exact { (table : List Entry) → (atom : List ℕ) → (place : ℕ) → (entry : Entry)
         → table_fault table ≡ None → found_at (look table atom) ≡ Some place → slice_get table place ≡ Some entry
         → look table (atom ++ drop (length atom) entry.text) ≡ looks.Exact place }
+{}
+
+/// A table has at most 1,024 entries.
+pub fn these_are_the_numbers()
+    ensures entries { ENTRY_LIMIT ≡ 1024 }
 {}

@@ -4,6 +4,7 @@
 mod common;
 mod entry;
 mod fault;
+mod group;
 pub mod laws;
 mod listed;
 mod search;

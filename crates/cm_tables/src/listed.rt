@@ -1,8 +1,10 @@
 // The entries of a table that a list shows.
 ghost use Rattle.std.specs.Prelude.{◌≡◌, ◌<◌, ◌≤◌, length, IfSome};
 ghost use Rattle.cm_tables.specs.Listed.{is_listed, next_listed};
+ghost use Rattle.cm_tables.specs.Search.{Ascends};
 
 use crate::fault::ENTRY_LIMIT;
+use crate::group::group_of;
 use crate::{Entry, Flag};
 use cm_text::begins_with;
 
@@ -14,8 +16,10 @@ fn is_listed(atom: &[u8], entry: &Entry) -> bool
 }
 
 // The position of the first such entry from a position on.
+#[tactic(auto, using(crate::proofs::Grouping::ascends_dropped))]
 pub(crate) fn next_listed(entries: &[Entry], from: u16, atom: &[u8]) -> Option<u16>
-    requires { length entries.now ≤ ENTRY_LIMIT }
+    requires few { length entries.now ≤ ENTRY_LIMIT }
+    requires order { Ascends entries.now }
     ensures value { result ≡ next_listed entries.now from atom.now }
     ensures within { IfSome result (λ position. (from ≤ position) × (position < length entries.now)) }
 {
@@ -23,9 +27,11 @@ pub(crate) fn next_listed(entries: &[Entry], from: u16, atom: &[u8]) -> Option<u
     if start > entries.len() {
         return None;
     }
-    for (offset, entry) in entries[start..].iter().enumerate() {
+    let (_, behind) = entries.split_at(start);
+    let (first, group) = group_of(behind, atom);
+    for (offset, entry) in group.iter().enumerate() {
         if is_listed(atom, entry) {
-            return Some((start + offset) as u16);
+            return Some((start + first + offset) as u16);
         }
     }
     None

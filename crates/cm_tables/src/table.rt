@@ -117,6 +117,7 @@ impl Table {
     }
 
     /// What the table has for an atom.
+    #[tactic(auto, using(crate::proofs::Grouping::ascends_of))]
     pub fn look(&self, atom: &[u8]) -> Look
         ensures value { result ≡ look self.now atom.now }
         // A position that it gives is one of the table.
@@ -127,6 +128,7 @@ impl Table {
 
     /// Whether the text of some entry is the atom, with no regard to the case of letters. Where an atom is ambiguous,
     /// it tells whether an entry of this text does not let itself be recognised, or several entries begin with it.
+    #[tactic(auto, using(crate::proofs::Grouping::ascends_of))]
     pub fn has_text(&self, atom: &[u8]) -> bool
         ensures { result ≡ has_text self.now atom.now }
     {
@@ -135,6 +137,7 @@ impl Table {
 
     /// The longest text with which all entries go on behind the atom that it may abbreviate, so that it can be
     /// completed as far as it is certain (COMND's recognition). It is empty where there is no such entry.
+    #[tactic(auto, using(crate::proofs::Grouping::ascends_of))]
     pub fn common(&self, atom: &[u8]) -> &[u8]
         ensures value { result.now ≡ common self.now atom.now }
         ensures within { length result.now ≤ NAME_LIMIT }
@@ -145,6 +148,7 @@ impl Table {
     /// The position of the first entry at or behind a position that a list shows where the atom was typed, as `?` wants
     /// it (TBLUK): a Plain entry that begins with the atom, with no regard to the case of letters. None where there is
     /// no more such entry, as from a position past the end.
+    #[tactic(auto, using(crate::proofs::Grouping::ascends_of))]
     pub fn next_listed(&self, from: u16, atom: &[u8]) -> Option<u16>
         ensures value { result ≡ next_listed self.now from atom.now }
         // It is a position of the table, and not before the one that was given.
@@ -155,6 +159,3 @@ impl Table {
         listed::next_listed(&self.entries, from, atom)
     }
 }
-
-#[cfg(test)]
-mod tests;

@@ -1,1 +1,2 @@
 pub mod Ascii
+mod Decimal

@@ -17,31 +17,3 @@ pub fn begins_with(text: &[u8], other: &[u8]) -> bool
     let begin = text.len().min(other.len());
     equals(&text[..begin], other)
 }
-
-#[cfg(test)]
-mod tests {
-    use super::*;
-
-    #[test]
-    fn case_means_nothing(rt: HostRuntime) {
-        for (text, other, equal, begins) in [
-            ("", "", true, true),
-            ("A", "", false, true),
-            ("", "A", false, false),
-            ("Directory", "dIRECTORY", true, true),
-            ("DIRECTORY", "dir", false, true),
-            ("dir", "DIRECTORY", false, false),
-            ("DIRECTORY", "DIX", false, false),
-            ("LOGIN", "LOGON", false, false),
-            ("A-1", "a-1", true, true),
-            // `@` and a grave accent, `[` and `{`, and a hyphen and CR differ as a letter's two cases do.
-            ("A@", "A`", false, false),
-            ("A[", "A{", false, false),
-            ("A-", "A\r", false, false),
-        ] {
-            let (text, other) = (text.as_bytes(), other.as_bytes());
-            assert_eq!(rt; equals(text, other), equal, "{text:?} and {other:?}");
-            assert_eq!(rt; begins_with(text, other), begins, "{text:?} and {other:?}");
-        }
-    }
-}

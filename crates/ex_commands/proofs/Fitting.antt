@@ -11,6 +11,7 @@ use Rattle.cm_fields.specs.declared.code.Code.TheVariants.{NoField}
 use Rattle.cm_fields.specs.declared.trial.Try.TheVariants.{Accept}
 use Rattle.cm_fields.specs.declared.value.FileKind.TheVariants.{In, Out, Any}
 use Rattle.cm_fields.specs.declared.value.Value.{Value}
+use Rattle.cm_files.proofs.LogicalNames.{short_name}
 use Rattle.cm_files.specs.declared.flags.Flags.{Flags}
 use Rattle.cm_files.specs.Catalogue.{Catalogue}
 use Rattle.cm_files.specs.Fields.{directory_of, file_of, has_colon_behind, is_file, is_plain_path, user_of}
@@ -191,18 +192,13 @@ trial_said s AnyFile flags rest at value looked end reads is =
     file_said s.catalogue Any flags at _ value run.decided
 trial_said s function flags rest at value looked end reads is = cc
 
--- a logical name is no longer than a name
-logical_short : (run : List ℕ) → is_logical_name run ≡ true → length run ≤ NAME_LIMIT
-unfolding is_logical_name
-logical_short run is = grind (arith, nat_tests)
-
 hook_short : (run : List ℕ) (value : Value) → hook_of rule_verdict 0 run ≡ Ok value → length run ≤ NAME_LIMIT
 unfolding hook_of
 hook_short run value is = by (length run == 0) is
   where
     judges : (test : Bool) → is_logical_name run ≡ test → judged 0 (if test then Yes (length run) else No) ≡ Ok value
         → length run ≤ NAME_LIMIT
-    judges true test is = logical_short run test
+    judges true test is = short_name run test
     judges false test is = cc
 
     by : (test : Bool) → (if test then Err NoField else judged 0 (logical_verdict run)) ≡ Ok value → length run ≤ NAME_LIMIT

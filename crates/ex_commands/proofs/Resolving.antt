@@ -12,7 +12,7 @@ use Rattle.cm_fields.specs.declared.value.Span.{Span}
 use Rattle.cm_fields.specs.declared.value.Spec.{Spec}
 use Rattle.cm_files.specs.declared.flags.Flags.{Flags}
 use Rattle.cm_files.specs.declared.row.LogicalName.{LogicalName}
-use Rattle.cm_files.specs.Catalogue.{Catalogue, IsCatalogue, is_directory_name, is_logical, is_upper_name, logical_of, rows_of}
+use Rattle.cm_files.specs.Catalogue.{Catalogue, IsCatalogue, is_directory_name, is_logical, logical_of, rows_of}
 use Rattle.cm_files.specs.Fields.{is_user_named, user_named}
 use Rattle.cm_files.specs.Resolve.{by_device, by_directory, directory_named, has_bad_wild, is_bad_generation, is_in, is_named, lacks_name, or_refused, resolve, wanted_by}
 use Rattle.cm_files.specs.Selection.{selects}
@@ -44,7 +44,7 @@ logical_within count (entry ∷ more) name directory all is =
     here : entry.directory < count
     here =
         let first = (and_parts (is_logical count entry) _ all).0 in
-        let test = (and_parts (nat_lt entry.directory count) _ (and_parts _ (is_upper_name entry.name) first).0).0 in
+        let test = (and_parts (nat_lt entry.directory count) _ first).0 in
         grind (arith, nat_tests)
 
     by : (same : Bool) → option_map (λ (entry : LogicalName). entry.directory) (cond same (Some entry) (find (λ entry. equals entry.name name) more)) ≡ Some directory

@@ -2,6 +2,7 @@ pub mod Act
 pub mod Answer
 pub mod Command
 pub mod Files
+pub mod Outcome
 pub mod Replies
 pub mod Said
 pub mod Texts

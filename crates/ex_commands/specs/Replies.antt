@@ -8,7 +8,6 @@ use Rattle.cm_dates.specs.DayText.{day_text}
 use Rattle.ex_generations.specs.declared.file.File.{File}
 use Rattle.ex_generations.specs.Generations.{page_count}
 use Rattle.ex_store.specs.declared.key.FullName.{FullName}
-use Rattle.ex_store.specs.declared.key.Key.{Key}
 use Rattle.ex_store.specs.declared.key.NamePair.{NamePair}
 use Rattle.ex_store.specs.declared.row.Row.{Row}
 use Rattle.ex_store.specs.Rows.{full_of}
@@ -19,13 +18,9 @@ use Rattle.ex_commands.specs.declared.pairs.Origin.{Origin}
 use Rattle.ex_commands.specs.declared.pairs.Origin.TheVariants.{Files, Terminal}
 use Rattle.ex_commands.specs.Texts.{arrow, dot, done_mark, farewell, files_counted, from_terminal, left_angle, pages_freed, right_angle, right_bracket, space, structure, total_of, version}
 
--- NAME.TYPE
-unfoldable pub key_text : Key → List ℕ
-key_text key = key.name ++ dot ++ key.kind
-
 -- NAME.TYPE.GENERATION
 unfoldable pub file_text : FullName → List ℕ
-file_text full = key_text full.key ++ dot ++ decimal full.generation
+file_text full = full.key.name ++ dot ++ full.key.kind ++ dot ++ decimal full.generation
 
 -- <DIRECTORY>
 unfoldable pub directory_text : List ℕ → List ℕ
@@ -39,13 +34,9 @@ full_text full = directory_text full.key.directory ++ file_text full
 unfoldable pub done_text : List ℕ
 done_text = done_mark ++ end_of_line
 
--- a file that is taken, and that another is made of it
-unfoldable pub source_text : FullName → List ℕ
-source_text source = space ++ full_text source ++ arrow
-
 -- from a file to another, ` SOURCE => TARGET [OK]`, or from the terminal to a file, ` TTY: => TARGET [OK]`
 unfoldable pub pair_line : NamePair → List ℕ
-pair_line pair = source_text pair.source ++ full_text pair.target ++ done_text
+pair_line pair = space ++ full_text pair.source ++ arrow ++ full_text pair.target ++ done_text
 
 unfoldable pub typed_line : NamePair → List ℕ
 typed_line pair = from_terminal ++ full_text pair.target ++ done_text
@@ -63,21 +54,14 @@ marked_line row = space ++ full_text (full_of row) ++ done_text
 abbrev pub day_of : ℕ → List ℕ
 day_of moment = day_text (pos (moment / DAY_SECONDS))
 
--- how many pages and how many bytes a file has
-unfoldable pub sizes_text : File → List ℕ
-sizes_text file = decimal (page_count (length file.bytes)) ++ space ++ decimal (length file.bytes)
-
 -- how many pages and bytes a file has, and the day of its moment
 unfoldable pub measures_text : File → List ℕ
-measures_text file = sizes_text file ++ space ++ day_of file.moment
-
--- the beginning of a file's line in a listing
-unfoldable pub listed_name : Row → List ℕ
-listed_name row = space ++ file_text (full_of row) ++ space
+measures_text file =
+    decimal (page_count (length file.bytes)) ++ space ++ decimal (length file.bytes) ++ space ++ day_of file.moment
 
 -- a file in a listing, ` NAME.TYPE.GENERATION PAGES BYTES DAY`
 unfoldable pub listed_line : Row → List ℕ
-listed_line row = listed_name row ++ measures_text row.file ++ end_of_line
+listed_line row = space ++ file_text (full_of row) ++ space ++ measures_text row.file ++ end_of_line
 
 -- a text ends with a line feed, or is empty
 abbrev pub ends_line : List ℕ → Bool
@@ -104,13 +88,10 @@ total_line count = total_of ++ decimal count ++ files_counted ++ end_of_line
 unfoldable pub listing : List ℕ → List Row → List ℕ
 listing directory rows = heading directory ++ flat_map (line_of Listed) rows ++ total_line (length rows)
 
--- in which directory pages were freed
-unfoldable pub freed_in : List ℕ → List ℕ
-freed_in directory = space ++ directory_text directory ++ pages_freed
-
 -- the pages that were freed in a directory, ` <DIRECTORY> [Pages freed: COUNT]`
 unfoldable pub freed_line : List ℕ → ℕ → List ℕ
-freed_line directory pages = freed_in directory ++ decimal pages ++ right_bracket ++ end_of_line
+freed_line directory pages =
+    space ++ directory_text directory ++ pages_freed ++ decimal pages ++ right_bracket ++ end_of_line
 
 -- what INFORMATION tells of the version, and what LOGOUT shows
 unfoldable pub version_line : List ℕ

@@ -1,12 +1,11 @@
 // A file that is typed in.
 ghost use Rattle.std.specs.Prelude.{◌≡◌, ◌-◌, ◌≤◌, [], length, slice_get, vec_capacity, IfOk};
 ghost use Rattle.ex_generations.specs.declared.file.TheConstants.{FILE_LIMIT};
-ghost use Rattle.cm_io.specs.Fault.{PutCause};
-ghost use Rattle.cm_io.specs.Told.{Adds};
+ghost use Rattle.cm_io.specs.Writer.{Writes};
 ghost use Rattle.cm_state.specs.Echo.{screen_byte};
 ghost use Rattle.ex_commands.specs.Typed.{TurnCause, Types, adding, echo_text, edit, rubbing, turn_of};
 
-use cm_io::{NoMemory, Put, Sink, put_line};
+use cm_io::{NoMemory, Put, Sink, Writer};
 use cm_text::{bell, control_c, end_of_line, rubout};
 use ex_generations::FILE_LIMIT;
 use std::alloc::Global;
@@ -53,7 +52,7 @@ pub enum DataTurn {
 }
 
 /// What is shown for a key.
-#[derive(Clone, Copy, Debug, PartialEq, Eq)]
+#[derive(Clone, Copy)]
 pub(crate) enum Echo {
     /// The byte, TAB as a space.
     Byte(u8),
@@ -105,7 +104,9 @@ impl Data {
         ensures cause { TurnCause (S.faults sink.old) (S.faults sink.new) result }
     {
         let echo = edit(&mut self.bytes, key);
-        match put_echo(echo, sink) {
+        let mut out = Writer::new(sink);
+        put_echo(echo, &mut out);
+        match out.went() {
             Put::Done => turn_of(echo),
             Put::Failed => DataTurn::Failed,
         }
@@ -174,18 +175,16 @@ fn screen_byte(byte: u8) -> u8
 
 // Puts what is shown for a key.
 #[tactic(auto, unfolding(crate::specs::Typed::echo_text))]
-fn put_echo<S: Sink>(echo: Echo, sink: &mut S) -> Put
-    ensures bytes { Adds (S.told sink.old) (S.told sink.new) (echo_text echo) result }
-    ensures later { S.faults sink.old ≤ S.faults sink.new }
-    ensures cause { PutCause (S.faults sink.old) (S.faults sink.new) result }
+fn put_echo<S: Sink>(echo: Echo, out: &mut Writer<'_, S>)
+    ensures { Writes S.Sink out.old out.new (echo_text echo) }
 {
     match echo {
-        Echo::Byte(byte) => sink.put(&[screen_byte(byte)]),
-        Echo::Line => sink.put(end_of_line()),
-        Echo::Bell => sink.put(bell()),
-        Echo::Rubout => sink.put(rubout()),
-        Echo::Written => put_line(b"^Z", sink),
-        Echo::Dropped => put_line(control_c(), sink),
+        Echo::Byte(byte) => out.put(&[screen_byte(byte)]),
+        Echo::Line => out.put(end_of_line()),
+        Echo::Bell => out.put(bell()),
+        Echo::Rubout => out.put(rubout()),
+        Echo::Written => out.put_line(b"^Z"),
+        Echo::Dropped => out.put_line(control_c()),
     }
 }
 

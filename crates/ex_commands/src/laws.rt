@@ -15,6 +15,8 @@ ghost use Rattle.ex_store.specs.State.{State, catalogue_of};
 ghost use Rattle.ex_commands.specs.declared.acted.Acted.TheVariants as answers;
 ghost use Rattle.ex_commands.specs.declared.command.Command.{Command};
 ghost use Rattle.ex_commands.specs.declared.command.Command.TheVariants as commands;
+ghost use Rattle.ex_commands.specs.declared.data.TheConstants.{CONTROL_C, CONTROL_Z, DELETE};
+ghost use Rattle.ex_commands.specs.declared.lines.TheConstants.{DAY_SECONDS};
 ghost use Rattle.ex_commands.specs.Act.{act_of};
 ghost use Rattle.ex_commands.specs.Answer.{MayAct};
 ghost use Rattle.ex_commands.specs.Command.{command_of};
@@ -48,4 +50,12 @@ pub fn only_logout_ends_the_run()
 pub fn only_copy_from_the_terminal_begins_a_file()
     ensures { (command : Command) (moment : ℕ) (state : State)
         → (act_of command moment state).answer ≡ answers.Data → (to : Place) × (command ≡ commands.CopyTty to) }
+{}
+
+/// The numbers of commands: the seconds of a day, and the keys that end the typing of a file or take its last byte away.
+pub fn these_are_the_numbers()
+    ensures day { DAY_SECONDS ≡ 86400 }
+    ensures control_c { CONTROL_C ≡ 3 }
+    ensures control_z { CONTROL_Z ≡ 26 }
+    ensures delete { DELETE ≡ 127 }
 {}

@@ -14,8 +14,6 @@ mod pairs;
 mod place;
 mod plans;
 mod replies;
-#[cfg(test)]
-mod tests;
 mod texts;
 
 pub use acted::Acted;

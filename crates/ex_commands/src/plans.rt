@@ -5,33 +5,39 @@ ghost use Rattle.ex_store.specs.Plan.{IsOneFile, IsSource, IsTarget, MayPlan, pl
 ghost use Rattle.ex_commands.specs.declared.command.Command.TheVariants as commands;
 ghost use Rattle.ex_commands.specs.Act.{act_of, plays, writes};
 ghost use Rattle.ex_commands.specs.Answer.{ActCause, Answers};
+ghost use Rattle.ex_commands.specs.Outcome.{Outcome};
 
 use crate::acted::answer_by;
 use crate::acts::refuse;
 use crate::pairs::{Origin, put_pairs};
 use crate::{Acted, Data};
-use cm_io::Sink;
+use cm_io::{Sink, Writer};
 use cm_text::Name;
 use ex_generations::Bytes;
 use ex_store::{Place, Plan, Refusal, Store};
+use std::alloc::Global;
 
 // Does all of a plan, or nothing where it is refused. Its lines are put before it is done, and then it is done
-// whatever the sink said.
-fn play<S: Sink>(store: &mut Store, plan: Plan, origin: Origin, moment: u64, sink: &mut S) -> Acted
+// whether or not the sink took them.
+fn play<S: Sink>(
+    store: &mut Store,
+    plan: Plan,
+    origin: Origin,
+    moment: u64,
+    out: &mut Writer<'_, S>,
+) -> Acted
     requires { MayPlan plan store.old.state }
-    ensures acts { Answers (S.told sink.old) (S.told sink.new)
+    ensures { Outcome S.Sink out.old out.new
         (plays origin (planned plan moment store.old.state) store.old.state) true store.old.state store.new.state
         result }
-    ensures later { S.faults sink.old ≤ S.faults sink.new }
-    ensures cause { ActCause (S.faults sink.old) (S.faults sink.new) result }
 {
     match store.prepare(plan, moment) {
         Ok(ready) => {
-            let put = put_pairs(origin, &ready, sink);
+            put_pairs(origin, &ready, out);
             store.apply(ready);
-            answer_by(Acted::Ok, put)
+            Acted::Ok
         }
-        Err(Refusal::Code(code)) => refuse(code, sink),
+        Err(Refusal::Code(code)) => refuse(code, out),
         Err(Refusal::NoMemory) => Acted::NoMemory,
     }
 }
@@ -42,20 +48,18 @@ pub(crate) fn build<S: Sink>(
     store: &mut Store,
     directory: &Name,
     moment: u64,
-    sink: &mut S,
+    out: &mut Writer<'_, S>,
 ) -> Acted
     requires { is_directory_name directory.now ≡ true }
-    ensures acts { Answers (S.told sink.old) (S.told sink.new)
+    ensures { Outcome S.Sink out.old out.new
         (act_of (commands.Build directory.now) moment store.old.state) true store.old.state store.new.state result }
-    ensures later { S.faults sink.old ≤ S.faults sink.new }
-    ensures cause { ActCause (S.faults sink.old) (S.faults sink.new) result }
 {
     let directory = Name::new(directory.as_str());
     let plan = Plan::Build {
         directory,
         keep: None,
     };
-    play(store, plan, Origin::Files, moment, sink)
+    play(store, plan, Origin::Files, moment, out)
 }
 
 /// Copies files.
@@ -65,20 +69,18 @@ pub(crate) fn copy<S: Sink>(
     from: &Place,
     to: &Place,
     moment: u64,
-    sink: &mut S,
+    out: &mut Writer<'_, S>,
 ) -> Acted
     requires from { IsSource from.now store.old.state }
     requires to { IsTarget to.now store.old.state.directories }
-    ensures acts { Answers (S.told sink.old) (S.told sink.new)
+    ensures { Outcome S.Sink out.old out.new
         (act_of (commands.Copy from.now to.now) moment store.old.state) true store.old.state store.new.state result }
-    ensures later { S.faults sink.old ≤ S.faults sink.new }
-    ensures cause { ActCause (S.faults sink.old) (S.faults sink.new) result }
 {
     let plan = Plan::Copy {
         from: from.copy(),
         to: to.copy(),
     };
-    play(store, plan, Origin::Files, moment, sink)
+    play(store, plan, Origin::Files, moment, out)
 }
 
 /// Gives files other names.
@@ -88,20 +90,18 @@ pub(crate) fn rename<S: Sink>(
     from: &Place,
     to: &Place,
     moment: u64,
-    sink: &mut S,
+    out: &mut Writer<'_, S>,
 ) -> Acted
     requires from { IsSource from.now store.old.state }
     requires to { IsTarget to.now store.old.state.directories }
-    ensures acts { Answers (S.told sink.old) (S.told sink.new)
+    ensures { Outcome S.Sink out.old out.new
         (act_of (commands.Rename from.now to.now) moment store.old.state) true store.old.state store.new.state result }
-    ensures later { S.faults sink.old ≤ S.faults sink.new }
-    ensures cause { ActCause (S.faults sink.old) (S.faults sink.new) result }
 {
     let plan = Plan::Rename {
         from: from.copy(),
         to: to.copy(),
     };
-    play(store, plan, Origin::Files, moment, sink)
+    play(store, plan, Origin::Files, moment, out)
 }
 
 /// Puts the bytes of files behind those of one file.
@@ -111,29 +111,48 @@ pub(crate) fn append<S: Sink>(
     from: &Place,
     to: &Place,
     moment: u64,
-    sink: &mut S,
+    out: &mut Writer<'_, S>,
 ) -> Acted
     requires from { IsSource from.now store.old.state }
     requires to { IsOneFile to.now store.old.state.directories }
-    ensures acts { Answers (S.told sink.old) (S.told sink.new)
+    ensures { Outcome S.Sink out.old out.new
         (act_of (commands.Append from.now to.now) moment store.old.state) true store.old.state store.new.state result }
-    ensures later { S.faults sink.old ≤ S.faults sink.new }
-    ensures cause { ActCause (S.faults sink.old) (S.faults sink.new) result }
 {
     let plan = Plan::Append {
         from: from.copy(),
         to: to.copy(),
     };
-    play(store, plan, Origin::Files, moment, sink)
+    play(store, plan, Origin::Files, moment, out)
+}
+
+// Writes what was typed in as a file.
+#[tactic(auto, unfolding(crate::specs::Act::writes))]
+fn write<S: Sink>(
+    store: &mut Store,
+    to: &Place,
+    typed: Data,
+    moment: u64,
+    out: &mut Writer<'_, S>,
+) -> Acted
+    requires { IsTarget to.now store.old.state.directories }
+    ensures { Outcome S.Sink out.old out.new (writes to.now typed moment store.old.state) true store.old.state
+        store.new.state result }
+{
+    let plan = Plan::Write {
+        to: to.copy(),
+        bytes: Bytes::new(typed.into_vec()),
+    };
+    play(store, plan, Origin::Terminal, moment, out)
 }
 
 /// Writes what was typed in as a file, at a moment, and puts the reply to it.
 ///
 /// The answer is Refused(code) exactly where the file is refused with that code; the reason is put, and nothing
 /// changes. With NoMemory nothing is put or changed. Failed comes only where the sink failed: a part of what is to be
-/// put is put, and the file is written, or refused, all the same.
-#[tactic(auto, unfolding(crate::specs::Act::writes))]
+/// put is put, and the file is written, or refused, all the same. The memory for files is that of the store; none but
+/// that is taken today.
 pub fn write_data<S: Sink>(
+    _alloc: Global,
     store: &mut Store,
     to: &Place,
     typed: Data,
@@ -146,9 +165,7 @@ pub fn write_data<S: Sink>(
     ensures later { S.faults sink.old ≤ S.faults sink.new }
     ensures cause { ActCause (S.faults sink.old) (S.faults sink.new) result }
 {
-    let plan = Plan::Write {
-        to: to.copy(),
-        bytes: Bytes::new(typed.into_vec()),
-    };
-    play(store, plan, Origin::Terminal, moment, sink)
+    let mut out = Writer::new(sink);
+    let answer = write(store, to, typed, moment, &mut out);
+    answer_by(answer, out.went())
 }

@@ -169,6 +169,3 @@ impl Gens {
         pages
     }
 }
-
-#[cfg(test)]
-mod tests;

@@ -1,7 +1,7 @@
 //! Laws of generations.
 ghost use Rattle.std.specs.Prelude.{◌≡◌, ◌<◌, ◌≤◌, ◌-◌, ◌↔◌, ◌++◌, ℕ, List, [], ◌∷◌, Some, false, true, Contains, drop, find, length, map, min};
 ghost use Rattle.ex_generations.specs.declared.file.File.{File};
-ghost use Rattle.ex_generations.specs.declared.file.TheConstants.{FILE_LIMIT, GENERATION_LIMIT};
+ghost use Rattle.ex_generations.specs.declared.file.TheConstants.{FILE_LIMIT, GENERATION_LIMIT, PAGE_BYTES};
 ghost use Rattle.ex_generations.specs.Generations.{IsAscending, has, inserted, is_generation, marked_as, next_generation, unmarked, without};
 ghost use Rattle.ex_generations.specs.Retention.{added, live, retained};
 
@@ -47,4 +47,11 @@ pub fn adding_keeps_the_order()
 pub fn expunging_keeps_the_unmarked()
     ensures { (file : File) → (files : List File)
         → Contains (unmarked files) file ↔ (Contains files file × (file.deleted ≡ false)) }
+{}
+
+/// The numbers: the highest generation, the most bytes of a file, and the bytes of a page.
+pub fn these_are_the_numbers()
+    ensures generations { GENERATION_LIMIT ≡ 131071 }
+    ensures bytes { FILE_LIMIT ≡ 65536 }
+    ensures pages { PAGE_BYTES ≡ 2560 }
 {}

@@ -16,6 +16,3 @@ pub fn grammar(alloc: Global) -> Result<Grammar, NoMemory>
 {
     Ok(Grammar::of(nodes(alloc)?, tables(alloc)?))
 }
-
-#[cfg(test)]
-mod tests;

@@ -74,6 +74,3 @@ pub fn rule_help(id: u8) -> Name
         _ => "number from 0 to 63",
     })
 }
-
-#[cfg(test)]
-mod tests;

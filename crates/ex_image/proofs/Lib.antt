@@ -2,7 +2,6 @@ pub mod Appending
 pub mod Ascents
 pub mod Cutting
 pub mod DecodeLaws
-pub mod Digits
 pub mod Drafting
 pub mod Endings
 pub mod EntryLaws

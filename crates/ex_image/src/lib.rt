@@ -22,6 +22,3 @@ mod target;
 pub use decoding::decode;
 pub use fault::{ImageFault, Kind};
 pub use image::encode;
-
-#[cfg(test)]
-mod tests;

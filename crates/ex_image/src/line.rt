@@ -1,18 +1,15 @@
 // A line of an image under way.
-ghost use Rattle.std.specs.Prelude.{◌≡◌, ◌+◌, ◌<◌, ◌≤◌, ℕ, List, [], ◌∷◌, ◌++◌, length};
+ghost use Rattle.std.specs.Prelude.{◌≡◌, ◌+◌, ◌≤◌, ℕ, List, [], ◌∷◌, ◌++◌, length};
 ghost use Rattle.std.specs.Fmt.{decimal, signed_decimal};
 ghost use Rattle.ex_image.specs.Record.{after_text, file_text};
 
 use arrayvec::ArrayString;
-use cm_text::NAME_LIMIT;
+use cm_text::{DIGIT_LIMIT, NAME_LIMIT, decimal_digits};
 use ex_store::Key;
 use std::marker::Model;
 
 // Room for the longest line, that of an entry of the print queue, with each of its fields as long as any may be.
 const LINE_ROOM: usize = 400;
-
-// The most decimal digits that a number of 64 bits has.
-const DIGIT_LIMIT: usize = 20;
 
 // The most bytes of a text or a number, with the space before it.
 const FIELD_LIMIT: usize = NAME_LIMIT + 1;
@@ -53,36 +50,13 @@ impl Line {
         self.text.push_str(text);
     }
 
-    // Puts a digit behind the line.
-    fn push_digit(&mut self, digit: u64)
-        requires digit { digit < 10 }
-        requires room { length self.old < LINE_ROOM }
-        ensures { self.new ≡ self.old ++ (48 + digit) ∷ [] }
-    {
-        self.text.push(char::from(b'0' + digit as u8));
-    }
-
-    // Puts the digits of a number behind the line, where there is room for just these.
-    #[tactic(auto, using(std::proofs::lemmas::Fmt::decimal_digit, std::proofs::lemmas::Fmt::decimal_step, crate::proofs::Digits::length_decimal_step,))]
-    fn push_digits(&mut self, number: u64)
-        requires { length self.old + length (decimal number) ≤ LINE_ROOM }
-        ensures { self.new ≡ self.old ++ decimal number }
-    {
-        if number < 10 {
-            self.push_digit(number);
-        } else {
-            self.push_digits(number / 10);
-            self.push_digit(number % 10);
-        }
-    }
-
     // Puts the digits of a number behind the line.
     fn push_number(&mut self, number: u64)
         requires { length self.old + DIGIT_LIMIT ≤ LINE_ROOM }
         ensures bytes { self.new ≡ self.old ++ decimal number }
         ensures len { length self.new ≤ length self.old + DIGIT_LIMIT }
     {
-        self.push_digits(number);
+        self.text.push_str(decimal_digits(number).as_str());
     }
 
     /// Puts a space and a text behind the line.

@@ -6,12 +6,13 @@ use Rattle.std.specs.List.{list_all}
 use Rattle.std.specs.Ordering.{is_lt, nat_cmp, on, ordering_reverse, ordering_then}
 use Rattle.std.specs.declared.cmp.Ordering.{Ordering}
 use Rattle.std.specs.declared.cmp.Ordering.TheVariants.{Less, Equal, Greater}
-use Rattle.std.proofs.lemmas.Bool.{and_from, and_parts, lt-ltb}
+use Rattle.std.proofs.lemmas.Bool.{and_from, and_parts, le-leb, lt-ltb}
 use Rattle.std.proofs.lemmas.Bool.Decides.{nat_tests}
 use Rattle.std.proofs.lemmas.Cmp.{nat_list_cmp_total}
 use Rattle.std.proofs.lemmas.List.{length-map}
 use Rattle.std.proofs.lemmas.Slice.Eq.{bytes_eq-Decides}
 use Rattle.cm_files.specs.Catalogue.{IsCatalogue, ascends, by_bytes, by_file, is_directory_name, is_logical, is_row}
+use Rattle.cm_files.proofs.LogicalNames.{short_name}
 use Rattle.ex_store.specs.declared.directory.Definition.{Definition}
 use Rattle.ex_store.specs.declared.directory.Directory.{Directory}
 use Rattle.ex_store.specs.declared.row.Row.{Row}
@@ -167,7 +168,7 @@ definition_within : (directories : List Directory) (entry : Definition) → is_d
 definition_within directories entry is =
     let parts = and_parts _ _ is in
     let first = and_parts _ _ parts.0 in
-    and_from _ _ (and_from _ _ (lt-ltb _ _ (number_within directories entry.directory first.0)) first.1) parts.1
+    and_from _ _ (lt-ltb _ _ (number_within directories entry.directory first.0)) (le-leb _ _ (short_name entry.name first.1))
 
 pub catalogue_lawful : (state : State) → IsWellFormed state → IsCatalogue (catalogue_of state)
 catalogue_lawful state well =
@@ -180,8 +181,6 @@ catalogue_lawful state well =
       directory_names = all_map is_directory is_directory_name (λ directory. directory.name) (λ directory is. (and_parts _ _ is).0)
           state.directories well.draft.directories_within;
       connected_within = rw many (number_within state.directories state.connected well.connected_there);
-      logical_ascend = ascends_map (on (λ entry. entry.name) by_bytes) (on (λ entry. entry.name) by_bytes)
-          (logical_name state.directories) (λ a b. refl) state.logical ∙ well.draft.logical_ascend;
       logical_within = rw many (all_map (is_definition_among state.directories) (is_logical (length state.directories))
           (logical_name state.directories) (definition_within state.directories) state.logical well.draft.logical_within);
       rows_ascend = rows_ascend state.directories state.rows sorted well.draft.rows.within well.draft.rows.ascend;

@@ -45,17 +45,19 @@ abbrev pub all_copied : ℕ → ℕ → Place → List Row → List Row → Resu
 all_copied keep moment to sources rows =
     each_in_turn (copied keep moment to) sources (record { rows = rows; pairs = [] })
 
--- no name is given, or `*` stands for a part
+-- no name is given, or `*` stands for it
+abbrev pub name_is_open : Option (List ℕ) → Bool
+name_is_open None = true
+name_is_open (Some name) = is_star name
+
+-- `*` stands for the type
+abbrev pub kind_is_open : Option (List ℕ) → Bool
+kind_is_open None = false
+kind_is_open (Some kind) = is_star kind
+
+-- the name or the type is open
 abbrev pub lacks_name : Place → Bool
 lacks_name to = name_is_open to.name || kind_is_open to.kind
-  where
-    name_is_open : Option (List ℕ) → Bool
-    name_is_open None = true
-    name_is_open (Some name) = is_star name
-
-    kind_is_open : Option (List ℕ) → Bool
-    kind_is_open None = false
-    kind_is_open (Some kind) = is_star kind
 
 -- the name and type of a target that has a name; a type that is not given is the empty one
 abbrev pub own_key : Place → Key

@@ -1,9 +1,10 @@
 //! Laws of the store.
-ghost use Rattle.std.specs.Prelude.{ℕ, ◌≡◌, ◌&&◌, ◌↔◌, true, false, List, Contains, Ok};
+ghost use Rattle.std.specs.Prelude.{ℕ, ◌≡◌, ◌&&◌, ◌↔◌, true, false, pos, List, Contains, Ok};
 ghost use Rattle.cm_files.specs.Catalogue.{ascends};
 ghost use Rattle.ex_generations.specs.Generations.{has};
 ghost use Rattle.ex_generations.specs.Retention as generations;
 ghost use Rattle.ex_store.specs.declared.key.Key.{Key};
+ghost use Rattle.ex_store.specs.declared.limits.TheConstants.{AFTER_LIMIT, COPIES_LIMIT, DIRECTORY_LIMIT, FORMS, LOGICAL_LIMIT, MOMENT_LIMIT, QUEUE_LIMIT, RETENTION_LIMIT, ROW_LIMIT, STORE_LIMIT};
 ghost use Rattle.ex_store.specs.declared.plan.Plan.{Plan};
 ghost use Rattle.ex_store.specs.declared.row.Row.{Row};
 ghost use Rattle.ex_store.specs.Plan.{Planned, planned};
@@ -36,4 +37,18 @@ pub fn a_plan_keeps_the_directories()
     ensures { (plan : Plan) → (moment : ℕ) → (state : State) → (made : Planned) → planned plan moment state ≡ Ok made
         → (name : List ℕ) → has_directory name state.directories ≡ true
         → has_directory name made.state.directories ≡ true }
+{}
+
+/// The numbers: of each kind the most that a store has, and of each number the greatest that one has.
+pub fn these_are_the_numbers()
+    ensures directories { DIRECTORY_LIMIT ≡ 64 }
+    ensures retention { RETENTION_LIMIT ≡ 63 }
+    ensures logical { LOGICAL_LIMIT ≡ 64 }
+    ensures files { ROW_LIMIT ≡ 4096 }
+    ensures bytes { STORE_LIMIT ≡ 8388608 }
+    ensures moment { MOMENT_LIMIT ≡ 4102444799 }
+    ensures queue { QUEUE_LIMIT ≡ 64 }
+    ensures copies { COPIES_LIMIT ≡ 63 }
+    ensures after { AFTER_LIMIT ≡ pos 47481 }
+    ensures forms { FORMS ≡ 3 }
 {}

@@ -28,8 +28,6 @@ mod row;
 mod search;
 mod selection;
 mod store;
-#[cfg(test)]
-mod tests;
 mod write;
 
 pub use directory::{Definition, Directory, Logical};

@@ -8,6 +8,6 @@ use Rattle.cm_tables.proofs.common.common.Given as goal
 
 abbrev pub invariant-loop-entry : goal.invariant-loop-entry
 invariant-loop-entry l =
-    (sharing (option_copied l.found) (rests_from l.entry-index (drop l.entry-index l.entries) l.atom)
+    (sharing (option_copied l.found) (rests_from l.entry-index (drop l.entry-index l.group) l.atom)
     ≡ reduce shared (rests l.entries l.atom))
     × IfSome (option_copied l.found) (λ text. length text ≤ NAME_LIMIT)

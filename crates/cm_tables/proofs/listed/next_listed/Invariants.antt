@@ -6,4 +6,4 @@ use Rattle.cm_tables.proofs.listed.next_listed.Given as goal
 -- the first from here on is the first from the position on
 abbrev pub invariant-loop-offset : goal.invariant-loop-offset
 invariant-loop-offset l =
-    first_place (listed_of (l.from + l.offset) (drop l.offset (drop l.from l.entries)) l.atom) ≡ next_listed l.entries l.from l.atom
+    first_place (listed_of (l.from + l.first + l.offset) (drop l.offset l.group) l.atom) ≡ next_listed l.entries l.from l.atom

@@ -1,8 +1,9 @@
-use Rattle.std.proofs.Common.{◌≡◌, drop}
+use Rattle.std.proofs.Common.{◌≡◌, ◌+◌, drop}
 use Rattle.cm_tables.specs.Look.{abbreviated, candidates}
 use Rattle.cm_tables.proofs.SearchLemmas.{joined, candidates_from}
 use Rattle.cm_tables.proofs.search.abbreviated.Given as goal
 
-abbrev pub invariant-loop-position : goal.invariant-loop-position
-invariant-loop-position l =
-    joined l.found (candidates_from l.position (drop l.position l.entries) l.atom) ≡ abbreviated (candidates l.entries l.atom)
+abbrev pub invariant-loop-offset : goal.invariant-loop-offset
+invariant-loop-offset l =
+    joined l.found (candidates_from (l.start + l.offset) (drop l.offset l.group) l.atom)
+    ≡ abbreviated (candidates l.entries l.atom)

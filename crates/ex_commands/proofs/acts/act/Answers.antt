@@ -1,9 +1,11 @@
-use Rattle.ex_commands.specs.Act.{act_of}
+use Rattle.ex_commands.proofs.Answering.{answered}
 use Rattle.ex_commands.proofs.acts.act.Goals as goal
 
-pub returns-in-Connect-clause-acts : goal.returns-in-Connect-clause-acts
-returns-in-Connect-clause-acts g c = rw c.in-Connect.is (c.connect.ensures.acts c.args.moment)
+pub returns-clause-acts : goal.returns-clause-acts
+returns-clause-acts g c = (answered _ _ _ _ _ _ _ _ _ _ _ c.new-out.ensures c.do_command-answer.ensures c.went.ensures c.answer_by.ensures).acts
 
-pub returns-in-CopyTty-clause-acts : goal.returns-in-CopyTty-clause-acts
-unfolding act_of
-returns-in-CopyTty-clause-acts g c = rw c.in-CopyTty.is (c.begin.ensures.acts c.args.store.now.state)
+pub returns-clause-later : goal.returns-clause-later
+returns-clause-later g c = (answered _ _ _ _ _ _ _ _ _ _ _ c.new-out.ensures c.do_command-answer.ensures c.went.ensures c.answer_by.ensures).later
+
+pub returns-clause-cause : goal.returns-clause-cause
+returns-clause-cause g c = (answered _ _ _ _ _ _ _ _ _ _ _ c.new-out.ensures c.do_command-answer.ensures c.went.ensures c.answer_by.ensures).cause

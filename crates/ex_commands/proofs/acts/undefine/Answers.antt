@@ -3,8 +3,8 @@ use Rattle.ex_store.specs.State.{StoreWithRoom}
 use Rattle.ex_commands.proofs.Acting.{refused_to_undefine}
 use Rattle.ex_commands.proofs.acts.undefine.Goals as goal
 
-pub returns-in-Err-clause-acts : goal.returns-in-Err-clause-acts
-returns-in-Err-clause-acts g c =
+pub returns-in-Err : goal.returns-in-Err
+returns-in-Err g c =
     let clauses = rw c.as_str.ensures.value at c.undefine.ensures in
-    refused_to_undefine _ _ c.args.name.now c.args.store.now.state _ _ c.in-Err.code _ c.in-Err.is clauses.answer
-    (ap (λ (held : StoreWithRoom). held.state) clauses.gone) (c.refuse.ensures.acts c.args.store.now.state false)
+    refused_to_undefine _ _ _ c.args.name.now c.args.store.now.state _ _ c.in-Err.code _ c.in-Err.is clauses.answer
+    (ap (λ (held : StoreWithRoom). held.state) clauses.gone) (c.refuse.ensures c.args.store.now.state false)

@@ -1,6 +1,6 @@
-use Rattle.std.proofs.Common.{refl, ap, arith, sym, ◌∙◌}
+use Rattle.std.proofs.Common.{ap, arith, sym, subst}
 use Rattle.std.specs.List.{flat_map}
-use Rattle.cm_io.proofs.Putting.{putting_more, putting_none, putting_part, putting_same}
+use Rattle.cm_io.proofs.Texts.{Left, left_less, left_whole}
 use Rattle.ex_commands.specs.Replies.{line_of}
 use Rattle.ex_commands.proofs.Files.{files_all}
 use Rattle.ex_commands.proofs.Lining.{is_read, next_within}
@@ -8,10 +8,9 @@ use Rattle.ex_commands.proofs.lines.put_lines.Goals as goal
 
 pub loop-at-init : goal.loop-at-init
 loop-at-init g c = record {
-  putting =
-      putting_same _ _ _ _ _ (putting_none _ _)
-      (ap (flat_map (line_of c.args.lines)) (sym (files_all c.args.files.now c.args.store.now.state)));
-  faults = refl;
+  left =
+      subst (λ rest. Left _ _ _ rest _)
+      (ap (flat_map (line_of c.args.lines)) (sym (files_all c.args.files.now c.args.store.now.state))) (left_whole _ _ _);
   within = omega arith;
 }
 
@@ -25,19 +24,12 @@ put_row-requires g c =
     c.as_str.ensures.value c.row_in-row.ensures in
     record { moment = read.moment; short = read.short }
 
-pub returns-in-Failed-clause-bytes : goal.returns-in-Failed-clause-bytes
-returns-in-Failed-clause-bytes g c =
-    let read = is_read (line_of c.args.lines) c.args.files.now c.args.store.now.state _ _ _ _ c.in-Some.ensures
-    c.as_str.ensures.value c.row_in-row.ensures in
-    putting_part _ _ _ _ _ _ _ c.loop-at.invariant.putting read.lines c.in-Failed.ensures.bytes
-
 pub loop-at-preserved : goal.loop-at-preserved
 loop-at-preserved g c =
     let read = is_read (line_of c.args.lines) c.args.files.now c.args.store.now.state _ _ _ _ c.in-Some.ensures
     c.as_str.ensures.value c.row_in-row.ensures in
     let few = c.in-Some.ensures.few in
     record {
-      putting = putting_more _ _ _ _ _ _ _ c.loop-at.invariant.putting read.lines c.in_default-put_row.ensures.bytes;
-      faults = c.in_default-put_row.ensures.cause ∙ c.loop-at.invariant.faults;
+      left = left_less _ _ _ _ _ _ _ _ c.put_row.ensures c.loop-at.invariant.left read.lines;
       within = omega arith;
     }

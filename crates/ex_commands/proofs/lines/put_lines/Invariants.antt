@@ -1,7 +1,7 @@
--- The lines of the files from here on are left to be put.
-use Rattle.std.proofs.Common.{◌≡◌, ◌-◌, ◌≤◌}
+-- The lines of the files from here on are left to be written.
+use Rattle.std.proofs.Common.{◌-◌, ◌≤◌}
 use Rattle.std.specs.List.{flat_map}
-use Rattle.cm_io.proofs.Putting.{Putting}
+use Rattle.cm_io.proofs.Texts.{Left}
 use Rattle.ex_store.specs.declared.limits.TheConstants.{ROW_LIMIT}
 use Rattle.ex_store.specs.Plan.{sources}
 use Rattle.ex_commands.specs.Files.{files_from}
@@ -10,10 +10,8 @@ use Rattle.ex_commands.proofs.lines.put_lines.Given as goal
 
 abbrev pub invariant-loop-at : goal.invariant-loop-at
 invariant-loop-at g l = record {
-  putting : Putting (g.S.Sink.told l.fn.sink) (g.S.Sink.told l.sink)
-      (flat_map (line_of l.lines) (files_from l.files l.store.state l.from))
+  left : Left g.S.Sink l.fn.out l.out (flat_map (line_of l.lines) (files_from l.files l.store.state l.from))
       (flat_map (line_of l.lines) (sources l.files l.store.state));
-  faults : g.S.Sink.faults l.sink ≡ g.S.Sink.faults l.fn.sink;
   within : l.from ≤ ROW_LIMIT;
 }
 

@@ -1,12 +1,11 @@
 use Rattle.ex_commands.proofs.Playing.{play_done, play_refused}
 use Rattle.ex_commands.proofs.plans.play.Goals as goal
 
-pub returns-in-Ok-clause-acts : goal.returns-in-Ok-clause-acts
-returns-in-Ok-clause-acts g c =
-    play_done _ _ _ _ c.in-Ok.ready _ _ _ _ _ c.in-Ok.ensures.ready c.prepare.ensures.state c.put_pairs-put.ensures.bytes c.apply.ensures
-    c.answer_by.ensures
+pub returns-in-Ok : goal.returns-in-Ok
+returns-in-Ok g c =
+    play_done _ _ _ _ _ c.in-Ok.ready _ _ _ c.in-Ok.ensures.ready c.prepare.ensures.state c.put_pairs.ensures c.apply.ensures
 
-pub returns-in-Err-Code-clause-acts : goal.returns-in-Err-Code-clause-acts
-returns-in-Err-Code-clause-acts g c =
-    play_refused _ _ _ _ _ _ _ _ _ _ c.in-Err-Code.ensures.refused c.in-Err-Code.field-0-is c.in-Err-Code.code-is c.prepare.ensures.state
-    (c.refuse.ensures.acts _ _)
+pub returns-in-Err-Code : goal.returns-in-Err-Code
+returns-in-Err-Code g c =
+    play_refused _ _ _ _ _ _ _ _ _ _ _ c.in-Err-Code.ensures.refused c.in-Err-Code.field-0-is c.in-Err-Code.code-is c.prepare.ensures.state
+    (c.refuse.ensures _ _)

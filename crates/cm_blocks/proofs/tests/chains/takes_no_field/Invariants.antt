@@ -1,5 +1,0 @@
-use Rattle.cm_blocks.proofs.tests.chains.takes_no_field.Given as goal
-
--- the ledger that was just opened
-abbrev pub ghosts-answer_cases : goal.ghosts-answer_cases
-ghosts-answer_cases g a = record { name = a.blank.name; parts = a.blank.parts }

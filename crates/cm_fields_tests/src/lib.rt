@@ -1,0 +1,22 @@
+//! Tests of the crates below the grammar, from texts to hooks. The cases of a test are a text with a line a case: what
+//! goes in, and what is wanted, stand between bars.
+#![tactic(auto)]
+
+#[cfg(test)]
+mod cases;
+#[cfg(test)]
+mod dates;
+#[cfg(test)]
+mod fields;
+#[cfg(test)]
+mod hooks;
+#[cfg(test)]
+mod lines;
+#[cfg(test)]
+mod names;
+#[cfg(test)]
+mod outside;
+#[cfg(test)]
+mod tables;
+#[cfg(test)]
+mod texts;

@@ -1,6 +1,0 @@
-use Rattle.std.proofs.Common.{arith}
-use Rattle.cm_files.proofs.Multitude.{many_is_catalogue}
-use Rattle.cm_files.proofs.tests.many.ManyNames.rows.Goals as goal
-
-pub returns-clause-lawful : goal.returns-clause-lawful
-returns-clause-lawful c = many_is_catalogue c.args.self.now.unmarked c.args.self.now.count (omega arith)

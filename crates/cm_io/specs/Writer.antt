@@ -1,0 +1,40 @@
+-- What a writer leaves: the sink that it writes on, and whether a put has failed.
+use Rattle.std.specs.Prelude.{◌≡◌, ℕ, ◌≤◌, List}
+use Rattle.std.specs.Borrow.{MutBor}
+use Rattle.cm_io.specs.Told.{Told, Adds}
+use Rattle.cm_io.specs.Fault.{PutCause}
+use Rattle.cm_io.specs.declared.sink.Put.{Put}
+use Rattle.cm_io.specs.declared.sink.Put.TheVariants.{Done, Failed}
+use Rattle.cm_io.specs.declared.sink.Sink.{Ghosts}
+use Rattle.cm_io.specs.declared.writer.Writer.{Writer}
+
+-- what a sink tells, its faults, and how the puts on it went
+pub record Outlet : Type 0 where
+  pub told : Told
+  pub faults : ℕ
+  pub went : Put
+
+-- the outlet of a writer
+abbrev pub outlet : {T : Type 0} → Ghosts T → Writer T → Outlet
+outlet s out = record { told = s.told out.sink.now; faults = s.faults out.sink.now; went = out.went }
+
+-- the text is put as a sink puts it
+pub record Puts (before now : Outlet) (text : List ℕ) : Type 0 where
+  pub bytes : Adds before.told now.told text now.went
+  pub later : before.faults ≤ now.faults
+  pub cause : PutCause before.faults now.faults now.went
+
+-- where no put has failed the text is put, and behind a failure nothing is
+abbrev pub PutsOn : Put → Outlet → Outlet → List ℕ → Type 0
+PutsOn Done before now text = Puts before now text
+PutsOn Failed before now text = now ≡ before
+
+-- a writer writes the text, on the sink that it has
+pub record Writes {T : Type 0} (s : Ghosts T) (before now : Writer T) (text : List ℕ) : Type 0 where
+  pub same : now.sink.ghost_name ≡ before.sink.ghost_name
+  pub puts : PutsOn before.went (outlet s before) (outlet s now) text
+
+-- a writer on this sink, of which no put has failed
+pub record Begins {T : Type 0} (s : Ghosts T) (sink : MutBor T) (out : Writer T) : Type 0 where
+  pub same : out.sink.ghost_name ≡ sink.ghost_name
+  pub begins : outlet s out ≡ record { told = s.told sink.now; faults = s.faults sink.now; went = Done }

@@ -1,5 +1,0 @@
-use Rattle.cm_state.proofs.tests.kept.takes_a_key_that_is_not_shown.Given as goal
-
--- the ledger that was just opened
-abbrev pub ghosts-key_unshown : goal.ghosts-key_unshown
-ghosts-key_unshown g a = record { name = a.blank.name; parts = a.blank.parts }

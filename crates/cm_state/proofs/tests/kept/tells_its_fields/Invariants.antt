@@ -1,5 +1,0 @@
-use Rattle.cm_state.proofs.tests.kept.tells_its_fields.Given as goal
-
--- the ledger that was just opened
-abbrev pub ghosts-run_of_two_fields : goal.ghosts-run_of_two_fields
-ghosts-run_of_two_fields g a = record { name = a.blank.name; parts = a.blank.parts }

@@ -1,7 +1,0 @@
-use Rattle.cm_blocks.specs.Setting.{setting}
-use Rattle.cm_state.proofs.tests.run.run_of.Goals as goal
-
-pub loop-key-init : goal.loop-key-init
-loop-key-init g c =
-    c.begin.ensures (setting c.args.grammar.now (g.N.Names.catalogue c.args.names.now) g.R.Rules.meanings)
-    c.has_no_fault.ensures c.requires.some

@@ -1,6 +1,0 @@
-// Sessions by example, over the EXEC's grammar without files.
-mod kept;
-mod rows;
-mod run;
-mod setting;
-mod values;

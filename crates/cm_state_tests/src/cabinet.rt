@@ -1,0 +1,84 @@
+// A catalogue of a few files.
+ghost use Rattle.std.specs.Prelude.{◌≡◌};
+
+use cm_files::{Names, Row};
+
+// Directories OPERATOR, which is connected, SMITH and SMITH.SUB; SYS stands for SMITH. In OPERATOR are A.FOR.1,
+// A.FOR.2, AB.TXT.1, and marked deleted AB.TXT.2 and Q.R.5; in SMITH HELLO..7.
+pub(crate) struct Cabinet;
+
+impl Names for Cabinet {
+    ghost use Rattle.std.specs.Prelude.{[], ◌∷◌, codes, true, false};
+
+    ghost catalogue = { λ _. record {
+      directories = codes "OPERATOR" ∷ codes "SMITH" ∷ codes "SMITH.SUB" ∷ [];
+      connected = 0;
+      logical = record { name = codes "SYS"; directory = 1 } ∷ [];
+      rows =
+          record { directory = 0; name = codes "A"; kind = codes "FOR"; generation = 1; deleted = false }
+          ∷ record { directory = 0; name = codes "A"; kind = codes "FOR"; generation = 2; deleted = false }
+          ∷ record { directory = 0; name = codes "AB"; kind = codes "TXT"; generation = 1; deleted = false }
+          ∷ record { directory = 0; name = codes "AB"; kind = codes "TXT"; generation = 2; deleted = true }
+          ∷ record { directory = 0; name = codes "Q"; kind = codes "R"; generation = 5; deleted = true }
+          ∷ record { directory = 1; name = codes "HELLO"; kind = []; generation = 7; deleted = false } ∷ [];
+    } };
+
+    #[tactic(auto, unfolding(cm_files::specs::LogicalName::is_logical_name, cm_text::specs::Bytes::is_name, cm_text::specs::Bytes::is_word, cm_text::specs::Case::equals,))]
+    fn directories(&self) -> u16 {
+        3
+    }
+
+    fn directory(&self, i: u16) -> &str {
+        match i {
+            0 => "OPERATOR",
+            1 => "SMITH",
+            _ => "SMITH.SUB",
+        }
+    }
+
+    fn connected(&self) -> u16 {
+        0
+    }
+
+    fn logical(&self, name: &[u8]) -> Option<u16> {
+        if cm_text::equals(b"SYS", name) {
+            Some(1)
+        } else {
+            None
+        }
+    }
+
+    #[tactic(auto, unfolding(cm_files::specs::LogicalName::is_logical_name, cm_text::specs::Bytes::is_name, cm_text::specs::Bytes::is_word, cm_text::specs::Case::equals,))]
+    fn rows(&self, directory: u16) -> u32 {
+        match directory {
+            0 => 5,
+            1 => 1,
+            _ => 0,
+        }
+    }
+
+    fn row(&self, directory: u16, i: u32) -> Row<'_> {
+        match (directory, i) {
+            (0, 0) => row("A", "FOR", 1, false),
+            (0, 1) => row("A", "FOR", 2, false),
+            (0, 2) => row("AB", "TXT", 1, false),
+            (0, 3) => row("AB", "TXT", 2, true),
+            (0, _) => row("Q", "R", 5, true),
+            _ => row("HELLO", "", 7, false),
+        }
+    }
+}
+
+fn row<'a>(name: &'a str, kind: &'a str, generation: u32, deleted: bool) -> Row<'a>
+    ensures name { result.name.now ≡ name.now }
+    ensures kind { result.kind.now ≡ kind.now }
+    ensures generation { result.generation ≡ generation }
+    ensures deleted { result.deleted ≡ deleted }
+{
+    Row {
+        name,
+        kind,
+        generation,
+        deleted,
+    }
+}

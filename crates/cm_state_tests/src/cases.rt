@@ -1,0 +1,74 @@
+// How cases are written.
+use cm_blocks::{Ending, Fault, Open};
+use cm_fields::Code;
+use cm_line::Line;
+use cm_text::is_text;
+use std::alloc::Global;
+use std::process::Abort;
+use std::test::Fail;
+
+// A text with each of its parts in brackets so many times.
+pub(crate) fn repeat(alloc: Global, text: &str, times: usize) -> Result<String, Fail> {
+    let mut whole = String::new(alloc);
+    for part in text.split('[') {
+        append(&mut whole, part, times)?;
+    }
+    Ok(whole)
+}
+
+// Appends a part, whose front up to a bracket stands so many times.
+fn append(whole: &mut String, part: &str, times: usize) -> Result<(), Fail> {
+    let Some((unit, rest)) = part.split_once(']') else {
+        return Ok(whole.push_str(part)?);
+    };
+    for _ in 0..times {
+        whole.push_str(unit)?;
+    }
+    Ok(whole.push_str(rest)?)
+}
+
+// An ending: `NODE.BLOCK@PLACE` where blocks wait, `NODE@PLACE` in a comment, `done`, or the name of a code for a fault
+// at the place 0 of node 0.
+pub(crate) fn ending(text: &str) -> Option<Ending> {
+    match text {
+        "done" => Some(Ending::Done),
+        "NotKeyword" => Some(fault(Code::NotKeyword)),
+        "TooMany" => Some(fault(Code::TooMany)),
+        _ => Some(Ending::Open(open(text)?)),
+    }
+}
+
+fn fault(code: Code) -> Ending {
+    Ending::Fault(Fault {
+        code,
+        node: 0,
+        at: 0,
+    })
+}
+
+fn open(text: &str) -> Option<Open> {
+    let (blocks, at) = text.split_once('@')?;
+    let at = at.parse().ok()?;
+    match blocks.split_once('.') {
+        Some((node, block)) => Some(Open {
+            node: node.parse().ok()?,
+            block: Some(block.parse().ok()?),
+            at,
+        }),
+        None => Some(Open {
+            node: blocks.parse().ok()?,
+            block: None,
+            at,
+        }),
+    }
+}
+
+// A line of these bytes.
+pub(crate) fn line(rt: &impl Abort, text: &str) -> Line {
+    let mut line = Line::new();
+    for byte in text.bytes() {
+        assert!(rt; is_text(byte), "{byte} is no text byte");
+        assert!(rt; line.push(byte), "the line is full");
+    }
+    line
+}

@@ -1,0 +1,25 @@
+// Grammars that are written as text.
+mod functions;
+mod nodes;
+mod tables;
+mod texts;
+
+use cm_blocks::Grammar;
+use std::alloc::Global;
+use std::test::Fail;
+
+// The EXEC's grammar, with a word in the place of a file. A node that no test comes to confirms.
+pub(crate) fn exec(alloc: Global) -> Result<Grammar, Fail> {
+    Ok(Grammar::new(
+        nodes::nodes(alloc, texts::EXEC_NODES, 51)?,
+        tables::tables(alloc, texts::EXEC_TABLES)?,
+    )?)
+}
+
+// A grammar with fields of all kinds.
+pub(crate) fn fields(alloc: Global) -> Result<Grammar, Fail> {
+    Ok(Grammar::new(
+        nodes::nodes(alloc, texts::FIELD_NODES, 28)?,
+        tables::tables(alloc, texts::FIELD_TABLES)?,
+    )?)
+}

@@ -1,0 +1,105 @@
+// The texts of the grammars.
+
+pub(crate) const EXEC_NODES: &str = "\
+0 confirm > 5 / key 0 > 5 Verb
+1 noise FROM > 2
+2 token TTY: > 3
+3 noise TO > 4
+17 noise TO DIRECTORY > 18
+18 number > 5 / word > 5 = OPERATOR
+23 noise OF FILES > 24
+24 comma > 5 / confirm > 5
+26 noise ABOUT > 27
+27 key 1 > 5 What
+28 noise LOGICAL NAME > 29
+29 hook 0 > 30
+30 token : > 31
+31 noise AS > 32
+37 noise FILES > 38
+38 word > 39
+39 switch 2 > 5 / confirm > 5
+41 number > 39
+43 word > 39
+44 quoted > 39
+45 raw text > 5";
+
+// The commands, what INFORMATION tells of, and the switches of PRINT.
+pub(crate) const EXEC_TABLES: &str = "\
+APPEND 1 6
+BUILD 2 33
+CONNECT 3 17
+COPY 4 1
+DEFINE 5 28
+DELETE 6 13
+DIRECTORY 7 23
+EXPUNGE 8 35
+INFORMATION 9 26
+KJOB 10 5 Invisible
+L 0 5 NoRecognise
+LO 0 5 NoRecognise
+LOGOUT 10 5
+PRINT 11 37
+REMARK 12 45
+RENAME 13 10
+T 0 5 18
+TAKE 14 21
+TYPE 15 19
+UNDELETE 16 15
+
+VERSION 4 5
+
+COPIES: 2 41
+JOBNAME: 4 43
+NOTE: 5 44";
+
+// Nodes 0 to 8 read fields but files, 10 to 18 users, directories and files. Node 20 has a block of each kind, 21 and
+// 22 stand behind its guide words, 23 has words of its own, and the others end the line or lead there.
+pub(crate) const FIELD_NODES: &str = "\
+0 key 0 > 0
+1 noise FROM > 2
+2 number > 3 / confirm > 0 = 7
+3 switch 1 > 0 / key 0 > 0
+4 quoted > 1
+5 token All > 8 / text > 8
+6 hook 2 > 8
+7 hook 1 > 8
+8 confirm > 0
+10 infile > 11 wild
+11 confirm > 0
+12 user > 11
+13 directory > 11
+14 directory > 11 new
+15 anyfile > 11
+16 infile > 11 deleted
+17 anyfile > 11 wild all
+18 outfile > 11
+20 key 2 > 24 / switch 3 > 24 / noise TO > 21 / number > 24 / word > 24 / quoted > 24 / token TTY: > 24 / text > 24 / \
+    comma > 24 / hook 3 > 24 / confirm > 24
+21 noise OF > 22 / comma > 24
+22 word > 24
+23 number > 24 ? how bright, 0 to 100 / comma > 24
+24 confirm > 24
+25 user > 24 / directory > 24 / infile > 24 / outfile > 24 / anyfile > 24
+26 hook 3 > 24
+27 quoted > 24";
+
+pub(crate) const FIELD_TABLES: &str = "\
+COPY 0 1
+KJOB 0 8 NoRecognise
+LO 0 8 3
+LOGIN 0 2
+LOGOUT 0 8 Invisible
+
+AFTER: 0 2
+FAST 0 1
+
+COPY 0 24
+KJOB 0 24 Invisible
+LO 0 24 NoRecognise
+SE 0 24 5
+SEND 65535 24
+SET 0 24
+SETTLE 0 24
+
+AFTER: 0 24
+FAST 12 24";

@@ -1,0 +1,150 @@
+// What `?` shows: the ending of a line, the line, and what is shown of it.
+ghost use Rattle.std.specs.Prelude.{◌≤◌};
+ghost use Rattle.cm_blocks.specs.Grammar.{hook_count};
+ghost use Rattle.cm_hooks.specs.Ties.{Ties, count};
+
+use crate::cabinet::Cabinet;
+use crate::cases::{ending, line};
+use crate::grammars::fields;
+use crate::judges::{Judges, hooks_of};
+use cm_blocks::{Ending, Grammar};
+use cm_help::help;
+use cm_hooks::{Hooks, Rules};
+use cm_io::{MemSink, Put};
+use cm_line::Line;
+use std::alloc::Global;
+use std::process::Abort;
+use std::test::Fail;
+
+// Tries cases, parted by empty lines.
+fn tries(rt: &impl Abort, alloc: Global, cases: &str) -> Result<(), Fail> {
+    let grammar = fields(alloc)?;
+    let hooks = hooks_of(rt, alloc, &grammar)?;
+    for case in cases.split("\n\n") {
+        try_case(rt, alloc, case, &grammar, &hooks)?;
+    }
+    Ok(())
+}
+
+fn try_case(
+    rt: &impl Abort,
+    alloc: Global,
+    case: &str,
+    grammar: &Grammar,
+    hooks: &Hooks<Judges>,
+) -> Result<(), Fail>
+    requires ties { Ties ⟦<Judges as Rules>⟧.meanings hooks.now }
+    requires hooks { hook_count grammar.now ≤ count hooks.now }
+{
+    let (place, rest) = case.split_once('|').ok_or("an ending")?;
+    let (text, wanted) = rest.split_once('|').ok_or("a line")?;
+    let ending = ending(place).ok_or("an ending of a known form")?;
+    let screen = shown(rt, alloc, ending, &line(rt, text), grammar, hooks)?;
+    assert_eq!(rt; str::from_utf8(screen.bytes())?, wanted, "at {case}");
+    Ok(())
+}
+
+fn shown(
+    rt: &impl Abort,
+    alloc: Global,
+    ending: Ending,
+    line: &Line,
+    grammar: &Grammar,
+    hooks: &Hooks<Judges>,
+) -> Result<MemSink, Fail>
+    requires ties { Ties ⟦<Judges as Rules>⟧.meanings hooks.now }
+    requires hooks { hook_count grammar.now ≤ count hooks.now }
+{
+    let mut screen = MemSink::new(alloc, 4096)?;
+    let put = help(grammar, ending, line.bytes(), &Cabinet, hooks, &mut screen);
+    assert_eq!(rt; put, Put::Done);
+    Ok(screen)
+}
+
+#[test]
+fn lists_what_may_come(rt: HostRuntime) -> Result<(), Fail> {
+    let cases = "\
+20.0@0|| one of the following:\r
+  COPY\r
+  SEND\r
+  SET\r
+  SETTLE\r
+ or one of the following:\r
+  /AFTER:\r
+  /FAST\r
+ or guide word (TO)\r
+ or guide word (OF)\r
+ or comma\r
+ or decimal number\r
+ or word\r
+ or quoted string\r
+ or \"TTY:\"\r
+ or text to end of line\r
+ or comma\r
+ or lamp\r
+ or confirm with carriage return
+
+20.0@2|  se| one of the following:\r
+  SEND\r
+  SET\r
+  SETTLE\r
+ or guide word (TO)\r
+ or decimal number\r
+ or word\r
+ or text to end of line\r
+ or lamp
+
+20.0@0|K| keyword, none matches\r
+ or guide word (TO)\r
+ or decimal number\r
+ or word\r
+ or text to end of line\r
+ or lamp
+
+20.1@1| /a| one of the following:\r
+  /AFTER:\r
+ or guide word (TO)\r
+ or text to end of line
+
+20.2@0|(t| guide word (TO)\r
+ or text to end of line
+
+20.5@0|\"a| quoted string\r
+ or text to end of line
+
+20.6@0|tty| \"TTY:\"\r
+ or text to end of line\r
+ or lamp
+
+21.0@0|| guide word (OF)\r
+ or word\r
+ or comma
+
+23.0@0|1| how bright, 0 to 100
+
+25.0@0|| user name\r
+ or directory name\r
+ or input file\r
+ or output file\r
+ or file specification";
+    tries(&rt, rt.alloc(), cases)
+}
+
+#[test]
+fn tells_why_there_is_nothing_to_come(rt: HostRuntime) -> Result<(), Fail> {
+    let cases = "\
+NotKeyword|X | Unrecognized keyword
+
+TooMany|| Too many fields
+
+0@0|! x| comment
+
+done||
+
+24.1@0||
+
+99.0@0||
+
+20.0@2|A|";
+    tries(&rt, rt.alloc(), cases)
+}

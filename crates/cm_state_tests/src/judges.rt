@@ -1,0 +1,123 @@
+// The hooks of the tests.
+ghost use Rattle.std.specs.Prelude.{◌≡◌, ◌≤◌, IfOk};
+ghost use Rattle.cm_blocks.specs.Grammar.{hook_count};
+ghost use Rattle.cm_hooks.specs.Ties.{IsTied, Ties, count};
+ghost use Rattle.cm_state_tests.specs.Judges.{completion, help, verdict};
+
+use cm_blocks::Grammar;
+use cm_files::is_logical_name;
+use cm_hooks::{Answer, Hook, Hooks, Rules, Tail};
+use cm_text::Name;
+use std::alloc::Global;
+use std::process::Abort;
+use std::test::Fail;
+
+// What they mean.
+pub(crate) struct Judges;
+
+impl Rules for Judges {
+    ghost use Rattle.std.specs.Prelude.{◌==◌, [], ◌∷◌, refl};
+    ghost use Rattle.cm_text.specs.Bytes.{is_name, is_word};
+    ghost use Rattle.cm_fields.proofs.Holding.{of_choice};
+    ghost use Rattle.cm_hooks.specs.declared.answer.Tail.TheVariants as tails;
+    ghost use Rattle.cm_hooks.specs.Meanings.{Completes};
+    ghost use Rattle.cm_state_tests.specs.Judges.{completion, help, verdict};
+
+    ghost meanings = { record {
+      verdict = verdict;
+      completion = λ id atom. completion id;
+      help = help;
+    } };
+
+    ghost lawful = { unfold is_name in unfold is_word in record {
+      completes = λ id atom short. of_choice (Completes (verdict id) atom) (id == 1) _ _ refl tt;
+    } };
+}
+
+fn verdict(id: u8, atom: &[u8]) -> Answer
+    ensures { result ≡ verdict id atom.now }
+{
+    if id == 0 {
+        if is_logical_name(atom) {
+            Answer::Yes(atom.len() as u64)
+        } else {
+            Answer::No
+        }
+    } else if id == 3 {
+        Answer::Yes(u64::MAX)
+    } else if atom.len() == 3 {
+        Answer::No
+    } else {
+        Answer::Yes(atom.len() as u64)
+    }
+}
+
+fn completion(id: u8) -> Tail
+    ensures { result ≡ completion id }
+{
+    if id == 1 {
+        Tail::Part(Name::new("Z"))
+    } else {
+        Tail::None
+    }
+}
+
+fn help(id: u8) -> Name
+    ensures { result ≡ help id }
+{
+    Name::new(if id == 3 { "lamp" } else { "" })
+}
+
+fn hook(id: u8, alloc: Global) -> Result<Hook<Judges>, Fail>
+    ensures { IfOk result (λ hook. IsTied ⟦<Judges as Rules>⟧.meanings hook) }
+{
+    let verdict = move |atom: &[u8]| -> Answer
+        ensures { result ≡ verdict id atom.now }
+    { verdict(id, atom) };
+    let completion = move |_atom: &[u8]| -> Tail
+        ensures { result ≡ completion id }
+    { completion(id) };
+    let help = move || -> Name
+        ensures { result ≡ help id }
+    { help(id) };
+    Ok(Hook::new(
+        id,
+        Box::new(alloc, verdict)?,
+        Box::new(alloc, completion)?,
+        Box::new(alloc, help)?,
+    ))
+}
+
+// Adds the hook of the next id.
+fn add(hooks: &mut Hooks<Judges>, id: u8, alloc: Global) -> Result<(), Fail>
+    requires { Ties ⟦<Judges as Rules>⟧.meanings hooks.old }
+    ensures { Ties ⟦<Judges as Rules>⟧.meanings hooks.new }
+{
+    hooks.push(hook(id, alloc)?).ok().ok_or("another id")?;
+    Ok(())
+}
+
+fn hooks(alloc: Global) -> Result<Hooks<Judges>, Fail>
+    ensures { IfOk result (λ hooks. Ties ⟦<Judges as Rules>⟧.meanings hooks) }
+{
+    let mut hooks = Hooks::new();
+    add(&mut hooks, 0, alloc)?;
+    add(&mut hooks, 1, alloc)?;
+    add(&mut hooks, 2, alloc)?;
+    add(&mut hooks, 3, alloc)?;
+    Ok(hooks)
+}
+
+// The hooks that a grammar asks.
+pub(crate) fn hooks_of(
+    rt: &impl Abort,
+    alloc: Global,
+    grammar: &Grammar,
+) -> Result<Hooks<Judges>, Fail>
+    ensures ties { IfOk result (λ hooks. Ties ⟦<Judges as Rules>⟧.meanings hooks) }
+    ensures hooks { IfOk result (λ hooks. hook_count grammar.now ≤ count hooks) }
+{
+    let hooks = hooks(alloc)?;
+    assert!(rt; grammar.hooks() <= u16::from(hooks.len()));
+    Ok(hooks)
+}

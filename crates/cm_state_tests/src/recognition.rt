@@ -1,0 +1,278 @@
+// What ESC and control-F put in: the ending of a line, the line, what goes in, and whether it rings.
+ghost use Rattle.std.specs.Prelude.{◌≤◌};
+ghost use Rattle.cm_blocks.specs.Grammar.{hook_count};
+ghost use Rattle.cm_hooks.specs.Ties.{Ties, count};
+
+use crate::cabinet::Cabinet;
+use crate::cases::{ending, line, repeat};
+use crate::grammars::fields;
+use crate::judges::{Judges, hooks_of};
+use cm_blocks::{Ending, Grammar};
+use cm_hooks::{Hooks, Rules};
+use cm_line::Line;
+use cm_recognise::laws::{a_whole_completion_is_put_in, a_whole_completion_is_taken};
+use cm_recognise::{Mode, complete};
+use std::alloc::Global;
+use std::process::Abort;
+use std::test::Fail;
+
+// Tries cases, one a line.
+fn tries(rt: &impl Abort, alloc: Global, mode: Mode, cases: &str) -> Result<(), Fail> {
+    let grammar = fields(alloc)?;
+    let hooks = hooks_of(rt, alloc, &grammar)?;
+    for case in cases.lines() {
+        try_case(rt, alloc, mode, case, &grammar, &hooks)?;
+    }
+    Ok(())
+}
+
+fn try_case(
+    rt: &impl Abort,
+    alloc: Global,
+    mode: Mode,
+    case: &str,
+    grammar: &Grammar,
+    hooks: &Hooks<Judges>,
+) -> Result<(), Fail>
+    requires ties { Ties ⟦<Judges as Rules>⟧.meanings hooks.now }
+    requires hooks { hook_count grammar.now ≤ count hooks.now }
+{
+    let (place, rest) = case.split_once('|').ok_or("an ending")?;
+    let (text, wanted) = rest.split_once('|').ok_or("a line")?;
+    let ending = ending(place).ok_or("an ending of a known form")?;
+    let found = answer(alloc, mode, ending, &line(rt, text), grammar, hooks)?;
+    assert_eq!(rt; found.as_str(), wanted, "at {case}");
+    Ok(())
+}
+
+// What goes in, a bar, and `bell` where it rings.
+fn answer(
+    alloc: Global,
+    mode: Mode,
+    ending: Ending,
+    line: &Line,
+    grammar: &Grammar,
+    hooks: &Hooks<Judges>,
+) -> Result<String, Fail>
+    requires ties { Ties ⟦<Judges as Rules>⟧.meanings hooks.now }
+    requires hooks { hook_count grammar.now ≤ count hooks.now }
+{
+    let put = complete(grammar, ending, line.bytes(), &Cabinet, hooks, mode);
+    let bell = if put.bell { "bell" } else { "" };
+    Ok(format!(in alloc; "{}|{bell}", str::from_utf8(put.bytes.as_slice())?)?)
+}
+
+// Behind a keyword stands the guide word of the node that it leads to, or a space alone. A short form stands for
+// another entry. What several share goes in, and it rings, as where an entry cannot be recognised. A line may be at a
+// place further on, or at a node that is not there.
+#[test]
+fn keywords_go_on(rt: HostRuntime) -> Result<(), Fail> {
+    let cases = "\
+0.0@0|co|PY (FROM) |
+0.0@0|LOGI|N |
+0.0@0|LOGOUT| |
+0.0@0|LO|GIN |
+0.0@0|L|OG|bell
+0.0@0|LOG||bell
+0.0@0|||bell
+0.0@0|KJOB||bell
+0.0@0|KJ||bell
+0.0@0|X||bell
+0.0@3|!x!CO|PY (FROM) |
+99.0@0|CO||bell";
+    tries(&rt, rt.alloc(), Mode::Escape, cases)
+}
+
+// The value of a switch follows its colon. The block behind it is asked where it cannot go on, and alone where the line
+// waits at it.
+#[test]
+fn switches_go_on(rt: HostRuntime) -> Result<(), Fail> {
+    let cases = "\
+3.0@0|/a|FTER:|
+3.0@0|/F|AST (FROM) |
+3.0@0|/||bell
+3.0@0|/X||bell
+3.0@0|AF||bell
+3.0@0|CO|PY (FROM) |
+3.1@0|CO|PY (FROM) |
+3.2@0|CO||bell";
+    tries(&rt, rt.alloc(), Mode::Escape, cases)
+}
+
+// Of a token something has to be typed, and the rest of a line never ends.
+#[test]
+fn phrases_go_on(rt: HostRuntime) -> Result<(), Fail> {
+    let cases = "\
+1.0@5|COPY |(FROM) |
+1.0@0|(fr|OM) |
+1.0@0|(FX||bell
+5.0@0|aL|l |
+5.0@0|All| |
+5.0@0|||bell
+5.0@0|AX||bell
+5.1@0|A||bell";
+    tries(&rt, rt.alloc(), Mode::Escape, cases)
+}
+
+// A quoted text goes on where it is closed, and the default stands where nothing is typed. Hook 2 judges alone, and
+// hook 1 goes on.
+#[test]
+fn values_go_on(rt: HostRuntime) -> Result<(), Fail> {
+    let cases = "\
+2.0@0|12| |
+2.0@0|1X||bell
+4.0@0|\"a b\"| (FROM) |
+4.0@0|\"a b||bell
+2.0@0||7 |
+2.0@6|LOGIN |7 |
+6.0@0|AB| |
+6.0@0|ABC||bell
+7.0@0|AB|Z|bell
+7.0@0|||bell";
+    tries(&rt, rt.alloc(), Mode::Escape, cases)
+}
+
+#[test]
+fn what_does_not_fit_is_not_put_in(rt: HostRuntime) -> Result<(), Fail> {
+    let cases = "\
+0.0@243|[ ]co|PY (FROM) |
+0.0@244|[ ] co||bell
+0.0@253|[ ]          co||bell";
+    tries(
+        &rt,
+        rt.alloc(),
+        Mode::Escape,
+        &repeat(rt.alloc(), cases, 243)?,
+    )
+}
+
+#[test]
+fn it_rings_where_no_block_waits(rt: HostRuntime) -> Result<(), Fail> {
+    let cases = "\
+done|CO||bell
+NotKeyword|CO||bell
+0@0|!CO||bell
+0.0@3|CO||bell";
+    tries(&rt, rt.alloc(), Mode::Escape, cases)
+}
+
+#[test]
+fn a_part_is_asked_of_no_keyword(rt: HostRuntime) -> Result<(), Fail> {
+    tries(&rt, rt.alloc(), Mode::Part, "0.0@0|co||bell\n2.0@0|||bell")
+}
+
+// One name goes on with its one type and its highest generation. It rings at several names that share nothing more, at
+// none, at one that is marked deleted, and at a device or a directory that is none. Behind a device or a directory
+// nothing has to be typed.
+#[test]
+fn names_go_on(rt: HostRuntime) -> Result<(), Fail> {
+    let cases = "\
+10.0@0|AB|.TXT.1 |
+10.0@0|ab|.TXT.1 |
+10.0@0|A||bell
+10.0@0|X||bell
+10.0@0|Q||bell
+10.0@0|||bell
+10.0@0|<SMITH>|HELLO..7 |
+10.0@0|SYS:|HELLO..7 |
+10.0@0|sys:h|ELLO..7 |
+10.0@0|PS:<OPERATOR>AB|.TXT.1 |
+10.0@0|PS:|A|bell
+10.0@0|TTY:A||bell
+10.0@0|NO:AB||bell
+10.0@0|<NO>AB||bell";
+    tries(&rt, rt.alloc(), Mode::Escape, cases)
+}
+
+// A generation that is typed is taken as it is, where there is such a file. With a wildcard nothing is certain, and
+// what is no specification goes on in no way.
+#[test]
+fn types_and_generations_go_on(rt: HostRuntime) -> Result<(), Fail> {
+    let cases = "\
+10.0@0|A.|FOR.2 |
+10.0@0|a.f|OR.2 |
+10.0@0|A.FOR|.2 |
+10.0@0|A.FOR.|2 |
+10.0@0|AB.TXT.|1 |
+10.0@0|A.TXT||bell
+10.0@0|B.||bell
+10.0@0|A.FOR.1| |
+10.0@0|A.FOR.9||bell
+10.0@0|Q.R.||bell
+10.0@0|A*||bell
+10.0@0|A.FOR.1.||bell";
+    tries(&rt, rt.alloc(), Mode::Escape, cases)
+}
+
+// Node 15 reads a file that may be there, 16 those that are marked deleted, 17 all generations, which none stands for,
+// and 18 a file that is written, of which nothing is known.
+#[test]
+fn flags_say_which_files_go_on(rt: HostRuntime) -> Result<(), Fail> {
+    let cases = "\
+15.0@0|A.FOR.|2 |
+15.0@0|A.FOR.9| |
+15.0@0|Q.R.| |
+16.0@0|Q|.R.5 |
+16.0@0|A|B.TXT.2 |
+17.0@0|A.|FOR.* |
+17.0@0|AB|.TXT.* |
+18.0@0|NEW.X| |
+18.0@0|A.FOR.| |";
+    tries(&rt, rt.alloc(), Mode::Escape, cases)
+}
+
+// Node 14 reads a directory that may be new, of which nothing is known. Behind a directory a file goes on.
+#[test]
+fn directories_go_on(rt: HostRuntime) -> Result<(), Fail> {
+    let cases = "\
+13.0@0|<o|PERATOR> |
+13.0@0|PS:<O|PERATOR> |
+13.0@0|<S|MITH|bell
+13.0@0|<SMITH.|SUB> |
+13.0@0|<SMITH||bell
+13.0@0|<X||bell
+13.0@0|<SMITH>| |
+13.0@0|OPERATOR||bell
+14.0@0|<O||bell
+14.0@0|<O>| |
+10.0@0|<o|PERATOR>|
+10.0@0|<S|MITH|bell";
+    tries(&rt, rt.alloc(), Mode::Escape, cases)
+}
+
+// A directory with a point in its name is no user's.
+#[test]
+fn users_go_on(rt: HostRuntime) -> Result<(), Fail> {
+    let cases = "\
+12.0@0|s|MITH |
+12.0@0|OPER|ATOR |
+12.0@0|SMITH| |
+12.0@0|SMITH.||bell
+12.0@0|X||bell
+12.0@0|||bell";
+    tries(&rt, rt.alloc(), Mode::Escape, cases)
+}
+
+// A generation and a directory are whole, for control-F too. It asks neither users nor files that are written.
+#[test]
+fn one_part_goes_on(rt: HostRuntime) -> Result<(), Fail> {
+    let cases = "\
+10.0@0|A.|FOR.|
+10.0@0|AB|.|
+10.0@0|SYS:|HELLO.|
+10.0@0|A||bell
+10.0@0|<o|PERATOR>|
+10.0@0|A.FOR.|2 |
+13.0@0|<o|PERATOR> |
+15.0@0|AB.|TXT.|
+12.0@0|s||bell
+18.0@0|NEW.X||bell
+11.0@0|||bell";
+    tries(&rt, rt.alloc(), Mode::Part, cases)
+}
+
+#[test]
+fn the_laws_hold() {
+    a_whole_completion_is_taken();
+    a_whole_completion_is_put_in();
+}

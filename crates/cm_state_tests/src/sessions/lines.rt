@@ -1,0 +1,159 @@
+// Lines that are taken whole.
+ghost use Rattle.std.specs.Prelude.{◌≡◌, ◌<◌, ◌≤◌, length};
+ghost use Rattle.cm_blocks.specs.Grammar.{hook_count};
+ghost use Rattle.cm_hooks.specs.Ties.{Ties, count};
+
+use super::run::exec_and_hooks;
+use crate::cabinet::Cabinet;
+use crate::cases::line;
+use crate::grammars::fields;
+use crate::judges::{Judges, hooks_of};
+use cm_blocks::{Grammar, Steps};
+use cm_hooks::{Hooks, Rules};
+use cm_io::{MemSink, Put};
+use cm_state::Session;
+use std::alloc::Global;
+use std::marker::Brand;
+use std::process::Abort;
+use std::sync::ledger::{Blank, Ledger};
+use std::test::Fail;
+
+// What a line from a node on comes to, a bar, and its line of the log.
+fn answer<L: Ledger>(
+    rt: &impl Abort,
+    alloc: Global,
+    node: u16,
+    text: &str,
+    session: &mut Session<Judges>,
+    grammar: &Grammar,
+    hooks: &Hooks<Judges>,
+    steps: &mut Steps<L>,
+) -> Result<String, Fail>
+    requires ties { Ties ⟦<Judges as Rules>⟧.meanings hooks.now }
+    requires hooks { hook_count grammar.now ≤ count hooks.now }
+{
+    assert!(rt; node < grammar.nodes());
+    let line = line(rt, text);
+    let turn = session.whole(node, line.bytes(), grammar, &Cabinet, hooks, steps);
+    assert_eq!(rt; session.text(), line.finished());
+    Ok(format!(in alloc; "{turn:?}|{}", logged(rt, alloc, session)?)?)
+}
+
+// The line of the log that tells of CR.
+fn logged(rt: &impl Abort, alloc: Global, session: &Session<Judges>) -> Result<String, Fail> {
+    let mut log = MemSink::new(alloc, 400)?;
+    assert_eq!(rt; session.log_line(b'\r', &mut log), Put::Done);
+    Ok(String::from_str(alloc, str::from_utf8(log.bytes())?.trim_end())?)
+}
+
+fn try_case<L: Ledger>(
+    rt: &impl Abort,
+    alloc: Global,
+    case: &str,
+    session: &mut Session<Judges>,
+    grammar: &Grammar,
+    hooks: &Hooks<Judges>,
+    steps: &mut Steps<L>,
+) -> Result<(), Fail>
+    requires ties { Ties ⟦<Judges as Rules>⟧.meanings hooks.now }
+    requires hooks { hook_count grammar.now ≤ count hooks.now }
+{
+    let (node, rest) = case.split_once('|').ok_or("a node")?;
+    let (text, wanted) = rest.split_once('|').ok_or("a line")?;
+    let found = answer(
+        rt,
+        alloc,
+        node.parse()?,
+        text,
+        session,
+        grammar,
+        hooks,
+        steps,
+    )?;
+    assert_eq!(rt; found.as_str(), wanted, "at {case}");
+    Ok(())
+}
+
+// Tries cases, one a line: a node, a line, what it comes to, and its line of the log.
+fn tries<L: Ledger>(
+    rt: &impl Abort,
+    alloc: Global,
+    cases: &str,
+    grammar: &Grammar,
+    hooks: &Hooks<Judges>,
+    steps: &mut Steps<L>,
+) -> Result<(), Fail>
+    requires ties { Ties ⟦<Judges as Rules>⟧.meanings hooks.now }
+    requires hooks { hook_count grammar.now ≤ count hooks.now }
+{
+    let mut session = Session::new();
+    for case in cases.lines() {
+        try_case(rt, alloc, case, &mut session, grammar, hooks, steps)?;
+    }
+    Ok(())
+}
+
+fn tries_exec<L: Ledger, A: Abort>(
+    rt: &A,
+    runtime: &HostRuntime,
+    blank: Blank,
+    cases: &str,
+) -> Result<(), Fail>
+    requires name { blank.name ≡ L.name }
+    requires parts { blank.parts ≡ L.parts }
+    requires some { 0 < L.parts }
+{
+    let (grammar, hooks) = exec_and_hooks(rt, runtime.alloc())?;
+    let mut steps: Steps<L> = Steps::new(runtime, blank);
+    tries(rt, runtime.alloc(), cases, &grammar, &hooks, &mut steps)
+}
+
+#[test]
+fn takes_whole_lines(rt: HostRuntime) -> Result<(), Fail> {
+    let cases = "\
+0|INF VER|Confirmed|0d 7 D 0.1k9@0-3 26.0n0@4-4 27.0k4@4-7
+27|VER|Confirmed|0d 3 D 27.0k4@0-3
+0||Confirmed|0d 0 D
+0|LO|Refused(Fault { code: Ambiguous, node: 0, at: 0 })|0d 2 F2.0@0
+0|INF X|Refused(Fault { code: NotKeyword, node: 27, at: 4 })|0d 5 F1.27@4 0.1k9@0-3 26.0n0@4-4";
+    tries_exec::<Brand, _>(&rt, &rt, Blank::new(1), cases)
+}
+
+fn tries_fields<L: Ledger, A: Abort>(
+    rt: &A,
+    runtime: &HostRuntime,
+    blank: Blank,
+    cases: &str,
+) -> Result<(), Fail>
+    requires name { blank.name ≡ L.name }
+    requires parts { blank.parts ≡ L.parts }
+    requires some { 0 < L.parts }
+{
+    let grammar = fields(runtime.alloc())?;
+    let hooks = hooks_of(rt, runtime.alloc(), &grammar)?;
+    let mut steps: Steps<L> = Steps::new(runtime, blank);
+    tries(rt, runtime.alloc(), cases, &grammar, &hooks, &mut steps)
+}
+
+#[test]
+fn logs_each_kind_of_value(rt: HostRuntime) -> Result<(), Fail> {
+    let cases = "\
+20|SEND|Confirmed|0d 4 D 20.0k65535@0-4
+20|/FAST|Confirmed|0d 5 D 20.1s12@0-5
+21|(OF) A|Confirmed|0d 6 D 21.0n1@0-4 22.0w@5-6
+21|A|Confirmed|0d 1 D 21.0n0@0-0 22.0w@0-1
+23|34359738367|Confirmed|0d 11 D 23.0#34359738367@0-11
+27|\"a b\"|Confirmed|0d 5 D 27.0q@0-5
+5|B x|Confirmed|0d 3 D 5.1x@0-3
+5|All|Confirmed|0d 3 D 5.0t@0-3
+23|,|Confirmed|0d 1 D 23.1,@0-1
+12|SMITH|Confirmed|0d 5 D 12.0u@0-5
+13|<SMITH>|Confirmed|0d 7 D 13.0D@0-7
+14|<NEW>|Confirmed|0d 5 D 14.0D@0-5
+10|A.FOR.1|Confirmed|0d 7 D 10.0i@0-7
+18|NEW.X|Confirmed|0d 5 D 18.0o@0-5
+15|NEW.X|Confirmed|0d 5 D 15.0f@0-5
+6|AB|Confirmed|0d 2 D 6.0h2:2@0-2
+26|A|Confirmed|0d 1 D 26.0h3:18446744073709551615@0-1";
+    tries_fields::<Brand, _>(&rt, &rt, Blank::new(1), cases)
+}

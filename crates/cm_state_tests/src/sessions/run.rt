@@ -1,0 +1,173 @@
+// Keys that are taken one behind another, and what they come to.
+ghost use Rattle.std.specs.Prelude.{◌≡◌, ◌<◌, ◌≤◌, None, IfOk, length};
+ghost use Rattle.cm_blocks.specs.Fault.{grammar_fault};
+ghost use Rattle.cm_blocks.specs.Grammar.{hook_count};
+ghost use Rattle.cm_blocks.specs.Setting.{Setting, setting};
+ghost use Rattle.cm_hooks.specs.Ties.{Ties, count};
+ghost use Rattle.cm_state.specs.SessionState.{IsReady};
+
+use crate::cabinet::Cabinet;
+use crate::grammars::exec;
+use crate::judges::{Judges, hooks_of};
+use cm_blocks::{Grammar, Steps};
+use cm_files::Names;
+use cm_hooks::{Hooks, Rules};
+use cm_io::{MemSink, Put};
+use cm_state::{Prompt, Session, Turn};
+use std::alloc::Global;
+use std::process::Abort;
+use std::sync::ledger::{Blank, Ledger};
+use std::test::Fail;
+
+// A session with what it has shown and logged, and what its last key came to.
+#[derive(Drop)]
+pub(crate) struct Run<R: Rules> {
+    pub(crate) session: Session<R>,
+    pub(crate) turn: Turn,
+    shown: MemSink,
+    logged: MemSink,
+}
+
+impl<R: Rules> Run<R> {
+    fn new(alloc: Global) -> Result<Run<R>, Fail> {
+        Ok(Run {
+            session: Session::new(),
+            turn: Turn::Edited,
+            shown: MemSink::new(alloc, 4096)?,
+            logged: MemSink::new(alloc, 131_072)?,
+        })
+    }
+
+    // Begins a line at the commands.
+    fn begin(&mut self, rt: &impl Abort)
+        ensures { (s : Setting) → grammar_fault s.graph ≡ None → 0 < length s.graph.nodes
+            → IsReady s self.new.session }
+    {
+        let begun = self.session.begin(0, Prompt::Main, &mut self.shown);
+        assert_eq!(rt; begun, Put::Done);
+    }
+
+    // Takes one key and logs it. Behind a line that is over it begins another.
+    fn key<N: Names, L: Ledger>(
+        &mut self,
+        rt: &impl Abort,
+        key: u8,
+        grammar: &Grammar,
+        names: &N,
+        hooks: &Hooks<R>,
+        steps: &mut Steps<L>,
+    )
+        requires ready { IsReady (setting grammar.now (N.catalogue names.now) R.meanings) self.old.session }
+        requires ties { Ties R.meanings hooks.now }
+        requires hooks { hook_count grammar.now ≤ count hooks.now }
+        requires some { 0 < length grammar.now.nodes }
+        ensures { IsReady (setting grammar.now (N.catalogue names.now) R.meanings) self.new.session }
+    {
+        grammar.has_no_fault();
+        self.turn = self
+            .session
+            .key(key, grammar, names, hooks, &mut self.shown, steps);
+        let logged = self.session.log_line(key, &mut self.logged);
+        assert_eq!(rt; logged, Put::Done);
+        if self.turn == Turn::Edited {
+            return;
+        }
+        self.begin(rt);
+    }
+
+    // The run comes to this: what its last key came to, what is shown, and how the log ends.
+    fn comes_to(&self, rt: &impl Abort, alloc: Global, wanted: &str) -> Result<(), Fail> {
+        let (front, logged) = wanted.rsplit_once('|').ok_or("the log")?;
+        let shown = str::from_utf8(self.shown.bytes())?;
+        let answer = format!(in alloc; "{:?}|{shown}", self.turn)?;
+        assert_eq!(rt; answer.as_str(), front);
+        let log = str::from_utf8(self.logged.bytes())?;
+        let log = log.strip_suffix('\n').ok_or("the end of the log")?;
+        assert!(rt; log.ends_with(logged), "{log} ends otherwise than {logged}");
+        Ok(())
+    }
+}
+
+// The run of some keys, one a character.
+pub(crate) fn run_of<N: Names, R: Rules, L: Ledger>(
+    rt: &impl Abort,
+    alloc: Global,
+    keys: &str,
+    grammar: &Grammar,
+    names: &N,
+    hooks: &Hooks<R>,
+    steps: &mut Steps<L>,
+) -> Result<Run<R>, Fail>
+    requires ties { Ties R.meanings hooks.now }
+    requires hooks { hook_count grammar.now ≤ count hooks.now }
+    requires some { 0 < length grammar.now.nodes }
+    ensures { IfOk result (λ run. IsReady (setting grammar.now (N.catalogue names.now) R.meanings) run.session) }
+{
+    grammar.has_no_fault();
+    let mut run = Run::new(alloc)?;
+    run.begin(rt);
+    for key in keys.chars() {
+        run.key(
+            rt,
+            u8::try_from(u32::from(key))?,
+            grammar,
+            names,
+            hooks,
+            steps,
+        );
+    }
+    Ok(run)
+}
+
+// The EXEC's grammar and its hooks.
+pub(crate) fn exec_and_hooks(
+    rt: &impl Abort,
+    alloc: Global,
+) -> Result<(Grammar, Hooks<Judges>), Fail>
+    ensures ties { IfOk result (λ made. Ties ⟦<Judges as Rules>⟧.meanings made.1) }
+    ensures hooks { IfOk result (λ made. hook_count made.0 ≤ count made.1) }
+    ensures nodes { IfOk result (λ made. 27 < length made.0.nodes) }
+{
+    let grammar = exec(alloc)?;
+    let hooks = hooks_of(rt, alloc, &grammar)?;
+    assert!(rt; grammar.nodes() > 27);
+    Ok((grammar, hooks))
+}
+
+// Tries cases, parted by empty lines: keys, what the last comes to, what is shown, and how the log ends. The counter
+// wants the runtime itself.
+pub(crate) fn tries<L: Ledger, A: Abort>(
+    rt: &A,
+    runtime: &HostRuntime,
+    blank: Blank,
+    cases: &str,
+) -> Result<(), Fail>
+    requires name { blank.name ≡ L.name }
+    requires parts { blank.parts ≡ L.parts }
+    requires some { 0 < L.parts }
+{
+    let alloc = runtime.alloc();
+    let (grammar, hooks) = exec_and_hooks(rt, alloc)?;
+    let mut steps: Steps<L> = Steps::new(runtime, blank);
+    for case in cases.split("\n\n") {
+        try_case(rt, alloc, case, &grammar, &hooks, &mut steps)?;
+    }
+    Ok(())
+}
+
+fn try_case<L: Ledger>(
+    rt: &impl Abort,
+    alloc: Global,
+    case: &str,
+    grammar: &Grammar,
+    hooks: &Hooks<Judges>,
+    steps: &mut Steps<L>,
+) -> Result<(), Fail>
+    requires ties { Ties ⟦<Judges as Rules>⟧.meanings hooks.now }
+    requires hooks { hook_count grammar.now ≤ count hooks.now }
+    requires nodes { 0 < length grammar.now.nodes }
+{
+    let (keys, wanted) = case.split_once('|').ok_or("keys")?;
+    let run = run_of(rt, alloc, keys, grammar, &Cabinet, hooks, steps)?;
+    run.comes_to(rt, alloc, wanted)
+}

@@ -1,0 +1,111 @@
+// What a session tells of itself.
+ghost use Rattle.std.specs.Prelude.{◌≡◌, ◌<◌, ◌≤◌, length};
+ghost use Rattle.cm_blocks.specs.Grammar.{hook_count};
+ghost use Rattle.cm_hooks.specs.Ties.{Ties, count};
+
+use super::run::{Run, exec_and_hooks, run_of};
+use crate::cabinet::Cabinet;
+use crate::judges::Judges;
+use cm_blocks::{Grammar, Role, Steps};
+use cm_hooks::{Hooks, Rules};
+use cm_io::MemSink;
+use std::alloc::Global;
+use std::marker::Brand;
+use std::process::Abort;
+use std::sync::ledger::{Blank, Ledger};
+use std::test::Fail;
+
+// The run of INF VER.
+fn two_fields<L: Ledger, A: Abort>(
+    rt: &A,
+    runtime: &HostRuntime,
+    blank: Blank,
+) -> Result<Run<Judges>, Fail>
+    requires name { blank.name ≡ L.name }
+    requires parts { blank.parts ≡ L.parts }
+    requires some { 0 < L.parts }
+{
+    let alloc = runtime.alloc();
+    let (grammar, hooks) = exec_and_hooks(rt, alloc)?;
+    let mut steps: Steps<L> = Steps::new(runtime, blank);
+    run_of(rt, alloc, "INF VER", &grammar, &Cabinet, &hooks, &mut steps)
+}
+
+// The node of the first field of a role.
+fn node_of(run: &Run<Judges>, role: Role) -> Option<u16> {
+    run.session.field_of(role).map(|field| field.node())
+}
+
+// A session tells how many fields it holds, and finds each by its number, and the first by its role: INF and the guide
+// word, which is left out. VER is no field before the line goes on.
+#[test]
+fn tells_its_fields(rt: HostRuntime) -> Result<(), Fail> {
+    let run = two_fields::<Brand, _>(&rt, &rt, Blank::new(1))?;
+    assert_eq!(rt; run.session.held(), 2);
+    let verb = run.session.field(0);
+    let places = [
+        verb.node(),
+        verb.start(),
+        verb.end(),
+        verb.need(),
+        verb.next(),
+    ];
+    let told = format!(in rt.alloc(); "{:?} at {places:?}", verb.value())?;
+    assert_eq!(rt;
+        told.as_str(),
+        "Key { entry: 8, code: 9 } at [0, 0, 3, 4, 26]"
+    );
+    Ok(())
+}
+
+#[test]
+fn finds_a_field_by_its_role(rt: HostRuntime) -> Result<(), Fail> {
+    let run = two_fields::<Brand, _>(&rt, &rt, Blank::new(1))?;
+    let found = [Role::Verb, Role::None, Role::What].map(|role| node_of(&run, role));
+    assert_eq!(rt; found, [Some(0), Some(26), None]);
+    Ok(())
+}
+
+// The run of INF VER, and then CR, which a sink with room for one byte does not show.
+fn unshown<L: Ledger>(
+    rt: &impl Abort,
+    alloc: Global,
+    grammar: &Grammar,
+    hooks: &Hooks<Judges>,
+    steps: &mut Steps<L>,
+) -> Result<Run<Judges>, Fail>
+    requires ties { Ties ⟦<Judges as Rules>⟧.meanings hooks.now }
+    requires hooks { hook_count grammar.now ≤ count hooks.now }
+    requires nodes { 0 < length grammar.now.nodes }
+{
+    let mut full = MemSink::new(alloc, 1)?;
+    let mut run = run_of(rt, alloc, "INF VER", grammar, &Cabinet, hooks, steps)?;
+    run.turn = run
+        .session
+        .key(b'\r', grammar, &Cabinet, hooks, &mut full, steps);
+    Ok(run)
+}
+
+fn key_unshown<L: Ledger, A: Abort>(
+    rt: &A,
+    runtime: &HostRuntime,
+    blank: Blank,
+) -> Result<Run<Judges>, Fail>
+    requires name { blank.name ≡ L.name }
+    requires parts { blank.parts ≡ L.parts }
+    requires some { 0 < L.parts }
+{
+    let (grammar, hooks) = exec_and_hooks(rt, runtime.alloc())?;
+    let mut steps: Steps<L> = Steps::new(runtime, blank);
+    unshown(rt, runtime.alloc(), &grammar, &hooks, &mut steps)
+}
+
+// Where a sink fails the session is where the key left it.
+#[test]
+fn takes_a_key_that_is_not_shown(rt: HostRuntime) -> Result<(), Fail> {
+    let run = key_unshown::<Brand, _>(&rt, &rt, Blank::new(1))?;
+    let text = str::from_utf8(run.session.text())?;
+    let told = format!(in rt.alloc(); "{:?} {:?} {text}", run.turn, run.session.ending())?;
+    assert_eq!(rt; told.as_str(), "Failed Done INF VER\r");
+    Ok(())
+}

@@ -1,5 +1,0 @@
-use Rattle.ex_commands.proofs.tests.line.a_line_names_its_command.Given as goal
-
--- the ledger that was just opened
-abbrev pub ghosts-try_lines : goal.ghosts-try_lines
-ghosts-try_lines g a = record { name = a.blank.name; parts = a.blank.parts }

@@ -1,7 +1,0 @@
-// What no clause says: worked examples.
-
-mod acts;
-mod line;
-mod replies;
-mod stored;
-mod typed;

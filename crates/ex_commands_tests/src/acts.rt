@@ -1,0 +1,328 @@
+// Commands one after the other: what each answers and shows, and which files are left.
+use crate::script::run;
+
+#[test]
+fn a_directory_is_built_and_connected(rt: HostRuntime) {
+    run(
+        &rt,
+        "BUILD SMITH|Ok
+        CONNECT SMITH|Ok
+        CONNECTED|SMITH 2
+        BUILD SMITH|Ok
+        CONNECTED|SMITH 2",
+    );
+}
+
+#[test]
+fn a_file_is_copied_onto_its_own_name(rt: HostRuntime) {
+    run(
+        &rt,
+        "WRITE A.TXT.1 text
+        COPY A.TXT A.TXT|Ok| <OPERATOR>A.TXT.1 => <OPERATOR>A.TXT.2 [OK]^M^J
+        FILES|<OPERATOR>A.TXT.1-<OPERATOR>A.TXT.2",
+    );
+}
+
+#[test]
+fn files_are_copied_to_another_directory(rt: HostRuntime) {
+    run(
+        &rt,
+        "WRITE A.TXT.7 text
+        BUILD SMITH|Ok
+        COPY *.* <SMITH>A.TXT|Ok| <OPERATOR>A.TXT.7 => <SMITH>A.TXT.1 [OK]^M^J
+        COPY -A.TXT <SMITH>A.TXT|Ok
+        FILES|<OPERATOR>A.TXT.7<SMITH>A.TXT.1",
+    );
+}
+
+#[test]
+fn a_copy_behind_the_last_generation_is_refused(rt: HostRuntime) {
+    run(
+        &rt,
+        "WRITE A.TXT.131071 text
+        COPY A.TXT A.TXT|Refused(GenFull)|?No higher generation^M^J
+        FILES|<OPERATOR>A.TXT.131071",
+    );
+}
+
+#[test]
+fn a_copy_onto_a_file_is_refused(rt: HostRuntime) {
+    run(
+        &rt,
+        "WRITE A.TXT.1 text
+        COPY A.TXT A.TXT.1|Refused(FileExists)|?File already exists^M^J
+        FILES|<OPERATOR>A.TXT.1",
+    );
+}
+
+#[test]
+fn files_are_put_behind_one(rt: HostRuntime) {
+    run(
+        &rt,
+        "WRITE A.TXT HI^M^J
+        WRITE B.TXT YO^M^J
+        APPEND *.TXT C.TXT|Ok| <OPERATOR>A.TXT.1 => <OPERATOR>C.TXT.1 [OK]^M^J <OPERATOR>B.TXT.1 => <OPERATOR>C.TXT.1 [OK]^M^J
+        TYPE C.TXT|Ok|HI^M^JYO^M^J
+        FILES|<OPERATOR>A.TXT.1<OPERATOR>B.TXT.1<OPERATOR>C.TXT.1",
+    );
+}
+
+#[test]
+fn files_are_typed_out(rt: HostRuntime) {
+    run(
+        &rt,
+        "WRITE A.TXT
+        TYPE A.TXT|Ok
+        WRITE B.TXT HI
+        TYPE B.TXT|Ok|HI^M^J
+        WRITE C.TXT HI^M
+        TYPE C.TXT|Ok|HI^M^M^J
+        WRITE D.TXT HI^J
+        TYPE D.TXT|Ok|HI^J
+        WRITE E.TXT ^@^M^J
+        TYPE E.TXT|Ok|^@^M^J",
+    );
+}
+
+#[test]
+fn the_line_of_each_file_is_ended(rt: HostRuntime) {
+    run(
+        &rt,
+        "WRITE A.TXT.3 text
+        WRITE B.TXT more
+        TYPE *.*|Ok|text^M^Jmore^M^J
+        FILES|<OPERATOR>A.TXT.3<OPERATOR>B.TXT.1",
+    );
+}
+
+#[test]
+fn files_are_renamed(rt: HostRuntime) {
+    run(
+        &rt,
+        "WRITE A.FOR HI
+        WRITE B.FOR YO
+        RENAME *.FOR *.OLD|Ok| <OPERATOR>A.FOR.1 => <OPERATOR>A.OLD.1 [OK]^M^J <OPERATOR>B.FOR.1 => <OPERATOR>B.OLD.1 [OK]^M^J
+        FILES|<OPERATOR>A.OLD.1<OPERATOR>B.OLD.1",
+    );
+}
+
+#[test]
+fn all_or_none_are_renamed(rt: HostRuntime) {
+    run(
+        &rt,
+        "WRITE A.FOR
+        WRITE B.FOR
+        WRITE C.FOR
+        WRITE C.OLD.131071
+        RENAME *.FOR *.OLD|Refused(GenFull)|?No higher generation^M^J
+        FILES|<OPERATOR>A.FOR.1<OPERATOR>B.FOR.1<OPERATOR>C.FOR.1<OPERATOR>C.OLD.131071",
+    );
+}
+
+#[test]
+fn what_is_typed_in_wants_a_name(rt: HostRuntime) {
+    run(
+        &rt,
+        "WRITE A.TXT.1 text
+        COPYTTY *.*|Refused(NameNeeded)|?File name is needed^M^J
+        COPYTTY A.TXT|Data
+        FILES|<OPERATOR>A.TXT.1",
+    );
+}
+
+#[test]
+fn what_was_typed_in_is_written(rt: HostRuntime) {
+    run(
+        &rt,
+        "7:TYPE-IN A.TXT.1 AB^M|Ok| TTY: => <OPERATOR>A.TXT.1 [OK]^M^J
+        FILES|<OPERATOR>A.TXT.1
+        HOLDS|7 AB^M^J
+        7:TYPE-IN A.TXT.1 C|Refused(FileExists)|?File already exists^M^J
+        FILES|<OPERATOR>A.TXT.1
+        HOLDS|7 AB^M^J
+        TYPE-IN A.TXT XXXX|Ok| TTY: => <OPERATOR>A.TXT.2 [OK]^M^J
+        COPY A.TXT B.TXT|Ok| <OPERATOR>A.TXT.2 => <OPERATOR>B.TXT.1 [OK]^M^J",
+    );
+}
+
+#[test]
+fn files_are_marked_and_unmarked(rt: HostRuntime) {
+    run(
+        &rt,
+        "WRITE A.TXT.1 text
+        DELETE A.TXT|Ok| <OPERATOR>A.TXT.1 [OK]^M^J
+        DELETE A.TXT|Ok
+        FILES|<OPERATOR>A.TXT.1-
+        UNDELETE -A.TXT|Ok| <OPERATOR>A.TXT.1 [OK]^M^J
+        UNDELETE -A.TXT|Ok
+        FILES|<OPERATOR>A.TXT.1",
+    );
+}
+
+#[test]
+fn the_line_of_each_file_tells_its_name(rt: HostRuntime) {
+    run(
+        &rt,
+        "WRITE A.TXT.2
+        WRITE B.TXT
+        DELETE *.*|Ok| <OPERATOR>A.TXT.2 [OK]^M^J <OPERATOR>B.TXT.1 [OK]^M^J",
+    );
+}
+
+#[test]
+fn files_are_listed(rt: HostRuntime) {
+    run(
+        &rt,
+        "WRITE A.TXT.2 text
+        BUILD SMITH|Ok
+        DIRECTORY *.*|Ok|   PS:<OPERATOR>^M^J A.TXT.2 1 4 1-JAN-1970^M^J Total of 1 files^M^J
+        DIRECTORY <SMITH>A.TXT|Refused(NoMatch)|?No files match^M^J",
+    );
+}
+
+#[test]
+fn pages_and_days_are_listed(rt: HostRuntime) {
+    run(
+        &rt,
+        "WRITE A.TXT
+        946684800:WRITE B.TXT X*2561
+        DIRECTORY *.*|Ok|   PS:<OPERATOR>^M^J A.TXT.1 0 0 1-JAN-1970^M^J B.TXT.1 2 2561 1-JAN-2000^M^J Total of 2 files^M^J
+        DIRECTORY A.TXT|Ok|   PS:<OPERATOR>^M^J A.TXT.1 0 0 1-JAN-1970^M^J Total of 1 files^M^J",
+    );
+}
+
+#[test]
+fn a_marked_file_is_not_listed(rt: HostRuntime) {
+    run(
+        &rt,
+        "86399:WRITE A.TXT XXXX
+        86400:WRITE B.TXT XXXX
+        DELETE A.TXT|Ok| <OPERATOR>A.TXT.1 [OK]^M^J
+        DIRECTORY *.*|Ok|   PS:<OPERATOR>^M^J B.TXT.1 1 4 2-JAN-1970^M^J Total of 1 files^M^J",
+    );
+}
+
+#[test]
+fn a_copy_has_the_moment_of_its_line(rt: HostRuntime) {
+    run(
+        &rt,
+        "WRITE A.TXT.1 text
+        2764799:COPY A.TXT A.TXT|Ok| <OPERATOR>A.TXT.1 => <OPERATOR>A.TXT.2 [OK]^M^J
+        DIRECTORY A.TXT|Ok|   PS:<OPERATOR>^M^J A.TXT.2 1 4 1-FEB-1970^M^J Total of 1 files^M^J",
+    );
+}
+
+#[test]
+fn marked_files_are_expunged(rt: HostRuntime) {
+    run(
+        &rt,
+        "WRITE A.TXT.1 text
+        BUILD SMITH|Ok
+        DELETE A.TXT|Ok| <OPERATOR>A.TXT.1 [OK]^M^J
+        EXPUNGE SMITH|Ok| <SMITH> [Pages freed: 0]^M^J
+        EXPUNGE|Ok| <OPERATOR> [Pages freed: 1]^M^J
+        FILES|
+        WRITE A.TXT X*65536
+        DELETE A.TXT|Ok| <OPERATOR>A.TXT.1 [OK]^M^J
+        EXPUNGE|Ok| <OPERATOR> [Pages freed: 26]^M^J
+        EXPUNGE|Ok| <OPERATOR> [Pages freed: 0]^M^J",
+    );
+}
+
+#[test]
+fn what_changes_nothing(rt: HostRuntime) {
+    run(
+        &rt,
+        "WRITE A.TXT.1 text
+        EMPTY|Ok
+        REMARK|Ok
+        INFORMATION 4|Ok| EXEC20 1^M^J
+        INFORMATION 5|Ok
+        INFORMATION 0|Ok
+        DEFINE SYS|Refused(NoDefinition)|?Logical name is not defined^M^J
+        FILES|<OPERATOR>A.TXT.1",
+    );
+}
+
+#[test]
+fn the_run_ends_with_no_marked_file(rt: HostRuntime) {
+    run(
+        &rt,
+        "WRITE A.TXT.1 text
+        COPY A.TXT A.TXT|Ok| <OPERATOR>A.TXT.1 => <OPERATOR>A.TXT.2 [OK]^M^J
+        LOGOUT|Logout|Logged out^M^J
+        FILES|<OPERATOR>A.TXT.2",
+    );
+}
+
+#[test]
+fn a_cut_reply_undoes_no_command(rt: HostRuntime) {
+    run(
+        &rt,
+        "WRITE A.TXT.1 text
+        5#DELETE A.TXT|Failed| <OPE
+        FILES|<OPERATOR>A.TXT.1-
+        UNDELETE -A.TXT|Ok| <OPERATOR>A.TXT.1 [OK]^M^J
+        13#COPY A.TXT A.TXT|Failed| <OPERATOR>A.
+        FILES|<OPERATOR>A.TXT.1-<OPERATOR>A.TXT.2",
+    );
+}
+
+#[test]
+fn what_is_typed_out_is_cut(rt: HostRuntime) {
+    run(
+        &rt,
+        "WRITE A.TXT.1 text
+        3#TYPE A.TXT|Failed|tex
+        5#TYPE A.TXT|Failed|text^M
+        FILES|<OPERATOR>A.TXT.1",
+    );
+}
+
+#[test]
+fn files_are_put_behind_one_though_a_reply_is_cut(rt: HostRuntime) {
+    run(
+        &rt,
+        "WRITE A.TXT.1 text
+        5#APPEND A.TXT B.TXT|Failed| <OPE
+        FILES|<OPERATOR>A.TXT.1<OPERATOR>B.TXT.1",
+    );
+}
+
+#[test]
+fn a_cut_refusal_changes_nothing(rt: HostRuntime) {
+    run(
+        &rt,
+        "WRITE A.TXT.1 text
+        4#COPY A.TXT A.TXT.1|Failed|?Fil
+        FILES|<OPERATOR>A.TXT.1
+        0#COPYTTY *.*|Failed
+        FILES|<OPERATOR>A.TXT.1",
+    );
+}
+
+#[test]
+fn a_listing_is_cut(rt: HostRuntime) {
+    run(
+        &rt,
+        "WRITE A.TXT.1 text
+        9#DIRECTORY A.TXT|Failed|   PS:<OP
+        40#DIRECTORY A.TXT|Failed|   PS:<OPERATOR>^M^J A.TXT.1 1 4 1-JAN-197
+        FILES|<OPERATOR>A.TXT.1",
+    );
+}
+
+#[test]
+fn marked_files_are_removed_though_a_reply_is_cut(rt: HostRuntime) {
+    run(
+        &rt,
+        "WRITE A.TXT.1 text
+        DELETE A.TXT|Ok| <OPERATOR>A.TXT.1 [OK]^M^J
+        6#LOGOUT|Failed|Logged
+        FILES|
+        WRITE A.TXT.1 text
+        DELETE A.TXT|Ok| <OPERATOR>A.TXT.1 [OK]^M^J
+        21#EXPUNGE|Failed| <OPERATOR> [Pages fr
+        FILES|",
+    );
+}

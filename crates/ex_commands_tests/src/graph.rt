@@ -1,0 +1,164 @@
+// The grammar, node by node and entry by entry.
+use crate::typed::put_flags;
+use cm_blocks::{Block, Function, Grammar, Node};
+use cm_tables::Table;
+use ex_grammar::grammar;
+use std::alloc::{AllocError, Global};
+use std::test::Fail;
+
+// What a block reads, and the word, table or hook that it is for.
+fn put_function(text: &mut String, function: &Function) -> Result<(), AllocError> {
+    match function {
+        Function::Key(table) => write!(text, "Key({table})"),
+        Function::Noise(word) => write!(text, "Noise({})", word.as_str()),
+        Function::Token(sign) => write!(text, "Token({})", sign.as_str()),
+        Function::User => text.push_str("User"),
+        Function::Directory => text.push_str("Directory"),
+        Function::InFile => text.push_str("InFile"),
+        Function::OutFile => text.push_str("OutFile"),
+        Function::AnyFile => text.push_str("AnyFile"),
+        Function::Text => text.push_str("Text"),
+        Function::Confirm => text.push_str("Confirm"),
+        Function::Hook(id) => write!(text, "Hook({id})"),
+        _ => text.push_str("another"),
+    }
+}
+
+fn put_block(text: &mut String, block: &Block) -> Result<(), AllocError> {
+    let help = if block.help.is_some() { " helped" } else { "" };
+    text.push(' ')?;
+    put_function(text, &block.function)?;
+    put_flags(text, block.flags)?;
+    write!(text, " {:?} {}{help};", block.role, block.next)
+}
+
+fn put_node(text: &mut String, node: &Node) -> Result<(), AllocError> {
+    for block in node.chain.as_slice() {
+        put_block(text, block)?;
+    }
+    if let Some(default) = &node.default {
+        write!(text, " default {}", default.as_str())?;
+    }
+    if node.raw {
+        text.push_str(" raw")?;
+    }
+    Ok(())
+}
+
+fn nodes(alloc: Global, grammar: &Grammar) -> Result<String, AllocError> {
+    let mut text = String::new(alloc);
+    for number in 0..grammar.nodes() {
+        write!(text, "\n{number}")?;
+        put_node(&mut text, grammar.node(number))?;
+    }
+    Ok(text)
+}
+
+// The nodes of commands that are not built yet take the end of the line alone.
+#[test]
+fn each_node_has_its_blocks(rt: HostRuntime) -> Result<(), Fail> {
+    let grammar = grammar(rt.alloc())?;
+    assert_eq!(rt; grammar.hooks(), 1);
+    assert_eq!(rt;
+        nodes(rt.alloc(), &grammar)?.as_str(),
+        "
+0 Confirm None 5; Key(0) Verb 5;
+1 Noise(FROM) None 2;
+2 Token(TTY:) Source 3; InFile w Source 3;
+3 Noise(TO) None 4;
+4 OutFile ws Target 5;
+5 Confirm None 5;
+6 Noise(FROM) None 7;
+7 InFile w Source 8;
+8 Noise(TO) None 9;
+9 AnyFile Target 5;
+10 Noise(EXISTING FILE) None 11;
+11 InFile w Source 12;
+12 Noise(TO) None 4;
+13 Noise(FILES) None 14;
+14 InFile wa Files 5;
+15 Noise(FILES) None 16;
+16 InFile wad Files 5;
+17 Noise(TO DIRECTORY) None 18;
+18 User Files 5; Directory Files 5; default <OPERATOR>
+19 Noise(FILES) None 20;
+20 InFile w Files 5;
+21 Confirm None 5;
+22 Confirm None 5;
+23 Noise(OF FILES) None 24;
+24 AnyFile wae Files 25; default *.*.*
+25 Confirm None 5;
+26 Noise(ABOUT) None 27;
+27 Key(1) What 5;
+28 Noise(LOGICAL NAME) None 29;
+29 Hook(0) Value 30;
+30 Token(:) None 31;
+31 Noise(AS) None 32;
+32 Confirm None 5;
+33 Noise(DIRECTORY) None 34;
+34 Directory n Files 25;
+35 Noise(DELETED FILES) None 36;
+36 Confirm None 5; Directory Files 5;
+37 Confirm None 5;
+38 Confirm None 5;
+39 Confirm None 5;
+40 Confirm None 5;
+41 Confirm None 5;
+42 Confirm None 5;
+43 Confirm None 5;
+44 Confirm None 5;
+45 Text None 5; raw
+46 Confirm None 5;
+47 Confirm None 5;
+48 Confirm None 5;
+49 Confirm None 5;
+50 Confirm None 5;"
+    );
+    Ok(())
+}
+
+fn entries(alloc: Global, table: &Table) -> Result<String, AllocError> {
+    let mut text = String::new(alloc);
+    for entry in table.entries() {
+        let name = entry.text.as_str();
+        let value = if entry.colon { ":" } else { "" };
+        write!(
+            text,
+            "\n{name}{value} {:?} {} {}",
+            entry.flag, entry.code, entry.next
+        )?;
+    }
+    Ok(text)
+}
+
+#[test]
+fn each_entry_has_its_code(rt: HostRuntime) -> Result<(), Fail> {
+    let grammar = grammar(rt.alloc())?;
+    assert_eq!(rt;
+        entries(rt.alloc(), grammar.table(0))?.as_str(),
+        "
+APPEND Plain 1 6
+BUILD Plain 2 33
+CONNECT Plain 3 17
+COPY Plain 4 1
+DEFINE Plain 5 28
+DELETE Plain 6 13
+DIRECTORY Plain 7 23
+EXPUNGE Plain 8 35
+INFORMATION Plain 9 26
+KJOB Invisible 10 5
+L NoRecognise 0 5
+LO NoRecognise 0 5
+LOGOUT Plain 10 5
+REMARK Plain 12 45
+RENAME Plain 13 10
+T Short(16) 0 5
+TYPE Plain 15 19
+UNDELETE Plain 16 15"
+    );
+    assert_eq!(rt;
+        entries(rt.alloc(), grammar.table(1))?.as_str(),
+        "\nVERSION Plain 4 5"
+    );
+    Ok(())
+}

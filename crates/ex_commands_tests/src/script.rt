@@ -1,0 +1,274 @@
+// Scripts: lines that are done one after the other on a store that has nothing yet.
+use crate::bytes::{are_bytes, bytes_of, cut, number, word};
+use crate::keys::press;
+use crate::places::{may_act, takes};
+use cm_fields::Gen;
+use cm_files::Flags;
+use cm_io::MemSink;
+use cm_text::{NAME_LIMIT, Name};
+use ex_commands::{Acted, Command, Data, act, write_data};
+use ex_generations::Bytes;
+use ex_store::{Place, Plan, Row, Store};
+use std::alloc::{AllocError, Global};
+use std::process::Abort;
+
+// Files that are marked as deleted.
+const MARKED: Flags = Flags {
+    wild: true,
+    all_generations: false,
+    deleted: true,
+    default_all: false,
+    from_source: false,
+    new: false,
+};
+
+// A name, or none at all where it is too long for one.
+fn name(text: &str) -> Name {
+    if text.len() <= NAME_LIMIT {
+        Name::new(text)
+    } else {
+        Name::new("")
+    }
+}
+
+fn generation(text: &str) -> Gen {
+    match text.parse::<u32>() {
+        Ok(number) => Gen::Number(number),
+        Err(_) => Gen::Missing,
+    }
+}
+
+// What is before and behind a point.
+fn parts(text: &str) -> (&str, &str) {
+    text.split_once('.').unwrap_or((text, ""))
+}
+
+// A file: NAME.TYPE or NAME.TYPE.GENERATION, behind - where it is marked as deleted, and then behind <SMITH> where it
+// is not of OPERATOR.
+fn place(text: &str) -> Place {
+    let (flags, text) = match text.strip_prefix('-') {
+        Some(rest) => (MARKED, rest),
+        None => (Flags::default(), text),
+    };
+    let (directory, text) = match text.strip_prefix("<SMITH>") {
+        Some(rest) => ("SMITH", rest),
+        None => ("OPERATOR", text),
+    };
+    let (name_part, rest) = parts(text);
+    let (kind, number) = parts(rest);
+    Place {
+        directory: Name::new(directory),
+        name: Some(name(name_part)),
+        kind: Some(name(kind)),
+        generation: generation(number),
+        flags,
+    }
+}
+
+fn name_or_none(text: &str) -> Option<Name> {
+    if text.is_empty() {
+        None
+    } else {
+        Some(name(text))
+    }
+}
+
+// A command: its verb, and the files or the name that it is for.
+fn command(text: &str) -> Command {
+    let (verb, rest) = word(text);
+    let (first, second) = word(rest);
+    match verb {
+        "APPEND" => Command::Append {
+            from: place(first),
+            to: place(second),
+        },
+        "CONNECT" => Command::Connect {
+            directory: name(first),
+        },
+        "COPY" => Command::Copy {
+            from: place(first),
+            to: place(second),
+        },
+        "COPYTTY" => Command::CopyTty { to: place(first) },
+        "DEFINE" => Command::Define { name: name(first) },
+        "DELETE" => Command::Delete {
+            files: place(first),
+        },
+        "DIRECTORY" => Command::Directory {
+            files: place(first),
+        },
+        "EXPUNGE" => Command::Expunge {
+            directory: name_or_none(first),
+        },
+        "INFORMATION" => Command::Information {
+            what: number(first) as u16,
+        },
+        "LOGOUT" => Command::Logout,
+        "REMARK" => Command::Remark,
+        "RENAME" => Command::Rename {
+            from: place(first),
+            to: place(second),
+        },
+        "TYPE" => Command::TypeOut {
+            files: place(first),
+        },
+        "UNDELETE" => Command::Undelete {
+            files: place(first),
+        },
+        _ => Command::Empty,
+    }
+}
+
+// The answer has this name, and is shown so.
+fn is_answered(rt: &(impl Abort + AllocGlobal), answer: Acted, sink: &MemSink, wanted: &str) {
+    let (name, shown) = cut(wanted);
+    let said = format!(in rt.alloc(); "{answer:?}").expect(rt, "memory");
+    assert_eq!(rt; said.as_str(), name, "{shown}");
+    are_bytes(rt, sink.bytes(), shown);
+}
+
+// Does a command at a moment, on a screen with room for so many bytes.
+fn does(
+    rt: &(impl Abort + AllocGlobal),
+    store: &mut Store,
+    command: &Command,
+    moment: u64,
+    room: u32,
+    wanted: &str,
+) {
+    assert!(rt; may_act(store, command), "the command cannot be done");
+    let mut sink = MemSink::new(rt.alloc(), room).expect(rt, "memory");
+    let answer = act(rt.alloc(), store, command, moment, &mut sink);
+    is_answered(rt, answer, &sink, wanted);
+}
+
+// BUILD SMITH.
+#[tactic(auto, unfolding(cm_text::specs::Bytes::is_name, cm_text::specs::Bytes::is_word))]
+fn build(rt: &(impl Abort + AllocGlobal), store: &mut Store, wanted: &str) {
+    let command = Command::Build {
+        directory: Name::new("SMITH"),
+    };
+    let mut sink = MemSink::new(rt.alloc(), 1_000).expect(rt, "memory");
+    let answer = act(rt.alloc(), store, &command, 0, &mut sink);
+    is_answered(rt, answer, &sink, wanted);
+}
+
+// Types a file in: the place, and the keys.
+fn type_in(
+    rt: &(impl Abort + AllocGlobal),
+    store: &mut Store,
+    text: &str,
+    moment: u64,
+    wanted: &str,
+) {
+    let (to, keys) = word(text);
+    let to = place(to);
+    let mut typed = Data::new(rt.alloc()).expect(rt, "memory");
+    let mut sink = MemSink::new(rt.alloc(), 1_000).expect(rt, "memory");
+    let keys = bytes_of(rt.alloc(), keys).expect(rt, "memory");
+    press(&mut typed, &keys, &mut sink);
+    sink = MemSink::new(rt.alloc(), 1_000).expect(rt, "memory");
+    assert!(rt; takes(store, &to), "no file can have this name");
+    let answer = write_data(rt.alloc(), store, &to, typed, moment, &mut sink);
+    is_answered(rt, answer, &sink, wanted);
+}
+
+// The bytes of a file: as they stand, or X and behind an asterisk how many of it.
+fn contents(alloc: Global, text: &str) -> Result<Vec<u8>, AllocError> {
+    match text.split_once('*') {
+        Some((_, size)) => vec![in alloc; b'X'; number(size) as usize],
+        None => bytes_of(alloc, text),
+    }
+}
+
+// Puts a file into a store: the place, and the bytes.
+fn write(rt: &(impl Abort + AllocGlobal), store: &mut Store, text: &str, moment: u64) {
+    let (to, text) = word(text);
+    let to = place(to);
+    assert!(rt; takes(store, &to), "no file can have this name");
+    let bytes = Bytes::new(contents(rt.alloc(), text).expect(rt, "memory"));
+    match store.prepare(Plan::Write { to, bytes }, moment) {
+        Ok(ready) => store.apply(ready),
+        Err(_) => assert!(rt; false, "the file is refused"),
+    }
+}
+
+// A file's name, with a minus where it is marked as deleted.
+fn put_row(list: &mut String, row: &Row) -> Result<(), AllocError> {
+    let directory = row.key.directory.as_str();
+    let name = row.key.name.as_str();
+    let kind = row.key.kind.as_str();
+    let generation = row.file.generation;
+    let mark = if row.file.deleted { "-" } else { "" };
+    write!(list, "<{directory}>{name}.{kind}.{generation}{mark}")
+}
+
+fn names(alloc: Global, rows: &[Row]) -> Result<String, AllocError> {
+    let mut list = String::new(alloc);
+    for row in rows {
+        put_row(&mut list, row)?;
+    }
+    Ok(list)
+}
+
+// These are the files of a store.
+fn has_files(rt: &(impl Abort + AllocGlobal), store: &Store, wanted: &str) {
+    let found = names(rt.alloc(), store.parts().rows).expect(rt, "memory");
+    assert_eq!(rt; found.as_str(), wanted);
+}
+
+// The first file of a store: its moment and its bytes.
+fn holds(rt: &(impl Abort + AllocGlobal), store: &Store, wanted: &str) {
+    let (moment, bytes) = word(wanted);
+    match store.parts().rows.first() {
+        Some(row) => {
+            assert_eq!(rt; row.file.moment, number(moment));
+            are_bytes(rt, row.file.bytes.as_slice(), bytes);
+        }
+        None => assert!(rt; false, "there is no file"),
+    }
+}
+
+// The connected directory, and how many directories there are.
+fn is_connected(rt: &(impl Abort + AllocGlobal), store: &Store, wanted: &str) {
+    let parts = store.parts();
+    let connected = parts.connected.as_str();
+    let count = parts.directories.len();
+    let found = format!(in rt.alloc(); "{connected} {count}").expect(rt, "memory");
+    assert_eq!(rt; found.as_str(), wanted);
+}
+
+// The number before a sign, and what is behind it; where the sign is not there, the usual number.
+fn number_before<'a>(text: &'a str, sign: char, usual: u64) -> (u64, &'a str) {
+    match text.split_once(sign) {
+        Some((digits, rest)) => (number(digits), rest),
+        None => (usual, text),
+    }
+}
+
+// Does one line. It begins with the moment where that is not 0, as 86400:, and with the room of the screen where that
+// is scarce, as 13#. What is wanted stands behind a bar: the answer, and behind another bar what is shown.
+fn do_line(rt: &(impl Abort + AllocGlobal), store: &mut Store, line: &str) {
+    let (line, wanted) = cut(line);
+    let (moment, line) = number_before(line, ':', 0);
+    let (room, line) = number_before(line, '#', 1_000);
+    let (verb, rest) = word(line);
+    match verb {
+        "WRITE" => write(rt, store, rest, moment),
+        "BUILD" => build(rt, store, wanted),
+        "TYPE-IN" => type_in(rt, store, rest, moment, wanted),
+        "FILES" => has_files(rt, store, wanted),
+        "HOLDS" => holds(rt, store, wanted),
+        "CONNECTED" => is_connected(rt, store, wanted),
+        _ => does(rt, store, &command(line), moment, room as u32, wanted),
+    }
+}
+
+/// The store behind a script.
+pub(crate) fn run(rt: &(impl Abort + AllocGlobal), script: &str) -> Store {
+    let mut store = Store::new(rt.alloc()).expect(rt, "memory");
+    for line in script.lines() {
+        do_line(rt, &mut store, line.trim_start());
+    }
+    store
+}

@@ -1,0 +1,28 @@
+// Cases as texts: a line each, with what is done and, behind an arrow, what is wanted.
+
+use std::alloc::{AllocError, Global};
+use std::process::Abort;
+
+/// What is done, and what is wanted.
+pub(crate) fn halves<'a>(rt: &impl Abort, case: &'a str) -> (&'a str, &'a str) {
+    case.split_once(" -> ").expect(rt, "an arrow")
+}
+
+/// What was told is what is wanted of this case.
+pub(crate) fn is_told(rt: &impl Abort, told: &String, wanted: &str, case: &str) {
+    assert_eq!(rt; told.as_str(), wanted, "{case}");
+}
+
+/// The bytes of a text, in which `|` stands for a line feed and `^` for a carriage return.
+pub(crate) fn bytes_of(alloc: Global, text: &str) -> Result<Vec<u8>, AllocError> {
+    let mut bytes = Vec::new(alloc);
+    for byte in text.as_bytes() {
+        let meant = match *byte {
+            b'|' => b'\n',
+            b'^' => b'\r',
+            other => other,
+        };
+        bytes.push(meant)?;
+    }
+    Ok(bytes)
+}

@@ -1,0 +1,44 @@
+// Images that are cut.
+
+use crate::cases::bytes_of;
+use crate::given::fault;
+use ex_image::Kind::Cut;
+use std::process::Abort;
+use std::test::Fail;
+
+// The records of an image, a line each.
+const RECORDS: &str = "\
+EXEC20 1|
+D OPERATOR 0|
+D SMITH 2|
+C SMITH|
+L HOME SMITH|
+F OPERATOR A.TXT.7 U 5 9|one||E|F||
+F SMITH B..1 D 0 0||
+Q SMITH B..1 2 WIDE - JOB a note|
+E|";
+
+// Puts a record behind those before it, byte by byte: as long as a byte of it is wanting, it is the one that is cut.
+fn push_record(
+    rt: &(impl Abort + AllocGlobal),
+    image: &mut Vec<u8>,
+    record: &str,
+) -> Result<(), Fail> {
+    let start = image.len();
+    let record = bytes_of(rt.alloc(), record)?;
+    for byte in record.iter() {
+        assert_eq!(rt; fault(rt, image), Some((start, Cut)));
+        image.push(*byte)?;
+    }
+    Ok(())
+}
+
+#[test]
+fn the_record_that_ends_early_is_cut(rt: HostRuntime) -> Result<(), Fail> {
+    let mut image = Vec::new(rt.alloc());
+    for record in RECORDS.lines() {
+        push_record(&rt, &mut image, record)?;
+    }
+    assert_eq!(rt; fault(&rt, &image), None);
+    Ok(())
+}

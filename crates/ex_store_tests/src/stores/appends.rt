@@ -1,0 +1,48 @@
+// Bytes that are put behind those of a file.
+
+use crate::machine::steps::each_behind;
+
+#[test]
+fn one_generation_is_put_behind(rt: HostRuntime) {
+    each_behind(
+        &rt,
+        "build OPERATOR 0; files A.T A.T A.T A.T B.T; mark A.T.2; mark A.T.4",
+        "\
+append B.T A.T; names -> B.T.1=>A.T.3; A.T.1 A.T.2- A.T.3 A.T.4- B.T.1
+append B.T A.T.0; names -> B.T.1=>A.T.3; A.T.1 A.T.2- A.T.3 A.T.4- B.T.1
+append B.T A.T.-2; names -> B.T.1=>A.T.1; A.T.1 A.T.2- A.T.3 A.T.4- B.T.1
+append B.T A.T.1; names -> B.T.1=>A.T.1; A.T.1 A.T.2- A.T.3 A.T.4- B.T.1
+append B.T A.T.2; names -> NoFile; A.T.1 A.T.2- A.T.3 A.T.4- B.T.1
+append B.T A.T.-1; names -> B.T.1=>A.T.5; A.T.1 A.T.2- A.T.3 A.T.4- A.T.5 B.T.1
+append B.T A.T.9; names -> B.T.1=>A.T.9; A.T.1 A.T.2- A.T.3 A.T.4- A.T.9 B.T.1
+append B.T A; names -> B.T.1=>A..1; A..1 A.T.1 A.T.2- A.T.3 A.T.4- B.T.1
+append B.T C.T.-2; names -> B.T.1=>C.T.1; A.T.1 A.T.2- A.T.3 A.T.4- B.T.1 C.T.1
+append B.T C.T.7; names -> B.T.1=>C.T.7; A.T.1 A.T.2- A.T.3 A.T.4- B.T.1 C.T.7",
+    );
+}
+
+#[test]
+fn the_bytes_are_those_of_the_start(rt: HostRuntime) {
+    each_behind(
+        &rt,
+        "files A.T B.T",
+        "\
+append each:B.T A.T; contents -> B.T.1=>A.T.1; A.T.1@99=A.TB.T B.T.1@20=B.T
+append each:A.T A.T; contents -> A.T.1=>A.T.1; A.T.1@99=A.TA.T B.T.1@20=B.T
+append each:*.T A.T; contents -> A.T.1=>A.T.1 B.T.1=>A.T.1; A.T.1@99=A.TA.TB.T B.T.1@20=B.T
+append each:*.T B.T.-1; contents -> A.T.1=>B.T.2 B.T.1=>B.T.2; A.T.1@10=A.T B.T.1-@20=B.T B.T.2@99=A.TB.T",
+    );
+}
+
+#[test]
+fn the_moment_is_at_most_the_last_one(rt: HostRuntime) {
+    each_behind(
+        &rt,
+        "files A.T B.T",
+        "\
+append B.T A.T 0; contents -> B.T.1=>A.T.1; A.T.1@0=A.TB.T B.T.1@20=B.T
+append B.T A.T 4102444799; contents -> B.T.1=>A.T.1; A.T.1@4102444799=A.TB.T B.T.1@20=B.T
+append B.T A.T 4102444800; contents -> B.T.1=>A.T.1; A.T.1@4102444799=A.TB.T B.T.1@20=B.T
+append B.T A.T 18446744073709551615; contents -> B.T.1=>A.T.1; A.T.1@4102444799=A.TB.T B.T.1@20=B.T",
+    );
+}

@@ -1,0 +1,32 @@
+// Directories that are made, connected and changed.
+
+use crate::machine::steps::{in_turn, store_behind};
+
+#[test]
+fn a_directory_keeps_so_many(rt: HostRuntime) {
+    let mut store = store_behind(&rt, "build ZULU");
+    in_turn(
+        &rt,
+        &mut store,
+        "\
+build ALPHA 3; retention -> none; 3 1 1
+build ZULU 63; retention -> none; 3 1 63
+build ALPHA; retention -> none; 3 1 63
+build OPERATOR 0; retention -> none; 3 0 63
+build ZULU; retention -> none; 3 0 63",
+    );
+}
+
+#[test]
+fn one_directory_is_connected(rt: HostRuntime) {
+    let mut store = store_behind(&rt, "files A.T; build A.B; build SMITH");
+    in_turn(
+        &rt,
+        &mut store,
+        "\
+catalogue -> A.B=0 OPERATOR=1 SMITH=0 connected=1
+connect SMITH -> A.B=0 OPERATOR=1 SMITH=0 connected=2
+connect A.B -> A.B=0 OPERATOR=1 SMITH=0 connected=0
+connect OPERATOR -> A.B=0 OPERATOR=1 SMITH=0 connected=1",
+    );
+}

@@ -1,0 +1,69 @@
+// Stores that are filled part by part.
+
+use crate::machine::steps::{in_turn, store_of};
+use ex_store::Draft;
+
+// Two directories, two logical names, a file with the highest numbers and one with the lowest, and a request for
+// each form: with no day and no note, for the first day and for the last.
+const KINDS: &str =
+    "EXEC20 1|D OPERATOR 0|D SMITH.LETTERS 63|C SMITH.LETTERS|L HOME SMITH.LETTERS|L SYS OPERATOR|\
+F OPERATOR A.TXT.131071 D 4102444799 6|E|F X||F SMITH.LETTERS B-1..1 U 0 0||\
+Q OPERATOR A.TXT.12 63 NARROW - JOB-1 |Q OPERATOR A.TXT.12 1 NORMAL 0 JOB-1 by  noon|\
+Q SMITH.LETTERS B-1..12 10 WIDE 47481 JOB-1 x|E|";
+
+#[test]
+fn a_store_has_the_parts_of_its_draft(rt: HostRuntime) {
+    let mut store = store_of(
+        &rt,
+        "EXEC20 1|D OPERATOR 1|D SMITH 3|C SMITH|L HOME SMITH|F OPERATOR B..3 U 5 4|kept|F SMITH A.TXT.7 D 5 4|gone|\
+Q SMITH A.TXT.7 2 WIDE - JOB-1 by noon|E|",
+    );
+    in_turn(
+        &rt,
+        &mut store,
+        "\
+catalogue; retention; logicals -> OPERATOR=1 SMITH=1 connected=1; 1 3; 1 HOME=1
+names; names SMITH; contents -> B..3; A.TXT.7-; B..3@5=kept A.TXT.7-@5=gone
+requests -> 1 Queued { directory: \"SMITH\", name: \"A\", kind: \"TXT\", generation: 7, copies: 2, form: 2, \
+after: None, job: \"JOB-1\", note: \"by noon\" }",
+    );
+}
+
+#[test]
+#[tactic(auto, unfolding(cm_text::specs::Bytes::is_name, cm_text::specs::Bytes::is_word))]
+fn a_draft_tells_what_its_directories_keep(rt: HostRuntime) {
+    let mut draft = Draft::new(rt.alloc());
+    draft.directory("OPERATOR", 0).expect(&rt, "memory");
+    draft.directory("SMITH", 63).expect(&rt, "memory");
+    let mut told = String::new(rt.alloc());
+    for directory in ["OPERATOR", "SMITH", "SMIT", "SMITHS", "smith", ""] {
+        let keep = draft.retention(directory);
+        write!(told, "{keep:?} ").expect(&rt, "memory");
+    }
+    assert_eq!(rt; told.as_str(), "Some(0) Some(63) None None None None ");
+    let parts = draft.parts();
+    let directories = parts.directories.len();
+    let connected = parts.connected.as_str();
+    let others = parts.logical.len() + parts.rows.len() + parts.queue.len();
+    let told = format!(in rt.alloc(); "{directories} {connected:?} {others}").expect(&rt, "memory");
+    assert_eq!(rt; told.as_str(), "2 \"\" 0");
+}
+
+#[test]
+fn every_kind_of_record_is_told(rt: HostRuntime) {
+    let mut store = store_of(&rt, KINDS);
+    in_turn(
+        &rt,
+        &mut store,
+        "\
+catalogue; retention; logicals -> OPERATOR=1 SMITH.LETTERS=1 connected=1; 0 63; 2 HOME=1 SYS=0
+names; names SMITH.LETTERS; sizes -> A.TXT.131071-; B-1..1; 6 0
+requests -> 3 \
+Queued { directory: \"OPERATOR\", name: \"A\", kind: \"TXT\", generation: 12, copies: 63, form: 0, after: None, \
+job: \"JOB-1\", note: \"\" } \
+Queued { directory: \"OPERATOR\", name: \"A\", kind: \"TXT\", generation: 12, copies: 1, form: 1, after: Some(0), \
+job: \"JOB-1\", note: \"by  noon\" } \
+Queued { directory: \"SMITH.LETTERS\", name: \"B-1\", kind: \"\", generation: 12, copies: 10, form: 2, \
+after: Some(47481), job: \"JOB-1\", note: \"x\" }",
+    );
+}

@@ -1,0 +1,29 @@
+// Stores that are written.
+
+use crate::machine::steps::{in_turn, store_behind};
+use ex_store::Store;
+
+#[test]
+fn a_new_store_is_written(rt: HostRuntime) {
+    let mut store = Store::new(rt.alloc()).expect(&rt, "memory");
+    in_turn(
+        &rt,
+        &mut store,
+        "image -> EXEC20 1|D OPERATOR 1|C OPERATOR|E|",
+    );
+}
+
+#[test]
+fn the_files_stand_behind_their_lines(rt: HostRuntime) {
+    let mut store = store_behind(
+        &rt,
+        "build SMITH; put <SMITH>A.TXT one\ntwo\n 7; write <SMITH>A.TXT 0 8; connect SMITH",
+    );
+    in_turn(
+        &rt,
+        &mut store,
+        "\
+image -> EXEC20 1|D OPERATOR 1|D SMITH 1|C SMITH|\
+F SMITH A.TXT.1 D 7 8|one|two||F SMITH A.TXT.2 U 8 0||E|",
+    );
+}
