@@ -89,20 +89,3 @@ impl Sink for StdLog {
         Put::Failed
     }
 }
-
-#[cfg(test)]
-mod tests {
-    use super::*;
-
-    // The pieces of a line leave together: none before the line feed is put, and all at once with it.
-    #[test]
-    fn a_line_is_one_write(rt: HostRuntime) {
-        let mut log = StdLog::new(&rt);
-        assert_eq!(rt; log.put(b"standard "), Put::Done);
-        assert_eq!(rt; log.held.as_slice(), b"standard ".as_slice());
-        assert_eq!(rt; log.put(b"error"), Put::Done);
-        assert_eq!(rt; log.held.as_slice(), b"standard error".as_slice());
-        assert_eq!(rt; log.put(b"\n"), Put::Done);
-        assert_eq!(rt; log.held.as_slice(), b"".as_slice());
-    }
-}
