@@ -18,7 +18,8 @@ pub fn only_a_confirmed_line_acts()
 {}
 
 /// The numbers of the lamps: how bright one may be, by how much DIM goes where the line does not say, the most keys
-/// that a run takes, the number that no room has, the codes of the commands, and the nodes where a line begins and ends.
+/// that a run takes, the number that no room has, the codes of the commands, and the nodes where a line begins and
+/// where it ends.
 pub fn these_are_the_numbers()
     ensures brightest { BRIGHTEST ≡ 100 }
     ensures step { STEP ≡ 10 }

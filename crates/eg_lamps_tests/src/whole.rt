@@ -53,7 +53,8 @@ fn dims_lamps(rt: HostRuntime) -> Result<(), Fail> {
         ),
         case(
             b"D H /BY\rD H /TO:1\rD H /BY:\r",
-            b"@D H /BY\r\n?Switch needs a value\r\n@D H /TO:1\r\n?Unrecognized keyword\r\n@D H /BY:\r\n?Invalid number\r\n@",
+            b"@D H /BY\r\n?Switch needs a value\r\n@D H /TO:1\r\n?Unrecognized keyword\r\n@D H /BY:\r\n\
+                ?Invalid number\r\n@",
             [0, 0, 0, 0],
         ),
     ];
@@ -70,7 +71,8 @@ fn lists_lamps_and_notes(rt: HostRuntime) -> Result<(), Fail> {
         ),
         case(
             b"S STU 7\rNAME (LAMP IN) STUDY \"by the \"\"red\"\" door\"\rL\r",
-            b"@S STU 7\r\n@NAME (LAMP IN) STUDY \"by the \"\"red\"\" door\"\r\n@L\r\nHALL 0\r\nKITCHEN 0\r\nSTAIRS 0\r\nSTUDY 7 by the \"red\" door\r\n@",
+            b"@S STU 7\r\n@NAME (LAMP IN) STUDY \"by the \"\"red\"\" door\"\r\n@L\r\nHALL 0\r\nKITCHEN 0\r\n\
+                STAIRS 0\r\nSTUDY 7 by the \"red\" door\r\n@",
             [0, 0, 0, 7],
         ),
         // A note goes with an empty one.
@@ -82,7 +84,8 @@ fn lists_lamps_and_notes(rt: HostRuntime) -> Result<(), Fail> {
         // 39 bytes, and 40.
         case(
             b"N H \"A23456789 B23456789 C23456789 D23456789\"\rL\r",
-            b"@N H \"A23456789 B23456789 C23456789 D23456789\"\r\n@L\r\nHALL 0 A23456789 B23456789 C23456789 D23456789\r\nKITCHEN 0\r\nSTAIRS 0\r\nSTUDY 0\r\n@",
+            b"@N H \"A23456789 B23456789 C23456789 D23456789\"\r\n@L\r\n\
+                HALL 0 A23456789 B23456789 C23456789 D23456789\r\nKITCHEN 0\r\nSTAIRS 0\r\nSTUDY 0\r\n@",
             [0, 0, 0, 0],
         ),
         case(
@@ -139,7 +142,8 @@ fn explains_what_may_come(rt: HostRuntime) -> Result<(), Fail> {
     let cases = [
         case(
             b"?",
-            b"@? confirm with carriage return\r\n or one of the following:\r\n  DIM\r\n  LIST\r\n  NAME\r\n  QUIT\r\n  SET\r\n@",
+            b"@? confirm with carriage return\r\n or one of the following:\r\n  DIM\r\n  LIST\r\n  NAME\
+                \r\n  QUIT\r\n  SET\r\n@",
             [0, 0, 0, 0],
         ),
         case(

@@ -47,12 +47,12 @@ impl Fault {
     }
 
     // How many numbers cut the session short, where the outputs say it.
-    fn count(self, whole: &Outcome) -> Option<u32> {
+    fn count(self, whole: &Outcome) -> Option<usize> {
         match self {
             // The get behind the last key finds that there is none.
-            Fault::Get => Some(SESSION.len() as u32 + 1),
-            Fault::Screen => Some(whole.screen.bytes().len() as u32),
-            Fault::Log => Some(whole.log.bytes().len() as u32),
+            Fault::Get => Some(SESSION.len() + 1),
+            Fault::Screen => Some(whole.screen.bytes().len()),
+            Fault::Log => Some(whole.log.bytes().len()),
             Fault::Host => None,
         }
     }
@@ -76,12 +76,13 @@ fn session(runtime: &HostRuntime, fault: Option<Fault>, number: u32) -> Result<O
 
 // The image behind the last key that acts with no more keys, and no more bytes shown, than these.
 fn image_behind(alloc: Global, keys: usize, shown: usize) -> Result<String, AllocError> {
-    let mut image = "";
-    for line in ACTING.lines() {
-        image = reached(line, keys, shown).unwrap_or(image);
-    }
     let mut said = String::new(alloc);
-    push_said(image, &mut said)?;
+    for line in ACTING.lines() {
+        if let Some(image) = reached(line, keys, shown) {
+            said.clear();
+            push_said(image, &mut said)?;
+        }
+    }
     Ok(said)
 }
 
@@ -167,10 +168,10 @@ fn is_met(runtime: &HostRuntime, fault: Fault, number: u32, whole: &Outcome) -> 
 }
 
 // Counts the numbers at which the fault is met, upwards from 0.
-fn count_met(runtime: &HostRuntime, fault: Fault, whole: &Outcome) -> Result<u32, Fail> {
-    for number in 0..5000 {
+fn count_met(runtime: &HostRuntime, fault: Fault, whole: &Outcome) -> Result<usize, Fail> {
+    for number in 0..5000u32 {
         if !is_met(runtime, fault, number, whole)? {
-            return Ok(number);
+            return Ok(number as usize);
         }
     }
     Err(Fail::new("no session is Done"))

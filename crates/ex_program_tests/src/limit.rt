@@ -22,6 +22,8 @@ impl Source for Endless {
 
     ghost left = { λ _. [] };
 
+    ghost gets = { λ source. source.gets };
+
     ghost faults = { λ _. 0 };
 
     fn get(&mut self) -> Got {
