@@ -10,7 +10,7 @@ pub(crate) fn part<'a>(rt: &impl Abort, case: &'a str, position: usize) -> &'a s
 }
 
 // The number that a text is.
-pub(crate) fn number(rt: &impl Abort, text: &str) -> usize {
+pub(crate) fn number(rt: &impl Abort, text: &str) -> u16 {
     match text.parse() {
         Ok(number) => number,
         Err(_) => panic!(rt; "{text} is no number"),

@@ -96,8 +96,8 @@ const DAYS: &str = "\
 47481|31-DEC-2099";
 
 fn shows_a_day(rt: &impl Abort, case: &str) {
-    let day = number(rt, part(rt, case, 0)) as i32;
-    assert!(rt; day >= 0 && day <= DAY_LIMIT, "{case}");
+    let day = i32::from(number(rt, part(rt, case, 0)));
+    assert!(rt; day <= DAY_LIMIT, "{case}");
     is_wanted(rt, case, day_text(day).as_str());
 }
 

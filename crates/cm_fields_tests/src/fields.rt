@@ -50,7 +50,7 @@ impl Trial {
 // A case is a text, the place of the field in it, and what the function makes of it.
 fn tries_one(rt: &impl Abort, alloc: Global, trial: Trial, case: &str) -> Result<(), Fail> {
     let text = part(rt, case, 0).as_bytes();
-    let at = number(rt, part(rt, case, 1));
+    let at = usize::from(number(rt, part(rt, case, 1)));
     assert!(rt; text.len() <= 256 && at <= text.len(), "{case}");
     let tried = trial.of(text, at);
     is_wanted(rt, case, format!(in alloc; "{tried:?}")?.as_str());
@@ -391,7 +391,7 @@ A!B!C|3|None Some(3)";
 
 fn skips(rt: &impl Abort, alloc: Global, case: &str) -> Result<(), Fail> {
     let text = part(rt, case, 0).as_bytes();
-    let at = number(rt, part(rt, case, 1));
+    let at = usize::from(number(rt, part(rt, case, 1)));
     assert!(rt; at <= text.len(), "{case}");
     let found = format!(in alloc; "{:?} {:?}", skip(false, text, at), skip(true, text, at))?;
     is_wanted(rt, case, found.as_str());

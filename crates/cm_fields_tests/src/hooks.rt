@@ -57,7 +57,7 @@ fn judges_a_field(
     requires all { count hooks.now ≡ 16 }
 {
     let text = part(rt, case, 0).as_bytes();
-    let at = number(rt, part(rt, case, 1));
+    let at = usize::from(number(rt, part(rt, case, 1)));
     assert!(rt; at <= text.len() && text.len() <= 256, "{case}");
     let tried = hook_field(hooks, 2, text, at);
     is_wanted(rt, case, format!(in alloc; "{tried:?}")?.as_str());

@@ -66,7 +66,7 @@ AB.>9|4 3 2 0
 
 fn cuts_a_word(rt: &impl Abort, line: &mut Line, text: &str, length: &str) {
     let start = line.word_start();
-    assert_eq!(rt; start, number(rt, length), "in {text:?}");
+    assert_eq!(rt; start, usize::from(number(rt, length)), "in {text:?}");
     line.cut(start);
     assert!(rt; text.as_bytes().starts_with(line.bytes()), "in {text:?}");
 }

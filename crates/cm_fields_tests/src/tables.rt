@@ -26,7 +26,7 @@ fn flag_of(rt: &impl Abort, word: &str) -> Flag {
         "" => Flag::Plain,
         "Invisible" => Flag::Invisible,
         "NoRecognise" => Flag::NoRecognise,
-        target => Flag::Short(number(rt, target) as u16),
+        target => Flag::Short(number(rt, target)),
     }
 }
 
@@ -97,9 +97,9 @@ fn answers(rt: &impl Abort, alloc: Global, table: &Table, case: &str) -> Result<
     let atom = part(rt, case, 1).as_bytes();
     let answer = match part(rt, case, 0) {
         "look" => format!(in alloc; "{:?}", table.look(atom))?,
-        "common" => format!(in alloc; "{}", str::from_utf8(table.common(atom))?)?,
+        "common" => format!(in alloc; "{}", table.common(atom).as_str())?,
         "whole" => format!(in alloc; "{}", table.has_text(atom))?,
-        from => format!(in alloc; "{:?}", table.next_listed(number(rt, from) as u16, atom))?,
+        from => format!(in alloc; "{:?}", table.next_listed(number(rt, from), atom))?,
     };
     is_wanted(rt, case, answer.as_str());
     Ok(())

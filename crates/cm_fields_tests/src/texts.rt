@@ -110,6 +110,10 @@ A-NAME-OF-THIRTY-NINE-BYTES-IN-LENGTH-1|A-NAME-OF-THIRTY-NINE-BYTES-IN-LENGTH-1|
 fn counts_what_is_alike(rt: HostRuntime) {
     for case in BEGINNINGS.lines() {
         let size = common_len(part(&rt, case, 0).as_bytes(), part(&rt, case, 1).as_bytes());
-        assert_eq!(rt; size, number(&rt, part(&rt, case, 2)), "{case}");
+        assert_eq!(rt;
+            size,
+            usize::from(number(&rt, part(&rt, case, 2))),
+            "{case}"
+        );
     }
 }
