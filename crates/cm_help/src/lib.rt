@@ -4,7 +4,7 @@
 mod listing;
 mod phrase;
 
-pub use listing::help;
+pub use listing::{help, put_help};
 
 #[cfg(test)]
 mod tests;
