@@ -1,8 +1,8 @@
 -- The listed entries of a table that are put one behind the other.
-use Rattle.std.proofs.Common.{◌≡◌, ℕ, ◌+◌, Bool, List, [], ◌++◌, Some, None, slice_get, ap}
+use Rattle.std.proofs.Common.{◌≡◌, ℕ, ◌+◌, Bool, List, ◌++◌, Some, slice_get, ap}
 use Rattle.cm_tables.specs.declared.entry.Entry.{Entry}
 use Rattle.cm_tables.specs.Listed.{listed_from, next_listed}
-use Rattle.cm_tables.proofs.Listing.{listed_first, listed_none}
+use Rattle.cm_tables.proofs.Listing.{listed_first}
 use Rattle.cm_help.specs.Phrase.{entry_line, entry_lines}
 
 -- where one more is listed its line comes next
@@ -12,8 +12,3 @@ pub lines_more : (switch : Bool) (table : List Entry) (from : ℕ) (atom : List 
     ≡ entry_line switch entry ++ entry_lines switch (listed_from (position + 1) table atom)
 lines_more switch table from atom position entry is found =
     ap (entry_lines switch) (listed_first table from atom position entry is found)
-
--- where none is, no line is left
-pub lines_none : (switch : Bool) (table : List Entry) (from : ℕ) (atom : List ℕ) → next_listed table from atom ≡ None
-    → entry_lines switch (listed_from from table atom) ≡ []
-lines_none switch table from atom is = ap (entry_lines switch) (listed_none table from atom is)

@@ -4,4 +4,4 @@
 mod listing;
 mod phrase;
 
-pub use listing::help;
+pub use listing::{help, put_help};

@@ -1,11 +1,12 @@
 // What `?` shows of a line.
-#![tactic(auto, using(crate::proofs::Pieces::pieces))]
+#![tactic(auto, using(cm_io::proofs::Texts::texts))]
 
 ghost use Rattle.std.specs.Prelude.{◌≡◌, ◌≤◌, ◌++◌, All, [], drop, length, map, slice_get, true, false};
 ghost use Rattle.std.specs.List.{flat_map};
 ghost use Rattle.cm_text.specs.declared.text.TheConstants.{LINE_LIMIT};
 ghost use Rattle.cm_io.specs.Told.{Adds};
 ghost use Rattle.cm_io.specs.Fault.{PutCause};
+ghost use Rattle.cm_io.specs.Writer.{Writes};
 ghost use Rattle.cm_fields.specs.Code.{code_text};
 ghost use Rattle.cm_hooks.specs.Ties.{Ties, count};
 ghost use Rattle.cm_blocks.specs.Grammar.{hook_count};
@@ -20,7 +21,7 @@ use cm_blocks::{Block, Ending, Function, Grammar, Node, Open, try_function};
 use cm_fields::{Code, Try};
 use cm_files::Names;
 use cm_hooks::{Hooks, Rules};
-use cm_io::{Put, Sink};
+use cm_io::{Put, Sink, Writer};
 use cm_text::{LINE_LIMIT, end_of_line};
 
 #[tactic(auto, unfolding(crate::specs::Help::comment))]
@@ -31,19 +32,16 @@ fn comment() -> &'static [u8]
 }
 
 // Puts what stands before a phrase.
-#[tactic(auto, using(crate::proofs::Pieces::pieces), unfolding(crate::specs::Help::lead))]
-fn put_lead<S: Sink>(first: bool, sink: &mut S) -> Put
-    ensures bytes { Adds (S.told sink.old) (S.told sink.new) (lead first) result }
-    ensures later { S.faults sink.old ≤ S.faults sink.new }
-    ensures cause { PutCause (S.faults sink.old) (S.faults sink.new) result }
+#[tactic(auto, using(cm_io::proofs::Texts::texts), unfolding(crate::specs::Help::lead))]
+fn put_lead<S: Sink>(first: bool, out: &mut Writer<'_, S>)
+    ensures { Writes S.Sink out.old out.new (lead first) }
 {
     if first {
-        return sink.put(b" ");
+        out.put(b" ");
+    } else {
+        out.put(end_of_line());
+        out.put(b" or ");
     }
-    if let Put::Failed = sink.put(end_of_line()) {
-        return Put::Failed;
-    }
-    sink.put(b" or ")
 }
 
 // Puts one phrase of a list.
@@ -53,44 +51,33 @@ fn put_item<R: Rules, S: Sink>(
     block: &Block,
     atom: &[u8],
     hooks: &Hooks<R>,
-    sink: &mut S,
-) -> Put
+    out: &mut Writer<'_, S>,
+)
     requires well { IsWellBlock grammar.now block.now }
     requires ties { Ties R.meanings hooks.now }
     requires hooks { hook_count grammar.now ≤ count hooks.now }
-    ensures bytes { Adds (S.told sink.old) (S.told sink.new)
-        (lead first ++ phrase grammar.now R.meanings atom.now block.now) result }
-    ensures later { S.faults sink.old ≤ S.faults sink.new }
-    ensures cause { PutCause (S.faults sink.old) (S.faults sink.new) result }
+    ensures { Writes S.Sink out.old out.new (lead first ++ phrase grammar.now R.meanings atom.now block.now) }
 {
-    if let Put::Failed = put_lead(first, sink) {
-        return Put::Failed;
-    }
-    put_phrase(grammar, block, atom, hooks, sink)
+    put_lead(first, out);
+    put_phrase(grammar, block, atom, hooks, out);
 }
 
 // Puts the phrases of these blocks, of which nothing is typed, behind others.
-#[tactic(auto)]
+#[tactic(auto, using(cm_io::proofs::Texts::turns))]
 fn put_untouched<R: Rules, S: Sink>(
     grammar: &Grammar,
     blocks: &[Block],
     hooks: &Hooks<R>,
-    sink: &mut S,
-) -> Put
+    out: &mut Writer<'_, S>,
+)
     requires well { All (IsWellBlock grammar.now) blocks.now }
     requires ties { Ties R.meanings hooks.now }
     requires hooks { hook_count grammar.now ≤ count hooks.now }
-    ensures bytes { Adds (S.told sink.old) (S.told sink.new)
-        (listing false (map (phrase grammar.now R.meanings []) blocks.now)) result }
-    ensures later { S.faults sink.old ≤ S.faults sink.new }
-    ensures cause { PutCause (S.faults sink.old) (S.faults sink.new) result }
+    ensures { Writes S.Sink out.old out.new (listing false (map (phrase grammar.now R.meanings []) blocks.now)) }
 {
     for block in blocks {
-        if let Put::Failed = put_item(false, grammar, block, b"", hooks, sink) {
-            return Put::Failed;
-        }
+        put_item(false, grammar, block, b"", hooks, out);
     }
-    Put::Done
 }
 
 // Puts the phrases of all blocks of a node, of which nothing is typed, behind others.
@@ -98,19 +85,17 @@ fn put_node<R: Rules, S: Sink>(
     grammar: &Grammar,
     number: u16,
     hooks: &Hooks<R>,
-    sink: &mut S,
-) -> Put
+    out: &mut Writer<'_, S>,
+)
     requires ties { Ties R.meanings hooks.now }
     requires hooks { hook_count grammar.now ≤ count hooks.now }
-    ensures bytes { Adds (S.told sink.old) (S.told sink.new)
-        (listing false (node_phrases grammar.now R.meanings (slice_get grammar.now.nodes number))) result }
-    ensures later { S.faults sink.old ≤ S.faults sink.new }
-    ensures cause { PutCause (S.faults sink.old) (S.faults sink.new) result }
+    ensures { Writes S.Sink out.old out.new
+        (listing false (node_phrases grammar.now R.meanings (slice_get grammar.now.nodes number))) }
 {
     if number >= grammar.nodes() {
-        return Put::Done;
+        return;
     }
-    put_untouched(grammar, grammar.node(number).chain.as_slice(), hooks, sink)
+    put_untouched(grammar, grammar.node(number).chain.as_slice(), hooks, out);
 }
 
 fn is_guide(function: &Function) -> bool
@@ -120,24 +105,21 @@ fn is_guide(function: &Function) -> bool
 }
 
 // Puts the phrases behind a guide word of which nothing is typed.
+#[tactic(auto, using(cm_io::proofs::Texts::writes_none))]
 fn put_behind_guide<R: Rules, S: Sink>(
     grammar: &Grammar,
     block: &Block,
     atom: &[u8],
     hooks: &Hooks<R>,
-    sink: &mut S,
-) -> Put
+    out: &mut Writer<'_, S>,
+)
     requires ties { Ties R.meanings hooks.now }
     requires hooks { hook_count grammar.now ≤ count hooks.now }
-    ensures bytes { Adds (S.told sink.old) (S.told sink.new)
-        (listing false (behind_guide grammar.now R.meanings block.now atom.now)) result }
-    ensures later { S.faults sink.old ≤ S.faults sink.new }
-    ensures cause { PutCause (S.faults sink.old) (S.faults sink.new) result }
+    ensures { Writes S.Sink out.old out.new
+        (listing false (behind_guide grammar.now R.meanings block.now atom.now)) }
 {
     if is_guide(&block.function) && atom.is_empty() {
-        put_node(grammar, block.next, hooks, sink)
-    } else {
-        Put::Done
+        put_node(grammar, block.next, hooks, out);
     }
 }
 
@@ -148,20 +130,15 @@ fn put_phrases<R: Rules, S: Sink>(
     block: &Block,
     atom: &[u8],
     hooks: &Hooks<R>,
-    sink: &mut S,
-) -> Put
+    out: &mut Writer<'_, S>,
+)
     requires well { IsWellBlock grammar.now block.now }
     requires ties { Ties R.meanings hooks.now }
     requires hooks { hook_count grammar.now ≤ count hooks.now }
-    ensures bytes { Adds (S.told sink.old) (S.told sink.new)
-        (listing first (phrases grammar.now R.meanings atom.now block.now)) result }
-    ensures later { S.faults sink.old ≤ S.faults sink.new }
-    ensures cause { PutCause (S.faults sink.old) (S.faults sink.new) result }
+    ensures { Writes S.Sink out.old out.new (listing first (phrases grammar.now R.meanings atom.now block.now)) }
 {
-    if let Put::Failed = put_item(first, grammar, block, atom, hooks, sink) {
-        return Put::Failed;
-    }
-    put_behind_guide(grammar, block, atom, hooks, sink)
+    put_item(first, grammar, block, atom, hooks, out);
+    put_behind_guide(grammar, block, atom, hooks, out);
 }
 
 // Whether the function of a block refuses the line from a place on.
@@ -188,7 +165,7 @@ fn refuses<N: Names, R: Rules>(
 }
 
 // Puts the phrases of those of these blocks that do not refuse the line from a place on.
-#[tactic(auto)]
+#[tactic(auto, using(cm_io::proofs::Texts::turns))]
 fn put_possible<N: Names, R: Rules, S: Sink>(
     grammar: &Grammar,
     blocks: &[Block],
@@ -196,19 +173,16 @@ fn put_possible<N: Names, R: Rules, S: Sink>(
     at: usize,
     names: &N,
     hooks: &Hooks<R>,
-    sink: &mut S,
-) -> Put
+    out: &mut Writer<'_, S>,
+)
     requires well { All (IsWellBlock grammar.now) blocks.now }
     requires ties { Ties R.meanings hooks.now }
     requires hooks { hook_count grammar.now ≤ count hooks.now }
     requires short { length line.now ≤ LINE_LIMIT }
     requires place { at ≤ length line.now }
-    ensures bytes { Adds (S.told sink.old) (S.told sink.new)
+    ensures { Writes S.Sink out.old out.new
         (listing true (flat_map (phrases grammar.now R.meanings (drop at line.now))
-        (possible (setting grammar.now (N.catalogue names.now) R.meanings) (drop at line.now) at blocks.now)))
-        result }
-    ensures later { S.faults sink.old ≤ S.faults sink.new }
-    ensures cause { PutCause (S.faults sink.old) (S.faults sink.new) result }
+        (possible (setting grammar.now (N.catalogue names.now) R.meanings) (drop at line.now) at blocks.now))) }
 {
     let atom = line.split_at(at).1;
     let mut first = true;
@@ -216,12 +190,9 @@ fn put_possible<N: Names, R: Rules, S: Sink>(
         if refuses(grammar, block, line, at, names, hooks) {
             continue;
         }
-        if let Put::Failed = put_phrases(first, grammar, block, atom, hooks, sink) {
-            return Put::Failed;
-        }
+        put_phrases(first, grammar, block, atom, hooks, out);
         first = false;
     }
-    Put::Done
 }
 
 // Puts what may come where the blocks of a node wait from this one on.
@@ -233,22 +204,19 @@ fn put_waiting<N: Names, R: Rules, S: Sink>(
     at: usize,
     names: &N,
     hooks: &Hooks<R>,
-    sink: &mut S,
-) -> Put
+    out: &mut Writer<'_, S>,
+)
     requires well { IsWell grammar.now node.now }
     requires ties { Ties R.meanings hooks.now }
     requires hooks { hook_count grammar.now ≤ count hooks.now }
     requires short { length line.now ≤ LINE_LIMIT }
     requires place { at ≤ length line.now }
-    ensures bytes { Adds (S.told sink.old) (S.told sink.new)
-        (waiting (setting grammar.now (N.catalogue names.now) R.meanings) node.now block (drop at line.now) at)
-        result }
-    ensures later { S.faults sink.old ≤ S.faults sink.new }
-    ensures cause { PutCause (S.faults sink.old) (S.faults sink.new) result }
+    ensures { Writes S.Sink out.old out.new
+        (waiting (setting grammar.now (N.catalogue names.now) R.meanings) node.now block (drop at line.now) at) }
 {
     let chain = node.chain.as_slice();
     let first = usize::from(block).min(chain.len());
-    put_possible(grammar, &chain[first..], line, at, names, hooks, sink)
+    put_possible(grammar, &chain[first..], line, at, names, hooks, out);
 }
 
 // Puts what may come at a place of the line.
@@ -258,39 +226,34 @@ fn put_place<N: Names, R: Rules, S: Sink>(
     line: &[u8],
     names: &N,
     hooks: &Hooks<R>,
-    sink: &mut S,
-) -> Put
+    out: &mut Writer<'_, S>,
+)
     requires ties { Ties R.meanings hooks.now }
     requires hooks { hook_count grammar.now ≤ count hooks.now }
     requires short { length line.now ≤ LINE_LIMIT }
     requires place { place.at ≤ length line.now }
-    ensures bytes { Adds (S.told sink.old) (S.told sink.new)
+    ensures { Writes S.Sink out.old out.new
         (at_place (setting grammar.now (N.catalogue names.now) R.meanings) line.now place.at place.block
-        (slice_get grammar.now.nodes place.node)) result }
-    ensures later { S.faults sink.old ≤ S.faults sink.new }
-    ensures cause { PutCause (S.faults sink.old) (S.faults sink.new) result }
+        (slice_get grammar.now.nodes place.node)) }
 {
     let Some(block) = place.block else {
-        return sink.put(comment());
+        out.put(comment());
+        return;
     };
     if place.node >= grammar.nodes() {
-        return Put::Done;
+        return;
     }
     let node = grammar.node(place.node);
     let at = usize::from(place.at);
-    put_waiting(grammar, node, block, line, at, names, hooks, sink)
+    put_waiting(grammar, node, block, line, at, names, hooks, out);
 }
 
 // Puts why a line is refused.
-fn put_refusal<S: Sink>(code: Code, sink: &mut S) -> Put
-    ensures bytes { Adds (S.told sink.old) (S.told sink.new) (lead true ++ code_text code) result }
-    ensures later { S.faults sink.old ≤ S.faults sink.new }
-    ensures cause { PutCause (S.faults sink.old) (S.faults sink.new) result }
+fn put_refusal<S: Sink>(code: Code, out: &mut Writer<'_, S>)
+    ensures { Writes S.Sink out.old out.new (lead true ++ code_text code) }
 {
-    if let Put::Failed = put_lead(true, sink) {
-        return Put::Failed;
-    }
-    sink.put(code.text().as_bytes())
+    put_lead(true, out);
+    out.put(code.text().as_bytes());
 }
 
 /// Puts what `?` shows of a line whose parse ends so (COMND's help).
@@ -302,7 +265,6 @@ fn put_refusal<S: Sink>(code: Code, sink: &mut S) -> Put
 /// that is not ended, that it is one. Where the ending is none of the line, it is nothing.
 ///
 /// The answer is Failed only where the sink failed.
-#[tactic(auto, using(cm_io::proofs::Adding::add_none), unfolding(crate::specs::Help::help_text))]
 pub fn help<N: Names, R: Rules, S: Sink>(
     grammar: &Grammar,
     ending: Ending,
@@ -319,11 +281,32 @@ pub fn help<N: Names, R: Rules, S: Sink>(
     ensures later { S.faults sink.old ≤ S.faults sink.new }
     ensures cause { PutCause (S.faults sink.old) (S.faults sink.new) result }
 {
+    let mut out = Writer::new(sink);
+    put_help(grammar, ending, line, names, hooks, &mut out);
+    out.went()
+}
+
+/// The same where more is written: puts on a writer what `help` puts on a sink.
+#[tactic(auto, using(cm_io::proofs::Texts::writes_none), unfolding(crate::specs::Help::help_text))]
+pub fn put_help<N: Names, R: Rules, S: Sink>(
+    grammar: &Grammar,
+    ending: Ending,
+    line: &[u8],
+    names: &N,
+    hooks: &Hooks<R>,
+    out: &mut Writer<'_, S>,
+)
+    requires line { length line.now ≤ LINE_LIMIT }
+    requires ties { Ties R.meanings hooks.now }
+    requires hooks { hook_count grammar.now ≤ count hooks.now }
+    ensures { Writes S.Sink out.old out.new
+        (help_text (setting grammar.now (N.catalogue names.now) R.meanings) ending line.now) }
+{
     match ending {
         Ending::Open(place) if usize::from(place.at) <= line.len() => {
-            put_place(grammar, place, line, names, hooks, sink)
+            put_place(grammar, place, line, names, hooks, out);
         }
-        Ending::Fault(fault) => put_refusal(fault.code, sink),
-        Ending::Open(_) | Ending::Done => Put::Done,
+        Ending::Fault(fault) => put_refusal(fault.code, out),
+        Ending::Open(_) | Ending::Done => {}
     }
 }

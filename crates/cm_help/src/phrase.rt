@@ -1,11 +1,10 @@
 // What a block reads, in words.
-#![tactic(auto, using(crate::proofs::Pieces::pieces))]
+#![tactic(auto, using(cm_io::proofs::Texts::texts))]
 
 ghost use Rattle.std.specs.Prelude.{◌≡◌, ◌≤◌, ◌<◌, ◌++◌, ◌&&◌, true, drop, None};
 ghost use Rattle.cm_text.specs.Shown.{end_of_line};
 ghost use Rattle.cm_tables.specs.Listed.{listed_from};
-ghost use Rattle.cm_io.specs.Told.{Adds};
-ghost use Rattle.cm_io.specs.Fault.{PutCause};
+ghost use Rattle.cm_io.specs.Writer.{Writes};
 ghost use Rattle.cm_hooks.specs.Ties.{Ties, count};
 ghost use Rattle.cm_blocks.specs.Fault.{has_table};
 ghost use Rattle.cm_blocks.specs.Grammar.{hook_count, hook_limit};
@@ -14,7 +13,7 @@ ghost use Rattle.cm_help.specs.Phrase.{colon, entry_line, entry_lines, function_
 
 use cm_blocks::{Block, Function, Grammar};
 use cm_hooks::{Hooks, Rules};
-use cm_io::{Put, Sink};
+use cm_io::{Sink, Writer};
 use cm_tables::{Entry, Table};
 use cm_text::end_of_line;
 
@@ -68,71 +67,47 @@ fn quote() -> &'static [u8]
 }
 
 // Puts an entry on a line of its own.
-#[tactic(auto, using(crate::proofs::Pieces::pieces), unfolding(crate::specs::Phrase::entry_line))]
-fn put_entry<S: Sink>(switch: bool, entry: &Entry, sink: &mut S) -> Put
-    ensures bytes { Adds (S.told sink.old) (S.told sink.new) (entry_line switch entry.now) result }
-    ensures later { S.faults sink.old ≤ S.faults sink.new }
-    ensures cause { PutCause (S.faults sink.old) (S.faults sink.new) result }
+#[tactic(auto, using(cm_io::proofs::Texts::texts), unfolding(crate::specs::Phrase::entry_line))]
+fn put_entry<S: Sink>(switch: bool, entry: &Entry, out: &mut Writer<'_, S>)
+    ensures { Writes S.Sink out.old out.new (entry_line switch entry.now) }
 {
-    if let Put::Failed = sink.put(end_of_line()) {
-        return Put::Failed;
-    }
-    if let Put::Failed = sink.put(indent(switch)) {
-        return Put::Failed;
-    }
-    if let Put::Failed = sink.put(entry.text.as_bytes()) {
-        return Put::Failed;
-    }
-    sink.put(colon(switch && entry.colon))
+    out.put(end_of_line());
+    out.put(indent(switch));
+    out.put(entry.text.as_bytes());
+    out.put(colon(switch && entry.colon));
 }
 
 // Puts the listed entries that go on from an atom, one behind the other.
-#[tactic(auto)]
-fn put_entries<S: Sink>(switch: bool, table: &Table, atom: &[u8], sink: &mut S) -> Put
-    ensures bytes { Adds (S.told sink.old) (S.told sink.new)
-        (entry_lines switch (listed_from 0 table.now atom.now)) result }
-    ensures later { S.faults sink.old ≤ S.faults sink.new }
-    ensures cause { PutCause (S.faults sink.old) (S.faults sink.new) result }
+#[tactic(auto, using(cm_io::proofs::Texts::turns))]
+fn put_entries<S: Sink>(switch: bool, table: &Table, atom: &[u8], out: &mut Writer<'_, S>)
+    ensures { Writes S.Sink out.old out.new (entry_lines switch (listed_from 0 table.now atom.now)) }
 {
     let mut from = 0;
     while let Some(position) = table.next_listed(from, atom) {
-        if let Put::Failed = put_entry(switch, table.entry(position), sink) {
-            return Put::Failed;
-        }
+        put_entry(switch, table.entry(position), out);
         from = position + 1;
     }
-    Put::Done
 }
 
 // Puts the listed entries that go on from an atom, or that there are none.
-fn put_keywords<S: Sink>(switch: bool, table: &Table, atom: &[u8], sink: &mut S) -> Put
-    ensures bytes { Adds (S.told sink.old) (S.told sink.new)
-        (keywords switch (listed_from 0 table.now atom.now)) result }
-    ensures later { S.faults sink.old ≤ S.faults sink.new }
-    ensures cause { PutCause (S.faults sink.old) (S.faults sink.new) result }
+fn put_keywords<S: Sink>(switch: bool, table: &Table, atom: &[u8], out: &mut Writer<'_, S>)
+    ensures { Writes S.Sink out.old out.new (keywords switch (listed_from 0 table.now atom.now)) }
 {
     if table.next_listed(0, atom).is_none() {
-        return sink.put(none_matches());
+        out.put(none_matches());
+    } else {
+        out.put(one_of());
+        put_entries(switch, table, atom, out);
     }
-    if let Put::Failed = sink.put(one_of()) {
-        return Put::Failed;
-    }
-    put_entries(switch, table, atom, sink)
 }
 
 // Puts a text between two others.
-fn put_between<S: Sink>(before: &[u8], text: &[u8], behind: &[u8], sink: &mut S) -> Put
-    ensures bytes { Adds (S.told sink.old) (S.told sink.new) (before.now ++ text.now ++ behind.now) result }
-    ensures later { S.faults sink.old ≤ S.faults sink.new }
-    ensures cause { PutCause (S.faults sink.old) (S.faults sink.new) result }
+fn put_between<S: Sink>(before: &[u8], text: &[u8], behind: &[u8], out: &mut Writer<'_, S>)
+    ensures { Writes S.Sink out.old out.new (before.now ++ text.now ++ behind.now) }
 {
-    if let Put::Failed = sink.put(before) {
-        return Put::Failed;
-    }
-    if let Put::Failed = sink.put(text) {
-        return Put::Failed;
-    }
-    sink.put(behind)
+    out.put(before);
+    out.put(text);
+    out.put(behind);
 }
 
 // What is typed of a switch behind its slash.
@@ -152,39 +127,36 @@ fn put_function<R: Rules, S: Sink>(
     function: &Function,
     atom: &[u8],
     hooks: &Hooks<R>,
-    sink: &mut S,
-) -> Put
+    out: &mut Writer<'_, S>,
+)
     requires table { has_table grammar.now.tables function.now ≡ true }
     requires ties { Ties R.meanings hooks.now }
     requires hook { hook_limit function.now ≤ count hooks.now }
-    ensures bytes { Adds (S.told sink.old) (S.told sink.new)
-        (function_phrase grammar.now R.meanings function.now atom.now) result }
-    ensures later { S.faults sink.old ≤ S.faults sink.new }
-    ensures cause { PutCause (S.faults sink.old) (S.faults sink.new) result }
+    ensures { Writes S.Sink out.old out.new (function_phrase grammar.now R.meanings function.now atom.now) }
 {
     match function {
-        Function::Key(table) => put_keywords(false, grammar.table(*table), atom, sink),
+        Function::Key(table) => put_keywords(false, grammar.table(*table), atom, out),
         Function::Switch(table) => put_keywords(
             true,
             grammar.table(*table),
             behind_slash(atom),
-            sink,
+            out,
         ),
-        Function::Noise(text) => put_between(guide_word(), text.as_bytes(), guide_end(), sink),
-        Function::Number => sink.put(b"decimal number"),
-        Function::Word => sink.put(b"word"),
-        Function::Quoted => sink.put(b"quoted string"),
-        Function::Token(text) => put_between(quote(), text.as_bytes(), quote(), sink),
-        Function::Date => sink.put(b"date, as 5-JAN-1980"),
-        Function::User => sink.put(b"user name"),
-        Function::Directory => sink.put(b"directory name"),
-        Function::InFile => sink.put(b"input file"),
-        Function::OutFile => sink.put(b"output file"),
-        Function::AnyFile => sink.put(b"file specification"),
-        Function::Text => sink.put(b"text to end of line"),
-        Function::Comma => sink.put(b"comma"),
-        Function::Confirm => sink.put(b"confirm with carriage return"),
-        Function::Hook(id) => sink.put(hooks.help(*id).as_bytes()),
+        Function::Noise(text) => put_between(guide_word(), text.as_bytes(), guide_end(), out),
+        Function::Number => out.put(b"decimal number"),
+        Function::Word => out.put(b"word"),
+        Function::Quoted => out.put(b"quoted string"),
+        Function::Token(text) => put_between(quote(), text.as_bytes(), quote(), out),
+        Function::Date => out.put(b"date, as 5-JAN-1980"),
+        Function::User => out.put(b"user name"),
+        Function::Directory => out.put(b"directory name"),
+        Function::InFile => out.put(b"input file"),
+        Function::OutFile => out.put(b"output file"),
+        Function::AnyFile => out.put(b"file specification"),
+        Function::Text => out.put(b"text to end of line"),
+        Function::Comma => out.put(b"comma"),
+        Function::Confirm => out.put(b"confirm with carriage return"),
+        Function::Hook(id) => out.put(hooks.help(*id).as_bytes()),
     }
 }
 
@@ -195,18 +167,15 @@ pub(crate) fn put_phrase<R: Rules, S: Sink>(
     block: &Block,
     atom: &[u8],
     hooks: &Hooks<R>,
-    sink: &mut S,
-) -> Put
+    out: &mut Writer<'_, S>,
+)
     requires well { IsWellBlock grammar.now block.now }
     requires ties { Ties R.meanings hooks.now }
     requires hooks { hook_count grammar.now ≤ count hooks.now }
-    ensures bytes { Adds (S.told sink.old) (S.told sink.new)
-        (phrase grammar.now R.meanings atom.now block.now) result }
-    ensures later { S.faults sink.old ≤ S.faults sink.new }
-    ensures cause { PutCause (S.faults sink.old) (S.faults sink.new) result }
+    ensures { Writes S.Sink out.old out.new (phrase grammar.now R.meanings atom.now block.now) }
 {
     match &block.help {
-        Some(text) => sink.put(text.as_bytes()),
-        None => put_function(grammar, &block.function, atom, hooks, sink),
+        Some(text) => out.put(text.as_bytes()),
+        None => put_function(grammar, &block.function, atom, hooks, out),
     }
 }

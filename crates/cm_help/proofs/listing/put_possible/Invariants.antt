@@ -1,7 +1,7 @@
 -- What the blocks from here on give is left to be put.
-use Rattle.std.proofs.Common.{◌≡◌, drop, true}
+use Rattle.std.proofs.Common.{drop, true}
 use Rattle.cm_blocks.specs.Setting.{setting}
-use Rattle.cm_io.proofs.Putting.{Putting}
+use Rattle.cm_io.proofs.Texts.{Left}
 use Rattle.cm_help.proofs.Joining.{left}
 use Rattle.cm_help.proofs.listing.put_possible.Given as goal
 
@@ -9,8 +9,4 @@ abbrev pub invariant-loop-block : goal.invariant-loop-block
 invariant-loop-block g l =
     let s = setting l.grammar (g.N.Names.catalogue l.names) g.R.Rules.meanings in
     let atom = drop l.at l.line in
-    record {
-      putting : Putting (g.S.Sink.told l.fn.sink) (g.S.Sink.told l.sink)
-          (left s atom l.at l.first (drop l.block-index l.blocks)) (left s atom l.at true l.blocks);
-      faults : g.S.Sink.faults l.sink ≡ g.S.Sink.faults l.fn.sink;
-    }
+    Left g.S.Sink l.fn.out l.out (left s atom l.at l.first (drop l.block-index l.blocks)) (left s atom l.at true l.blocks)

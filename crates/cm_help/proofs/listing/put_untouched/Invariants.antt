@@ -1,6 +1,6 @@
 -- The phrases of the blocks from here on are left to be put.
-use Rattle.std.proofs.Common.{◌≡◌, [], drop, false, map}
-use Rattle.cm_io.proofs.Putting.{Putting}
+use Rattle.std.proofs.Common.{[], drop, false, map}
+use Rattle.cm_io.proofs.Texts.{Left}
 use Rattle.cm_help.specs.Help.{listing}
 use Rattle.cm_help.specs.Phrase.{phrase}
 use Rattle.cm_help.proofs.listing.put_untouched.Given as goal
@@ -8,8 +8,4 @@ use Rattle.cm_help.proofs.listing.put_untouched.Given as goal
 abbrev pub invariant-loop-block : goal.invariant-loop-block
 invariant-loop-block g l =
     let phrases = map (phrase l.grammar g.R.Rules.meanings []) in
-    record {
-      putting : Putting (g.S.Sink.told l.fn.sink) (g.S.Sink.told l.sink)
-          (listing false (phrases (drop l.block-index l.blocks))) (listing false (phrases l.blocks));
-      faults : g.S.Sink.faults l.sink ≡ g.S.Sink.faults l.fn.sink;
-    }
+    Left g.S.Sink l.fn.out l.out (listing false (phrases (drop l.block-index l.blocks))) (listing false (phrases l.blocks))
