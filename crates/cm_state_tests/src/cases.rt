@@ -27,9 +27,23 @@ fn append(whole: &mut String, part: &str, times: usize) -> Result<(), Fail> {
     Ok(whole.push_str(rest)?)
 }
 
+// The three parts of a case, of which the first is a number.
+pub(crate) fn numbered(case: &str) -> Option<(u16, &str, &str)> {
+    let (number, rest) = case.split_once('|')?;
+    let (text, wanted) = rest.split_once('|')?;
+    Some((number.parse().ok()?, text, wanted))
+}
+
+// The three parts of a case, of which the first is an ending.
+pub(crate) fn ended(case: &str) -> Option<(Ending, &str, &str)> {
+    let (place, rest) = case.split_once('|')?;
+    let (text, wanted) = rest.split_once('|')?;
+    Some((ending(place)?, text, wanted))
+}
+
 // An ending: `NODE.BLOCK@PLACE` where blocks wait, `NODE@PLACE` in a comment, `done`, or the name of a code for a fault
 // at the place 0 of node 0.
-pub(crate) fn ending(text: &str) -> Option<Ending> {
+fn ending(text: &str) -> Option<Ending> {
     match text {
         "done" => Some(Ending::Done),
         "NotKeyword" => Some(fault(Code::NotKeyword)),

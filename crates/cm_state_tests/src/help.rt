@@ -4,7 +4,7 @@ ghost use Rattle.cm_blocks.specs.Grammar.{hook_count};
 ghost use Rattle.cm_hooks.specs.Ties.{Ties, count};
 
 use crate::cabinet::Cabinet;
-use crate::cases::{ending, line};
+use crate::cases::{ended, line};
 use crate::grammars::fields;
 use crate::judges::{Judges, hooks_of};
 use cm_blocks::{Ending, Grammar};
@@ -36,9 +36,7 @@ fn try_case(
     requires ties { Ties ⟦<Judges as Rules>⟧.meanings hooks.now }
     requires hooks { hook_count grammar.now ≤ count hooks.now }
 {
-    let (place, rest) = case.split_once('|').ok_or("an ending")?;
-    let (text, wanted) = rest.split_once('|').ok_or("a line")?;
-    let ending = ending(place).ok_or("an ending of a known form")?;
+    let (ending, text, wanted) = ended(case).ok_or("a case")?;
     let screen = shown(rt, alloc, ending, &line(rt, text), grammar, hooks)?;
     assert_eq!(rt; str::from_utf8(screen.bytes())?, wanted, "at {case}");
     Ok(())

@@ -88,23 +88,14 @@ fn hook(id: u8, alloc: Global) -> Result<Hook<Judges>, Fail>
     ))
 }
 
-// Adds the hook of the next id.
-fn add(hooks: &mut Hooks<Judges>, id: u8, alloc: Global) -> Result<(), Fail>
-    requires { Ties ⟦<Judges as Rules>⟧.meanings hooks.old }
-    ensures { Ties ⟦<Judges as Rules>⟧.meanings hooks.new }
-{
-    hooks.push(hook(id, alloc)?).ok().ok_or("another id")?;
-    Ok(())
-}
-
 fn hooks(alloc: Global) -> Result<Hooks<Judges>, Fail>
     ensures { IfOk result (λ hooks. Ties ⟦<Judges as Rules>⟧.meanings hooks) }
 {
     let mut hooks = Hooks::new();
-    add(&mut hooks, 0, alloc)?;
-    add(&mut hooks, 1, alloc)?;
-    add(&mut hooks, 2, alloc)?;
-    add(&mut hooks, 3, alloc)?;
+    hooks.push(hook(0, alloc)?).ok().ok_or("hook 0")?;
+    hooks.push(hook(1, alloc)?).ok().ok_or("hook 1")?;
+    hooks.push(hook(2, alloc)?).ok().ok_or("hook 2")?;
+    hooks.push(hook(3, alloc)?).ok().ok_or("hook 3")?;
     Ok(hooks)
 }
 

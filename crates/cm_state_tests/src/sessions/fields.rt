@@ -5,7 +5,7 @@ ghost use Rattle.cm_hooks.specs.Ties.{Ties, count};
 
 use super::run::{exec_and_hooks, run_of, tries};
 use crate::cabinet::Cabinet;
-use crate::cases::repeat;
+use crate::cases::{numbered, repeat};
 use crate::judges::Judges;
 use cm_blocks::{Grammar, Steps};
 use cm_hooks::{Hooks, Rules};
@@ -65,7 +65,7 @@ LOGOUT\r \r|Confirmed|@LOGOUT\r
 0d 6 D 0.1k10@0-6
 20 1 O
 0d 1 D";
-    tries::<Brand, _>(&rt, &rt, Blank::new(1), cases)
+    tries(&rt, &rt, cases)
 }
 
 // A session with a number of fields, and how its parse ends: PRINT of A with so many times a number of copies, and more
@@ -73,7 +73,7 @@ LOGOUT\r \r|Confirmed|@LOGOUT\r
 fn held<L: Ledger>(
     rt: &impl Abort,
     alloc: Global,
-    times: usize,
+    times: u16,
     more: &str,
     grammar: &Grammar,
     hooks: &Hooks<Judges>,
@@ -83,7 +83,7 @@ fn held<L: Ledger>(
     requires hooks { hook_count grammar.now ≤ count hooks.now }
     requires nodes { 0 < length grammar.now.nodes }
 {
-    let mut keys = repeat(alloc, "P A[/C:1]", times)?;
+    let mut keys = repeat(alloc, "P A[/C:1]", usize::from(times))?;
     keys.push_str(more)?;
     let session = run_of(rt, alloc, &keys, grammar, &Cabinet, hooks, steps)?.session;
     Ok(format!(in alloc; "{} {:?}", session.held(), session.ending())?)
@@ -101,9 +101,8 @@ fn try_held<L: Ledger>(
     requires hooks { hook_count grammar.now ≤ count hooks.now }
     requires nodes { 0 < length grammar.now.nodes }
 {
-    let (times, rest) = case.split_once('|').ok_or("a number")?;
-    let (more, wanted) = rest.split_once('|').ok_or("more keys")?;
-    let found = held(rt, alloc, times.parse()?, more, grammar, hooks, steps)?;
+    let (times, more, wanted) = numbered(case).ok_or("a case")?;
+    let found = held(rt, alloc, times, more, grammar, hooks, steps)?;
     assert_eq!(rt; found.as_str(), wanted, "at {case}");
     Ok(())
 }
@@ -112,7 +111,7 @@ fn tries_held<L: Ledger, A: Abort>(
     rt: &A,
     runtime: &HostRuntime,
     blank: Blank,
-    cases: &str,
+    cases: &[u8],
 ) -> Result<(), Fail>
     requires name { blank.name ≡ L.name }
     requires parts { blank.parts ≡ L.parts }
@@ -121,7 +120,7 @@ fn tries_held<L: Ledger, A: Abort>(
     let alloc = runtime.alloc();
     let (grammar, hooks) = exec_and_hooks(rt, alloc)?;
     let mut steps: Steps<L> = Steps::new(runtime, blank);
-    for case in cases.lines() {
+    for case in str::from_utf8(cases)?.lines() {
         try_held(rt, alloc, case, &grammar, &hooks, &mut steps)?;
     }
     Ok(())
@@ -137,5 +136,5 @@ fn holds_64_fields(rt: HostRuntime) -> Result<(), Fail> {
 30| /C:1,|64 Fault(Fault { code: TooMany, node: 41, at: 127 })
 31|/|64 Fault(Fault { code: TooMany, node: 41, at: 126 })
 31|/\x7f|64 Open(Open { node: 41, block: Some(0), at: 126 })";
-    tries_held::<Brand, _>(&rt, &rt, Blank::new(1), cases)
+    tries_held::<Brand, _>(&rt, &rt, Blank::new(1), cases.as_bytes())
 }

@@ -3,10 +3,9 @@ ghost use Rattle.std.specs.Prelude.{◌≡◌, ◌<◌, ◌≤◌, length};
 ghost use Rattle.cm_blocks.specs.Grammar.{hook_count};
 ghost use Rattle.cm_hooks.specs.Ties.{Ties, count};
 
-use super::run::exec_and_hooks;
 use crate::cabinet::Cabinet;
-use crate::cases::line;
-use crate::grammars::fields;
+use crate::cases::{line, numbered};
+use crate::grammars::{exec, fields};
 use crate::judges::{Judges, hooks_of};
 use cm_blocks::{Grammar, Steps};
 use cm_hooks::{Hooks, Rules};
@@ -36,14 +35,15 @@ fn answer<L: Ledger>(
     let line = line(rt, text);
     let turn = session.whole(node, line.bytes(), grammar, &Cabinet, hooks, steps);
     assert_eq!(rt; session.text(), line.finished());
-    Ok(format!(in alloc; "{turn:?}|{}", logged(rt, alloc, session)?)?)
+    let log = logged(rt, alloc, session)?;
+    Ok(format!(in alloc; "{turn:?}|{}", str::from_utf8(log.bytes())?.trim_end())?)
 }
 
 // The line of the log that tells of CR.
-fn logged(rt: &impl Abort, alloc: Global, session: &Session<Judges>) -> Result<String, Fail> {
+fn logged(rt: &impl Abort, alloc: Global, session: &Session<Judges>) -> Result<MemSink, Fail> {
     let mut log = MemSink::new(alloc, 400)?;
     assert_eq!(rt; session.log_line(b'\r', &mut log), Put::Done);
-    Ok(String::from_str(alloc, str::from_utf8(log.bytes())?.trim_end())?)
+    Ok(log)
 }
 
 fn try_case<L: Ledger>(
@@ -58,54 +58,42 @@ fn try_case<L: Ledger>(
     requires ties { Ties ⟦<Judges as Rules>⟧.meanings hooks.now }
     requires hooks { hook_count grammar.now ≤ count hooks.now }
 {
-    let (node, rest) = case.split_once('|').ok_or("a node")?;
-    let (text, wanted) = rest.split_once('|').ok_or("a line")?;
-    let found = answer(
-        rt,
-        alloc,
-        node.parse()?,
-        text,
-        session,
-        grammar,
-        hooks,
-        steps,
-    )?;
+    let (node, text, wanted) = numbered(case).ok_or("a case")?;
+    let found = answer(rt, alloc, node, text, session, grammar, hooks, steps)?;
     assert_eq!(rt; found.as_str(), wanted, "at {case}");
     Ok(())
 }
 
-// Tries cases, one a line: a node, a line, what it comes to, and its line of the log.
-fn tries<L: Ledger>(
-    rt: &impl Abort,
-    alloc: Global,
-    cases: &str,
-    grammar: &Grammar,
-    hooks: &Hooks<Judges>,
-    steps: &mut Steps<L>,
-) -> Result<(), Fail>
-    requires ties { Ties ⟦<Judges as Rules>⟧.meanings hooks.now }
-    requires hooks { hook_count grammar.now ≤ count hooks.now }
-{
-    let mut session = Session::new();
-    for case in cases.lines() {
-        try_case(rt, alloc, case, &mut session, grammar, hooks, steps)?;
-    }
-    Ok(())
-}
-
-fn tries_exec<L: Ledger, A: Abort>(
+// The counter wants the runtime itself.
+fn tries_with<L: Ledger, A: Abort>(
     rt: &A,
     runtime: &HostRuntime,
     blank: Blank,
-    cases: &str,
+    grammar: &Grammar,
+    cases: &[u8],
 ) -> Result<(), Fail>
     requires name { blank.name ≡ L.name }
     requires parts { blank.parts ≡ L.parts }
     requires some { 0 < L.parts }
 {
-    let (grammar, hooks) = exec_and_hooks(rt, runtime.alloc())?;
+    let alloc = runtime.alloc();
+    let hooks = hooks_of(rt, alloc, grammar)?;
     let mut steps: Steps<L> = Steps::new(runtime, blank);
-    tries(rt, runtime.alloc(), cases, &grammar, &hooks, &mut steps)
+    let mut session = Session::new();
+    for case in str::from_utf8(cases)?.lines() {
+        try_case(rt, alloc, case, &mut session, grammar, &hooks, &mut steps)?;
+    }
+    Ok(())
+}
+
+// Tries cases, one a line: a node, a line, what it comes to, and its line of the log.
+fn tries(
+    rt: &impl Abort,
+    runtime: &HostRuntime,
+    grammar: Grammar,
+    cases: &str,
+) -> Result<(), Fail> {
+    tries_with::<Brand, _>(rt, runtime, Blank::new(1), &grammar, cases.as_bytes())
 }
 
 #[test]
@@ -116,23 +104,7 @@ fn takes_whole_lines(rt: HostRuntime) -> Result<(), Fail> {
 0||Confirmed|0d 0 D
 0|LO|Refused(Fault { code: Ambiguous, node: 0, at: 0 })|0d 2 F2.0@0
 0|INF X|Refused(Fault { code: NotKeyword, node: 27, at: 4 })|0d 5 F1.27@4 0.1k9@0-3 26.0n0@4-4";
-    tries_exec::<Brand, _>(&rt, &rt, Blank::new(1), cases)
-}
-
-fn tries_fields<L: Ledger, A: Abort>(
-    rt: &A,
-    runtime: &HostRuntime,
-    blank: Blank,
-    cases: &str,
-) -> Result<(), Fail>
-    requires name { blank.name ≡ L.name }
-    requires parts { blank.parts ≡ L.parts }
-    requires some { 0 < L.parts }
-{
-    let grammar = fields(runtime.alloc())?;
-    let hooks = hooks_of(rt, runtime.alloc(), &grammar)?;
-    let mut steps: Steps<L> = Steps::new(runtime, blank);
-    tries(rt, runtime.alloc(), cases, &grammar, &hooks, &mut steps)
+    tries(&rt, &rt, exec(rt.alloc())?, cases)
 }
 
 #[test]
@@ -155,5 +127,5 @@ fn logs_each_kind_of_value(rt: HostRuntime) -> Result<(), Fail> {
 15|NEW.X|Confirmed|0d 5 D 15.0f@0-5
 6|AB|Confirmed|0d 2 D 6.0h2:2@0-2
 26|A|Confirmed|0d 1 D 26.0h3:18446744073709551615@0-1";
-    tries_fields::<Brand, _>(&rt, &rt, Blank::new(1), cases)
+    tries(&rt, &rt, fields(rt.alloc())?, cases)
 }

@@ -1,8 +1,6 @@
 // Lines that are typed, edited, confirmed and refused.
 use super::run::tries;
 use crate::cases::repeat;
-use std::marker::Brand;
-use std::sync::ledger::Blank;
 use std::test::Fail;
 
 #[test]
@@ -51,7 +49,7 @@ P A/C:12/J:B-1/NOTE:\"say \"\"hi\"\"\"\r|Confirmed|@P A/C:12/J:B-1/NOTE:\"say \"
  \n|Confirmed|@ \r
 @|20 1 O
 0a 1 D";
-    tries::<Brand, _>(&rt, &rt, Blank::new(1), cases)
+    tries(&rt, &rt, cases)
 }
 
 #[test]
@@ -97,7 +95,7 @@ L\r\x08\x08|Edited|@L\r
 ?Ambiguous keyword\r
 @\x07|08 0 O
 08 0 O";
-    tries::<Brand, _>(&rt, &rt, Blank::new(1), cases)
+    tries(&rt, &rt, cases)
 }
 
 #[test]
@@ -137,7 +135,7 @@ CONN\x1b\x1b|Edited|@CONNECT (TO DIRECTORY) OPERATOR |1b 23 O 0.1k3@0-7 17.0n1@8
 1b 0 O
 06 0 O
 00 0 O";
-    tries::<Brand, _>(&rt, &rt, Blank::new(1), cases)
+    tries(&rt, &rt, cases)
 }
 
 #[test]
@@ -189,7 +187,7 @@ INF X\r?\x08|Edited|@INF X\r
 @\x07|
 3f 0 O
 08 0 O";
-    tries::<Brand, _>(&rt, &rt, Blank::new(1), cases)
+    tries(&rt, &rt, cases)
 }
 
 // Each key on a full line.
@@ -237,5 +235,5 @@ fn takes_keys_on_a_full_line(rt: HostRuntime) -> Result<(), Fail> {
 
 [A]\0|Edited|@[A]\x07|
 00 255 O";
-    tries::<Brand, _>(&rt, &rt, Blank::new(1), &repeat(rt.alloc(), cases, 255)?)
+    tries(&rt, &rt, &repeat(rt.alloc(), cases, 255)?)
 }

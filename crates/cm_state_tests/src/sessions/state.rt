@@ -15,8 +15,8 @@ use std::process::Abort;
 use std::sync::ledger::{Blank, Ledger};
 use std::test::Fail;
 
-// The run of INF VER.
-fn two_fields<L: Ledger, A: Abort>(
+// The run of INF VER. The counter wants the runtime itself.
+fn two_fields_with<L: Ledger, A: Abort>(
     rt: &A,
     runtime: &HostRuntime,
     blank: Blank,
@@ -31,16 +31,17 @@ fn two_fields<L: Ledger, A: Abort>(
     run_of(rt, alloc, "INF VER", &grammar, &Cabinet, &hooks, &mut steps)
 }
 
+fn two_fields(rt: &impl Abort, runtime: &HostRuntime) -> Result<Run<Judges>, Fail> {
+    two_fields_with::<Brand, _>(rt, runtime, Blank::new(1))
+}
+
 // The node of the first field of a role.
 fn node_of(run: &Run<Judges>, role: Role) -> Option<u16> {
     run.session.field_of(role).map(|field| field.node())
 }
 
-// A session tells how many fields it holds, and finds each by its number, and the first by its role: INF and the guide
-// word, which is left out. VER is no field before the line goes on.
-#[test]
-fn tells_its_fields(rt: HostRuntime) -> Result<(), Fail> {
-    let run = two_fields::<Brand, _>(&rt, &rt, Blank::new(1))?;
+// The first of two fields.
+fn first_of_two(rt: &impl Abort, alloc: Global, run: &Run<Judges>) -> Result<String, Fail> {
     assert_eq!(rt; run.session.held(), 2);
     let verb = run.session.field(0);
     let places = [
@@ -50,7 +51,15 @@ fn tells_its_fields(rt: HostRuntime) -> Result<(), Fail> {
         verb.need(),
         verb.next(),
     ];
-    let told = format!(in rt.alloc(); "{:?} at {places:?}", verb.value())?;
+    Ok(format!(in alloc; "{:?} at {places:?}", verb.value())?)
+}
+
+// A session tells how many fields it holds, and finds each by its number, and the first by its role: INF and the guide
+// word, which is left out. VER is no field before the line goes on.
+#[test]
+fn tells_its_fields(rt: HostRuntime) -> Result<(), Fail> {
+    let run = two_fields(&rt, &rt)?;
+    let told = first_of_two(&rt, rt.alloc(), &run)?;
     assert_eq!(rt;
         told.as_str(),
         "Key { entry: 8, code: 9 } at [0, 0, 3, 4, 26]"
@@ -60,7 +69,7 @@ fn tells_its_fields(rt: HostRuntime) -> Result<(), Fail> {
 
 #[test]
 fn finds_a_field_by_its_role(rt: HostRuntime) -> Result<(), Fail> {
-    let run = two_fields::<Brand, _>(&rt, &rt, Blank::new(1))?;
+    let run = two_fields(&rt, &rt)?;
     let found = [Role::Verb, Role::None, Role::What].map(|role| node_of(&run, role));
     assert_eq!(rt; found, [Some(0), Some(26), None]);
     Ok(())
@@ -100,12 +109,16 @@ fn key_unshown<L: Ledger, A: Abort>(
     unshown(rt, runtime.alloc(), &grammar, &hooks, &mut steps)
 }
 
+// What the last key came to, the ending, and the text.
+fn told(alloc: Global, run: &Run<Judges>) -> Result<String, Fail> {
+    let text = str::from_utf8(run.session.text())?;
+    Ok(format!(in alloc; "{:?} {:?} {text}", run.turn, run.session.ending())?)
+}
+
 // Where a sink fails the session is where the key left it.
 #[test]
 fn takes_a_key_that_is_not_shown(rt: HostRuntime) -> Result<(), Fail> {
     let run = key_unshown::<Brand, _>(&rt, &rt, Blank::new(1))?;
-    let text = str::from_utf8(run.session.text())?;
-    let told = format!(in rt.alloc(); "{:?} {:?} {text}", run.turn, run.session.ending())?;
-    assert_eq!(rt; told.as_str(), "Failed Done INF VER\r");
+    assert_eq!(rt; told(rt.alloc(), &run)?.as_str(), "Failed Done INF VER\r");
     Ok(())
 }
