@@ -1,5 +1,5 @@
 -- How many bytes the records of an image have at most.
-use Rattle.std.proofs.Common.{◌≡◌, ℕ, ℤ, pos, negsuc, zero, suc, ◌==◌, ◌+◌, ◌*◌, ◌^◌, ◌<◌, ◌≤◌, ◌&&◌, Bool, true, false, List, [], ◌∷◌, ◌++◌, codes, length, map, Option, Some, None, refl, ap, ◌∙◌, arith, length-append}
+use Rattle.std.proofs.Common.{◌≡◌, ℕ, ℤ, pos, negsuc, zero, suc, ◌+◌, ◌*◌, ◌^◌, ◌<◌, ◌≤◌, Bool, true, false, List, [], ◌∷◌, ◌++◌, codes, length, map, Option, Some, None, refl, ap, arith, length-append}
 use Rattle.std.specs.Fmt.{decimal}
 use Rattle.std.specs.List.{flat_map, join_with_byte}
 use Rattle.std.proofs.lemmas.Bool.{and_parts, leb-true, ltb-true}
@@ -9,7 +9,6 @@ use Rattle.cm_text.specs.declared.name.TheConstants.{NAME_LIMIT}
 use Rattle.cm_files.specs.Catalogue.{is_directory_name}
 use Rattle.cm_files.specs.LogicalName.{is_logical_name}
 use Rattle.ex_store.specs.declared.key.FullName.{FullName}
-use Rattle.ex_store.specs.declared.queue.QueueEntry.{QueueEntry}
 use Rattle.ex_store.specs.declared.row.Row.{Row}
 use Rattle.ex_store.specs.Forms.{form_text}
 use Rattle.ex_store.specs.Rows.{full_of, total}
@@ -18,15 +17,15 @@ use Rattle.ex_store.specs.WellFormed.{IsDraft, is_file_name, is_file_type}
 use Rattle.ex_image.specs.declared.tag.Tag.{Tag}
 use Rattle.ex_image.specs.declared.tag.Tag.TheVariants as tags
 use Rattle.ex_image.specs.Fields.{is_logical, is_note}
-use Rattle.ex_image.specs.Grammar.{HasContent, IsImage, Leads, Makes, is_shaped, is_short, is_short_day}
-use Rattle.ex_image.specs.Image.{directory_record, file_record, logical_record, records_of, request_record}
+use Rattle.ex_image.specs.Grammar.{IsImage, Leads, Makes, is_shaped, is_short, is_short_day}
+use Rattle.ex_image.specs.Image.{directory_record, file_record, logical_record, request_record}
 use Rattle.ex_image.specs.Reading.{Reading, start, with_record}
 use Rattle.ex_image.specs.Record.{Entry, Head, Directory, Connected, Logical, File, Request, End, after_text, content_text, file_text, line_text, mark_text, record_text}
 use Rattle.ex_image.proofs.Drafting.{makes_sound, start_sound}
 use Rattle.ex_image.proofs.Endings.{whole}
 use Rattle.ex_image.proofs.FileLaws.{IsFile, day_short}
-use Rattle.ex_image.proofs.LineLaws.{IsFileShape, file_shape}
-use Rattle.ex_image.proofs.RequestLaws.{IsRequestShape, request_shape}
+use Rattle.ex_image.proofs.LineLaws.{file_shape}
+use Rattle.ex_image.proofs.RequestLaws.{request_shape}
 use Rattle.ex_image.proofs.Written.{leads_written, written}
 
 -- pieces, each with one byte more
