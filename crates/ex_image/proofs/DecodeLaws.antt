@@ -1,6 +1,6 @@
 -- What one who reads an image may rest on.
-use Rattle.std.proofs.Common.{◌≡◌, IfOk, IfErr, Result, ℕ, Bool, true, false, List, Ok, Err, refl}
-use Rattle.std.proofs.lemmas.Bool.{false≢true}
+use Rattle.std.proofs.Common.{◌≡◌, ◌==◌, ◌&&◌, IfOk, IfErr, Result, ℕ, Bool, true, false, List, length, Ok, Err, refl}
+use Rattle.std.proofs.lemmas.Bool.{and_parts, false≢true}
 use Rattle.ex_store.specs.State.{StoreWithRoom, State, has_directory}
 use Rattle.ex_store.specs.WellFormed.{IsDraft}
 use Rattle.ex_image.specs.declared.fault.ImageFault.{ImageFault}
@@ -71,10 +71,13 @@ ended_late : (last : Tag) → is_ended last ≡ true → is_connected last ≡ t
 ended_late tags.End ended = refl
 ended_late last ended = absurd (false≢true ended)
 
--- so at the end
-pub ended_there : (bytes : List ℕ) (reading : Reading) (rest : List ℕ) → Makes bytes reading rest
-    → is_ended reading.last ≡ true → has_directory reading.state.connected reading.state.directories ≡ true
-ended_there bytes reading rest made ended = connected_there bytes reading rest made (ended_late reading.last ended)
+-- so where all is read
+pub whole_there : (bytes : List ℕ) (reading : Reading) (rest : List ℕ) → Makes bytes reading rest
+    → (is_ended reading.last && length rest == 0) ≡ true
+    → has_directory reading.state.connected reading.state.directories ≡ true
+whole_there bytes reading rest made whole =
+    let both = and_parts (is_ended reading.last) (length rest == 0) whole in
+    connected_there bytes reading rest made (ended_late reading.last both.0)
 
 -- where an image was read, or the first wrong record is told, no other store comes of an image
 pub only_told : (bytes : List ℕ) (result : Result StoreWithRoom ImageFault) → IfOk result (λ store. IsImage bytes store.state)

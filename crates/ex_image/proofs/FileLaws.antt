@@ -134,7 +134,7 @@ form_spelling = record { takes = form_takes; again = form_again; only = form_onl
 short_day : (day : ℕ) → is_short day ≡ true → is_short_day (Some (pos day)) ≡ true
 short_day day short = and_from _ _ (le-leb 0 day (omega arith)) short
 
-day_short : (day : ℕ) → is_short_day (Some (pos day)) ≡ true → is_short day ≡ true
+pub day_short : (day : ℕ) → is_short_day (Some (pos day)) ≡ true → is_short day ≡ true
 day_short day short = (and_parts _ _ short).1
 
 after_takes : (bytes : List ℕ) (after : Option ℤ) → after_of bytes ≡ Ok after

@@ -13,13 +13,13 @@ pub mod Leading
 pub mod Leaving
 pub mod LineLaws
 pub mod ReaderAdding
-pub mod ReaderEnding
 pub mod ReaderFaults
 pub mod ReaderFields
 pub mod ReaderTexts
 pub mod RecordLaws
 pub mod RequestLaws
 pub mod Runs
+pub mod Sizes
 pub mod Sounding
 pub mod Spelling
 pub mod Standing

@@ -143,7 +143,7 @@ written_more tags.Request state End bytes stands place shape content = end_writt
 written_more last state entry bytes stands place shape content = absurd (false≢true place)
 
 -- what records add
-leads_written : (from to : Reading) (records : List (Entry × List ℕ)) → IsSound from → Leads from records to
+pub leads_written : (from to : Reading) (records : List (Entry × List ℕ)) → IsSound from → Leads from records to
     → written to.last to.state ≡ written from.last from.state ++ records
 leads_written from to [] sound leads =
     ap (λ (at : Reading). written at.last at.state) leads ∙ sym (append-nil (written from.last from.state))

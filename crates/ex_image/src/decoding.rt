@@ -11,6 +11,7 @@ use ex_store::Store;
 use std::alloc::Global;
 
 // The store of which the bytes are the image.
+#[tactic(auto, using(crate::proofs::DecodeLaws::whole_there, crate::proofs::Endings::bad_here, crate::proofs::Endings::image_here, crate::proofs::Sizes::read_size))]
 fn decoded(alloc: Global, bytes: &[u8]) -> Result<Store, ImageFault>
     ensures image { IfOk result (λ store. IsImage bytes.now store.state) }
     ensures bad { IfErr result (λ fault. Tells bytes.now fault) }
@@ -24,7 +25,7 @@ fn decoded(alloc: Global, bytes: &[u8]) -> Result<Store, ImageFault>
                 rest = next.behind;
             }
             Err(kind) => {
-                let at = bytes.len() - rest.len();
+                let at = (bytes.len() - rest.len()) as u32;
                 return Err(ImageFault::Bad { at, kind });
             }
         }

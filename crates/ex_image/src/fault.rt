@@ -25,7 +25,7 @@ pub enum ImageFault {
     /// They are no image.
     Bad {
         /// Where the first wrong record begins: how many bytes stand before it.
-        at: usize,
+        at: u32,
         /// The kind of its fault.
         kind: Kind,
     },

@@ -1,5 +1,5 @@
 //! Laws of the image.
-ghost use Rattle.std.specs.Prelude.{◌≡◌, ◌↔◌, ◌⊎◌, ◌++◌, ℕ, List, [], codes};
+ghost use Rattle.std.specs.Prelude.{◌≡◌, ◌<◌, ◌↔◌, ◌⊎◌, ◌++◌, ℕ, List, [], codes, length};
 ghost use Rattle.ex_image.specs.declared.fault.Kind.{Kind};
 ghost use Rattle.ex_image.specs.Grammar.{FirstBad, IsImage};
 ghost use Rattle.ex_image.specs.Image.{image_text};
@@ -21,6 +21,11 @@ pub fn an_image_is_the_text_of_its_state()
 /// Bytes are an image of one state at most.
 pub fn an_image_is_of_one_state()
     ensures { (bytes : List ℕ) → (state other : State) → IsImage bytes state → IsImage bytes other → state ≡ other }
+{}
+
+/// An image has fewer than 16,777,216 bytes.
+pub fn an_image_is_small()
+    ensures { (bytes : List ℕ) → (state : State) → IsImage bytes state → length bytes < 16777216 }
 {}
 
 /// No image begins another: nothing may stand behind an image.

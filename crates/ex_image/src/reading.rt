@@ -118,6 +118,7 @@ impl Reading {
         }
         self.record_behind(bytes)
     }
+
     /// Adds a record. After NoMemory all is as before.
     pub(crate) fn add(&mut self, alloc: Global, next: &Next<'_>) -> Result<(), NoMemory>
         requires stands { MayStand self.old (next_said next.now).0 }

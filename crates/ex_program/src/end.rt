@@ -32,12 +32,12 @@ fn colon() -> &'static [u8]
 
 // Puts where the bytes are no image, and why.
 #[tactic(auto, using(crate::proofs::Parts::pieces), unfolding(crate::specs::Messages::fault_text))]
-fn put_fault<S: Sink>(at: usize, kind: Kind, screen: &mut S) -> Put
+fn put_fault<S: Sink>(at: u32, kind: Kind, screen: &mut S) -> Put
     ensures bytes { Adds (S.told screen.old) (S.told screen.new) (fault_text at kind) result }
     ensures later { S.faults screen.old ≤ S.faults screen.new }
     ensures cause { PutCause (S.faults screen.old) (S.faults screen.new) result }
 {
-    if let Put::Failed = put_decimal(at as u64, screen) {
+    if let Put::Failed = put_decimal(u64::from(at), screen) {
         return Put::Failed;
     }
     if let Put::Failed = screen.put(colon()) {
@@ -47,7 +47,7 @@ fn put_fault<S: Sink>(at: usize, kind: Kind, screen: &mut S) -> Put
 }
 
 // Puts the message of BadImage.
-fn put_bad_image<S: Sink>(at: usize, kind: Kind, screen: &mut S) -> Put
+fn put_bad_image<S: Sink>(at: u32, kind: Kind, screen: &mut S) -> Put
     ensures bytes { Adds (S.told screen.old) (S.told screen.new) (message (status.BadImage at kind)) result }
     ensures later { S.faults screen.old ≤ S.faults screen.new }
     ensures cause { PutCause (S.faults screen.old) (S.faults screen.new) result }

@@ -14,7 +14,7 @@ pub enum Status {
     /// The bytes of the file to begin from are no image.
     BadImage {
         /// Where the first wrong record begins: how many bytes stand before it.
-        at: usize,
+        at: u32,
         /// The kind of its fault.
         kind: Kind,
     },

@@ -1,10 +1,7 @@
-use Rattle.std.proofs.Common.{◌≡◌, ◌==◌, ◌&&◌, true, length, sym, ◌∙◌, arith}
-use Rattle.std.proofs.lemmas.Bool.{and_parts}
-use Rattle.ex_image.specs.Reading.{is_ended}
+use Rattle.std.proofs.Common.{arith}
 use Rattle.ex_image.specs.Said.{next_said}
-use Rattle.ex_image.proofs.DecodeLaws.{drafted_read, ended_there}
+use Rattle.ex_image.proofs.DecodeLaws.{drafted_read}
 use Rattle.ex_image.proofs.Leading.{makes_more, makes_start}
-use Rattle.ex_image.proofs.ReaderEnding.{whole_made}
 use Rattle.ex_image.proofs.RecordLaws.{record_shorter, record_takes}
 use Rattle.ex_image.proofs.decoding.decoded.Goals as goal
 
@@ -31,16 +28,3 @@ loop-rest-preserved c =
     makes_more c.args.bytes.now c.loop-rest.reading c.loop-rest.rest.now (next_said c.in-Ok.next)
     c.loop-rest.invariant.makes c.in-Ok.ensures in
     record { makes = rw c.in_ok-add-in-Ok.ensures.added more; within = omega arith }
-
-pub done-requires : goal.done-requires
-done-requires c =
-    let whole : (is_ended c.loop-rest.reading.last && length c.loop-rest.rest.now == 0) ≡ true =
-    sym c.is_complete.ensures ∙ c.loop-rest-test.false in
-    ended_there c.args.bytes.now c.loop-rest.reading c.loop-rest.rest.now c.loop-rest.invariant.makes
-    (and_parts (is_ended c.loop-rest.reading.last) (length c.loop-rest.rest.now == 0) whole).0
-
-pub returns-clause-image : goal.returns-clause-image
-returns-clause-image c =
-    rw c.done.ensures
-    (whole_made c.args.bytes.now c.loop-rest.reading c.loop-rest.rest.now c.loop-rest.invariant.makes
-    (sym c.is_complete.ensures ∙ c.loop-rest-test.false))
