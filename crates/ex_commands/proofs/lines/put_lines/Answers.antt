@@ -1,18 +1,15 @@
-use Rattle.std.proofs.Common.{ap, arith, sym, subst}
+use Rattle.std.proofs.Common.{ap, arith}
 use Rattle.std.specs.List.{flat_map}
-use Rattle.cm_io.proofs.Texts.{Left, left_less, left_whole}
+use Rattle.cm_io.proofs.Texts.{left_less, left_whole}
 use Rattle.ex_commands.specs.Replies.{line_of}
 use Rattle.ex_commands.proofs.Files.{files_all}
 use Rattle.ex_commands.proofs.Lining.{is_read, next_within}
 use Rattle.ex_commands.proofs.lines.put_lines.Goals as goal
 
 pub loop-at-init : goal.loop-at-init
-loop-at-init g c = record {
-  left =
-      subst (λ rest. Left _ _ _ rest _)
-      (ap (flat_map (line_of c.args.lines)) (sym (files_all c.args.files.now c.args.store.now.state))) (left_whole _ _ _);
-  within = omega arith;
-}
+loop-at-init g c =
+    let all = ap (flat_map (line_of c.args.lines)) (files_all c.args.files.now c.args.store.now.state) in
+    record { left = rw all (left_whole _ _ _); within = omega arith }
 
 pub row_in-row-requires : goal.row_in-row-requires
 row_in-row-requires g c =
