@@ -2,14 +2,13 @@
 #![tactic(auto)]
 
 mod command;
-mod grammar;
+pub mod grammar;
 mod lamps;
 pub mod laws;
 mod program;
 pub mod rooms;
 
 pub use command::command_of;
-pub use grammar::grammar;
 pub use lamps::{Change, Command, Lamp, dark_lamps, obey};
 pub use program::{Parser, Program, Status, house};
 pub use rooms::RoomRules;
