@@ -20,9 +20,9 @@ use Rattle.cm_state.specs.declared.prompt.Prompt.{Prompt}
 use Rattle.cm_state.proofs.Starting.{kept_starts, met_ending, met_fields, none_costs, none_starts}
 
 -- a key behind a finished text meets an empty line
-abbrev pub Renews : SessionState → SessionState → Type 0
-Renews old renewed =
-    renewed ≡ record old {
+abbrev pub Reopens : SessionState → SessionState → Type 0
+Reopens old reopened =
+    reopened ≡ record old {
       line = met_line old;
       is_finished = false;
       fields = if old.is_finished then [] else old.fields;
@@ -30,10 +30,10 @@ Renews old renewed =
     }
 
 -- the line is edited, with what a key puts in that completes it
-abbrev pub Types : Setting → SessionState → SessionState → KeyClass → ℕ → Type 0
-Types s renewed typed class key =
-    typed ≡ record renewed {
-      line = edit class key renewed.line renewed.kept (completion s class renewed.ending renewed.line).bytes;
+abbrev pub AppliesEdit : Setting → SessionState → SessionState → KeyClass → ℕ → Type 0
+AppliesEdit s reopened applied class key =
+    applied ≡ record reopened {
+      line = edit class key reopened.line reopened.kept (completion s class reopened.ending reopened.line).bytes;
       is_finished = is_end class;
       kept = None;
     }
@@ -83,21 +83,21 @@ pub record Trims (s : Setting) (old trimmed : SessionState) : Type 0 where
   pub node : trimmed.node ≡ old.node
   pub fields : trimmed.fields ≡ kept s old.node (met_line old) (text_of trimmed)
 
-pub trims : (s : Setting) (old renewed typed trimmed : SessionState) (class : KeyClass) (key size : ℕ) → grammar_fault s.graph ≡ None
+pub trims : (s : Setting) (old reopened applied trimmed : SessionState) (class : KeyClass) (key size : ℕ) → grammar_fault s.graph ≡ None
     → IsReady s old
-    → Renews old renewed
-    → Types s renewed typed class key
-    → size ≡ common renewed.line (text_of typed)
-    → trimmed ≡ record typed { fields = needing size typed.fields } → Trims s old trimmed
+    → Reopens old reopened
+    → AppliesEdit s reopened applied class key
+    → size ≡ common reopened.line (text_of applied)
+    → trimmed ≡ record applied { fields = needing size applied.fields } → Trims s old trimmed
 unfolding kept
-trims s old renewed typed trimmed class key size none ready renew type front keep =
-    let text : text_of trimmed ≡ text_of typed = ap text_of keep in
-    let line : renewed.line ≡ met_line old = ap (λ (h : SessionState). h.line) renew in
+trims s old reopened applied trimmed class key size none ready reopen apply front keep =
+    let text : text_of trimmed ≡ text_of applied = ap text_of keep in
+    let line : reopened.line ≡ met_line old = ap (λ (h : SessionState). h.line) reopen in
     let same : size ≡ common (met_line old) (text_of trimmed) = cc in
     let node : trimmed.node ≡ old.node = cc in
-    let met : typed.fields ≡ (parse_of s old.node (met_line old)).fields =
-    ap (λ (h : SessionState). h.fields) type ∙ ap (λ (h : SessionState). h.fields) renew ∙ met_fields s old none ready in
-    let fields : trimmed.fields ≡ needing size typed.fields = ap (λ (h : SessionState). h.fields) keep in
+    let met : applied.fields ≡ (parse_of s old.node (met_line old)).fields =
+    ap (λ (h : SessionState). h.fields) apply ∙ ap (λ (h : SessionState). h.fields) reopen ∙ met_fields s old none ready in
+    let fields : trimmed.fields ≡ needing size applied.fields = ap (λ (h : SessionState). h.fields) keep in
     record { node = node; fields = cc }
 
 -- behind them the parse goes on
@@ -107,57 +107,57 @@ trimmed_starts s old trimmed none ready trim =
     rw (trim.fields, trim.node) (kept_starts s none old.node ready.node (met_line old) (text_of trimmed))
 
 -- what a key puts in is what completes the line that it meets
-pub met_completion : (s : Setting) (old renewed : SessionState) (class : KeyClass) → grammar_fault s.graph ≡ None → IsReady s old
-    → Renews old renewed → completion s class renewed.ending renewed.line ≡ completed s old class
-met_completion s old renewed class none ready renew =
-    let line : renewed.line ≡ met_line old = ap (λ (h : SessionState). h.line) renew in
-    let ends : renewed.ending ≡ (parse_of s old.node (met_line old)).ending =
-    ap (λ (h : SessionState). h.ending) renew ∙ met_ending s old none ready in
-    ap (λ (ends : Ending). completion s class ends renewed.line) ends
+pub met_completion : (s : Setting) (old reopened : SessionState) (class : KeyClass) → grammar_fault s.graph ≡ None → IsReady s old
+    → Reopens old reopened → completion s class reopened.ending reopened.line ≡ completed s old class
+met_completion s old reopened class none ready reopen =
+    let line : reopened.line ≡ met_line old = ap (λ (h : SessionState). h.line) reopen in
+    let ends : reopened.ending ≡ (parse_of s old.node (met_line old)).ending =
+    ap (λ (h : SessionState). h.ending) reopen ∙ met_ending s old none ready in
+    ap (λ (ends : Ending). completion s class ends reopened.line) ends
     ∙ ap (λ (line : List ℕ). completion s class (parse_of s old.node (met_line old)).ending line) line
 
--- the line with its parse, over the steps: the line is renewed, edited, and its parse held
-edited_is : (s : Setting) (old renewed typed trimmed now : SessionState) (class : KeyClass) (key size : ℕ) → class ≡ class_of key
-    → completion s class renewed.ending renewed.line ≡ completed s old class
-    → Renews old renewed
-    → Types s renewed typed class key
-    → trimmed ≡ record typed { fields = needing size typed.fields }
+-- the line with its parse, over the steps: the line is reopened, edited, and its parse held
+edited_is : (s : Setting) (old reopened applied trimmed now : SessionState) (class : KeyClass) (key size : ℕ) → class ≡ class_of key
+    → completion s class reopened.ending reopened.line ≡ completed s old class
+    → Reopens old reopened
+    → AppliesEdit s reopened applied class key
+    → trimmed ≡ record applied { fields = needing size applied.fields }
     → now.kept ≡ (if trimmed.is_finished then before_fault trimmed.line now.ending else None)
     → now ≡ record trimmed { fields = now.fields; ending = now.ending; kept = now.kept }
     → parse_held now ≡ parse_of s now.node (text_of now) → now ≡ edited s old key
-edited_is s old renewed typed trimmed now class key size is met renew type keep kept hold parse =
+edited_is s old reopened applied trimmed now class key size is met reopen apply keep kept same parse =
     edited_with_parse s old now key (cc) parse
 
 -- what the key leaves, and what it costs
-pub record Takes (s : Setting) (old now : SessionState) (key spent : ℕ) : Type 0 where
+pub record EditsAndParses (s : Setting) (old now : SessionState) (key spent : ℕ) : Type 0 where
   pub edited : now ≡ edited s old key
   pub stands : Stands s now
   pub keeps : BeginsWith (kept s old.node (met_line old) (text_of now)) now.fields
   pub cost : spent ≡ cost s old.node (met_line old) (text_of now)
 
-pub takes : (s : Setting) (old renewed typed trimmed now : SessionState) (class : KeyClass) (key size spent : ℕ)
+pub edits_and_parses : (s : Setting) (old reopened applied trimmed now : SessionState) (class : KeyClass) (key size spent : ℕ)
     → grammar_fault s.graph ≡ None → IsReady s old → class ≡ class_of key
-    → Renews old renewed
-    → Types s renewed typed class key
-    → trimmed ≡ record typed { fields = needing size typed.fields }
+    → Reopens old reopened
+    → AppliesEdit s reopened applied class key
+    → trimmed ≡ record applied { fields = needing size applied.fields }
     → Trims s old trimmed
     → now.kept ≡ (if trimmed.is_finished then before_fault trimmed.line now.ending else None)
     → now ≡ record trimmed { fields = now.fields; ending = now.ending; kept = now.kept }
     → parse_held now ≡ parse_of s trimmed.node (text_of trimmed)
     → spent ≡ cost_behind s trimmed.node (text_of trimmed) trimmed.fields
-    → Takes s old now key spent
+    → EditsAndParses s old now key spent
 unfolding cost
-takes s old renewed typed trimmed now class key size spent none ready is renew type keep trim rest hold held costs =
-    let node : now.node ≡ trimmed.node = ap (λ (h : SessionState). h.node) hold in
-    let text : text_of now ≡ text_of trimmed = ap text_of hold in
+edits_and_parses s old reopened applied trimmed now class key size spent none ready is reopen apply keep trim rest same held costs =
+    let node : now.node ≡ trimmed.node = ap (λ (h : SessionState). h.node) same in
+    let text : text_of now ≡ text_of trimmed = ap text_of same in
     let parse : parse_held now ≡ parse_of s now.node (text_of now) = rw (node, text) held in
     let start : now.node ≡ old.node = node ∙ trim.node in
     let fields : now.fields ≡ (parse_of s old.node (text_of now)).fields =
     ap (λ (parse : Parse). parse.fields) (parse ∙ ap (λ (node : ℕ). parse_of s node (text_of now)) start) in
     record {
       edited =
-          edited_is s old renewed typed trimmed now class key size is (met_completion s old renewed class none ready renew)
-          renew type keep rest hold parse;
+          edited_is s old reopened applied trimmed now class key size is (met_completion s old reopened class none ready reopen)
+          reopen apply keep rest same parse;
       stands = stands s now (rw start ready.node) parse;
       keeps =
           subst (BeginsWith (kept s old.node (met_line old) (text_of now))) (sym fields)
@@ -179,31 +179,31 @@ end_key = refl
 
 -- the line in place of the empty one of a start
 abbrev Fills : SessionState → SessionState → ℕ → Prompt → Option (List ℕ) → List ℕ → Type 0
-Fills started typed node prompt bytes line =
-    (started ≡ at_start node prompt bytes) × (typed ≡ record started { line = line; is_finished = true; kept = None })
+Fills started entered node prompt bytes line =
+    (started ≡ at_start node prompt bytes) × (entered ≡ record started { line = line; is_finished = true; kept = None })
 
-filled : (started typed : SessionState) (node : ℕ) (prompt : Prompt) (bytes : Option (List ℕ)) (line : List ℕ)
-    → Fills started typed node prompt bytes line
-    → typed ≡ record (at_start node prompt None) { line = line; is_finished = true }
-filled started typed node prompt bytes line fills =
+filled : (started entered : SessionState) (node : ℕ) (prompt : Prompt) (bytes : Option (List ℕ)) (line : List ℕ)
+    → Fills started entered node prompt bytes line
+    → entered ≡ record (at_start node prompt None) { line = line; is_finished = true }
+filled started entered node prompt bytes line fills =
     fills.1 ∙ ap (λ (h : SessionState). let filled : SessionState = record h { line = line; is_finished = true; kept = None } in filled) fills.0
 
-pub whole_starts : (s : Setting) (started typed : SessionState) (node : ℕ) (prompt : Prompt) (bytes : Option (List ℕ)) (line : List ℕ)
-    → grammar_fault s.graph ≡ None → node < length s.graph.nodes → Fills started typed node prompt bytes line
-    → Starts s typed.node (text_of typed) typed.fields
-whole_starts s started typed node prompt bytes line none below fills =
-    let is = filled started typed node prompt bytes line fills in
+pub whole_starts : (s : Setting) (started entered : SessionState) (node : ℕ) (prompt : Prompt) (bytes : Option (List ℕ)) (line : List ℕ)
+    → grammar_fault s.graph ≡ None → node < length s.graph.nodes → Fills started entered node prompt bytes line
+    → Starts s entered.node (text_of entered) entered.fields
+whole_starts s started entered node prompt bytes line none below fills =
+    let is = filled started entered node prompt bytes line fills in
     subst (λ (h : SessionState). Starts s h.node (text_of h) h.fields) (sym is) (none_starts s none node below (finished line))
 
-pub finishes : (s : Setting) (started typed now : SessionState) (node : ℕ) (prompt : Prompt) (bytes : Option (List ℕ)) (line : List ℕ) (spent : ℕ)
-    → grammar_fault s.graph ≡ None → node < length s.graph.nodes → Fills started typed node prompt bytes line
-    → now.kept ≡ (if typed.is_finished then before_fault typed.line now.ending else None)
-    → now ≡ record typed { fields = now.fields; ending = now.ending; kept = now.kept }
-    → parse_held now ≡ parse_of s typed.node (text_of typed)
-    → spent ≡ cost_behind s typed.node (text_of typed) typed.fields
+pub finishes : (s : Setting) (started entered now : SessionState) (node : ℕ) (prompt : Prompt) (bytes : Option (List ℕ)) (line : List ℕ) (spent : ℕ)
+    → grammar_fault s.graph ≡ None → node < length s.graph.nodes → Fills started entered node prompt bytes line
+    → now.kept ≡ (if entered.is_finished then before_fault entered.line now.ending else None)
+    → now ≡ record entered { fields = now.fields; ending = now.ending; kept = now.kept }
+    → parse_held now ≡ parse_of s entered.node (text_of entered)
+    → spent ≡ cost_behind s entered.node (text_of entered) entered.fields
     → Finishes s (record (at_start node prompt bytes) { line = line }) now line spent
-finishes s started typed now node prompt bytes line spent none below fills rest hold held costs =
-    let is = filled started typed node prompt bytes line fills in
+finishes s started entered now node prompt bytes line spent none below fills rest same held costs =
+    let is = filled started entered node prompt bytes line fills in
     let start : SessionState = record (at_start node prompt bytes) { line = line } in
     let at : now.node ≡ node = cc in
     let text : text_of now ≡ finished line = cc in

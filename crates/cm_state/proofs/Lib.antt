@@ -1,9 +1,8 @@
 mod Editing
 mod Fronts
-mod Going
 mod Lines
 mod Logging
-pub mod Putting
+mod Rest
 mod Roles
 mod Stacking
 mod Starting

@@ -1,7 +1,7 @@
 -- The bytes that one key shows.
 use Rattle.std.specs.Prelude.{ℕ, ◌-◌, ◌==◌, Bool, true, false, List, [], ◌∷◌, ◌++◌, length, drop, map, nat_lt, is_some, codes, if◌then◌else◌}
 use Rattle.cm_text.specs.declared.text.TheConstants.{LINE_LIMIT}
-use Rattle.cm_text.specs.Shown.{bell, control_c, end_of_line, question, rubout}
+use Rattle.cm_text.specs.Shown.{bell, control_c, end_of_line, question, rubout, screen_byte}
 use Rattle.cm_io.specs.Pieces.{times}
 use Rattle.cm_line.specs.declared.key.KeyClass.{KeyClass}
 use Rattle.cm_line.specs.declared.key.KeyClass.TheVariants.{Text, End, Rub, Word, Erase, Show, Back, Stop, Escape, Part, Help}
@@ -16,10 +16,6 @@ use Rattle.cm_state.specs.declared.prompt.Prompt.{Prompt}
 use Rattle.cm_state.specs.declared.prompt.Prompt.TheVariants.{Main, Sub}
 use Rattle.cm_state.specs.SessionState.{SessionState, met_line}
 use Rattle.cm_state.specs.Edit.{completed, edited}
-
--- a TAB is shown as one space
-abbrev pub screen_byte : ℕ → ℕ
-screen_byte byte = if byte == 9 then 32 else byte
 
 abbrev pub screen_line : List ℕ → List ℕ
 screen_line line = map screen_byte line

@@ -30,14 +30,6 @@ ending_log (ending.Open place) = codes " O"
 ending_log ending.Done = codes " D"
 ending_log (ending.Fault fault) = fault_log fault
 
--- `KEY LENGTH ENDING`
-unfoldable pub head_log : ℕ → ℕ → Ending → List ℕ
-head_log key size ending = hex key ++ marked (codes " ") size ++ ending_log ending
-
--- ` NODE.BLOCK`
-unfoldable pub block_log : FieldView → List ℕ
-block_log field = marked (codes " ") field.node ++ marked (codes ".") field.block
-
 -- a day, with `-` before the number of one before 1-JAN-1970
 unfoldable pub day_log : ℤ → List ℕ
 day_log day =
@@ -78,21 +70,16 @@ unfoldable pub default_log : Bool → List ℕ
 default_log true = codes "="
 default_log false = []
 
--- `@START-END`, and `=` where it was taken from the default
-unfoldable pub place_log : FieldView → List ℕ
-place_log field = marked (codes "@") field.start ++ marked (codes "-") field.end ++ default_log field.defaulted
-
--- ` NODE.BLOCKVALUE@START-END`
+-- ` NODE.BLOCKVALUE@START-END`, and `=` where it was taken from the default
 unfoldable pub field_log : FieldView → List ℕ
-field_log field = block_log field ++ value_log field.value ++ place_log field
+field_log field =
+    marked (codes " ") field.node ++ marked (codes ".") field.block ++ value_log field.value
+    ++ marked (codes "@") field.start ++ marked (codes "-") field.end ++ default_log field.defaulted
 
 unfoldable pub fields_log : List FieldView → List ℕ
 fields_log fields = flat_map field_log fields
 
-unfoldable pub line_feed : List ℕ
-line_feed = 10 ∷ []
-
--- the head, each field, and a line feed
+-- `KEY LENGTH ENDING`, each field, and a line feed
 unfoldable pub log_line : ℕ → SessionState → List ℕ
 log_line key held =
-    head_log key (length held.line) held.ending ++ fields_log held.fields ++ line_feed
+    hex key ++ marked (codes " ") (length held.line) ++ ending_log held.ending ++ fields_log held.fields ++ 10 ∷ []

@@ -1,7 +1,7 @@
 // What a session holds of lines and texts.
 ghost use Rattle.std.specs.Prelude.{◌≡◌, ◌≤◌, None, length, take, if◌then◌else◌};
 ghost use Rattle.std.specs.Str.{IsAscii};
-ghost use Rattle.cm_text.specs.Text.{finished};
+ghost use Rattle.cm_text.specs.Text.{IsLine, finished};
 ghost use Rattle.cm_blocks.specs.Parse.{open_at};
 ghost use Rattle.cm_state.specs.Edit.{before_fault};
 
@@ -13,14 +13,12 @@ use cm_text::TEXT_LIMIT;
 #[tactic(auto, using(cm_text::proofs::Ascii::line_is_ascii))]
 pub(crate) fn text_of(line: &Line, is_finished: bool) -> &[u8]
     ensures text { result.now ≡ (if is_finished then finished line.now else line.now) }
+    ensures line { IsLine line.now }
     ensures ascii { IsAscii result.now }
     ensures short { length result.now ≤ TEXT_LIMIT }
 {
-    if is_finished {
-        line.finished()
-    } else {
-        line.bytes()
-    }
+    let bytes = line.bytes();
+    if is_finished { line.finished() } else { bytes }
 }
 
 // Of a refused line, the bytes before its faulty field.

@@ -27,9 +27,9 @@ fn too_many(field: &Field) -> Ending
     })
 }
 
-// Goes on with the parse of a text behind the fields that it begins with: puts the others behind them, and answers
-// how it ends.
-pub(crate) fn go_on<N: Names, R: Rules, L: Ledger>(
+// Parses the rest of a text, behind the fields that it begins with: puts the others behind them, and answers how it
+// ends.
+pub(crate) fn parse_rest<N: Names, R: Rules, L: Ledger>(
     grammar: &Grammar,
     start: u16,
     text: &[u8],

@@ -7,7 +7,9 @@ ghost use Rattle.cm_text.specs.Text.{IsLine, finished};
 ghost use Rattle.cm_line.specs.Keys.{class_of};
 ghost use Rattle.cm_io.specs.Told.{Adds};
 ghost use Rattle.cm_io.specs.Fault.{PutCause};
+ghost use Rattle.cm_io.specs.Writer.{Writes};
 ghost use Rattle.cm_hooks.specs.Ties.{Ties, count};
+ghost use Rattle.cm_blocks.specs.declared.field.TheConstants.{FIELD_LIMIT};
 ghost use Rattle.cm_blocks.specs.Fault.{grammar_fault};
 ghost use Rattle.cm_blocks.specs.Grammar.{hook_count};
 ghost use Rattle.cm_blocks.specs.Kept.{BeginsWith, cost, cost_behind, kept, needing};
@@ -22,19 +24,19 @@ ghost use Rattle.cm_state.specs.Stack.{Starts};
 ghost use Rattle.cm_state.specs.Turn.{put_of, turn_of};
 
 use crate::echo::{
-    put_again, put_end, put_help, put_inserted, put_screen_line, put_taken, screen_byte,
+    put_again, put_end, put_help_and_line, put_inserted, put_screen_line, put_taken,
 };
 use crate::held::{before_fault, open_at, text_of};
-use crate::log::{line_feed, put_fields, put_head};
-use crate::parse::go_on;
+use crate::log::{put_ending, put_fields, put_marked};
+use crate::parse::parse_rest;
 use crate::stack::Stack;
 use crate::{Prompt, Turn};
 use cm_blocks::{Ending, Field, Grammar, Role, Steps};
 use cm_files::Names;
 use cm_hooks::{Hooks, Rules};
-use cm_io::{Put, Sink, put_line};
+use cm_io::{Put, Sink, Writer};
 use cm_line::{KeyClass, Line};
-use cm_text::{LINE_LIMIT, bell, control_c};
+use cm_text::{LINE_LIMIT, bell, control_c, screen_byte};
 use std::marker::{Model, PhantomData};
 use std::sync::ledger::Ledger;
 
@@ -42,7 +44,7 @@ mod editing;
 
 // A key and the line that it met: of which size, and whether bytes were kept for control-H. A key that completed the
 // line rings or not.
-#[derive(Clone, Copy)]
+#[derive(Drop)]
 struct Keystroke {
     class: KeyClass,
     key: u8,
@@ -150,7 +152,7 @@ impl<R: Rules> Session<R> {
         let class = KeyClass::of(key);
         let size = self.met_size();
         let kept = self.kept.is_some();
-        let rings = self.take(class, key, grammar, names, hooks, steps);
+        let rings = self.edit_and_parse(class, key, grammar, names, hooks, steps);
         let stroke = Keystroke {
             class,
             key,
@@ -158,7 +160,9 @@ impl<R: Rules> Session<R> {
             kept,
             rings,
         };
-        match self.echo(stroke, grammar, names, hooks, sink) {
+        let mut out = Writer::new(sink);
+        self.echo(stroke, grammar, names, hooks, &mut out);
+        match out.went() {
             Put::Done => self.turn(class),
             Put::Failed => Turn::Failed,
         }
@@ -195,38 +199,35 @@ impl<R: Rules> Session<R> {
         grammar.has_no_fault();
         self.start(node, self.prompt);
         self.finish(line);
-        self.hold(grammar, names, hooks, steps);
+        self.reparse(grammar, names, hooks, steps);
         self.turn(KeyClass::End)
     }
 
     /// Puts the line of the log that tells of a key and of the parse held after it: the key, the length of
     /// the line, the ending and each field.
-    #[tactic(auto, using(crate::proofs::Putting::pieces), unfolding(crate::specs::Log::log_line))]
     pub fn log_line<S: Sink>(&self, key: u8, sink: &mut S) -> Put
         ensures bytes { Adds (S.told sink.old) (S.told sink.new) (log_line key self.now) result }
         ensures later { S.faults sink.old ≤ S.faults sink.new }
         ensures cause { PutCause (S.faults sink.old) (S.faults sink.new) result }
     {
-        if let Put::Failed = put_head(key, self.line.bytes().len(), self.ending, sink) {
-            return Put::Failed;
-        }
-        if let Put::Failed = put_fields(&self.fields, sink) {
-            return Put::Failed;
-        }
-        sink.put(line_feed())
+        let mut out = Writer::new(sink);
+        self.put_log(key, &mut out);
+        out.went()
     }
 
     /// The whole text: the line, or the line and the CR that finished it.
     pub fn text(&self) -> &[u8]
         ensures value { result.now ≡ text_of self.now }
+        ensures line { IsLine self.now.line }
         ensures ascii { IsAscii result.now }
     {
         text_of(&self.line, self.is_finished)
     }
 
-    /// How many fields are held.
+    /// How many fields are held, at most 64.
     pub fn held(&self) -> u8
-        ensures { result ≡ length self.now.fields }
+        ensures value { result ≡ length self.now.fields }
+        ensures few { result ≤ FIELD_LIMIT }
     {
         self.fields.len()
     }
@@ -312,7 +313,7 @@ impl<R: Rules> Session<R> {
 
     // Edits the line by a key, and holds the parse of the text as it then stands. The answer is whether a key that
     // completes rings.
-    fn take<N: Names, L: Ledger>(
+    fn edit_and_parse<N: Names, L: Ledger>(
         &mut self,
         class: KeyClass,
         key: u8,
@@ -338,10 +339,10 @@ impl<R: Rules> Session<R> {
             self.old.node (met_line self.old) (text_of self.new) }
     {
         grammar.has_no_fault();
-        self.renew();
-        let change = self.change(class, key, grammar, names, hooks);
+        self.reopen();
+        let change = self.apply_edit(class, key, grammar, names, hooks);
         self.keep(change.front);
-        self.hold(grammar, names, hooks, steps);
+        self.reparse(grammar, names, hooks, steps);
         change.rings
     }
 
@@ -354,7 +355,7 @@ impl<R: Rules> Session<R> {
 
     // Holds the parse of the text, which begins with the fields that are held. A refused line keeps the bytes before
     // its faulty field.
-    fn hold<N: Names, L: Ledger>(
+    fn reparse<N: Names, L: Ledger>(
         &mut self,
         grammar: &Grammar,
         names: &N,
@@ -375,7 +376,7 @@ impl<R: Rules> Session<R> {
             self.old.node (text_of self.old) self.old.fields }
     {
         let text = text_of(&self.line, self.is_finished);
-        self.ending = go_on(
+        self.ending = parse_rest(
             grammar,
             self.node,
             text,
@@ -394,33 +395,44 @@ impl<R: Rules> Session<R> {
         grammar: &Grammar,
         names: &N,
         hooks: &Hooks<R>,
-        sink: &mut S,
-    ) -> Put
+        out: &mut Writer<'_, S>,
+    )
         requires size { stroke.size ≤ LINE_LIMIT }
         requires ties { Ties R.meanings hooks.now }
         requires hooks { hook_count grammar.now ≤ count hooks.now }
-        ensures bytes { Adds (S.told sink.old) (S.told sink.new)
-            (echo_of (setting grammar.now (N.catalogue names.now) R.meanings)
-            stroke.class stroke.key stroke.size stroke.kept stroke.rings self.now) result }
-        ensures later { S.faults sink.old ≤ S.faults sink.new }
-        ensures cause { PutCause (S.faults sink.old) (S.faults sink.new) result }
+        ensures { Writes S.Sink out.old out.new (echo_of (setting grammar.now (N.catalogue names.now) R.meanings)
+            stroke.class stroke.key stroke.size stroke.kept stroke.rings self.now) }
     {
         let line = self.line.bytes();
         let behind = &line[stroke.size.min(line.len())..];
         match stroke.class {
-            KeyClass::Text if stroke.size < LINE_LIMIT => sink.put(&[screen_byte(stroke.key)]),
+            KeyClass::Text if stroke.size < LINE_LIMIT => out.put(&[screen_byte(stroke.key)]),
             KeyClass::Rub | KeyClass::Word | KeyClass::Erase => {
-                put_taken(stroke.size, line.len(), sink)
+                put_taken(stroke.size, line.len(), out)
             }
-            KeyClass::Show => put_again(self.prompt, line, sink),
-            KeyClass::Help => put_help(grammar, self.ending, self.prompt, line, names, hooks, sink),
-            KeyClass::Back if stroke.kept => put_screen_line(line, sink),
-            KeyClass::Escape => put_inserted(behind, stroke.rings, sink),
-            KeyClass::Part => put_inserted(behind, stroke.rings, sink),
-            KeyClass::Stop => put_line(control_c(), sink),
-            KeyClass::End => put_end(self.ending, sink),
-            _ => sink.put(bell()),
+            KeyClass::Show => put_again(self.prompt, line, out),
+            KeyClass::Help => {
+                put_help_and_line(grammar, self.ending, self.prompt, line, names, hooks, out)
+            }
+            KeyClass::Back if stroke.kept => put_screen_line(line, out),
+            KeyClass::Escape => put_inserted(behind, stroke.rings, out),
+            KeyClass::Part => put_inserted(behind, stroke.rings, out),
+            KeyClass::Stop => out.put_line(control_c()),
+            KeyClass::End => put_end(self.ending, out),
+            _ => out.put(bell()),
         }
+    }
+
+    // Puts the line of the log.
+    #[tactic(auto, using(cm_io::proofs::Texts::texts), unfolding(crate::specs::Log::log_line))]
+    fn put_log<S: Sink>(&self, key: u8, out: &mut Writer<'_, S>)
+        ensures { Writes S.Sink out.old out.new (log_line key self.now) }
+    {
+        out.put_hex(key);
+        put_marked(b" ", self.line.bytes().len() as u64, out);
+        put_ending(self.ending, out);
+        put_fields(&self.fields, out);
+        out.put(b"\n");
     }
 
     // What a key of this class has come to.

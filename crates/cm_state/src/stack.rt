@@ -9,7 +9,7 @@ use cm_blocks::{FIELD_LIMIT, Field};
 use std::marker::Model;
 
 // Fields one behind the other, at most 64. Contracts see the list of them.
-#[derive(Debug, Drop)]
+#[derive(Drop)]
 pub(crate) struct Stack {
     // Each place has a field: an `ArrayVec` wants a value for the places that it does not use.
     fields: ArrayVec<Option<Field>, FIELD_LIMIT>,

@@ -1,5 +1,5 @@
--- Fixed texts that a screen is given.
-use Rattle.std.specs.Prelude.{ℕ, List, [], ◌∷◌}
+-- What a screen is given.
+use Rattle.std.specs.Prelude.{ℕ, ◌==◌, if◌then◌else◌, List, [], ◌∷◌}
 
 -- carriage return and line feed
 unfoldable pub end_of_line : List ℕ
@@ -20,3 +20,7 @@ question = 63 ∷ []
 -- how control-C is shown
 unfoldable pub control_c : List ℕ
 control_c = 94 ∷ 67 ∷ []
+
+-- a TAB is shown as one space
+abbrev pub screen_byte : ℕ → ℕ
+screen_byte byte = if byte == 9 then 32 else byte

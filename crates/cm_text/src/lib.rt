@@ -1,4 +1,4 @@
-//! The words that every crate shares: classes of bytes, letters without case, names, decimal digits, and fixed texts.
+//! The words that every crate shares: classes of bytes, letters without case, names, decimal digits, and what a screen is given.
 #![tactic(auto)]
 
 mod alike;
@@ -15,5 +15,5 @@ pub use bytes::{is_blank, is_name, is_text, is_word};
 pub use case::{begins_with, equals};
 pub use digits::{DIGIT_LIMIT, decimal_digits};
 pub use name::{NAME_LIMIT, Name};
-pub use shown::{bell, control_c, end_of_line, question, rubout};
+pub use shown::{bell, control_c, end_of_line, question, rubout, screen_byte};
 pub use text::{LINE_LIMIT, TEXT_LIMIT};

@@ -1,6 +1,6 @@
-// Fixed texts that a screen is given.
+// What a screen is given.
 ghost use Rattle.std.specs.Prelude.{◌≡◌};
-ghost use Rattle.cm_text.specs.Shown.{bell, control_c, end_of_line, question, rubout};
+ghost use Rattle.cm_text.specs.Shown.{bell, control_c, end_of_line, question, rubout, screen_byte};
 
 /// What ends a line on the screen: carriage return and line feed.
 #[tactic(auto, unfolding(crate::specs::Shown::end_of_line))]
@@ -40,4 +40,11 @@ pub fn control_c() -> &'static [u8]
     ensures { result.now ≡ control_c }
 {
     b"^C"
+}
+
+/// How a byte of a line is shown: a TAB as one space, any other as it is.
+pub fn screen_byte(byte: u8) -> u8
+    ensures { result ≡ screen_byte byte }
+{
+    if byte == b'\t' { b' ' } else { byte }
 }

@@ -21,7 +21,7 @@ use cm_recognise::{Mode, complete};
 use cm_text::common_len;
 
 // What a key has made of a line.
-#[derive(Clone, Copy)]
+#[derive(Drop)]
 pub(crate) struct Change {
     // How many bytes the line before it and the text behind it begin with alike.
     pub(crate) front: usize,
@@ -31,7 +31,7 @@ pub(crate) struct Change {
 
 impl<R: Rules> Session<R> {
     // A key behind a finished text meets an empty line, of which nothing is known.
-    pub(crate) fn renew(&mut self)
+    pub(crate) fn reopen(&mut self)
         ensures { self.new ≡ record self.old {
           line = met_line self.old;
           is_finished = false;
@@ -48,7 +48,7 @@ impl<R: Rules> Session<R> {
     }
 
     // Edits the line by a key.
-    pub(crate) fn change<N: Names>(
+    pub(crate) fn apply_edit<N: Names>(
         &mut self,
         class: KeyClass,
         key: u8,

@@ -1,8 +1,8 @@
 use Rattle.std.proofs.Common.{◌-◌, ◌<◌, length, sym, ◌∙◌, arith, length-append, [], ◌∷◌}
 use Rattle.cm_blocks.specs.declared.field.TheConstants.{FIELD_LIMIT}
 use Rattle.cm_blocks.specs.Setting.{setting}
-use Rattle.cm_state.proofs.Going.{ends_there, turns}
-use Rattle.cm_state.proofs.parse.go_on.Goals as goal
+use Rattle.cm_state.proofs.Rest.{ends_there, turns}
+use Rattle.cm_state.proofs.parse.parse_rest.Goals as goal
 
 pub loop-field-preserved : goal.loop-field-preserved
 loop-field-preserved g c =

@@ -1,4 +1,4 @@
--- A parse that goes on behind fields: one field more, or its end.
+-- The rest of a parse behind fields: one field more, or its end.
 use Rattle.std.proofs.Common.{◌≡◌, ℕ, zero, suc, ◌+◌, ◌-◌, ◌<◌, List, [], ◌∷◌, ◌++◌, length, refl, ap, sym, ◌∙◌, append_assoc, append-nil, arith, length-append}
 use Rattle.cm_blocks.specs.declared.field.Chain.{Chain}
 use Rattle.cm_blocks.specs.declared.field.Chain.TheVariants as chain
@@ -74,14 +74,3 @@ ends_there s text fields room node at (chain.Fault fault) is last =
     ends_so s text fields room node at (chain.Fault fault) is (λ behind. refl) (λ behind. refl)
 ends_there s text fields room node at (chain.Open place) is last =
     ends_so s text fields room node at (chain.Open place) is (λ behind. refl) (λ behind. refl)
-
--- where there is no room for the field that it takes
-pub ends_full : (s : Setting) (text : List ℕ) (fields : List FieldView) (room node at : ℕ) (answer : Chain)
-    → (chain_at s node text at).chain ≡ answer → room ≡ 0 → Ends s text fields room node at (ending_of answer)
-ends_full s text fields zero node at answer is none = record {
-  parse =
-      ap (λ (answer : Chain). with_fields fields (parsed (ending_of answer) [])) is
-      ∙ ap (parsed (ending_of answer)) (append-nil fields);
-  cost = refl;
-}
-ends_full s text fields (suc room) node at answer is none = absurd (omega (arith, none))

@@ -3,7 +3,7 @@ use Rattle.cm_blocks.specs.declared.field.TheConstants.{FIELD_LIMIT}
 use Rattle.cm_blocks.specs.Kept.{cost_behind, cost_from}
 use Rattle.cm_blocks.specs.Parse.{parse_from, parse_of, with_fields}
 use Rattle.cm_blocks.specs.Setting.{setting}
-use Rattle.cm_state.proofs.parse.go_on.Given as goal
+use Rattle.cm_state.proofs.parse.parse_rest.Given as goal
 
 -- behind the fields so far the parse goes on, and so does its cost
 abbrev pub invariant-loop-field : goal.invariant-loop-field
