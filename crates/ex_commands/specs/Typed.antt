@@ -2,8 +2,7 @@
 use Rattle.std.specs.Prelude.{ℕ, ◌≡◌, ◌+◌, ◌-◌, ◌==◌, Bool, ◌&&◌, ◌||◌, nat_le, if◌then◌else◌, List, [], ◌∷◌, ◌++◌, length, take, slice_get, codes, Option, Some, None}
 use Rattle.cm_io.specs.Fault.{Rose}
 use Rattle.cm_io.specs.Told.{Told, add, AddsPart}
-use Rattle.cm_text.specs.Shown.{bell, control_c, end_of_line, rubout}
-use Rattle.cm_state.specs.Echo.{screen_byte}
+use Rattle.cm_text.specs.Shown.{bell, control_c, end_of_line, rubout, screen_byte}
 use Rattle.ex_generations.specs.declared.file.TheConstants.{FILE_LIMIT}
 use Rattle.ex_commands.specs.declared.data.DataTurn.{DataTurn}
 use Rattle.ex_commands.specs.declared.data.DataTurn.TheVariants as turns

@@ -2,11 +2,10 @@
 ghost use Rattle.std.specs.Prelude.{◌≡◌, ◌-◌, ◌≤◌, [], length, slice_get, vec_capacity, IfOk};
 ghost use Rattle.ex_generations.specs.declared.file.TheConstants.{FILE_LIMIT};
 ghost use Rattle.cm_io.specs.Writer.{Writes};
-ghost use Rattle.cm_state.specs.Echo.{screen_byte};
 ghost use Rattle.ex_commands.specs.Typed.{TurnCause, Types, adding, echo_text, edit, rubbing, turn_of};
 
 use cm_io::{NoMemory, Put, Sink, Writer};
-use cm_text::{bell, control_c, end_of_line, rubout};
+use cm_text::{bell, control_c, end_of_line, rubout, screen_byte};
 use ex_generations::FILE_LIMIT;
 use std::alloc::Global;
 use std::marker::Model;
@@ -164,13 +163,6 @@ fn edit(bytes: &mut Vec<u8>, key: u8) -> Echo
         }
         _ => Echo::Bell,
     }
-}
-
-// A TAB is shown as one space.
-fn screen_byte(byte: u8) -> u8
-    ensures { result ≡ screen_byte byte }
-{
-    if byte == b'\t' { b' ' } else { byte }
 }
 
 // Puts what is shown for a key.
