@@ -1,7 +1,7 @@
 // Each object once, through the bounds by which programs use it.
 use cm_io::{
     Clock, CountSink, Got, Host, Loaded, MemClock, MemHost, MemSink, MemSource, Put, Sink, Source,
-    StdClock, StdHost, StdSink, StdSource, put_decimal, put_hex, put_line, put_times,
+    StdClock, StdHost, StdSink, StdSource, Writer, put_decimal, put_hex, put_line,
 };
 use std::alloc::Global;
 use std::test::Fail;
@@ -123,6 +123,12 @@ fn loading_from_memory(rt: HostRuntime) -> Result<(), Fail> {
     Ok(())
 }
 
+fn put_three<S: Sink>(piece: &[u8], sink: &mut S) -> Put {
+    let mut out = Writer::new(sink);
+    out.put_times(3, piece);
+    out.went()
+}
+
 #[test]
 fn often_used_pieces(rt: HostRuntime) -> Result<(), Fail> {
     let mut sink = MemSink::new(rt.alloc(), 100)?;
@@ -130,7 +136,7 @@ fn often_used_pieces(rt: HostRuntime) -> Result<(), Fail> {
     assert_eq!(rt; put_decimal(18446744073709551615, &mut sink), Put::Done);
     assert_eq!(rt; put_hex(0x0a, &mut sink), Put::Done);
     assert_eq!(rt; put_hex(0xf9, &mut sink), Put::Done);
-    assert_eq!(rt; put_times(3, b"-+", &mut sink), Put::Done);
+    assert_eq!(rt; put_three(b"-+", &mut sink), Put::Done);
     assert_eq!(rt; put_line(b"ab", &mut sink), Put::Done);
     assert_eq!(rt;
         sink.bytes(),
