@@ -101,7 +101,7 @@ fn command(text: &str) -> Command {
             directory: name_or_none(first),
         },
         "INFORMATION" => Command::Information {
-            what: number(first) as u16,
+            what: u16::try_from(number(first)).unwrap_or(0),
         },
         "LOGOUT" => Command::Logout,
         "REMARK" => Command::Remark,
@@ -260,7 +260,14 @@ fn do_line(rt: &(impl Abort + AllocGlobal), store: &mut Store, line: &str) {
         "FILES" => has_files(rt, store, wanted),
         "HOLDS" => holds(rt, store, wanted),
         "CONNECTED" => is_connected(rt, store, wanted),
-        _ => does(rt, store, &command(line), moment, room as u32, wanted),
+        _ => does(
+            rt,
+            store,
+            &command(line),
+            moment,
+            u32::try_from(room).unwrap_or(0),
+            wanted,
+        ),
     }
 }
 
