@@ -20,7 +20,6 @@ use cm_fields::Code;
 use cm_io::{Sink, Writer};
 use cm_text::Name;
 use ex_store::{Place, Store};
-use std::alloc::Global;
 
 /// Does a command at a moment, in seconds since 1-JAN-1970, and puts the reply to it.
 ///
@@ -29,13 +28,7 @@ use std::alloc::Global;
 /// comes only for APPEND, BUILD, COPY and RENAME, and nothing is put or changed. Failed comes only where the sink
 /// failed: a part of what is to be put is put, and the command has acted all the same. The memory for files is that
 /// of the store; none but that is taken today.
-pub fn act<S: Sink>(
-    _alloc: Global,
-    store: &mut Store,
-    command: &Command,
-    moment: u64,
-    sink: &mut S,
-) -> Acted
+pub fn act<S: Sink>(store: &mut Store, command: &Command, moment: u64, sink: &mut S) -> Acted
     requires { MayAct command.now store.old.state }
     ensures acts { Answers (S.told sink.old) (S.told sink.new) (act_of command.now moment store.old.state)
         (may_allocate command.now) store.old.state store.new.state result }

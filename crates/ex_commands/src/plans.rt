@@ -15,7 +15,6 @@ use cm_io::{Sink, Writer};
 use cm_text::Name;
 use ex_generations::Bytes;
 use ex_store::{Place, Plan, Refusal, Store};
-use std::alloc::Global;
 
 // Does all of a plan, or nothing where it is refused. Its lines are put before it is done, and then it is done
 // whether or not the sink took them.
@@ -152,7 +151,6 @@ fn write<S: Sink>(
 /// put is put, and the file is written, or refused, all the same. The memory for files is that of the store; none but
 /// that is taken today.
 pub fn write_data<S: Sink>(
-    _alloc: Global,
     store: &mut Store,
     to: &Place,
     typed: Data,

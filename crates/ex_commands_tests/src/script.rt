@@ -138,7 +138,7 @@ fn does(
 ) {
     assert!(rt; may_act(store, command), "the command cannot be done");
     let mut sink = MemSink::new(rt.alloc(), room).expect(rt, "memory");
-    let answer = act(rt.alloc(), store, command, moment, &mut sink);
+    let answer = act(store, command, moment, &mut sink);
     is_answered(rt, answer, &sink, wanted);
 }
 
@@ -149,7 +149,7 @@ fn build(rt: &(impl Abort + AllocGlobal), store: &mut Store, wanted: &str) {
         directory: Name::new("SMITH"),
     };
     let mut sink = MemSink::new(rt.alloc(), 1_000).expect(rt, "memory");
-    let answer = act(rt.alloc(), store, &command, 0, &mut sink);
+    let answer = act(store, &command, 0, &mut sink);
     is_answered(rt, answer, &sink, wanted);
 }
 
@@ -169,7 +169,7 @@ fn type_in(
     press(&mut typed, &keys, &mut sink);
     sink = MemSink::new(rt.alloc(), 1_000).expect(rt, "memory");
     assert!(rt; takes(store, &to), "no file can have this name");
-    let answer = write_data(rt.alloc(), store, &to, typed, moment, &mut sink);
+    let answer = write_data(store, &to, typed, moment, &mut sink);
     is_answered(rt, answer, &sink, wanted);
 }
 

@@ -16,11 +16,9 @@ use crate::step::Step;
 use cm_io::{Put, Sink, put_hex};
 use cm_state::Prompt;
 use ex_commands::{Acted, DataTurn, write_data};
-use std::alloc::Global;
 
 /// Takes one key for the file that is being typed in.
 pub(crate) fn take_data_key<S: Sink, W: Sink>(
-    alloc: Global,
     writes: bool,
     key: u8,
     course: &mut Course,
@@ -42,12 +40,11 @@ pub(crate) fn take_data_key<S: Sink, W: Sink>(
     let Some(typing) = course.typing.take() else {
         return Step::More;
     };
-    type_key(alloc, writes, key, typing, course, screen, log)
+    type_key(writes, key, typing, course, screen, log)
 }
 
 // The same, with the file taken out of the course.
 fn type_key<S: Sink, W: Sink>(
-    alloc: Global,
     writes: bool,
     key: u8,
     typing: Typing,
@@ -74,7 +71,7 @@ fn type_key<S: Sink, W: Sink>(
     if let Put::Failed = log_data(writes, key, log) {
         return Step::LogFailed;
     }
-    take_data_turn(alloc, turn, typing, course, screen)
+    take_data_turn(turn, typing, course, screen)
 }
 
 // Logs a key of a file that is being typed in, where there is a log.
@@ -106,7 +103,6 @@ fn put_data_log<W: Sink>(key: u8, log: &mut W) -> Put
 // Does what a key of a file came to, which is taken out of the course: the typing goes on, the file is written, or it
 // is dropped.
 fn take_data_turn<S: Sink>(
-    alloc: Global,
     turn: DataTurn,
     typing: Typing,
     course: &mut Course,
@@ -124,7 +120,7 @@ fn take_data_turn<S: Sink>(
 {
     match turn {
         DataTurn::More => go_on(typing, course),
-        DataTurn::Write => write(alloc, typing, course, screen),
+        DataTurn::Write => write(typing, course, screen),
         DataTurn::Dropped => begin_line(course, screen),
         DataTurn::Failed => go_on(typing, course),
     }
@@ -142,7 +138,7 @@ fn go_on(typing: Typing, course: &mut Course) -> Step
 }
 
 // Writes a file that was typed in, at the moment of its line, and begins the next line behind the reply.
-fn write<S: Sink>(alloc: Global, typing: Typing, course: &mut Course, screen: &mut S) -> Step
+fn write<S: Sink>(typing: Typing, course: &mut Course, screen: &mut S) -> Step
     requires { IsTarget typing.to course.old.store.state.directories }
     ensures does { (moments : List ℕ) → (let world = going (record course.old { typing = Some typing }) moments in
         Does (S.told screen.old) (S.told screen.new) ((write_at world typing).reply ++ prompt_text Prompt.Main)
@@ -155,7 +151,7 @@ fn write<S: Sink>(alloc: Global, typing: Typing, course: &mut Course, screen: &m
     ensures log { (faults : ℕ) → LogCause faults faults result }
 {
     let Typing { to, moment, typed } = typing;
-    match write_data(alloc, &mut course.store, &to, typed, moment, screen) {
+    match write_data(&mut course.store, &to, typed, moment, screen) {
         Acted::Ok => begin_line(course, screen),
         Acted::Refused(_) => begin_line(course, screen),
         Acted::Data => begin_line(course, screen),

@@ -194,7 +194,7 @@ fn obey<S: Sink, C: Clock>(
 {
     let command = command_of(&course.session, under, &course.store);
     let moment = clock.now();
-    match act(under.alloc, &mut course.store, &command, moment, screen) {
+    match act(&mut course.store, &command, moment, screen) {
         Acted::Ok => begin_line(course, screen),
         Acted::Refused(_) => begin_line(course, screen),
         Acted::Data => begin_typing(&command, moment, under.alloc, course),

@@ -60,7 +60,7 @@ pub(crate) fn take_key<S: Sink, W: Sink, C: Clock, L: Ledger>(
     ensures log_cause { LogCause (W.faults log.old) (W.faults log.new) result }
 {
     if course.typing.is_some() {
-        take_data_key(under.alloc, writes, key, course, screen, log)
+        take_data_key(writes, key, course, screen, log)
     } else {
         take_line_key(writes, key, under, course, screen, log, clock, steps)
     }
