@@ -1,4 +1,5 @@
-//! The words that every crate shares: classes of bytes, letters without case, names, decimal digits, and what a screen is given.
+//! The words that every crate shares: classes of bytes, letters without case, names, decimal digits, and
+//! what a screen is given.
 #![tactic(auto)]
 
 mod alike;

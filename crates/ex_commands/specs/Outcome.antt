@@ -9,7 +9,8 @@ use Rattle.ex_commands.specs.declared.acted.Acted.TheVariants as answers
 use Rattle.ex_commands.specs.Act.{Act}
 
 -- it is done: this is its answer, its whole reply is written, and it leaves its state
-pub record Replies {T : Type 0} (s : Ghosts T) (before now : Writer T) (act : Act) (left : State) (answer : Acted) : Type 0 where
+pub record Replies {T : Type 0} (s : Ghosts T) (before now : Writer T) (act : Act) (left : State) (answer : Acted)
+    : Type 0 where
   pub answer_is : act.answer ≡ answer
   pub reply : Writes s before now act.reply
   pub state : left ≡ act.state

@@ -52,7 +52,8 @@ pub fn only_copy_from_the_terminal_begins_a_file()
         → (act_of command moment state).answer ≡ answers.Data → (to : Place) × (command ≡ commands.CopyTty to) }
 {}
 
-/// The numbers of commands: the seconds of a day, and the keys that end the typing of a file or take its last byte away.
+/// The numbers of commands: the seconds of a day, and the keys that end the typing of a file or take its last
+/// byte away.
 pub fn these_are_the_numbers()
     ensures day { DAY_SECONDS ≡ 86400 }
     ensures control_c { CONTROL_C ≡ 3 }
