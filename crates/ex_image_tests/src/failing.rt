@@ -9,12 +9,18 @@ use std::process::Abort;
 
 // How many bytes of an image stand in a file, or why none do.
 fn put_part(told: &mut String, file: Option<&[u8]>) -> Result<(), AllocError> {
-    match file {
-        None => told.push_str(" none"),
-        Some(b"old") => told.push_str(" old"),
-        Some(bytes) if IMAGE.starts_with(bytes) => write!(told, " {}", bytes.len()),
-        Some(_) => told.push_str(" other"),
+    let Some(bytes) = file else {
+        return told.push_str(" none");
+    };
+    if IMAGE.starts_with(bytes) {
+        let length = bytes.len();
+        return write!(told, " {length}");
     }
+    told.push_str(if bytes == b"old".as_slice() {
+        " old"
+    } else {
+        " other"
+    })
 }
 
 // What comes of writing a store where a call fails, and what then stands in OUT and in IN.

@@ -112,8 +112,7 @@ fn push_file(image: &mut Vec<u8>, line: &str, size: usize) -> Result<(), AllocEr
     for _ in 0..size {
         image.push(b'x')?;
     }
-    image.push(b'\n')?;
-    Ok(())
+    image.extend_from_slice(b"\n")
 }
 
 // The image of a store with one file of so many bytes.

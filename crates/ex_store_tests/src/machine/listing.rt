@@ -25,8 +25,8 @@ fn put_row(list: &mut String, row: &Row) -> Result<(), AllocError> {
     let name = row.key.name.as_str();
     let kind = row.key.kind.as_str();
     let generation = row.file.generation;
-    let mark = if row.file.deleted { "-" } else { "" };
-    write!(list, "{name}.{kind}.{generation}{mark}")
+    write!(list, "{name}.{kind}.{generation}")?;
+    list.push_str(if row.file.deleted { "-" } else { "" })
 }
 
 /// The files of a directory, with a space between.

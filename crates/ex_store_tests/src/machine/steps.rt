@@ -13,7 +13,16 @@ use ex_store::Store;
 use std::alloc::AllocError;
 use std::process::Abort;
 
-// The image of a store, with `|` for each line feed.
+// Bytes, with `|` for each line feed.
+fn put_bytes(told: &mut String, bytes: &[u8]) -> Result<(), AllocError> {
+    for byte in bytes {
+        let shown = if *byte == b'\n' { b'|' } else { *byte };
+        told.push(char::from(shown))?;
+    }
+    Ok(())
+}
+
+// The image of a store.
 fn put_image(
     rt: &(impl Abort + AllocGlobal),
     told: &mut String,
@@ -21,14 +30,7 @@ fn put_image(
 ) -> Result<(), AllocError> {
     let mut host = MemHost::new(rt.alloc(), "IN", None, 1_000, &[]).expect(rt, "memory");
     assert_eq!(rt; encode(store, &mut host, "OUT"), Put::Done);
-    for byte in host.output().unwrap_or(b"none") {
-        told.push(if *byte == b'\n' {
-            '|'
-        } else {
-            char::from(*byte)
-        })?;
-    }
-    Ok(())
+    put_bytes(told, host.output().unwrap_or(b"none"))
 }
 
 // What a store tells: its catalogue, and what each directory keeps; a logical name, or all; a file, or the names, the
