@@ -39,17 +39,9 @@ adds_late before now first second adds = record {
   added = adds.added ∙ sym (add_append before first adds.part);
 }
 
--- both pieces are put, or a part of the first, or the first and a part of the second
-pub ruleset two_pieces = (add_append, adds_early, adds_late)
-
 -- a part of the second of three pieces is a part of all
 pub adds_between : (before now : Told) (first second third : List ℕ) → AddsPart (add before first) now second → AddsPart before now ((first ++ second) ++ third)
 adds_between before now first second third adds = adds_early before now (first ++ second) third (adds_late before now first second adds)
-
--- a part of the second of four pieces is a part of all
-pub adds_between_two : (before now : Told) (first second third fourth : List ℕ) → AddsPart (add before first) now second → AddsPart before now (((first ++ second) ++ third) ++ fourth)
-adds_between_two before now first second third fourth adds =
-    adds_early before now ((first ++ second) ++ third) fourth (adds_between before now first second third adds)
 
 -- a count that rose has risen also later
 pub rose_early : (before middle now : ℕ) → Rose before middle → middle ≤ now → Rose before now
