@@ -24,7 +24,7 @@ pub(crate) const DAY_SECONDS: u64 = 86_400;
 
 /// What the line of a file tells.
 #[derive(Clone, Copy)]
-pub(crate) enum Lines {
+pub enum Lines {
     /// That it is marked, or no more.
     Marked,
     /// How large it is, and of which day.

@@ -14,7 +14,7 @@ use ex_store::{Full, Pair, Ready};
 
 /// Where what a plan makes comes from.
 #[derive(Clone, Copy)]
-pub(crate) enum Origin {
+pub enum Origin {
     /// From files.
     Files,
     /// From the terminal.
