@@ -132,6 +132,7 @@ fn entries(alloc: Global, table: &Table) -> Result<String, AllocError> {
 }
 
 #[test]
+#[tactic(auto, unfolding(ex_grammar::specs::Graph::exec_graph, ex_grammar::specs::Tables::exec_tables))]
 fn each_entry_has_its_code(rt: HostRuntime) -> Result<(), Fail> {
     let grammar = grammar(rt.alloc())?;
     assert_eq!(rt;

@@ -199,12 +199,8 @@ pub(crate) fn hooks(alloc: Global) -> Result<Hooks<ExecRules>, Fail>
     ensures all { IfOk result (λ hooks. count hooks ≡ 3) }
 {
     let mut hooks: Hooks<ExecRules> = Hooks::new();
-    for id in 0..3u8 {
-        hooks.push(hook(alloc, id)?).ok().ok_or("a hook")?;
-    }
-    if hooks.len() == 3 {
-        Ok(hooks)
-    } else {
-        Err("a hook is missing").map_err(Fail::from)
-    }
+    hooks.push(hook(alloc, 0)?).ok().ok_or("the first hook")?;
+    hooks.push(hook(alloc, 1)?).ok().ok_or("the second hook")?;
+    hooks.push(hook(alloc, 2)?).ok().ok_or("the third hook")?;
+    Ok(hooks)
 }

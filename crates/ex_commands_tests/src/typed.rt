@@ -24,6 +24,7 @@ use ex_store::{Place, Store};
 use std::alloc::{AllocError, Global};
 use std::marker::Brand;
 use std::process::Abort;
+use std::str;
 use std::sync::ledger::{Blank, Ledger};
 use std::test::Fail;
 
@@ -173,7 +174,7 @@ fn try_lines<L: Ledger, A: Abort + AllocGlobal>(
     runtime: &HostRuntime,
     blank: Blank,
     store: &Store,
-    cases: &str,
+    cases: &[u8],
 ) -> Result<(), Fail>
     requires name { blank.name ≡ L.name }
     requires parts { blank.parts ≡ L.parts }
@@ -184,7 +185,7 @@ fn try_lines<L: Ledger, A: Abort + AllocGlobal>(
     let mut shown = MemSink::new(rt.alloc(), 65_536)?;
     let mut steps: Steps<L> = Steps::new(runtime, blank);
     ex_grammar::laws::the_grammar_wants_one_hook();
-    for case in cases.lines() {
+    for case in str::from_utf8(cases)?.lines() {
         let (line, wanted) = cut(case.trim_start());
         let command = command_of(rt, line, &grammar, store, &hooks, &mut shown, &mut steps);
         is_command(rt, &command, wanted);
@@ -221,7 +222,7 @@ fn a_line_means_files_and_names(rt: HostRuntime) -> Result<(), Fail> {
         rename a.* *.bak.-1|Rename <OPERATOR>A.* Missing w <OPERATOR>*.BAK Next ws
         T A.TXT|TypeOut <OPERATOR>A.TXT Missing w
         type *.txt.2|TypeOut <OPERATOR>*.TXT Number(2) w";
-    try_lines::<Brand, _>(&rt, &rt, Blank::new(1), &store, cases)
+    try_lines::<Brand, _>(&rt, &rt, Blank::new(1), &store, cases.as_bytes())
 }
 
 #[test]
@@ -232,5 +233,5 @@ fn a_line_means_deleted_files(rt: HostRuntime) -> Result<(), Fail> {
         DELETE A.TXT.2|Ok| <OPERATOR>A.TXT.2 [OK]^M^J",
     );
     let cases = "UNDELETE A.*|Undelete <OPERATOR>A.* Missing wad";
-    try_lines::<Brand, _>(&rt, &rt, Blank::new(1), &store, cases)
+    try_lines::<Brand, _>(&rt, &rt, Blank::new(1), &store, cases.as_bytes())
 }
