@@ -24,7 +24,6 @@ use ex_store::{Place, Store};
 use std::alloc::{AllocError, Global};
 use std::marker::Brand;
 use std::process::Abort;
-use std::str;
 use std::sync::ledger::{Blank, Ledger};
 use std::test::Fail;
 
