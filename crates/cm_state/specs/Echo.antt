@@ -13,7 +13,7 @@ use Rattle.cm_blocks.specs.declared.field.Ending.TheVariants as ending
 use Rattle.cm_blocks.specs.Setting.{Setting}
 use Rattle.cm_help.specs.Help.{help_text}
 use Rattle.cm_state.specs.declared.prompt.Prompt.{Prompt}
-use Rattle.cm_state.specs.declared.prompt.Prompt.TheVariants.{Main, Sub}
+use Rattle.cm_state.specs.declared.prompt.Prompt.TheVariants.{Main, Sub, Own}
 use Rattle.cm_state.specs.SessionState.{SessionState, met_line}
 use Rattle.cm_state.specs.Edit.{completed, edited}
 
@@ -23,6 +23,7 @@ screen_line line = map screen_byte line
 unfoldable pub prompt_text : Prompt → List ℕ
 prompt_text Main = codes "@"
 prompt_text Sub = codes "@@"
+prompt_text (Own text) = text.now
 
 -- the end of the line, and the line again behind its prompt
 unfoldable pub again : Prompt → List ℕ → List ℕ

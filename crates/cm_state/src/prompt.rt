@@ -9,6 +9,8 @@ pub enum Prompt {
     Main,
     /// `@@`, for a subcommand.
     Sub,
+    /// A text of the program's own.
+    Own(&'static str),
 }
 
 impl Prompt {
@@ -19,6 +21,7 @@ impl Prompt {
         match self {
             Prompt::Main => "@",
             Prompt::Sub => "@@",
+            Prompt::Own(text) => text,
         }
     }
 }
