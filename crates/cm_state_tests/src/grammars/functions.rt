@@ -34,6 +34,7 @@ fn plain(kind: &str) -> Option<Function> {
         "number" => Some(Function::Number),
         "word" => Some(Function::Word),
         "quoted" => Some(Function::Quoted),
+        "date" => Some(Function::Date),
         "text" => Some(Function::Text),
         "comma" => Some(Function::Comma),
         "confirm" => Some(Function::Confirm),
