@@ -12,8 +12,8 @@ fn grammar(alloc: Global) -> Result<Grammar, Fail> {
     Ok(Grammar::new(nodes_of(alloc, NODES)?, Vec::new(alloc))?)
 }
 
-// A year of two digits is one of 19yy. The block behind a date is asked where the run is none, and one before it refuses
-// a date as it does any other run.
+// A year of two digits is one of 19yy. The block behind a date is asked where the run is none, and one before it
+// refuses a date as it does any other run.
 const TAKEN: &str = "\
     0 0 5-JAN-1980\r => Field(Field { node: 0, block: 0, value: Date(3656), start: 0, end: 10, need: 11, \
     defaulted: false, role: None, next: 1 })\n\
@@ -39,8 +39,8 @@ fn takes_dates(rt: HostRuntime) -> Result<(), Fail> {
     answer_chains(&rt, &grammar(rt.alloc())?, TAKEN)
 }
 
-// First what is no date by its shape, its month or a day 0, then a year that is out of range, then a day past the end of
-// its month.
+// First what is no date by its shape, its month or a day 0, then a year that is out of range, then a day past the end
+// of its month.
 const REFUSED: &str = "\
 0 0 \r => Fault(Fault { code: BadDate, node: 0, at: 0 })
 0 0 5\r => Fault(Fault { code: BadDate, node: 0, at: 0 })
@@ -70,7 +70,8 @@ fn refuses_what_is_no_date(rt: HostRuntime) -> Result<(), Fail> {
     answer_chains(&rt, &grammar(rt.alloc())?, REFUSED)
 }
 
-// Where two are wrong the first decides. Of several blocks the last says why, and no run is refused before it has ended.
+// Where two are wrong the first decides. Of several blocks the last says why, and no run is refused before it
+// has ended.
 const FIRST_FAULT: &str = "\
 0 0 0-JAN-1969\r => Fault(Fault { code: BadDate, node: 0, at: 0 })
 0 0 5-JAX-2100\r => Fault(Fault { code: BadDate, node: 0, at: 0 })
