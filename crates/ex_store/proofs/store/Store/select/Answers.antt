@@ -3,8 +3,8 @@ use Rattle.std.proofs.lemmas.List.{length-map}
 use Rattle.ex_store.specs.declared.directory.Directory.{Directory}
 use Rattle.ex_store.specs.WellFormed.{IsWellFormed}
 use Rattle.cm_files.specs.Selection.{wanted}
-use Rattle.ex_store.proofs.Lawful.{number_found}
-use Rattle.ex_store.proofs.Selecting.{walk_meant}
+use Rattle.ex_store.proofs.CatalogueLaws.{number_found}
+use Rattle.ex_store.proofs.MeantLaws.{walk_meant}
 use Rattle.ex_store.proofs.store.Store.select.Goals as goal
 
 -- src/selection.rt:22:25

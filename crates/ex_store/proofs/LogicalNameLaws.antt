@@ -7,7 +7,7 @@ use Rattle.ex_store.specs.declared.directory.Definition.{Definition}
 use Rattle.ex_store.specs.declared.directory.Directory.{Directory}
 use Rattle.ex_store.specs.State.{State, catalogue_of, has_directory, logical_name, number_of}
 use Rattle.ex_store.specs.WellFormed.{IsWellFormed, is_definition_among}
-use Rattle.ex_store.proofs.Elements.{all_at}
+use Rattle.ex_store.proofs.ElementsLaws.{all_at}
 
 -- what a walk finds from here on
 abbrev pub found_from : List Directory → List ℕ → ℕ → List Definition → Option ℕ

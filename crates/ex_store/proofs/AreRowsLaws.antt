@@ -16,7 +16,7 @@ use Rattle.ex_store.specs.declared.key.FullName.{FullName}
 use Rattle.ex_store.specs.declared.key.Key.{Key}
 use Rattle.ex_store.specs.declared.row.Row.{Row}
 use Rattle.ex_store.specs.Rows.{added, by_full, by_key, by_row, files_of, full_of, inserted, is_full, is_of, kept_newest, with_mark}
-use Rattle.ex_store.proofs.Ascending.{above_chain, all_above, ascends_sorted, is_sorted, sorted_ascends, turned}
+use Rattle.ex_store.proofs.AscendsLaws.{above_chain, all_above, ascends_sorted, is_sorted, sorted_ascends, turned}
 
 pub by_key_total : IsTotalOrder by_key
 by_key_total =

@@ -21,14 +21,14 @@ use Rattle.ex_store.specs.declared.key.NamePair.{NamePair}
 use Rattle.ex_store.specs.declared.limits.TheConstants.{DIRECTORY_LIMIT, RETENTION_LIMIT}
 use Rattle.ex_store.specs.declared.plan.Plan.TheVariants as plans
 use Rattle.ex_store.specs.declared.queue.QueueEntry.{QueueEntry}
-use Rattle.ex_store.specs.declared.ready.Step.{Step}
+use Rattle.ex_store.specs.declared.ready.RowChange.{RowChange}
 use Rattle.ex_store.specs.declared.row.Row.{Row}
 use Rattle.ex_store.specs.Building.{built, directory_inserted, kept_by, with_directory}
 use Rattle.ex_store.specs.Plan.{planned}
 use Rattle.ex_store.specs.Ready.{Change, applied, done_on}
 use Rattle.ex_store.specs.State.{State, has_directory, is_named}
 use Rattle.ex_store.specs.WellFormed.{IsWellFormed, is_definition_among, is_directory, is_entry_among, is_row_among}
-use Rattle.ex_store.proofs.Ascending.{ascends_map}
+use Rattle.ex_store.proofs.AscendsLaws.{ascends_map}
 
 -- the directory of a name keeps as many generations
 abbrev pub kept_as : List ℕ → ℕ → Directory → Directory
@@ -277,22 +277,22 @@ well_formed_built state name keep made well named few is =
     (well_formed_with_more state _ well (with_more _ state.directories are form parts.1))
 
 -- the change that makes a directory
-abbrev change_of : Directory → List Step → List NamePair → Change
-change_of made steps pairs = record { directory = Some made; keep = 0; steps = steps; pairs = pairs }
+abbrev change_of : Directory → List RowChange → List NamePair → Change
+change_of made row_changes pairs = record { directory = Some made; keep = 0; row_changes = row_changes; pairs = pairs }
 
-pub planned_built : (state : State) (name : List ℕ) (keep : Option ℕ) (made : Directory) (steps : List Step) (pairs : List NamePair) (moment : ℕ)
-    → built name keep state.directories ≡ Ok made → steps ≡ [] → pairs ≡ []
-    → planned (plans.Build name keep) moment state ≡ Ok (done_on state (change_of made steps pairs))
+pub planned_built : (state : State) (name : List ℕ) (keep : Option ℕ) (made : Directory) (row_changes : List RowChange) (pairs : List NamePair) (moment : ℕ)
+    → built name keep state.directories ≡ Ok made → row_changes ≡ [] → pairs ≡ []
+    → planned (plans.Build name keep) moment state ≡ Ok (done_on state (change_of made row_changes pairs))
 unfolding planned
-planned_built state name keep made steps pairs moment is none nobody = rw (is, none, nobody) refl
+planned_built state name keep made row_changes pairs moment is none nobody = rw (is, none, nobody) refl
 
 pub planned_refused : (state : State) (name : List ℕ) (keep : Option ℕ) (code : Code) (moment : ℕ)
     → built name keep state.directories ≡ Err code → planned (plans.Build name keep) moment state ≡ Err code
 unfolding planned
 planned_refused state name keep code moment is = rw is refl
 
-pub sound_built : (state : State) (name : List ℕ) (keep : Option ℕ) (made : Directory) (steps : List Step) (pairs : List NamePair) → IsWellFormed state
-    → is_directory_name name ≡ true → IfSome keep (λ count. count ≤ RETENTION_LIMIT) → built name keep state.directories ≡ Ok made → steps ≡ []
-    → IsWellFormed (applied (change_of made steps pairs) state)
-sound_built state name keep made steps pairs well named few is none =
+pub sound_built : (state : State) (name : List ℕ) (keep : Option ℕ) (made : Directory) (row_changes : List RowChange) (pairs : List NamePair) → IsWellFormed state
+    → is_directory_name name ≡ true → IfSome keep (λ count. count ≤ RETENTION_LIMIT) → built name keep state.directories ≡ Ok made → row_changes ≡ []
+    → IsWellFormed (applied (change_of made row_changes pairs) state)
+sound_built state name keep made row_changes pairs well named few is none =
     rw none (well_formed_built state name keep made well named few is)

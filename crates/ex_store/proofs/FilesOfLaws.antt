@@ -15,8 +15,8 @@ use Rattle.ex_generations.specs.Retention as retention
 use Rattle.ex_store.specs.declared.key.Key.{Key}
 use Rattle.ex_store.specs.declared.row.Row.{Row}
 use Rattle.ex_store.specs.Rows.{added, by_key, by_row, files_of, full_of, inserted, is_full, is_of, kept_newest, retained, with_mark}
-use Rattle.ex_store.proofs.Ascending.{above_chain, all_above, is_sorted, sorted_ascends, turned}
-use Rattle.ex_store.proofs.Sound.{absent_has, by_key_total, by_row_total, is_absent}
+use Rattle.ex_store.proofs.AscendsLaws.{above_chain, all_above, is_sorted, sorted_ascends, turned}
+use Rattle.ex_store.proofs.AreRowsLaws.{absent_has, by_key_total, by_row_total, is_absent}
 
 -- a key is its own
 own_key_is : (o : Ordering) → o ≡ ordering_reverse o → is_eq o ≡ true

@@ -12,7 +12,7 @@ use Rattle.ex_store.specs.Positions.{elements_at, positions_from}
 use Rattle.ex_store.specs.Ready.{Change, IsMade, done_on, outcome_of}
 use Rattle.ex_store.specs.Selection.{is_meant}
 use Rattle.ex_store.specs.State.{State}
-use Rattle.ex_store.proofs.Sources.{elements_filter}
+use Rattle.ex_store.proofs.PositionsLaws.{elements_filter}
 
 -- the directories, sources and rows that a plan is made of are those of the state
 pub record IsOver (state : State) (from : Place) (directories : List Directory) (taken rows : List Row) : Type 0 where

@@ -11,7 +11,7 @@ use Rattle.ex_store.specs.declared.key.FullName.{FullName}
 use Rattle.ex_store.specs.declared.key.Key.{Key}
 use Rattle.ex_store.specs.declared.row.Row.{Row}
 use Rattle.ex_store.specs.Adding.{next_of, numbered}
-use Rattle.ex_store.specs.Ready.{put_back, under}
+use Rattle.ex_store.specs.Ready.{reinserted, with_name}
 use Rattle.ex_store.specs.Rows.{added, blank, by_row, files_of, inserted, is_full, is_of, kept_newest, retained, row_at, with_mark, without}
 
 -- a file without its bytes
@@ -120,7 +120,7 @@ row_at_blank full (row ∷ rows) = by (is_full full row) (row_at_blank full rows
     by true rest = refl
     by false rest = rest
 
-pub put_back_blank : (keep : ℕ) (target : FullName) (rows : List Row) (row : Option Row)
-    → put_back keep target (map blank rows) (option_map blank row) ≡ map blank (put_back keep target rows row)
-put_back_blank keep target rows None = refl
-put_back_blank keep target rows (Some row) = added_blank keep (under target row) rows
+pub reinserted_blank : (keep : ℕ) (target : FullName) (rows : List Row) (row : Option Row)
+    → reinserted keep target (map blank rows) (option_map blank row) ≡ map blank (reinserted keep target rows row)
+reinserted_blank keep target rows None = refl
+reinserted_blank keep target rows (Some row) = added_blank keep (with_name target row) rows

@@ -20,10 +20,10 @@ use Rattle.ex_store.specs.Positions.{positions_from}
 use Rattle.ex_store.specs.Rows.{by_row, end_in, first_in, is_in, rows_in}
 use Rattle.ex_store.specs.State.{State, catalogue_of, file_row, has_directory, is_named, number_of, rows_numbered}
 use Rattle.ex_store.specs.WellFormed.{IsWellFormed, is_row_among}
-use Rattle.ex_store.proofs.Ascending.{all_above, is_less, is_sorted, sorted_ascends}
-use Rattle.ex_store.proofs.Elements.{all_at}
-use Rattle.ex_store.proofs.Lawful.{below_name, by_name, by_name_total, directory_there, named, number_order, text_itself}
-use Rattle.ex_store.proofs.Sound.{by_row_total}
+use Rattle.ex_store.proofs.AscendsLaws.{all_above, is_less, is_sorted, sorted_ascends}
+use Rattle.ex_store.proofs.ElementsLaws.{all_at}
+use Rattle.ex_store.proofs.CatalogueLaws.{below_name, by_name, by_name_total, directory_there, named, number_order, text_itself}
+use Rattle.ex_store.proofs.AreRowsLaws.{by_row_total}
 
 -- what may stand behind an element of this place
 abbrev pub may_follow : Ordering → Ordering → Bool

@@ -14,7 +14,7 @@ use Rattle.ex_store.specs.Rows.{end_in, first_in, is_in, rows_in}
 use Rattle.ex_store.specs.Selection.{is_meant, wanted_of}
 use Rattle.ex_store.specs.State.{State, catalogue_of, file_row, has_directory, number_of}
 use Rattle.ex_store.specs.WellFormed.{IsWellFormed}
-use Rattle.ex_store.proofs.Blocks.{block, block_within, kept_pass, positions_within, rows_by_number, rows_of_catalogue}
+use Rattle.ex_store.proofs.RowsInLaws.{block, block_within, kept_pass, positions_within, rows_by_number, rows_of_catalogue}
 
 position_map : {X Y : Type 0} (test : Y → Bool) (f : X → Y) (at : ℕ) (xs : List X)
     → position_from test at (map f xs) ≡ position_from (λ x. test (f x)) at xs

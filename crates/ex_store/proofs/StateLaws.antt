@@ -14,7 +14,7 @@ use Rattle.ex_store.specs.declared.directory.Definition.{Definition}
 use Rattle.ex_store.specs.declared.directory.Directory.{Directory}
 use Rattle.ex_store.specs.State.{State, first_state, has_directory, is_named, logical_name, number_of}
 use Rattle.ex_store.specs.WellFormed.{IsWellFormed, is_definition_among, is_directory}
-use Rattle.ex_store.proofs.Ascending.{all_filter, ascends_filter}
+use Rattle.ex_store.proofs.AscendsLaws.{all_filter, ascends_filter}
 
 -- the first state is well formed
 pub first_well_formed : IsWellFormed first_state

@@ -11,7 +11,7 @@ use Rattle.ex_store.specs.Building.{built, directory_inserted, with_directory}
 use Rattle.ex_store.specs.Plan.{Planned, planned, with_rows}
 use Rattle.ex_store.specs.Rows.{expunged, is_in}
 use Rattle.ex_store.specs.State.{State, has_directory}
-use Rattle.ex_store.proofs.Making.{inserted_has, kept_as, kept_has}
+use Rattle.ex_store.proofs.BuiltLaws.{inserted_has, kept_as, kept_has}
 
 contains_more : {X : Type 0} (first x : X) (xs : List X) → Contains xs x → Contains (first ∷ xs) x
 contains_more first x xs there = (suc there.0, omega (arith, there.1), there.2)

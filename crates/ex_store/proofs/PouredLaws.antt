@@ -8,7 +8,7 @@ use Rattle.ex_store.specs.declared.limits.TheConstants.{STORE_LIMIT}
 use Rattle.ex_store.specs.declared.row.Row.{Row}
 use Rattle.ex_store.specs.Adding.{and_then}
 use Rattle.ex_store.specs.Appending.{fitting, poured}
-use Rattle.ex_store.proofs.Admitting.{and_then_ok}
+use Rattle.ex_store.proofs.AdmittedLaws.{and_then_ok}
 
 -- the next source fits
 pub poured_more : (all size : ℕ) (bytes more new : List ℕ) (source : Row) (sources rest : List Row) (done : Unit {0}) → sources ≡ source ∷ rest → more ≡ source.file.bytes → size ≡ length bytes → new ≡ bytes ++ more → fitting all size (length more) ≡ Ok done → poured (all + length more) new rest ≡ poured all bytes sources

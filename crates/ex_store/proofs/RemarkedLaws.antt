@@ -10,10 +10,10 @@ use Rattle.ex_store.specs.Positions.{all_changed_at, changed_at, positions_from}
 use Rattle.ex_store.specs.Rows.{by_row, full_of, is_short, total, with_mark}
 use Rattle.ex_store.specs.State.{State}
 use Rattle.ex_store.specs.WellFormed.{AreRows, IsWellFormed, is_row_among}
-use Rattle.ex_store.proofs.Ascending.{all_filter, ascends_filter, ascends_map}
-use Rattle.ex_store.proofs.Making.{all_more}
-use Rattle.ex_store.proofs.Sizes.{total_cons}
-use Rattle.ex_store.proofs.Sound.{by_row_total}
+use Rattle.ex_store.proofs.AscendsLaws.{all_filter, ascends_filter, ascends_map}
+use Rattle.ex_store.proofs.BuiltLaws.{all_more}
+use Rattle.ex_store.proofs.TotalLaws.{total_cons}
+use Rattle.ex_store.proofs.AreRowsLaws.{by_row_total}
 
 next_one : (n : ℕ) → suc n + 1 ≡ suc (n + 1)
 next_one n = omega arith

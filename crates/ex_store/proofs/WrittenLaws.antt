@@ -8,7 +8,7 @@ use Rattle.ex_generations.specs.declared.file.TheConstants.{FILE_LIMIT}
 use Rattle.ex_store.specs.declared.key.Key.{Key}
 use Rattle.ex_store.specs.declared.place.Place.{Place}
 use Rattle.ex_store.specs.declared.plan.Plan.TheVariants as plans
-use Rattle.ex_store.specs.declared.ready.Step.TheVariants as steps
+use Rattle.ex_store.specs.declared.ready.RowChange.TheVariants as changes
 use Rattle.ex_store.specs.declared.row.Row.{Row}
 use Rattle.ex_store.specs.Adding.{admitted, and_then, limited, new_row, numbered, placed}
 use Rattle.ex_store.specs.Copying.{is_star, lacks_name, moment_of, own_key, written}
@@ -17,9 +17,9 @@ use Rattle.ex_store.specs.Ready.{Change, applied, done_on}
 use Rattle.ex_store.specs.Rows.{files_of, full_of, total}
 use Rattle.ex_store.specs.State.{State}
 use Rattle.ex_store.specs.WellFormed.{IsWellFormed, is_file_name, is_file_type, is_row_among}
-use Rattle.ex_store.proofs.Admitting.{admitted_is, counted_target, rows_added}
-use Rattle.ex_store.proofs.Copies.{formed_is, moment_within}
-use Rattle.ex_store.proofs.Marking.{well_formed_with_rows}
+use Rattle.ex_store.proofs.AdmittedLaws.{admitted_is, counted_target, rows_added}
+use Rattle.ex_store.proofs.AllCopiedLaws.{formed_is, moment_within}
+use Rattle.ex_store.proofs.RemarkedLaws.{well_formed_with_rows}
 
 -- what is asked of the rows that the code has is what is asked of those of the state
 pub asked_is : (key given : Key) (generation : Gen) (size count all : ℕ) (rows before : List Row) (answer : Result ℕ Code) → given ≡ key → before ≡ rows
@@ -38,7 +38,7 @@ adds_one keep row =
     record {
       directory = None;
       keep = keep;
-      steps = steps.Add row ∷ [];
+      row_changes = changes.Add row ∷ [];
       pairs = (record { source = full_of row; target = full_of row }) ∷ [];
     }
 

@@ -3,16 +3,16 @@ ghost use Rattle.std.specs.Prelude.{◌≡◌, ◌≤◌, [], length, map, IfOk,
 ghost use Rattle.ex_store.specs.declared.limits.TheConstants.{ROW_LIMIT};
 ghost use Rattle.ex_store.specs.Rows.{blank};
 
-use crate::{NamePair, Ready, Row, Step};
+use crate::{NamePair, Ready, Row, RowChange};
 use cm_io::NoMemory;
 use std::alloc::Global;
 
 // What is to be done, from which file to which one each goes, and the rows as they stand then, without their bytes.
 #[derive(Drop)]
-pub(crate) struct Course {
-    pub(crate) steps: Vec<Step>,
+pub(crate) struct Simulation {
+    pub(crate) row_changes: Vec<RowChange>,
     pub(crate) pairs: Vec<NamePair>,
-    pub(crate) played: Vec<Row>,
+    pub(crate) simulated: Vec<Row>,
 }
 
 // The rows without their bytes.
@@ -26,17 +26,17 @@ fn blanks(alloc: Global, rows: &[Row]) -> Result<Vec<Row>, NoMemory>
     Ok(blanks)
 }
 
-impl Course {
+impl Simulation {
     // Nothing is done yet.
-    pub(crate) fn new(alloc: Global, rows: &[Row]) -> Result<Course, NoMemory>
-        ensures steps { IfOk result (λ course. course.steps.items ≡ []) }
-        ensures pairs { IfOk result (λ course. course.pairs.items ≡ []) }
-        ensures played { IfOk result (λ course. course.played.items ≡ map blank rows.now) }
+    pub(crate) fn new(alloc: Global, rows: &[Row]) -> Result<Simulation, NoMemory>
+        ensures row_changes { IfOk result (λ simulation. simulation.row_changes.items ≡ []) }
+        ensures pairs { IfOk result (λ simulation. simulation.pairs.items ≡ []) }
+        ensures simulated { IfOk result (λ simulation. simulation.simulated.items ≡ map blank rows.now) }
     {
-        Ok(Course {
-            steps: Vec::new(alloc),
+        Ok(Simulation {
+            row_changes: Vec::new(alloc),
             pairs: Vec::new(alloc),
-            played: blanks(alloc, rows)?,
+            simulated: blanks(alloc, rows)?,
         })
     }
 
@@ -46,15 +46,19 @@ impl Course {
         ensures { result ≡ record {
           directory = None;
           keep = keep;
-          steps = self.steps.items;
+          row_changes = self.row_changes.items;
           pairs = self.pairs.items;
         } }
     {
-        let Course { steps, pairs, .. } = self;
+        let Simulation {
+            row_changes,
+            pairs,
+            ..
+        } = self;
         Ready {
             directory: None,
             keep,
-            steps,
+            row_changes,
             pairs,
         }
     }

@@ -13,22 +13,22 @@ use Rattle.ex_store.specs.declared.key.FullName.{FullName}
 use Rattle.ex_store.specs.declared.key.NamePair.{NamePair}
 use Rattle.ex_store.specs.declared.limits.TheConstants.{MOMENT_LIMIT, STORE_LIMIT}
 use Rattle.ex_store.specs.declared.place.Place.{Place}
-use Rattle.ex_store.specs.declared.ready.Step.{Step}
+use Rattle.ex_store.specs.declared.ready.RowChange.{RowChange}
 use Rattle.ex_store.specs.declared.row.Row.{Row}
 use Rattle.ex_store.specs.Adding.{admitted, new_row}
-use Rattle.ex_store.specs.Appending.{appended, bytes_at, found, opened, opening_of, pairs_to, poured, steps_of, with_opened}
+use Rattle.ex_store.specs.Appending.{appended, bytes_at, found, opened, opening_of, pairs_to, poured, row_changes_of, with_opened}
 use Rattle.ex_store.specs.Copying.{moment_of, own_key}
 use Rattle.ex_store.specs.Plan.{IsOneFile, has_plain_kind, has_plain_name}
 use Rattle.ex_store.specs.Positions.{elements_at}
-use Rattle.ex_store.specs.Ready.{all_stepped}
+use Rattle.ex_store.specs.Ready.{rows_after_all}
 use Rattle.ex_store.specs.Rows.{added, by_row, files_of, filled, full_of, is_full, row_at, total}
 use Rattle.ex_store.specs.WellFormed.{AreRows, is_file_name, is_file_type, is_row_among}
-use Rattle.ex_store.proofs.Admitting.{admitted_is, and_then_ok, counted_file, rows_added}
-use Rattle.ex_store.proofs.Ascending.{all_above, ascends_sorted, is_sorted, sorted_ascends}
-use Rattle.ex_store.proofs.Copies.{formed, formed_is, moment_within}
-use Rattle.ex_store.proofs.Pouring.{poured_within}
-use Rattle.ex_store.proofs.Sizes.{total_added, total_cons}
-use Rattle.ex_store.proofs.Sound.{absent_has, by_row_total, is_absent}
+use Rattle.ex_store.proofs.AdmittedLaws.{admitted_is, and_then_ok, counted_file, rows_added}
+use Rattle.ex_store.proofs.AscendsLaws.{all_above, ascends_sorted, is_sorted, sorted_ascends}
+use Rattle.ex_store.proofs.AllCopiedLaws.{formed, formed_is, moment_within}
+use Rattle.ex_store.proofs.PouredLaws.{poured_within}
+use Rattle.ex_store.proofs.TotalLaws.{total_added, total_cons}
+use Rattle.ex_store.proofs.AreRowsLaws.{absent_has, by_row_total, is_absent}
 
 -- the row with another moment and other bytes
 abbrev refilled : ℕ → List ℕ → Row → Row
@@ -203,32 +203,32 @@ opened_is directories keep moment to rows there are one is =
     opening_is directories keep moment to rows parts.0 there are one parts.2
 
 -- the empty row is added, and the bytes are filled in
-steps_opened : (keep : ℕ) (rows : List Row) (target : FullName) (new : Option Row) (moment : ℕ) (bytes : List ℕ)
-    → all_stepped keep rows (steps_of (record { target = target; new = new }) moment bytes) ≡ filled target moment bytes (with_opened keep rows new)
-steps_opened keep rows target None moment bytes = refl
-steps_opened keep rows target (Some row) moment bytes = refl
+changes_opened : (keep : ℕ) (rows : List Row) (target : FullName) (new : Option Row) (moment : ℕ) (bytes : List ℕ)
+    → rows_after_all keep rows (row_changes_of (record { target = target; new = new }) moment bytes) ≡ filled target moment bytes (with_opened keep rows new)
+changes_opened keep rows target None moment bytes = refl
+changes_opened keep rows target (Some row) moment bytes = refl
 
--- the rows behind the steps are those of a store
-pub append_sound : (directories : List Directory) (keep moment : ℕ) (to : Place) (rows sources : List Row) (there : Opening) (bytes : List ℕ) (done : List Step)
+-- the rows behind the changes are those of a store
+pub append_sound : (directories : List Directory) (keep moment : ℕ) (to : Place) (rows sources : List Row) (there : Opening) (bytes : List ℕ) (done : List RowChange)
     → AreRows directories rows → IsOneFile to directories → opened moment (own_key to) to.generation rows ≡ Ok there
-    → poured (total rows) (bytes_at there.target rows) sources ≡ Ok bytes → done ≡ steps_of there (moment_of moment) bytes
-    → AreRows directories (all_stepped keep rows done)
+    → poured (total rows) (bytes_at there.target rows) sources ≡ Ok bytes → done ≡ row_changes_of there (moment_of moment) bytes
+    → AreRows directories (rows_after_all keep rows done)
 append_sound directories keep moment to rows sources there bytes done are one opens pours is =
     let known = opened_is directories keep moment to rows there are one opens in
     let limits = poured_within (total rows) (bytes_at there.target rows) sources bytes pours (bytes_short directories there.target rows are.within) are.small in
     let grows = total_filled there.target (moment_of moment) bytes (with_opened keep rows there.new) in
     let small : total (filled there.target (moment_of moment) bytes (with_opened keep rows there.new)) ≤ STORE_LIMIT =
     omega (arith, known.room, limits.1, grows) in
-    rw (is, steps_opened keep rows there.target there.new (moment_of moment) bytes)
+    rw (is, changes_opened keep rows there.target there.new (moment_of moment) bytes)
     (rows_filled directories there.target (moment_of moment) bytes (with_opened keep rows there.new) known.are (moment_within moment) limits.0 small)
 
 -- what the plan comes to
-pub append_ready : (keep moment : ℕ) (to : Place) (rows sources : List Row) (there : Opening) (bytes : List ℕ) (done : List Step) (pairs : List NamePair)
+pub append_ready : (keep moment : ℕ) (to : Place) (rows sources : List Row) (there : Opening) (bytes : List ℕ) (done : List RowChange) (pairs : List NamePair)
     → opened moment (own_key to) to.generation rows ≡ Ok there → poured (total rows) (bytes_at there.target rows) sources ≡ Ok bytes
-    → done ≡ steps_of there (moment_of moment) bytes → pairs ≡ pairs_to there.target sources
-    → appended keep moment to sources rows ≡ Ok (record { rows = all_stepped keep rows done; pairs = pairs })
+    → done ≡ row_changes_of there (moment_of moment) bytes → pairs ≡ pairs_to there.target sources
+    → appended keep moment to sources rows ≡ Ok (record { rows = rows_after_all keep rows done; pairs = pairs })
 append_ready keep moment to rows sources there bytes done pairs opens pours is told =
-    rw (is, told, steps_opened keep rows there.target there.new (moment_of moment) bytes) (rw (opens, pours) refl)
+    rw (is, told, changes_opened keep rows there.target there.new (moment_of moment) bytes) (rw (opens, pours) refl)
 
 -- there are no more pairs than places
 length_elements : {X : Type 0} (xs : List X) (positions : List ℕ) → length (elements_at xs positions) ≤ length positions

@@ -3,7 +3,7 @@ use Rattle.std.proofs.Common.{◌≡◌, ℕ, ◌+◌, ◌<◌, nat_lt, Bool, tr
 use Rattle.std.specs.List.{list_all}
 use Rattle.ex_store.specs.declared.row.Row.{Row}
 use Rattle.ex_store.specs.Positions.{elements_at, positions_from}
-use Rattle.ex_store.proofs.Elements.{elements_more, get_some, place_within}
+use Rattle.ex_store.proofs.ElementsLaws.{elements_more, get_some, place_within}
 
 -- the source that a walk over places comes to
 pub record IsSource (rows : List Row) (positions : List ℕ) (i : ℕ) (row : Row) : Type 0 where

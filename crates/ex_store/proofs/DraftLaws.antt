@@ -10,7 +10,7 @@ use Rattle.ex_store.specs.declared.key.Key.{Key}
 use Rattle.ex_store.specs.declared.queue.QueueEntry.{QueueEntry}
 use Rattle.ex_store.specs.declared.row.Row.{Row}
 use Rattle.ex_store.specs.WellFormed.{is_definition_among, is_directory, is_entry_among, is_file_name, is_file_type, is_row_among}
-use Rattle.ex_store.proofs.Naming.{name_is_short}
+use Rattle.ex_store.proofs.StateLaws.{name_is_short}
 
 -- what is so of all is so of the last
 last_is : {X : Type 0} (test : X → Bool) (xs : List X) (x : X) → list_all test (xs ++ x ∷ []) ≡ true → test x ≡ true

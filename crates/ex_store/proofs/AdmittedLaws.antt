@@ -18,8 +18,8 @@ use Rattle.ex_store.specs.Adding.{admitted, and_then, limited, next_of, numbered
 use Rattle.ex_store.specs.Plan.{may_grow, may_number}
 use Rattle.ex_store.specs.Rows.{added, files_of, total}
 use Rattle.ex_store.specs.WellFormed.{AreRows, is_numbered, is_row_among}
-use Rattle.ex_store.proofs.Sizes.{length_added, total_added}
-use Rattle.ex_store.proofs.Sound.{absent_has, all_added, ascends_added}
+use Rattle.ex_store.proofs.TotalLaws.{length_added, total_added}
+use Rattle.ex_store.proofs.AreRowsLaws.{absent_has, all_added, ascends_added}
 
 -- a number that a new file can have
 pub record IsFree (files : List File) (number : ℕ) : Type 0 where

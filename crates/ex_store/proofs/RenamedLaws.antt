@@ -9,23 +9,23 @@ use Rattle.ex_store.specs.declared.key.FullName.{FullName}
 use Rattle.ex_store.specs.declared.key.NamePair.{NamePair}
 use Rattle.ex_store.specs.declared.limits.TheConstants.{ROW_LIMIT, STORE_LIMIT}
 use Rattle.ex_store.specs.declared.place.Place.{Place}
-use Rattle.ex_store.specs.declared.ready.Step.{Step}
-use Rattle.ex_store.specs.declared.ready.Step.TheVariants as steps
+use Rattle.ex_store.specs.declared.ready.RowChange.{RowChange}
+use Rattle.ex_store.specs.declared.ready.RowChange.TheVariants as changes
 use Rattle.ex_store.specs.declared.row.Row.{Row}
 use Rattle.ex_store.specs.Adding.{admitted, and_then, each_in_turn, limited, new_row, numbered}
 use Rattle.ex_store.specs.Copying.{key_from}
 use Rattle.ex_store.specs.Plan.{IsTarget}
 use Rattle.ex_store.specs.Positions.{elements_at}
-use Rattle.ex_store.specs.Ready.{all_stepped, moved, put_back, under}
+use Rattle.ex_store.specs.Ready.{rows_after_all, moved, reinserted, with_name}
 use Rattle.ex_store.specs.Renaming.{AreDistinct, renamed}
 use Rattle.ex_store.specs.Rows.{added, blank, files_of, full_of, row_at, total, without}
 use Rattle.ex_store.specs.WellFormed.{AreRows, is_row_among}
-use Rattle.ex_store.proofs.Admitting.{IsRoomy, and_then_ok, counted_target, numbered_free, rows_added}
-use Rattle.ex_store.proofs.Ascending.{sorted_ascends}
-use Rattle.ex_store.proofs.Blanks.{numbered_blank, put_back_blank, row_at_blank, without_blank}
-use Rattle.ex_store.proofs.Copies.{IsOnCourse, course_start, formed, from_formed, outcome_at, stepped_more}
-use Rattle.ex_store.proofs.Renames.{AreThere, length_without, plain, rows_without, some_of, there_elements, there_moved, total_without}
-use Rattle.ex_store.proofs.Sound.{absent_has, by_row_total}
+use Rattle.ex_store.proofs.AdmittedLaws.{IsRoomy, and_then_ok, counted_target, numbered_free, rows_added}
+use Rattle.ex_store.proofs.AscendsLaws.{sorted_ascends}
+use Rattle.ex_store.proofs.BlankLaws.{numbered_blank, reinserted_blank, row_at_blank, without_blank}
+use Rattle.ex_store.proofs.AllCopiedLaws.{IsUnderWay, way_start, formed, from_formed, outcome_at, rows_after_more}
+use Rattle.ex_store.proofs.AllRenamedLaws.{AreThere, length_without, plain, rows_without, some_of, there_elements, there_moved, total_without}
+use Rattle.ex_store.proofs.AreRowsLaws.{absent_has, by_row_total}
 use Rattle.ex_store.specs.Rows.{by_row}
 
 roomy_limited : (files bytes size generation : ℕ) → IsRoomy files bytes size → limited files bytes size generation ≡ Ok generation
@@ -83,38 +83,38 @@ pair_for to source rows =
 
 -- the walk over the sources of a renaming
 pub record IsRenaming (directories : List Directory) (keep : ℕ) (to : Place) (rows whole left : List Row)
-    (done : List Step) (pairs : List NamePair) (played : List Row) : Type 0 where
-  pub on : IsOnCourse (renamed keep to) directories keep rows whole left done pairs played
-  pub there : AreThere (all_stepped keep rows done) left
+    (done : List RowChange) (pairs : List NamePair) (simulated : List Row) : Type 0 where
+  pub on : IsUnderWay (renamed keep to) directories keep rows whole left done pairs simulated
+  pub there : AreThere (rows_after_all keep rows done) left
   pub distinct : AreDistinct left
 
 pub renaming_start : (directories : List Directory) (keep : ℕ) (to : Place) (rows : List Row) (positions : List ℕ) → AreRows directories rows
     → AreDistinct (elements_at rows positions)
     → IsRenaming directories keep to rows (elements_at rows positions) (elements_at rows positions) [] [] (map blank rows)
 renaming_start directories keep to rows positions are distinct = record {
-  on = course_start (renamed keep to) directories keep rows (elements_at rows positions) are;
+  on = way_start (renamed keep to) directories keep rows (elements_at rows positions) are;
   there = there_elements rows positions (sorted_ascends by_row by_row_total rows are.ascend);
   distinct = distinct;
 }
 
 -- the code asks the rows without their bytes
-played_pair : (to : Place) (source : Row) (rows played : List Row) → played ≡ map blank rows → pair_for to source played ≡ pair_for to source rows
-played_pair to source rows played is =
+simulated_pair : (to : Place) (source : Row) (rows simulated : List Row) → simulated ≡ map blank rows → pair_for to source simulated ≡ pair_for to source rows
+simulated_pair to source rows simulated is =
     rw (is, without_blank (full_of source) rows, numbered_blank to.generation (key_from to source.key) (without (full_of source) rows)) refl
 
 pub renames_refused : (directories : List Directory) (keep : ℕ) (to : Place) (rows whole more : List Row) (source : Row)
-    (done : List Step) (pairs : List NamePair) (played : List Row) (code : Code) → is_row_among directories source ≡ true
-    → IsRenaming directories keep to rows whole (source ∷ more) done pairs played → pair_for to source played ≡ Err code
+    (done : List RowChange) (pairs : List NamePair) (simulated : List Row) (code : Code) → is_row_among directories source ≡ true
+    → IsRenaming directories keep to rows whole (source ∷ more) done pairs simulated → pair_for to source simulated ≡ Err code
     → each_in_turn (renamed keep to) whole (record { rows = rows; pairs = [] }) ≡ Err code
-renames_refused directories keep to rows whole more source done pairs played code form is refused =
-    let so_far = all_stepped keep rows done in
+renames_refused directories keep to rows whole more source done pairs simulated code form is refused =
+    let so_far = rows_after_all keep rows done in
     let key = key_from to source.key in
     let known = taken directories to so_far source is.on.sound form is.there.0 in
     let none : numbered to.generation (files_of key (without (full_of source) so_far)) ≡ Err code =
-    asked_none (numbered to.generation (files_of key (without (full_of source) so_far))) (sym (played_pair to source so_far played is.on.played_are) ∙ refused) in
+    asked_none (numbered to.generation (files_of key (without (full_of source) so_far))) (sym (simulated_pair to source so_far simulated is.on.simulated_are) ∙ refused) in
     let asked : admitted key to.generation (length source.file.bytes) (without (full_of source) so_far) ≡ Err code =
     roomy_then _ _ _ (numbered to.generation (files_of key (without (full_of source) so_far))) known.room ∙ none in
-    sym is.on.course ∙ rw asked refl
+    sym is.on.walk ∙ rw asked refl
   where
     asked_none : (asked : Result ℕ Code) → and_then {B = NamePair} (λ generation. Ok (record {
       source = full_of source;
@@ -123,11 +123,11 @@ renames_refused directories keep to rows whole more source done pairs played cod
     asked_none (Ok number) is = absurd (cc)
     asked_none (Err other) is = cc
 
-played_moved : (keep : ℕ) (full target : FullName) (rows played : List Row) → played ≡ map blank rows
-    → put_back keep target (without full played) (row_at full played)
-    ≡ map blank (put_back keep target (without full rows) (row_at full rows))
-played_moved keep full target rows played is =
-    rw (is, without_blank full rows, row_at_blank full rows) (put_back_blank keep target (without full rows) (row_at full rows))
+simulated_moved : (keep : ℕ) (full target : FullName) (rows simulated : List Row) → simulated ≡ map blank rows
+    → reinserted keep target (without full simulated) (row_at full simulated)
+    ≡ map blank (reinserted keep target (without full rows) (row_at full rows))
+simulated_moved keep full target rows simulated is =
+    rw (is, without_blank full rows, row_at_blank full rows) (reinserted_blank keep target (without full rows) (row_at full rows))
 
 -- the names that a source had and has under a number
 abbrev named : Place → Row → ℕ → NamePair
@@ -135,15 +135,15 @@ named to source number =
     record { source = full_of source; target = record { key = key_from to source.key; generation = number } }
 
 renames_step : (directories : List Directory) (keep : ℕ) (to : Place) (rows whole more : List Row) (source : Row)
-    (done : List Step) (pairs : List NamePair) (played : List Row) (number : ℕ) → IsTarget to directories
+    (done : List RowChange) (pairs : List NamePair) (simulated : List Row) (number : ℕ) → IsTarget to directories
     → is_row_among directories source ≡ true
-    → IsRenaming directories keep to rows whole (source ∷ more) done pairs played
-    → numbered to.generation (files_of (key_from to source.key) (without (full_of source) (all_stepped keep rows done))) ≡ Ok number
-    → IsRenaming directories keep to rows whole more (done ++ steps.Move (named to source number) ∷ [])
+    → IsRenaming directories keep to rows whole (source ∷ more) done pairs simulated
+    → numbered to.generation (files_of (key_from to source.key) (without (full_of source) (rows_after_all keep rows done))) ≡ Ok number
+    → IsRenaming directories keep to rows whole more (done ++ changes.Move (named to source number) ∷ [])
     (pairs ++ named to source number ∷ [])
-    (moved keep (named to source number) played)
-renames_step directories keep to rows whole more source done pairs played number target form is numbers =
-    let so_far = all_stepped keep rows done in
+    (moved keep (named to source number) simulated)
+renames_step directories keep to rows whole more source done pairs simulated number target form is numbers =
+    let so_far = rows_after_all keep rows done in
     let key = key_from to source.key in
     let left = without (full_of source) so_far in
     let known = taken directories to so_far source is.on.sound form is.there.0 in
@@ -152,40 +152,40 @@ renames_step directories keep to rows whole more source done pairs played number
     roomy_then _ _ _ (numbered to.generation (files_of key left)) known.room ∙ numbers in
     let free = numbered_free to.generation (files_of key left) number (counted_target to.generation target.generation) numbers in
     let shape = from_formed directories to source source.file.moment number target form (formed directories source form).moment free.within in
-    let same : under (named to source number).target known.found ≡ new = rw (known.moment, known.bytes) refl in
-    let put : put_back keep (named to source number).target left (row_at (full_of source) so_far) ≡ added keep new left =
+    let same : with_name (named to source number).target known.found ≡ new = rw (known.moment, known.bytes) refl in
+    let put : reinserted keep (named to source number).target left (row_at (full_of source) so_far) ≡ added keep new left =
     rw (known.is, same) refl in
-    let next : all_stepped keep rows (done ++ steps.Move (named to source number) ∷ []) ≡ added keep new left =
-    stepped_more keep rows done (steps.Move (named to source number)) ∙ put in
+    let next : rows_after_all keep rows (done ++ changes.Move (named to source number) ∷ []) ≡ added keep new left =
+    rows_after_more keep rows done (changes.Move (named to source number)) ∙ put in
     record {
       on = record {
-        course = rw next (step_on asked is.on.course);
+        walk = rw next (step_on asked is.on.walk);
         sound = rw next (rows_added directories keep new left known.left (record { free = free; roomy = known.room }) shape);
-        played_are = rw next (played_moved keep (full_of source) (named to source number).target so_far played is.on.played_are ∙ ap (map blank) put);
+        simulated_are = rw next (simulated_moved keep (full_of source) (named to source number).target so_far simulated is.on.simulated_are ∙ ap (map blank) put);
       };
       there = rw next (there_moved keep source new so_far more (absent_has key number left free.absent) is.distinct.0 is.there.1);
       distinct = is.distinct.1;
     }
   where
-    step_on : admitted (key_from to source.key) to.generation (length source.file.bytes) (without (full_of source) (all_stepped keep rows done)) ≡ Ok number
+    step_on : admitted (key_from to source.key) to.generation (length source.file.bytes) (without (full_of source) (rows_after_all keep rows done)) ≡ Ok number
         → each_in_turn (renamed keep to) (source ∷ more) (outcome_at keep rows done pairs) ≡ each_in_turn (renamed keep to) whole (record { rows = rows; pairs = [] })
         → each_in_turn (renamed keep to) more (record {
-          rows = added keep (new_row (key_from to source.key) source.file.moment source.file.bytes number) (without (full_of source) (all_stepped keep rows done));
+          rows = added keep (new_row (key_from to source.key) source.file.moment source.file.bytes number) (without (full_of source) (rows_after_all keep rows done));
           pairs = pairs ++ named to source number ∷ [];
         }) ≡ each_in_turn (renamed keep to) whole (record { rows = rows; pairs = [] })
-    step_on asked course = rw asked at course
+    step_on asked walk = rw asked at walk
 
 pub renames_more : (directories : List Directory) (keep : ℕ) (to : Place) (rows whole more : List Row) (source : Row)
-    (done : List Step) (pairs : List NamePair) (played : List Row) (pair : NamePair) → IsTarget to directories
+    (done : List RowChange) (pairs : List NamePair) (simulated : List Row) (pair : NamePair) → IsTarget to directories
     → is_row_among directories source ≡ true
-    → IsRenaming directories keep to rows whole (source ∷ more) done pairs played → pair_for to source played ≡ Ok pair
-    → IsRenaming directories keep to rows whole more (done ++ steps.Move pair ∷ []) (pairs ++ pair ∷ [])
-    (moved keep pair played)
-renames_more directories keep to rows whole more source done pairs played pair target form is names =
+    → IsRenaming directories keep to rows whole (source ∷ more) done pairs simulated → pair_for to source simulated ≡ Ok pair
+    → IsRenaming directories keep to rows whole more (done ++ changes.Move pair ∷ []) (pairs ++ pair ∷ [])
+    (moved keep pair simulated)
+renames_more directories keep to rows whole more source done pairs simulated pair target form is names =
     let parts = and_then_ok (λ number. Ok (named to source number))
-    (numbered to.generation (files_of (key_from to source.key) (without (full_of source) (all_stepped keep rows done)))) pair
-    (sym (played_pair to source (all_stepped keep rows done) played is.on.played_are) ∙ names) in
+    (numbered to.generation (files_of (key_from to source.key) (without (full_of source) (rows_after_all keep rows done)))) pair
+    (sym (simulated_pair to source (rows_after_all keep rows done) simulated is.on.simulated_are) ∙ names) in
     let same : named to source parts.0 ≡ pair = cc in
-    subst (λ (pair : NamePair). IsRenaming directories keep to rows whole more (done ++ steps.Move pair ∷ []) (pairs ++ pair ∷ [])
-    (moved keep pair played)) same
-    (renames_step directories keep to rows whole more source done pairs played parts.0 target form is parts.1)
+    subst (λ (pair : NamePair). IsRenaming directories keep to rows whole more (done ++ changes.Move pair ∷ []) (pairs ++ pair ∷ [])
+    (moved keep pair simulated)) same
+    (renames_step directories keep to rows whole more source done pairs simulated parts.0 target form is parts.1)

@@ -1,7 +1,7 @@
 use Rattle.std.proofs.Common.{◌≡◌, Some, None, position, sym, ◌∙◌}
 use Rattle.ex_store.specs.Rows.{is_full}
-use Rattle.ex_store.proofs.Placing.{remove_is, row_is, row_none, without_none}
-use Rattle.ex_store.proofs.change.take_out.Goals as goal
+use Rattle.ex_store.proofs.RowAtLaws.{remove_is, row_is, row_none, without_none}
+use Rattle.ex_store.proofs.change.remove.Goals as goal
 
 pub returns-in-Some-clause-row : goal.returns-in-Some-clause-row
 returns-in-Some-clause-row c =

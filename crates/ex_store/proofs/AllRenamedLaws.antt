@@ -17,10 +17,10 @@ use Rattle.ex_store.specs.Positions.{elements_at}
 use Rattle.ex_store.specs.Renaming.{AreDistinct}
 use Rattle.ex_store.specs.Rows.{added, by_full, by_row, files_of, full_of, inserted, is_full, is_of, kept_newest, row_at, total, with_mark, without}
 use Rattle.ex_store.specs.WellFormed.{AreRows, is_row_among}
-use Rattle.ex_store.proofs.Ascending.{all_above, ascends_filter, ascends_sorted, is_sorted, sorted_ascends}
-use Rattle.ex_store.proofs.Sizes.{total_cons}
-use Rattle.ex_store.proofs.Sound.{by_full_total, by_row_total, is_absent}
-use Rattle.ex_store.proofs.Elements.{all_at}
+use Rattle.ex_store.proofs.AscendsLaws.{all_above, ascends_filter, ascends_sorted, is_sorted, sorted_ascends}
+use Rattle.ex_store.proofs.TotalLaws.{total_cons}
+use Rattle.ex_store.proofs.AreRowsLaws.{by_full_total, by_row_total, is_absent}
+use Rattle.ex_store.proofs.ElementsLaws.{all_at}
 
 -- a row as it is, but for its mark
 abbrev pub plain : Row → Row

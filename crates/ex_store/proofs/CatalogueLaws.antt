@@ -19,7 +19,7 @@ use Rattle.ex_store.specs.declared.row.Row.{Row}
 use Rattle.ex_store.specs.Rows.{by_row}
 use Rattle.ex_store.specs.State.{State, catalogue_of, file_row, has_directory, is_named, logical_name, number_of}
 use Rattle.ex_store.specs.WellFormed.{IsWellFormed, is_definition_among, is_directory, is_row_among}
-use Rattle.ex_store.proofs.Ascending.{all_above, ascends_map, is_less, is_sorted, sorted_ascends}
+use Rattle.ex_store.proofs.AscendsLaws.{all_above, ascends_map, is_less, is_sorted, sorted_ascends}
 
 -- directories by their names
 abbrev pub by_name : Directory → Directory → Ordering
