@@ -1,10 +1,12 @@
 -- The files that a place means, among the rows of its directory.
 use Rattle.std.proofs.Common.{◌≡◌, ℕ, zero, suc, ◌+◌, ◌<◌, ◌≤◌, Bool, true, false, ◌&&◌, cond, List, [], ◌∷◌, ◌++◌, length, map, drop, Some, None, refl, ap, arith, ◌∙◌, sym}
 use Rattle.std.specs.List.{list_all, position_from}
-use Rattle.std.proofs.lemmas.Bool.{and_parts}
+use Rattle.std.specs.Cmp.{Equal-is}
+use Rattle.std.proofs.lemmas.Bool.{and_parts, both_ways}
 use Rattle.std.proofs.lemmas.List.{append-nil, append_assoc, drop-drop, drop-map, length-append, length-drop}
+use Rattle.std.proofs.lemmas.Map.Lookups.{exact_bytes}
 use Rattle.cm_files.specs.declared.row.FileRow.{FileRow}
-use Rattle.cm_files.specs.Catalogue.{rows_of}
+use Rattle.cm_files.specs.Catalogue.{by_bytes, rows_of}
 use Rattle.cm_files.specs.Selection.{Wanted, is_selected}
 use Rattle.ex_store.specs.declared.directory.Directory.{Directory}
 use Rattle.ex_store.specs.declared.place.Place.{Place}
@@ -13,7 +15,8 @@ use Rattle.ex_store.specs.Positions.{positions_from}
 use Rattle.ex_store.specs.Rows.{end_in, first_in, is_in, rows_in}
 use Rattle.ex_store.specs.Selection.{is_meant, wanted_of}
 use Rattle.ex_store.specs.State.{State, catalogue_of, file_row, has_directory, number_of}
-use Rattle.ex_store.specs.WellFormed.{IsWellFormed}
+use Rattle.ex_store.specs.WellFormed.{IsWellFormed, is_row_among}
+use Rattle.ex_store.proofs.CatalogueLaws.{directory_there}
 use Rattle.ex_store.proofs.RowsInLaws.{block, block_within, kept_pass, positions_within, rows_by_number, rows_of_catalogue}
 
 position_map : {X Y : Type 0} (test : Y → Bool) (f : X → Y) (at : ℕ) (xs : List X)
@@ -71,6 +74,40 @@ walk_meant state well deleted place from n text items w there is texts lists sam
     ∙ position_same (is_in place.directory) (λ row. is_selected (wanted_of deleted place) (map f inside) (f row))
     (is_meant deleted place state) (meant_inside deleted place state) from (drop from inside)
     (all_drop (is_in place.directory) from inside (kept_pass (is_in place.directory) state.rows))
+
+-- a directory that was asked for is there
+pub found_there : (directories items : List Directory) (name text : List ℕ) (found : Bool) → found ≡ has_directory text items
+    → found ≡ true → text ≡ name → items ≡ directories → has_directory name directories ≡ true
+found_there directories items name text found told is texts lists =
+    sym (ap (λ each. has_directory each items) texts ∙ ap (has_directory name) lists) ∙ (sym told ∙ is)
+
+-- where there is no such directory it has no rows, and none is meant
+lacks_rows : (directories : List Directory) (name : List ℕ) → has_directory name directories ≡ false → (rows : List Row)
+    → list_all (is_row_among directories) rows ≡ true → rows_in name rows ≡ []
+lacks_rows directories name lacks [] all = refl
+lacks_rows directories name lacks (row ∷ rows) all =
+    let parts = and_parts _ _ all in
+    by (is_in name row) refl (directory_there directories row parts.0) (lacks_rows directories name lacks rows parts.1)
+  where
+    by : (inside : Bool) → is_in name row ≡ inside → has_directory row.key.directory directories ≡ true
+        → rows_in name rows ≡ [] → cond inside (row ∷ rows_in name rows) (rows_in name rows) ≡ []
+    by true is there rest =
+        let same = exact_bytes row.key.directory name ((Equal-is (by_bytes row.key.directory name)).0 is) in
+        absurd (both_ways _ lacks (ap (λ each. has_directory each directories) (sym same) ∙ there))
+    by false is there rest = rest
+
+pub nothing_meant : (state : State) → IsWellFormed state → (deleted : Bool) (place : Place) (from : ℕ) (text : List ℕ)
+    → (items : List Directory) → has_directory text items ≡ false → text ≡ place.directory → items ≡ state.directories
+    → None ≡ position_from (is_meant deleted place state) from (drop from (rows_in place.directory state.rows))
+nothing_meant state well deleted place from text items lacks texts lists =
+    let none : has_directory place.directory state.directories ≡ false =
+    sym (ap (λ each. has_directory each items) texts ∙ ap (has_directory place.directory) lists) ∙ lacks in
+    let rows = lacks_rows state.directories place.directory none state.rows well.draft.rows.within in
+    sym (ap (λ (each : List Row). position_from (is_meant deleted place state) from (drop from each)) rows ∙ nowhere from)
+  where
+    nowhere : (n : ℕ) → position_from (is_meant deleted place state) from (drop {A = Row} n []) ≡ None
+    nowhere zero = refl
+    nowhere (suc n) = refl
 
 -- where the first of a list is that passes, and the positions behind it
 record Found {X : Type 0} (test : X → Bool) (at : ℕ) (xs : List X) (i : ℕ) : Type 0 where
