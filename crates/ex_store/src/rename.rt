@@ -43,7 +43,8 @@ fn simulate(simulated: &mut Vec<Row>, source: &Row, to: &Place, keep: u8) -> Res
 impl Simulation {
     // A file goes to another name.
     fn rename(&mut self, pair: NamePair) -> Result<(), NoMemory>
-        ensures row_changes { OnOk result (self.new.row_changes.items ≡ self.old.row_changes.items ++ changes.Move pair ∷ []) }
+        ensures row_changes { OnOk result
+            (self.new.row_changes.items ≡ self.old.row_changes.items ++ changes.Move pair ∷ []) }
         ensures pairs { OnOk result (self.new.pairs.items ≡ self.old.pairs.items ++ pair ∷ []) }
         ensures simulated { self.new.simulated ≡ self.old.simulated }
     {
