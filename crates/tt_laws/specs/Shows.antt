@@ -20,8 +20,8 @@ pub record IsSound (s : Setting) : Type 0 where
   pub catalogue : IsCatalogue s.catalogue
   pub meanings : IsLawful s.meanings
 
--- a session whose prompt is printed bytes; its line and the bytes kept for control-H are lines, and bytes are kept only
--- while the line is empty
+-- a session whose prompt is printed bytes; its line and the bytes kept for control-H are lines, and bytes are kept
+-- only while the line is empty
 pub record IsClear (held : SessionState) : Type 0 where
   pub prompt : ArePrinted (prompt_text held.prompt)
   pub line : IsLine (met_line held)

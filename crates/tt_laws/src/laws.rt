@@ -26,8 +26,9 @@ pub fn a_prompt_begins_a_line()
         → ArePrinted (prompt_text prompt) → IfSome kept IsLine → IsClear (at_start node prompt kept) }
 {}
 
-/// Where the screen shows prompt and line, the echo of a key leaves it so that it shows prompt and line as the key leaves
-/// them, for lines and prompts of every length; behind a key that finishes the line or gives it up the last row is blank.
+/// Where the screen shows prompt and line, the echo of a key leaves it showing prompt and line as they then are, for
+/// lines and prompts of every length: the row has the first 80 bytes of them, and the column is behind all. Behind a
+/// key that finishes the line or gives it up the last row is blank.
 pub fn a_key_keeps_the_screen()
     ensures clear { (s : Setting) → IsSound s → (held : SessionState) → (key : ℕ) → IsClear held
         → IsClear (edited s held key) }

@@ -36,8 +36,8 @@ at_column grid column = record grid { column = column }
 abbrev pub with_row : Grid → Grid
 with_row grid = record { above = rows_of grid; last = blank_row; column = 0 }
 
--- what a byte makes of a screen: 8 goes back over a cell, and not past the first; 13 goes back to the first; 10 begins a
--- row; any other byte that is not printed does nothing
+-- what a byte makes of a screen: 8 goes back over a cell, and not past the first; 13 goes back to the first;
+-- 10 begins a row; any other byte that is not printed does nothing
 unfoldable pub feed_byte : Grid → ℕ → Grid
 feed_byte grid byte =
     if is_printed byte then with_byte grid byte

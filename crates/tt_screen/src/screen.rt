@@ -10,8 +10,8 @@ use std::marker::Model;
 /// How many rows are kept: the last of all that there were.
 pub const KEPT_ROWS: usize = 24;
 
-/// A plain screen of 80 columns. It takes no memory, and keeps the last 24 rows. Contracts see these, and the column at
-/// which the next byte goes into the last of them.
+/// A plain screen of 80 columns. It takes no memory, and keeps the last 24 rows. Contracts see these, and the
+/// column at which the next byte goes into the last of them.
 #[derive(Debug, Drop)]
 pub struct Screen {
     rows: ArrayVec<Row, KEPT_ROWS>,
