@@ -29,12 +29,12 @@ pub record IsClear (held : SessionState) : Type 0 where
   pub empty : IfSome held.kept (λ (bytes : List ℕ). met_line held ≡ [])
 
 -- the prompt, and behind it the line, each TAB as a space
-abbrev pub prompted : SessionState → List ℕ
-prompted held = prompt_text held.prompt ++ screen_line (met_line held)
+abbrev pub prompt_and_line : SessionState → List ℕ
+prompt_and_line held = prompt_text held.prompt ++ screen_line (met_line held)
 
 -- the last row is that of prompt and line, and the column is behind them
 abbrev pub Shows : Grid → SessionState → Type 0
-Shows grid held = Holds grid (prompted held)
+Shows grid held = Holds grid (prompt_and_line held)
 
 -- what stands behind the echo of a key: nothing where it finishes or gives up the line, and else prompt and line
 abbrev pub ShowsBehind : KeyClass → Grid → SessionState → Type 0

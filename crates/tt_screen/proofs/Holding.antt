@@ -5,42 +5,42 @@ use Rattle.cm_text.specs.Shown.{bell, end_of_line, rubout}
 use Rattle.cm_io.specs.Pieces.{times}
 use Rattle.tt_screen.specs.declared.row.TheConstants.{WIDTH}
 use Rattle.tt_screen.specs.Grid.{Grid, blank_row, feed, feed_byte, is_printed}
-use Rattle.tt_screen.specs.Holds.{ArePrinted, Holds, padded, row_of}
+use Rattle.tt_screen.specs.Holds.{ArePrinted, Holds, cells_of, row_of}
 use Rattle.tt_screen.proofs.Feeding.{feed-append}
 
 -- cells behind a text that are written on
-set_padded : (cells : ℕ) (text : List ℕ) (byte : ℕ) → slice_set (padded cells text) (length text) byte ≡ padded cells (text ++ byte ∷ [])
-set_padded zero text byte = refl
-set_padded (suc cells) [] byte = refl
-set_padded (suc cells) (first ∷ text) byte = ap (λ row. first ∷ row) (set_padded cells text byte)
+set_cells : (cells : ℕ) (text : List ℕ) (byte : ℕ) → slice_set (cells_of cells text) (length text) byte ≡ cells_of cells (text ++ byte ∷ [])
+set_cells zero text byte = refl
+set_cells (suc cells) [] byte = refl
+set_cells (suc cells) (first ∷ text) byte = ap (λ row. first ∷ row) (set_cells cells text byte)
 
 -- the same of a cell that is written on again
-again_padded : (cells : ℕ) (text : List ℕ) (old byte : ℕ)
-    → slice_set (padded cells (text ++ old ∷ [])) (length text) byte ≡ padded cells (text ++ byte ∷ [])
-again_padded zero text old byte = refl
-again_padded (suc cells) [] old byte = refl
-again_padded (suc cells) (first ∷ text) old byte = ap (λ row. first ∷ row) (again_padded cells text old byte)
+again_cells : (cells : ℕ) (text : List ℕ) (old byte : ℕ)
+    → slice_set (cells_of cells (text ++ old ∷ [])) (length text) byte ≡ cells_of cells (text ++ byte ∷ [])
+again_cells zero text old byte = refl
+again_cells (suc cells) [] old byte = refl
+again_cells (suc cells) (first ∷ text) old byte = ap (λ row. first ∷ row) (again_cells cells text old byte)
 
 -- a space behind a text leaves the row that it has without it
-space_padded : (cells : ℕ) (text : List ℕ) → padded cells (text ++ 32 ∷ []) ≡ padded cells text
-space_padded zero text = refl
-space_padded (suc cells) [] = refl
-space_padded (suc cells) (first ∷ text) = ap (λ row. first ∷ row) (space_padded cells text)
+space_cells : (cells : ℕ) (text : List ℕ) → cells_of cells (text ++ 32 ∷ []) ≡ cells_of cells text
+space_cells zero text = refl
+space_cells (suc cells) [] = refl
+space_cells (suc cells) (first ∷ text) = ap (λ row. first ∷ row) (space_cells cells text)
 
-blank_padded : (cells : ℕ) → replicate cells 32 ≡ padded cells []
-blank_padded zero = refl
-blank_padded (suc cells) = ap (λ row. 32 ∷ row) (blank_padded cells)
+blank_cells : (cells : ℕ) → replicate cells 32 ≡ cells_of cells []
+blank_cells zero = refl
+blank_cells (suc cells) = ap (λ row. 32 ∷ row) (blank_cells cells)
 
 blank_holds : blank_row ≡ row_of []
 unfolding blank_row row_of
-blank_holds = blank_padded WIDTH
+blank_holds = blank_cells WIDTH
 
 -- a byte that is printed comes to the text
 pub holds_byte : (grid : Grid) (text : List ℕ) (byte : ℕ) → is_printed byte ≡ true → Holds grid text
     → Holds (feed_byte grid byte) (text ++ byte ∷ [])
 unfolding feed_byte row_of
 holds_byte grid text byte printed holds = rw printed (record {
-  last = ap (λ row. slice_set row grid.column byte) holds.last ∙ ap (λ column. slice_set (padded WIDTH text) column byte) holds.column ∙ set_padded WIDTH text byte;
+  last = ap (λ row. slice_set row grid.column byte) holds.last ∙ ap (λ column. slice_set (cells_of WIDTH text) column byte) holds.column ∙ set_cells WIDTH text byte;
   column = omega (arith, holds.column, length-append text (byte ∷ []));
 })
 
@@ -60,8 +60,8 @@ holds_rubout grid text byte holds =
     record {
       last =
           ap (λ row. slice_set row (grid.column - 1) 32) holds.last
-          ∙ ap (λ column. slice_set (padded WIDTH (text ++ byte ∷ [])) column 32) column
-          ∙ again_padded WIDTH text byte 32 ∙ space_padded WIDTH text;
+          ∙ ap (λ column. slice_set (cells_of WIDTH (text ++ byte ∷ [])) column 32) column
+          ∙ again_cells WIDTH text byte 32 ∙ space_cells WIDTH text;
       column = omega (arith, column);
     }
 

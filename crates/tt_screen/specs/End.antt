@@ -52,11 +52,11 @@ Reads before now ReadFault = TakesSome before now
 Reads before now KeyLimit = Takes before now KEY_LIMIT
 
 -- what it shows of the bytes that it reads to their end
-abbrev pub Shows : List ℕ → Told → Told → Status → Type 0
-Shows bytes before now Done = now ≡ add before (screen_text bytes)
-Shows bytes before now WriteFault = AddsPart before now (screen_text bytes)
-Shows bytes before now ReadFault = Unit
-Shows bytes before now KeyLimit = Unit
+abbrev pub PutsRows : List ℕ → Told → Told → Status → Type 0
+PutsRows bytes before now Done = now ≡ add before (screen_text bytes)
+PutsRows bytes before now WriteFault = AddsPart before now (screen_text bytes)
+PutsRows bytes before now ReadFault = Unit
+PutsRows bytes before now KeyLimit = Unit
 
 -- a text was put, and maybe cut
 pub record Tries (before now : Told) (faults faults' : ℕ) (text : List ℕ) : Type 0 where

@@ -9,8 +9,8 @@ pub record Kept : Type 0 where
   pub column : ℕ
 
 -- the last of the rows, as many as that, or all where there are fewer
-abbrev pub newest : ℕ → List (List ℕ) → List (List ℕ)
-newest count rows = drop (length rows - count) rows
+abbrev pub last_rows : ℕ → List (List ℕ) → List (List ℕ)
+last_rows count rows = drop (length rows - count) rows
 
 abbrev pub kept_of : Grid → Kept
-kept_of grid = record { rows = newest KEPT_ROWS (rows_of grid); column = grid.column }
+kept_of grid = record { rows = last_rows KEPT_ROWS (rows_of grid); column = grid.column }

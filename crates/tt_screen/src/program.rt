@@ -4,7 +4,7 @@ ghost use Rattle.cm_text.specs.Shown.{end_of_line};
 ghost use Rattle.cm_io.specs.Fault.{PutCause};
 ghost use Rattle.cm_io.specs.Told.{Adds};
 ghost use Rattle.cm_io.specs.Writer.{Writes};
-ghost use Rattle.tt_screen.specs.End.{Complains, EndCause, Feeds, ReadCause, Reads, Shows, Tries, message_of};
+ghost use Rattle.tt_screen.specs.End.{Complains, EndCause, Feeds, ReadCause, Reads, PutsRows, Tries, message_of};
 ghost use Rattle.tt_screen.specs.Grid.{blank_grid};
 ghost use Rattle.tt_screen.specs.Kept.{kept_of};
 ghost use Rattle.tt_screen.specs.Shown.{row_line, rows_text};
@@ -31,7 +31,7 @@ pub fn tt20<K: Source, S: Sink>(keys: &mut K, screen: &mut S) -> Status
     // What is taken, by the status.
     ensures keys { IsTrue K.tells → Reads (K.left keys.old) (K.left keys.new) result }
     // What is shown: the rows, or a part of them, or the line of a message, which may be cut too.
-    ensures rows { IsTrue K.tells → Shows (K.left keys.old) (S.told screen.old) (S.told screen.new) result }
+    ensures rows { IsTrue K.tells → PutsRows (K.left keys.old) (S.told screen.old) (S.told screen.new) result }
     ensures message { Complains (S.told screen.old) (S.told screen.new)
         (S.faults screen.old) (S.faults screen.new) result }
     // When each status comes.

@@ -1,7 +1,7 @@
 // The screen.
 ghost use Rattle.std.specs.Prelude.{◌≡◌, ◌+◌, ◌-◌, ◌^◌, ◌<◌, ◌≤◌, Some, length, slice_get, slice_set};
 ghost use Rattle.tt_screen.specs.Grid.{Grid, blank_grid, feed_byte, rows_of, with_row};
-ghost use Rattle.tt_screen.specs.Kept.{kept_of, newest};
+ghost use Rattle.tt_screen.specs.Kept.{kept_of, last_rows};
 
 use crate::Row;
 use arrayvec::ArrayVec;
@@ -86,7 +86,7 @@ impl Screen {
     // Drops the oldest row where there is no room for another.
     fn make_room(&mut self)
         ensures rows { (grid : Grid) → self.old ≡ kept_of grid
-            → self.new.rows ≡ newest (KEPT_ROWS - 1) (rows_of grid) }
+            → self.new.rows ≡ last_rows (KEPT_ROWS - 1) (rows_of grid) }
         ensures room { length self.new.rows < KEPT_ROWS }
     {
         if self.rows.is_full() {
