@@ -4,7 +4,7 @@ ghost use Rattle.cm_text.specs.Shown.{end_of_line};
 ghost use Rattle.cm_io.specs.Fault.{PutCause};
 ghost use Rattle.cm_io.specs.Told.{Adds};
 ghost use Rattle.cm_io.specs.Writer.{Writes};
-ghost use Rattle.tt_screen.specs.End.{Complains, EndCause, Feeds, ReadCause, Reads, PutsRows, Tries, message_of};
+ghost use Rattle.tt_screen.specs.End.{Complains, EndCause, Feeds, PutsRows, ReadCause, Reads, Tries, message_of};
 ghost use Rattle.tt_screen.specs.Grid.{blank_grid};
 ghost use Rattle.tt_screen.specs.Kept.{kept_of};
 ghost use Rattle.tt_screen.specs.Shown.{row_line, rows_text};
@@ -15,13 +15,14 @@ use cm_io::{Got, Put, Sink, Source, Writer, put_line};
 /// The most bytes that a run takes.
 pub const KEY_LIMIT: u32 = 16_777_216;
 
-// How reading the bytes ended.
-enum Read {
-    // None is left.
+/// How reading the bytes ended.
+#[derive(Clone, Copy)]
+pub enum Read {
+    /// None is left.
     All,
-    // The source failed.
+    /// The source failed.
     Failed,
-    // As many were taken as a run takes.
+    /// As many were taken as a run takes.
     TooMany,
 }
 
