@@ -70,7 +70,16 @@ pub fn run<A: Application, K: Source, S: Sink, W: Sink, C: Clock, L: Ledger>(
             Got::Failed => return Err(Stop::Keys),
         };
         match handle_key(
-            logging, key, app, &mut session, grammar, hooks, screen, log, clock, steps,
+            logging,
+            key,
+            app,
+            &mut session,
+            grammar,
+            hooks,
+            screen,
+            log,
+            clock,
+            steps,
         ) {
             Ok(()) => {}
             Err(stop) => return Err(stop),

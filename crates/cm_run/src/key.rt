@@ -198,13 +198,7 @@ fn moment_of<A: Application, C: Clock>(app: &A, clock: &mut C) -> u64
         ≡ moments_later (takes_moment (A.means.mode_of app.now)) (C.left clock.old) }
 {
     match app.mode() {
-        Mode::Line { takes_moment, .. } => {
-            if takes_moment {
-                clock.now()
-            } else {
-                0
-            }
-        }
+        Mode::Line { takes_moment, .. } => { if takes_moment { clock.now() } else { 0 } }
         Mode::Raw => 0,
         Mode::Ended => 0,
     }
