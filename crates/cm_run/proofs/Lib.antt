@@ -7,6 +7,7 @@ pub mod Joining
 mod Keys
 mod LawLemmas
 mod Modes
+pub mod Obeying
 mod Opening
 mod Outcomes
 pub mod Prefixes
