@@ -5,8 +5,8 @@ use Rattle.cm_run.specs.declared.stop.Stop.TheVariants as stop
 use Rattle.cm_run.specs.Event.{Event, Ask, Key, End, Screen, Log, Memory}
 use Rattle.cm_run.specs.Observed.{Observed, Performs}
 
--- how an event is cut short: the screen, or the log, takes a part of its bytes, and not the rest; a key, or that none is
--- left, is not told; memory is not given; a key is not asked for, since as many are taken as may be
+-- how an event is cut short: the screen, or the log, takes a part of its bytes, and not the rest; a key, or that none
+-- is left, is not told; memory is not given; a key is not asked for, since as many are taken as may be
 pub data Cut : Type 0 where
   ScreenCut : List ℕ → List ℕ → Cut
   LogCut : List ℕ → List ℕ → Cut

@@ -19,14 +19,16 @@ module _ {S R I J K : Type 0} {F : I → Type 0} {G : J → Type 0} {H : K → T
     {c : Mut ((j : J) × G j) (Bor (List ℕ) × Unit {0}) Tail}
     {h : Mut ((k : K) × H k) (Unit {0}) (List ℕ)} where
   -- the grammar, the rules and the hooks are those of the meaning
-  pub record Serves (m : Meaning S) (graph : Graph) (meanings : Meanings) (hooks : Hooks R I J K F G H v c h) : Type 0 where
+  pub record Serves (m : Meaning S) (graph : Graph) (meanings : Meanings) (hooks : Hooks R I J K F G H v c h)
+      : Type 0 where
     pub grammar : graph ≡ m.graph
     pub rules : meanings ≡ m.rules
     pub ties : Ties meanings hooks
     pub enough : hook_count graph ≤ count hooks
 
   -- and the grammar has no fault
-  pub record ServesWell (m : Meaning S) (graph : Graph) (meanings : Meanings) (hooks : Hooks R I J K F G H v c h) : Type 0 where
+  pub record ServesWell (m : Meaning S) (graph : Graph) (meanings : Meanings) (hooks : Hooks R I J K F G H v c h)
+      : Type 0 where
     pub serves : Serves m graph meanings hooks
     pub faultless : grammar_fault m.graph ≡ None
 
@@ -37,7 +39,8 @@ pub record IsAtLine {S : Type 0} (m : Meaning S) (state : S) (session : SessionS
 
 -- where a line is edited, its session is ready for a key, and begins at the node of the mode
 abbrev pub IsReadyBy : {S : Type 0} → Meaning S → S → SessionState → Mode → Type 0
-IsReadyBy m state session (mode.Line node prompt takes_moment) = IsReady (setting_of m state) session × (session.node ≡ node)
+IsReadyBy m state session (mode.Line node prompt takes_moment) =
+    IsReady (setting_of m state) session × (session.node ≡ node)
 IsReadyBy m state session mode.Raw = Unit {0}
 IsReadyBy m state session mode.Ended = Unit {0}
 

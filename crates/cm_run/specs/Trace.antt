@@ -139,7 +139,8 @@ raw_mark = codes " data" ++ 10 ∷ []
 unfoldable pub raw_log : ℕ → List ℕ
 raw_log key = hex key ++ raw_mark
 
--- what one key does: the trials it costs, its echo, its line of the log, the session that it leaves, and what it comes to
+-- what one key does: the trials it costs, its echo, its line of the log, the session that it leaves, and what it comes
+-- to
 pub record Stroke (S : Type 0) : Type 0 where
   pub cost : ℕ
   pub echo : List ℕ
@@ -157,7 +158,8 @@ line_stroke m at key =
       echo = echo under at.session key;
       log = log_line key session;
       session = session;
-      outcome = turn_outcome m at.state session (moment_at m at.state at.moments) (turn_of (class_of key) session.ending);
+      outcome = turn_outcome m at.state session (moment_at m at.state at.moments)
+          (turn_of (class_of key) session.ending);
     }
 
 -- a raw key is taken as it is

@@ -38,8 +38,8 @@ pub trait Application {
         ensures mode { result ≡ means.mode_of self.now }
         ensures node { IsModeOf means.graph result };
 
-    /// Does what a confirmed line commands, at this moment, and shows the replies. Where it is Ended or Raw by then, the
-    /// application has become that before it puts its reply.
+    /// Does what a confirmed line commands, at this moment, and shows the replies. Where it is Ended or Raw by then,
+    /// the application has become that before it puts its reply.
     fn confirm<S: Sink>(
         &mut self,
         session: &Session<Self::Rules>,

@@ -31,8 +31,8 @@ pub fn nothing_acts_before_its_line_is_logged<A: Application>()
         ∷ (events_if logging (Log (stroke m at key).log ∷ []) ++ between)) }
 {}
 
-/// A run that is cut short shows and logs a beginning of what the whole run shows and logs: a failed screen, or a failed
-/// log, is given no more.
+/// A run that is cut short shows and logs a beginning of what the whole run shows and logs: a failed screen, or a
+/// failed log, is given no more.
 pub fn a_cut_run_is_a_beginning<A: Application>()
     ensures screen { (before now : Observed A) → (events : List (Event A)) → (result : Result Unit Stop)
         → Traces before now events result → AddsPart before.screen now.screen (screen_bytes events) }
@@ -40,8 +40,8 @@ pub fn a_cut_run_is_a_beginning<A: Application>()
         → Traces before now events result → AddsPart before.log now.log (log_bytes events) }
 {}
 
-/// What stands at a cut is exact: the keys that are taken and how often keys were asked for, the moments, the counter of
-/// trials and the state are those of the events before the one that was cut, and no key is taken behind it.
+/// What stands at a cut is exact: the keys that are taken and how often keys were asked for, the moments, the counter
+/// of trials and the state are those of the events before the one that was cut, and no key is taken behind it.
 pub fn what_stands_at_a_cut_is_exact<A: Application>()
     ensures { (before now : Observed A) → (events : List (Event A)) → (why : Stop) → Traces before now events (Err why)
         → (done rest : List (Event A)) × (done ++ rest ≡ events)
