@@ -23,7 +23,7 @@ pub(crate) fn entry(text: &str, colon: bool, code: u16, next: u16) -> Entry
 
 // The functions by their names. A token is `12` or nothing, and a guide word `FROM`.
 const FUNCTIONS: &str =
-    "Confirm Word Number Quoted Comma Text User Directory InFile Key Switch Hook Noise Token Nothing";
+    "Confirm Word Number Quoted Comma Text User Directory InFile Key Switch Hook Noise Token Date Nothing";
 
 fn function_of(name: &str, number: u16) -> Result<Function, Fail> {
     let place = FUNCTIONS.split(' ').position(|word| word == name);
@@ -42,6 +42,7 @@ fn function_of(name: &str, number: u16) -> Result<Function, Fail> {
         11 => Function::Hook(u8::try_from(number)?),
         12 => Function::Noise(Name::new("FROM")),
         13 => Function::Token(Name::new("12")),
+        14 => Function::Date,
         _ => Function::Token(Name::new("")),
     })
 }

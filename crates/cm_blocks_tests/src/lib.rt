@@ -9,6 +9,8 @@ mod catalogues;
 #[cfg(test)]
 mod chains;
 #[cfg(test)]
+mod chains_of_dates;
+#[cfg(test)]
 mod chains_of_files;
 #[cfg(test)]
 mod costs;

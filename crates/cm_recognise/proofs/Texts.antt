@@ -1,11 +1,12 @@
--- What goes into a line is bytes that a line may have.
-use Rattle.std.proofs.Common.{◌≡◌, ℕ, zero, suc, ◌+◌, ◌&&◌, Bool, true, nat_lt, List, [], ◌∷◌, ◌++◌, length, drop, take, map, filter, Option, Some, None, slice_get, unwrap_or, refl, ap, subst, arith}
+-- What goes into a line is bytes that are shown as they are.
+use Rattle.std.proofs.Common.{◌≡◌, ℕ, zero, suc, ◌+◌, ◌&&◌, Bool, true, false, ◌==◌, if◌then◌else◌, nat_lt, List, [], ◌∷◌, ◌++◌, length, drop, take, map, filter, Option, Some, None, slice_get, unwrap_or, refl, ap, subst, arith, ◌∙◌}
 use Rattle.std.specs.List.{AllByRecursion, enumerate_from, list_all, reduce}
 use Rattle.std.specs.Option.{option_map_or}
 use Rattle.std.proofs.lemmas.Bool.{and_parts}
 use Rattle.std.proofs.lemmas.Bool.Decides.{nat_tests}
 use Rattle.cm_text.specs.Bytes.{is_name, is_text, is_word}
 use Rattle.cm_text.specs.Case.{begins_with}
+use Rattle.cm_text.specs.Shown.{screen_byte}
 use Rattle.cm_tables.specs.declared.entry.Entry.{Entry}
 use Rattle.cm_tables.specs.Common.{AllBeginWith, common, rests, shared}
 use Rattle.cm_tables.specs.Look.{is_recognised}
@@ -14,7 +15,7 @@ use Rattle.cm_tables.proofs.FoundLemmas.{keyword_of, no-texts_fault}
 use Rattle.cm_tables.proofs.SharingLemmas.{common_is_shared}
 use Rattle.cm_tables.proofs.WithinLemmas.{both-none}
 use Rattle.cm_fields.proofs.Holding.{of_choice}
-use Rattle.cm_blocks.specs.Fault.{is_shown_byte}
+use Rattle.cm_blocks.specs.Fault.{is_shown, is_shown_byte}
 use Rattle.cm_blocks.specs.Grammar.{Graph}
 use Rattle.cm_blocks.specs.Trial.{table_of}
 use Rattle.cm_blocks.specs.Well.{AreTables}
@@ -24,43 +25,81 @@ use Rattle.cm_recognise.specs.Outcome.{text_at}
 abbrev pub AreText : List ℕ → Type 0
 AreText bytes = AllByRecursion (λ byte. is_text byte ≡ true) bytes
 
+-- bytes that are shown as they are
+abbrev pub AreShown : List ℕ → Type 0
+AreShown bytes = AllByRecursion (λ byte. is_shown_byte byte ≡ true) bytes
+
+pub all_append : (P : ℕ → Type 0) (text more : List ℕ) → AllByRecursion P text → AllByRecursion P more
+    → AllByRecursion P (text ++ more)
+all_append P [] more first second = second
+all_append P (byte ∷ text) more first second = (first.0, all_append P text more first.1 second)
+
+pub all_drop : (P : ℕ → Type 0) (size : ℕ) (text : List ℕ) → AllByRecursion P text → AllByRecursion P (drop size text)
+all_drop P zero text all = all
+all_drop P (suc size) [] all = tt
+all_drop P (suc size) (byte ∷ text) all = all_drop P size text all.1
+
 pub text_append : (text more : List ℕ) → AreText text → AreText more → AreText (text ++ more)
-text_append [] more first second = second
-text_append (byte ∷ text) more first second = (first.0, text_append text more first.1 second)
+text_append = all_append (λ byte. is_text byte ≡ true)
 
 pub text_drop : (size : ℕ) (text : List ℕ) → AreText text → AreText (drop size text)
-text_drop zero text all = all
-text_drop (suc size) [] all = tt
-text_drop (suc size) (byte ∷ text) all = text_drop size text all.1
+text_drop = all_drop (λ byte. is_text byte ≡ true)
 
-pub text_take : (size : ℕ) (text : List ℕ) → AreText text → AreText (take size text)
-text_take zero text all = tt
-text_take (suc size) [] all = tt
-text_take (suc size) (byte ∷ text) all = (all.0, text_take size text all.1)
+pub shown_append : (text more : List ℕ) → AreShown text → AreShown more → AreShown (text ++ more)
+shown_append = all_append (λ byte. is_shown_byte byte ≡ true)
 
-pub text_of_all : (p : ℕ → Bool) → ((byte : ℕ) → p byte ≡ true → is_text byte ≡ true) → (text : List ℕ)
-    → list_all p text ≡ true → AreText text
-text_of_all p one [] all = tt
-text_of_all p one (byte ∷ text) all =
-    let both = and_parts (p byte) (list_all p text) all in (one byte both.0, text_of_all p one text both.1)
+pub shown_drop : (size : ℕ) (text : List ℕ) → AreShown text → AreShown (drop size text)
+shown_drop = all_drop (λ byte. is_shown_byte byte ≡ true)
 
-keyword_byte : (byte : ℕ) → is_keyword_byte byte ≡ true → is_text byte ≡ true
-unfolding is_text
+pub shown_take : (size : ℕ) (text : List ℕ) → AreShown text → AreShown (take size text)
+shown_take zero text all = tt
+shown_take (suc size) [] all = tt
+shown_take (suc size) (byte ∷ text) all = (all.0, shown_take size text all.1)
+
+pub shown_of_all : (p : ℕ → Bool) → ((byte : ℕ) → p byte ≡ true → is_shown_byte byte ≡ true) → (text : List ℕ)
+    → list_all p text ≡ true → AreShown text
+shown_of_all p one [] all = tt
+shown_of_all p one (byte ∷ text) all =
+    let both = and_parts (p byte) (list_all p text) all in (one byte both.0, shown_of_all p one text both.1)
+
+keyword_byte : (byte : ℕ) → is_keyword_byte byte ≡ true → is_shown_byte byte ≡ true
 keyword_byte byte is = grind (arith, nat_tests)
 
-name_byte : (byte : ℕ) → is_name byte ≡ true → is_text byte ≡ true
-unfolding is_text is_name is_word
+name_byte : (byte : ℕ) → is_name byte ≡ true → is_shown_byte byte ≡ true
+unfolding is_name is_word
 name_byte byte is = grind (arith, nat_tests)
 
-shown_byte : (byte : ℕ) → is_shown_byte byte ≡ true → is_text byte ≡ true
+text_byte : (byte : ℕ) → is_shown_byte byte ≡ true → is_text byte ≡ true
 unfolding is_text
-shown_byte byte is = grind (arith, nat_tests)
+text_byte byte is = grind (arith, nat_tests)
 
-pub name_text : (text : List ℕ) → list_all is_name text ≡ true → AreText text
-name_text = text_of_all is_name name_byte
+-- what is shown as it is may stand in a line
+pub text_of_shown : (text : List ℕ) → AreShown text → AreText text
+text_of_shown [] all = tt
+text_of_shown (byte ∷ text) all = (text_byte byte all.0, text_of_shown text all.1)
 
-pub shown_text : (text : List ℕ) → list_all is_shown_byte text ≡ true → AreText text
-shown_text = text_of_all is_shown_byte shown_byte
+pub test_of_shown : (text : List ℕ) → AreShown text → is_shown text ≡ true
+test_of_shown [] all = refl
+test_of_shown (byte ∷ text) all = rw all.0 (test_of_shown text all.1)
+
+-- a screen is given it as it is
+as_it_is : (byte : ℕ) → is_shown_byte byte ≡ true → screen_byte byte ≡ byte
+as_it_is byte shown = by (byte == 9) refl
+  where
+    by : (tab : Bool) → (byte == 9) ≡ tab → (if tab then 32 else byte) ≡ byte
+    by true is = grind (arith, nat_tests)
+    by false is = refl
+
+pub screen_of_shown : (text : List ℕ) → AreShown text → map screen_byte text ≡ text
+screen_of_shown [] all = refl
+screen_of_shown (byte ∷ text) all = ap (λ first. first ∷ map screen_byte text) (as_it_is byte all.0)
+    ∙ ap (λ (more : List ℕ). byte ∷ more) (screen_of_shown text all.1)
+
+pub name_shown : (text : List ℕ) → list_all is_name text ≡ true → AreShown text
+name_shown = shown_of_all is_name name_byte
+
+pub phrase_shown : (text : List ℕ) → is_shown text ≡ true → AreShown text
+phrase_shown = shown_of_all is_shown_byte (λ byte shown. shown)
 
 -- the texts of a table are keywords
 abbrev pub AreKeywords : List Entry → Type 0
@@ -76,35 +115,35 @@ keywords_from place before (entry ∷ more) none =
 pub keywords_of : (table : List Entry) → table_fault table ≡ None → AreKeywords table
 keywords_of table none = keywords_from 0 None table (no-texts_fault table none)
 
-keyword_text : (text : List ℕ) → is_keyword text ≡ true → AreText text
-keyword_text text is = text_of_all is_keyword_byte keyword_byte text (and_parts (nat_lt 0 (length text)) _ is).1
+keyword_shown : (text : List ℕ) → is_keyword text ≡ true → AreShown text
+keyword_shown text is = shown_of_all is_keyword_byte keyword_byte text (and_parts (nat_lt 0 (length text)) _ is).1
 
-pub text_at_text : (table : List Entry) (position : ℕ) → AreKeywords table → AreText (text_at table position)
-text_at_text [] position all = tt
-text_at_text (entry ∷ more) zero all = keyword_text entry.text all.0
-text_at_text (entry ∷ more) (suc position) all = text_at_text more position all.1
+pub text_at_shown : (table : List Entry) (position : ℕ) → AreKeywords table → AreShown (text_at table position)
+text_at_shown [] position all = tt
+text_at_shown (entry ∷ more) zero all = keyword_shown entry.text all.0
+text_at_shown (entry ∷ more) (suc position) all = text_at_shown more position all.1
 
 -- what several entries share is bytes of one of them
-rests_text : (entries : List Entry) (position : ℕ) (atom : List ℕ) → AreKeywords entries
-    → AllByRecursion AreText (map (λ (e : ℕ × Entry). drop (length atom) e.1.text)
+rests_shown : (entries : List Entry) (position : ℕ) (atom : List ℕ) → AreKeywords entries
+    → AllByRecursion AreShown (map (λ (e : ℕ × Entry). drop (length atom) e.1.text)
     (filter (λ (e : ℕ × Entry). is_recognised e.1.flag && begins_with e.1.text atom) (enumerate_from position entries)))
-rests_text [] position atom all = tt
-rests_text (entry ∷ more) position atom all =
-    of_choice (λ (found : List (ℕ × Entry)). AllByRecursion AreText (map (λ (e : ℕ × Entry). drop (length atom) e.1.text) found))
+rests_shown [] position atom all = tt
+rests_shown (entry ∷ more) position atom all =
+    of_choice (λ (found : List (ℕ × Entry)). AllByRecursion AreShown (map (λ (e : ℕ × Entry). drop (length atom) e.1.text) found))
     (is_recognised entry.flag && begins_with entry.text atom) _ _
-    (text_drop (length atom) entry.text (keyword_text entry.text all.0), rests_text more (position + 1) atom all.1)
-    (rests_text more (position + 1) atom all.1)
+    (shown_drop (length atom) entry.text (keyword_shown entry.text all.0), rests_shown more (position + 1) atom all.1)
+    (rests_shown more (position + 1) atom all.1)
 
-pub common_text : (table : List Entry) (atom : List ℕ) → AreKeywords table → AreText (common table atom)
+pub common_shown : (table : List Entry) (atom : List ℕ) → AreKeywords table → AreShown (common table atom)
 unfolding common
-common_text table atom all = by (rests table atom) refl (rests_text table 0 atom all) (common_is_shared table atom)
+common_shown table atom all = by (rests table atom) refl (rests_shown table 0 atom all) (common_is_shared table atom)
   where
-    by : (texts : List (List ℕ)) → rests table atom ≡ texts → AllByRecursion AreText texts
-        → AllBeginWith texts (common table atom) → AreText (common table atom)
+    by : (texts : List (List ℕ)) → rests table atom ≡ texts → AllByRecursion AreShown texts
+        → AllBeginWith texts (common table atom) → AreShown (common table atom)
     by [] is all begin =
         let none : common table atom ≡ [] = ap (λ (texts : List (List ℕ)). unwrap_or (reduce shared texts) []) is in
         rw none tt
-    by (text ∷ texts) is all begin = subst AreText begin.0 (text_take (length (common table atom)) text all.0)
+    by (text ∷ texts) is all begin = subst AreShown begin.0 (shown_take (length (common table atom)) text all.0)
 
 -- a table that a block names has no fault, nor has one that is not there
 pub table_none : (graph : Graph) (number : ℕ) → AreTables graph.tables → table_fault (table_of graph number) ≡ None

@@ -1,16 +1,18 @@
 //! Laws of recognition.
-ghost use Rattle.std.specs.Prelude.{◌≡◌, ◌≢◌, ◌+◌, ◌≤◌, ◌++◌, ℕ, List, [], None, Some, drop, false, length, true};
+ghost use Rattle.std.specs.Prelude.{◌≡◌, ◌≢◌, ◌+◌, ◌≤◌, ◌++◌, ℕ, List, [], None, Some, drop, false, length, map, true};
 ghost use Rattle.std.specs.Io.{StartsWith};
 ghost use Rattle.std.specs.List.{AllByRecursion};
+ghost use Rattle.cm_text.specs.Shown.{screen_byte};
 ghost use Rattle.cm_text.specs.Text.{IsLine};
 ghost use Rattle.cm_text.specs.declared.text.TheConstants.{LINE_LIMIT};
 ghost use Rattle.cm_tables.specs.Common.{AllBeginWith};
 ghost use Rattle.cm_files.specs.Catalogue.{IsCatalogue};
 ghost use Rattle.cm_hooks.specs.Meanings.{IsLawful};
+ghost use Rattle.cm_blocks.specs.declared.field.Ending.{Ending};
 ghost use Rattle.cm_blocks.specs.declared.field.Ending.TheVariants as ending;
 ghost use Rattle.cm_blocks.specs.declared.node.Block.{Block};
 ghost use Rattle.cm_blocks.specs.Chain.{chain_at};
-ghost use Rattle.cm_blocks.specs.Fault.{grammar_fault};
+ghost use Rattle.cm_blocks.specs.Fault.{grammar_fault, is_shown};
 ghost use Rattle.cm_blocks.specs.Setting.{Setting};
 ghost use Rattle.cm_blocks.specs.Well.{AreTables};
 ghost use Rattle.cm_recognise.specs.declared.found.Found.TheVariants.{Nobody, One, Several};
@@ -46,6 +48,17 @@ pub fn a_whole_completion_is_put_in()
         → length line + length (bytes ++ behind s.graph next) ≤ LINE_LIMIT
         → insertion s (ending.Open (record { node = number; block = Some b; at = start })) line mode
         ≡ record { bytes = bytes ++ behind s.graph next; bell = false } }
+{}
+
+/// What a key puts in that completes, at any place of any line, is shown as it is: bytes from space to tilde, none of
+/// them a question mark, so that a screen is given each as it stands in the line.
+pub fn what_is_put_in_is_shown()
+    ensures shown { (s : Setting) → grammar_fault s.graph ≡ None → IsCatalogue s.catalogue → AreTables s.graph.tables
+        → IsLawful s.meanings → (ends : Ending) → (line : List ℕ) → (mode : Mode)
+        → is_shown (insertion s ends line mode).bytes ≡ true }
+    ensures screen { (s : Setting) → grammar_fault s.graph ≡ None → IsCatalogue s.catalogue → AreTables s.graph.tables
+        → IsLawful s.meanings → (ends : Ending) → (line : List ℕ) → (mode : Mode)
+        → map screen_byte (insertion s ends line mode).bytes ≡ (insertion s ends line mode).bytes }
 {}
 
 /// Of texts that may be meant, as users, directories, names and types of files, none is found exactly where there is

@@ -1,6 +1,6 @@
 mod Editing
 mod Fronts
-mod Lines
+pub mod Lines
 mod Logging
 mod Rest
 mod Roles

@@ -1,5 +1,5 @@
 -- What a key makes of a line is a line.
-use Rattle.std.proofs.Common.{◌≡◌, ◌≢◌, ℕ, zero, suc, ◌-◌, Bool, true, false, List, [], ◌∷◌, ◌++◌, length, take, Option, Some, None, IfSome, nat_lt, unwrap_or, refl, arith, ◌==◌, ◌||◌, if◌then◌else◌, length-append}
+use Rattle.std.proofs.Common.{◌≡◌, ◌≢◌, ℕ, zero, suc, ◌-◌, Bool, true, false, List, [], ◌∷◌, ◌++◌, length, take, Option, Some, None, IfSome, nat_lt, unwrap_or, refl, subst, sym, append-nil, arith, ◌==◌, ◌||◌, if◌then◌else◌, length-append}
 use Rattle.std.specs.List.{AllByRecursion}
 use Rattle.std.proofs.lemmas.Bool.Decides.{nat_tests}
 use Rattle.std.proofs.lemmas.List.{length-take}
@@ -10,7 +10,18 @@ use Rattle.cm_line.specs.declared.key.KeyClass.{KeyClass}
 use Rattle.cm_line.specs.declared.key.KeyClass.TheVariants.{Text, End, Rub, Word, Erase, Show, Back, Stop, Escape, Part, Help, Other}
 use Rattle.cm_line.specs.Keys.{class_of}
 use Rattle.cm_line.specs.Word.{word_start}
-use Rattle.cm_state.specs.Edit.{edit}
+use Rattle.cm_fields.proofs.Holding.{of_choice}
+use Rattle.cm_files.specs.Catalogue.{IsCatalogue}
+use Rattle.cm_hooks.specs.Meanings.{IsLawful}
+use Rattle.cm_blocks.specs.declared.field.Ending.{Ending}
+use Rattle.cm_blocks.specs.declared.field.Ending.TheVariants as ending
+use Rattle.cm_blocks.specs.Fault.{grammar_fault}
+use Rattle.cm_blocks.specs.Parse.{parse_of}
+use Rattle.cm_blocks.specs.Setting.{Setting}
+use Rattle.cm_blocks.specs.Well.{AreTables}
+use Rattle.cm_recognise.specs.declared.insertion.Mode.TheVariants as modes
+use Rattle.cm_recognise.proofs.Lines.{line_goes_on}
+use Rattle.cm_state.specs.Edit.{before_fault, completed, completion, edit, edited, is_end}
 use Rattle.cm_state.specs.SessionState.{SessionState, met_line}
 
 -- text bytes alone
@@ -106,3 +117,60 @@ pub edit_is_line : (held : SessionState) (key : ℕ) (inserted : List ℕ) → I
     → IsLine (met_line held ++ inserted) → IsLine (edit (class_of key) key (met_line held) held.kept inserted)
 edit_is_line held key inserted is kept longer =
     edit_by_class (class_of key) key (met_line held) held.kept inserted (text_key_is_text key) is kept longer
+
+-- with what a key puts in that completes it, it is a line
+completed_is_line : (s : Setting) → grammar_fault s.graph ≡ None → IsCatalogue s.catalogue → AreTables s.graph.tables
+    → IsLawful s.meanings → (class : KeyClass) (ends : Ending) (line : List ℕ) → IsLine line
+    → IsLine (line ++ (completion s class ends line).bytes)
+completed_is_line s none named tables lawful Escape ends line is =
+    line_goes_on s ends line modes.Escape none named tables lawful is
+completed_is_line s none named tables lawful Part ends line is =
+    line_goes_on s ends line modes.Part none named tables lawful is
+completed_is_line s none named tables lawful Text ends line is = subst IsLine (sym (append-nil line)) is
+completed_is_line s none named tables lawful End ends line is = subst IsLine (sym (append-nil line)) is
+completed_is_line s none named tables lawful Rub ends line is = subst IsLine (sym (append-nil line)) is
+completed_is_line s none named tables lawful Word ends line is = subst IsLine (sym (append-nil line)) is
+completed_is_line s none named tables lawful Erase ends line is = subst IsLine (sym (append-nil line)) is
+completed_is_line s none named tables lawful Show ends line is = subst IsLine (sym (append-nil line)) is
+completed_is_line s none named tables lawful Back ends line is = subst IsLine (sym (append-nil line)) is
+completed_is_line s none named tables lawful Stop ends line is = subst IsLine (sym (append-nil line)) is
+completed_is_line s none named tables lawful Help ends line is = subst IsLine (sym (append-nil line)) is
+completed_is_line s none named tables lawful Other ends line is = subst IsLine (sym (append-nil line)) is
+
+pub edited_is_line : (s : Setting) → grammar_fault s.graph ≡ None → IsCatalogue s.catalogue → AreTables s.graph.tables
+    → IsLawful s.meanings → (held : SessionState) (key : ℕ) → IsLine (met_line held) → IfSome held.kept IsLine
+    → IsLine (edited s held key).line
+unfolding edited
+edited_is_line s none named tables lawful held key is kept =
+    edit_is_line held key (completed s held (class_of key)).bytes is kept
+    (completed_is_line s none named tables lawful (class_of key) (parse_of s held.node (met_line held)).ending (met_line held) is)
+
+-- the bytes before a fault are a line
+before_is_line : (line : List ℕ) (ends : Ending) → IsLine line → IfSome (before_fault line ends) IsLine
+before_is_line line (ending.Open place) is = tt
+before_is_line line ending.Done is = tt
+before_is_line line (ending.Fault fault) is = prefix_is_line fault.at line is
+
+pub edited_keeps_a_line : (s : Setting) → grammar_fault s.graph ≡ None → IsCatalogue s.catalogue
+    → AreTables s.graph.tables → IsLawful s.meanings → (held : SessionState) (key : ℕ) → IsLine (met_line held)
+    → IfSome held.kept IsLine → IfSome (edited s held key).kept IsLine
+unfolding edited
+edited_keeps_a_line s none named tables lawful held key is kept =
+    of_choice (λ (kept : Option (List ℕ)). IfSome kept IsLine) (is_end (class_of key)) _ None
+    (before_is_line (edited s held key).line _ (edited_is_line s none named tables lawful held key is kept)) tt
+
+-- bytes are kept behind a finished line alone, so that the next key meets an empty one
+pub edited_keeps_behind_an_end : (s : Setting) (held : SessionState) (key : ℕ)
+    → IfSome (edited s held key).kept (λ (bytes : List ℕ). met_line (edited s held key) ≡ [])
+unfolding edited
+edited_keeps_behind_an_end s held key = by (is_end (class_of key)) _ _ _
+  where
+    of_end : (line : List ℕ) (ends : Ending) → IfSome (before_fault line ends) (λ (bytes : List ℕ). ◌≡◌ {A = List ℕ} [] [])
+    of_end line (ending.Open place) = tt
+    of_end line ending.Done = tt
+    of_end line (ending.Fault fault) = refl
+
+    by : (finished : Bool) (line : List ℕ) (ends : Ending) (now : List ℕ)
+        → IfSome (if finished then before_fault line ends else None) (λ (bytes : List ℕ). (if finished then [] else now) ≡ [])
+    by true line ends now = of_end line ends
+    by false line ends now = tt

@@ -2,11 +2,14 @@
 ghost use Rattle.std.specs.Prelude.{◌≡◌, ◌<◌, ℕ, List, [], ◌++◌, None, Option, IfSome, length};
 ghost use Rattle.cm_text.specs.Text.{IsLine};
 ghost use Rattle.cm_line.specs.Keys.{class_of};
+ghost use Rattle.cm_files.specs.Catalogue.{IsCatalogue};
+ghost use Rattle.cm_hooks.specs.Meanings.{IsLawful};
 ghost use Rattle.cm_blocks.specs.Fault.{grammar_fault};
 ghost use Rattle.cm_blocks.specs.Kept.{BeginsWith, kept};
 ghost use Rattle.cm_blocks.specs.Parse.{IsParse, open_at, parse_of};
 ghost use Rattle.cm_blocks.specs.Setting.{Setting};
-ghost use Rattle.cm_state.specs.Edit.{edit};
+ghost use Rattle.cm_blocks.specs.Well.{AreTables};
+ghost use Rattle.cm_state.specs.Edit.{edit, edited};
 ghost use Rattle.cm_state.specs.SessionState.{SessionState, IsReady, at_start, met_line};
 ghost use Rattle.cm_state.specs.declared.prompt.Prompt.{Prompt};
 
@@ -28,6 +31,20 @@ pub fn a_start_is_ready()
 pub fn the_edit_is_a_line()
     ensures { (held : SessionState) → (key : ℕ) → (inserted : List ℕ) → IsLine (met_line held) → IfSome held.kept IsLine
         → IsLine (met_line held ++ inserted) → IsLine (edit (class_of key) key (met_line held) held.kept inserted) }
+{}
+
+/// A key leaves a line, and a line is what it leaves for control-H, where the key met such: under an accepted grammar,
+/// a catalogue and lawful meanings. Bytes are left for control-H behind a finished line alone, so that the key after it
+/// meets an empty one.
+pub fn a_key_leaves_a_line()
+    ensures line { (s : Setting) → grammar_fault s.graph ≡ None → IsCatalogue s.catalogue → AreTables s.graph.tables
+        → IsLawful s.meanings → (held : SessionState) → (key : ℕ) → IsLine (met_line held) → IfSome held.kept IsLine
+        → IsLine (edited s held key).line }
+    ensures kept { (s : Setting) → grammar_fault s.graph ≡ None → IsCatalogue s.catalogue → AreTables s.graph.tables
+        → IsLawful s.meanings → (held : SessionState) → (key : ℕ) → IsLine (met_line held) → IfSome held.kept IsLine
+        → IfSome (edited s held key).kept IsLine }
+    ensures empty { (s : Setting) → (held : SessionState) → (key : ℕ)
+        → IfSome (edited s held key).kept (λ bytes. met_line (edited s held key) ≡ []) }
 {}
 
 /// The fields that are kept of an old text are the first fields of the new one.

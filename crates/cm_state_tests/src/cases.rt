@@ -62,19 +62,12 @@ fn fault(code: Code) -> Ending {
 
 fn open(text: &str) -> Option<Open> {
     let (blocks, at) = text.split_once('@')?;
-    let at = at.parse().ok()?;
-    match blocks.split_once('.') {
-        Some((node, block)) => Some(Open {
-            node: node.parse().ok()?,
-            block: Some(block.parse().ok()?),
-            at,
-        }),
-        None => Some(Open {
-            node: blocks.parse().ok()?,
-            block: None,
-            at,
-        }),
-    }
+    let (node, block) = blocks.split_once('.').unwrap_or((blocks, ""));
+    Some(Open {
+        node: node.parse().ok()?,
+        block: block.parse().ok(),
+        at: at.parse().ok()?,
+    })
 }
 
 // A line of these bytes.

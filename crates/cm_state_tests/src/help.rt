@@ -120,6 +120,15 @@ fn lists_what_may_come(rt: HostRuntime) -> Result<(), Fail> {
 
 23.0@0|1| how bright, 0 to 100
 
+9.0@0|| date, as 5-JAN-1980
+
+19.0@0|| date, as 5-JAN-1980\r
+ or quoted string
+
+19.0@0|5-JAN-198| date, as 5-JAN-1980
+
+19.1@0|\"5| quoted string
+
 25.0@0|| user name\r
  or directory name\r
  or input file\r

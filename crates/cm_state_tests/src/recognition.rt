@@ -10,7 +10,9 @@ use crate::judges::{Judges, hooks_of};
 use cm_blocks::{Ending, Grammar};
 use cm_hooks::{Hooks, Rules};
 use cm_line::Line;
-use cm_recognise::laws::{a_whole_completion_is_put_in, a_whole_completion_is_taken};
+use cm_recognise::laws::{
+    a_whole_completion_is_put_in, a_whole_completion_is_taken, what_is_put_in_is_shown,
+};
 use cm_recognise::{Mode, complete};
 use std::alloc::Global;
 use std::process::Abort;
@@ -130,6 +132,26 @@ fn values_go_on(rt: HostRuntime) -> Result<(), Fail> {
     tries(&rt, rt.alloc(), Mode::Escape, cases)
 }
 
+// A date goes on where it is whole, and only where there is such a day. Of one that is begun nothing is certain.
+#[test]
+fn dates_go_on(rt: HostRuntime) -> Result<(), Fail> {
+    let cases = "\
+9.0@0|5-JAN-1980| (FROM) |
+9.0@0|29-feb-72| (FROM) |
+19.0@0|31-DEC-2099| |
+9.0@0|||bell
+9.0@0|5||bell
+9.0@0|5-JAN||bell
+9.0@0|5-JAN-198||bell
+9.0@0|5-JAX-1980||bell
+9.0@0|0-JAN-1980||bell
+9.0@0|5-JAN-1969||bell
+9.0@0|31-APR-1980||bell
+9.0@0|29-FEB-1981||bell
+19.1@0|5-JAN-1980||bell";
+    tries(&rt, rt.alloc(), Mode::Escape, cases)
+}
+
 #[test]
 fn what_does_not_fit_is_not_put_in(rt: HostRuntime) -> Result<(), Fail> {
     let cases = "\
@@ -155,8 +177,12 @@ NotKeyword|CO||bell
 }
 
 #[test]
-fn a_part_is_asked_of_no_keyword(rt: HostRuntime) -> Result<(), Fail> {
-    tries(&rt, rt.alloc(), Mode::Part, "0.0@0|co||bell\n2.0@0|||bell")
+fn a_part_is_asked_of_no_keyword_and_no_date(rt: HostRuntime) -> Result<(), Fail> {
+    let cases = "\
+0.0@0|co||bell
+2.0@0|||bell
+9.0@0|5-JAN-1980||bell";
+    tries(&rt, rt.alloc(), Mode::Part, cases)
 }
 
 // One name goes on with its one type and its highest generation. It rings at several names that share nothing more, at
@@ -273,4 +299,5 @@ fn one_part_goes_on(rt: HostRuntime) -> Result<(), Fail> {
 fn the_laws_hold() {
     a_whole_completion_is_taken();
     a_whole_completion_is_put_in();
+    what_is_put_in_is_shown();
 }

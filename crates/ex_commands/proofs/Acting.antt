@@ -9,7 +9,7 @@ use Rattle.ex_store.specs.declared.place.Place.{Place}
 use Rattle.ex_store.specs.declared.row.Row.{Row}
 use Rattle.ex_store.specs.Copying.{lacks_name}
 use Rattle.ex_store.specs.State.{State, defined, undefined}
-use Rattle.ex_store.proofs.Naming.{nothing_undefined}
+use Rattle.ex_store.proofs.StateLaws.{nothing_undefined}
 use Rattle.ex_commands.specs.declared.acted.Acted.{Acted}
 use Rattle.ex_commands.specs.Act.{Act, begins, does, lists, refuses, undefines}
 use Rattle.ex_commands.specs.Outcome.{Outcome}

@@ -12,10 +12,10 @@ use Rattle.ex_store.specs.Rows.{is_in, rows_in}
 use Rattle.ex_store.specs.Selection.{is_meant}
 use Rattle.ex_store.specs.State.{State}
 use Rattle.ex_store.specs.WellFormed.{IsWellFormed, is_row_among}
-use Rattle.ex_store.proofs.Ascending.{all_filter}
-use Rattle.ex_store.proofs.Copies.{formed}
-use Rattle.ex_store.proofs.Elements.{all_at}
-use Rattle.ex_store.proofs.Selecting.{block_few, meant_in}
+use Rattle.ex_store.proofs.AscendsLaws.{all_filter}
+use Rattle.ex_store.proofs.AllCopiedLaws.{formed}
+use Rattle.ex_store.proofs.ElementsLaws.{all_at}
+use Rattle.ex_store.proofs.MeantLaws.{block_few, meant_in}
 use Rattle.ex_commands.specs.Files.{IsNumber, files_from}
 
 -- what passes a test is looked for among what passes a wider one

@@ -1,33 +1,49 @@
-// Searches through the generations of a file, from the lowest on.
-ghost use Rattle.std.specs.Prelude.{◌≡◌, ◌≤◌, ◌↔◌, false, length, Some, IfOk, IsErr, position, nat_lt};
+// Searches through the generations of a file. A generation is found by halving.
+ghost use Rattle.std.specs.Prelude.{◌≡◌, ◌≤◌, ◌↔◌, Bool, true, false, length, Some, IfOk, IsErr, position, nat_lt};
+ghost use Rattle.std.specs.Fn.{ComputesKey};
 ghost use Rattle.std.specs.List.{prefix_len};
+ghost use Rattle.std.specs.List.Sorted.{IsPartitionedBy, IsPartitionPoint};
 ghost use Rattle.ex_generations.specs.Generations.{IsAscending, has, highest, is_generation, lowest, marked, next_generation, page_count, pages, with_mark};
 ghost use Rattle.ex_generations.specs.Retention.{live};
 
 use crate::{Bytes, FILE_LIMIT, File, GENERATION_LIMIT, GenFull, PAGE_BYTES};
 
-// Where the file of a generation stands.
-pub(crate) fn position(files: &[File], generation: u32) -> Option<usize>
-    ensures { result ≡ position (is_generation generation) files.now }
+// How many elements a test passes, where those that it passes come first.
+fn seek<T, F: FnMut(&T) -> bool>(items: &[T], is_before: F) -> usize
+    requires { F.IsAlwaysCallable is_before }
+    ensures bound { result ≤ length items.now }
+    ensures parted { (test : T → Bool) → ComputesKey F.FnMut test is_before → IsPartitionedBy test items.now
+        → IsPartitionPoint (λ item. test item ≡ true) (λ item. test item ≡ false) items.now result }
 {
-    files.iter().position(|file| file.generation == generation)
-}
-
-// Whether there is a file of a generation.
-pub(crate) fn has(files: &[File], generation: u32) -> bool
-    ensures { result ≡ has generation files.now }
-{
-    files.iter().any(|file| file.generation == generation)
+    items.partition_point(is_before)
 }
 
 // How many files are of a lower generation.
 pub(crate) fn place(files: &[File], generation: u32) -> usize
+    requires { IsAscending 0 files.now }
     ensures { result ≡ prefix_len (λ file. nat_lt file.generation generation) files.now }
 {
-    files
-        .iter()
-        .take_while(|file| file.generation < generation)
-        .count()
+    seek(files, |file| file.generation < generation)
+}
+
+// Where the file of a generation stands.
+pub(crate) fn position(files: &[File], generation: u32) -> Option<usize>
+    requires { IsAscending 0 files.now }
+    ensures { result ≡ position (is_generation generation) files.now }
+{
+    let at = place(files, generation);
+    match files.get(at) {
+        Some(file) if file.generation == generation => Some(at),
+        _ => None,
+    }
+}
+
+// Whether there is a file of a generation.
+pub(crate) fn has(files: &[File], generation: u32) -> bool
+    requires { IsAscending 0 files.now }
+    ensures { result ≡ has generation files.now }
+{
+    position(files, generation).is_some()
 }
 
 // The highest generation with this mark.
@@ -100,4 +116,30 @@ pub(crate) fn marked_pages(files: &[File]) -> u32
         }
     }
     pages
+}
+
+#[cfg(test)]
+mod tests {
+    use super::*;
+
+    // How many elements a search looks at.
+    fn probes(items: &[u32], wanted: u32) -> u32 {
+        let mut probes = 0_u32;
+        seek(items, |item| {
+            probes = probes.saturating_add(1);
+            *item < wanted
+        });
+        probes
+    }
+
+    #[test]
+    fn a_search_of_4096_generations_looks_at_13(rt: HostRuntime) {
+        let mut items = [0; 4096];
+        for (place, item) in items.iter_mut().enumerate() {
+            *item = place as u32;
+        }
+        for wanted in [0, 1, 2047, 2048, 2049, 4095, 4096] {
+            assert!(rt; probes(&items, wanted) <= 13, "at {wanted}");
+        }
+    }
 }

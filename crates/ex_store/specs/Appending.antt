@@ -14,8 +14,8 @@ use Rattle.ex_store.specs.declared.key.Key.{Key}
 use Rattle.ex_store.specs.declared.key.NamePair.{NamePair}
 use Rattle.ex_store.specs.declared.limits.TheConstants.{STORE_LIMIT}
 use Rattle.ex_store.specs.declared.place.Place.{Place}
-use Rattle.ex_store.specs.declared.ready.Step.{Step}
-use Rattle.ex_store.specs.declared.ready.Step.TheVariants as steps
+use Rattle.ex_store.specs.declared.ready.RowChange.{RowChange}
+use Rattle.ex_store.specs.declared.ready.RowChange.TheVariants as changes
 use Rattle.ex_store.specs.declared.row.Row.{Row}
 use Rattle.ex_store.specs.Adding.{Outcome, admitted, and_then, new_row}
 use Rattle.ex_store.specs.Copying.{moment_of, own_key}
@@ -85,6 +85,6 @@ appended keep moment to sources rows =
     (opened moment (own_key to) to.generation rows)
 
 -- what is to be done for it: the empty row is added, and then the bytes are filled in
-abbrev pub steps_of : Opening → ℕ → List ℕ → List Step
-steps_of there moment bytes =
-    map (λ row. steps.Add row) (option_to_list there.new) ++ (steps.Fill there.target moment bytes) ∷ []
+abbrev pub row_changes_of : Opening → ℕ → List ℕ → List RowChange
+row_changes_of there moment bytes =
+    map (λ row. changes.Add row) (option_to_list there.new) ++ (changes.Fill there.target moment bytes) ∷ []

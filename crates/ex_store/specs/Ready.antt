@@ -5,8 +5,8 @@ use Rattle.cm_fields.specs.declared.code.Code.{Code}
 use Rattle.ex_store.specs.declared.directory.Directory.{Directory}
 use Rattle.ex_store.specs.declared.key.FullName.{FullName}
 use Rattle.ex_store.specs.declared.key.NamePair.{NamePair}
-use Rattle.ex_store.specs.declared.ready.Step.{Step}
-use Rattle.ex_store.specs.declared.ready.Step.TheVariants as steps
+use Rattle.ex_store.specs.declared.ready.RowChange.{RowChange}
+use Rattle.ex_store.specs.declared.ready.RowChange.TheVariants as changes
 use Rattle.ex_store.specs.declared.row.Row.{Row}
 use Rattle.ex_store.specs.Building.{with_directory}
 use Rattle.ex_store.specs.Adding.{Outcome, new_row}
@@ -16,45 +16,45 @@ use Rattle.ex_store.specs.State.{StoreWithRoom, State}
 use Rattle.ex_store.specs.WellFormed.{AreRows, IsWellFormed}
 
 -- a directory to be made or changed; how many generations are kept where files are added; what is done with the
--- files, step by step; and from which file to which one each goes
+-- files, one after the other; and from which file to which one each goes
 pub record Change : Type 0 where
   pub directory : Option Directory
   pub keep : ℕ
-  pub steps : List Step
+  pub row_changes : List RowChange
   pub pairs : List NamePair
 
 -- the row under another name, unmarked
-abbrev pub under : FullName → Row → Row
-under target row = new_row target.key row.file.moment row.file.bytes target.generation
+abbrev pub with_name : FullName → Row → Row
+with_name target row = new_row target.key row.file.moment row.file.bytes target.generation
 
--- the row that was taken out, under another name
-abbrev pub put_back : ℕ → FullName → List Row → Option Row → List Row
-put_back keep target rows None = rows
-put_back keep target rows (Some row) = added keep (under target row) rows
+-- the row that was taken out, added under another name
+abbrev pub reinserted : ℕ → FullName → List Row → Option Row → List Row
+reinserted keep target rows None = rows
+reinserted keep target rows (Some row) = added keep (with_name target row) rows
 
--- the row of a full name is taken out, where there is one, and put back under another
+-- the row of a full name is taken out, where there is one, and added under another
 abbrev pub moved : ℕ → NamePair → List Row → List Row
-moved keep pair rows = put_back keep pair.target (without pair.source rows) (row_at pair.source rows)
+moved keep pair rows = reinserted keep pair.target (without pair.source rows) (row_at pair.source rows)
 
--- the rows after a step
-abbrev pub stepped : ℕ → List Row → Step → List Row
-stepped keep rows (steps.Add row) = added keep row rows
-stepped keep rows (steps.Move pair) = moved keep pair rows
-stepped keep rows (steps.Fill target moment bytes) = filled target moment bytes rows
+-- the rows after a change
+abbrev pub rows_after : ℕ → List Row → RowChange → List Row
+rows_after keep rows (changes.Add row) = added keep row rows
+rows_after keep rows (changes.Move pair) = moved keep pair rows
+rows_after keep rows (changes.Fill target moment bytes) = filled target moment bytes rows
 
-abbrev pub all_stepped : ℕ → List Row → List Step → List Row
-all_stepped keep rows done = fold (stepped keep) rows done
+abbrev pub rows_after_all : ℕ → List Row → List RowChange → List Row
+rows_after_all keep rows done = fold (rows_after keep) rows done
 
--- what the steps make of some rows
+-- what the changes make of some rows
 abbrev pub outcome_of : List Row → Change → Outcome
-outcome_of rows change = record { rows = all_stepped change.keep rows change.steps; pairs = change.pairs }
+outcome_of rows change = record { rows = rows_after_all change.keep rows change.row_changes; pairs = change.pairs }
 
 -- what is to be done with some rows comes to what a plan makes of them, and they stay those of a store
 pub record IsMade (directories : List Directory) (rows : List Row) (plan : Result Outcome Code) (change : Change)
     : Type 0 where
   pub none : change.directory ≡ None
   pub outcome : plan ≡ Ok (outcome_of rows change)
-  pub sound : AreRows directories (all_stepped change.keep rows change.steps)
+  pub sound : AreRows directories (rows_after_all change.keep rows change.row_changes)
 
 -- the directories with the one that is made
 abbrev pub with_made : Option Directory → List Directory → List Directory
@@ -66,7 +66,7 @@ abbrev pub applied : Change → State → State
 applied change state =
     record state {
       directories = with_made change.directory state.directories;
-      rows = all_stepped change.keep state.rows change.steps;
+      rows = rows_after_all change.keep state.rows change.row_changes;
     }
 
 -- what the plan makes, done on a state
@@ -82,4 +82,4 @@ count_made (Some directory) = 1
 pub record IsFor (change : Change) (held : StoreWithRoom) : Type 0 where
   pub sound : IsWellFormed (applied change held.state)
   pub directories : length held.state.directories + count_made change.directory ≤ held.directory_room
-  pub rows : length held.state.rows + length change.steps ≤ held.row_room
+  pub rows : length held.state.rows + length change.row_changes ≤ held.row_room

@@ -4,7 +4,7 @@ ghost use Rattle.std.specs.List.{list_all};
 ghost use Rattle.ex_store.specs.declared.limits.TheConstants.{ROW_LIMIT, STORE_LIMIT};
 ghost use Rattle.ex_generations.specs.declared.file.TheConstants.{FILE_LIMIT};
 ghost use Rattle.ex_store.specs.declared.plan.Plan.TheVariants as plans;
-ghost use Rattle.ex_store.specs.Appending.{appended, bytes_at, fitting, found, opened, pairs_to, poured, steps_of};
+ghost use Rattle.ex_store.specs.Appending.{appended, bytes_at, fitting, found, opened, pairs_to, poured, row_changes_of};
 ghost use Rattle.ex_store.specs.Copying.{moment_of};
 ghost use Rattle.ex_store.specs.Plan.{IsOneFile, IsRefused, MayPlan, planned};
 ghost use Rattle.ex_store.specs.Positions.{elements_at};
@@ -18,7 +18,7 @@ use crate::copy::moment_of;
 use crate::directory::keep_of;
 use crate::limits::STORE_LIMIT;
 use crate::search::{bottom_live, has, has_live, position, top_live, total};
-use crate::{Directory, FullName, Key, NamePair, Place, Ready, Refusal, Row, Step, Store};
+use crate::{Directory, FullName, Key, NamePair, Place, Ready, Refusal, Row, RowChange, Store};
 use cm_fields::{Code, Gen};
 use cm_io::NoMemory;
 use ex_generations::{Bytes, FILE_LIMIT};
@@ -149,25 +149,25 @@ fn opened(
 }
 
 // What is to be done: an empty row is added where there is none yet, and then the bytes are filled in.
-fn steps_of(
+fn row_changes_of(
     alloc: Global,
     opening: Opening,
     moment: u64,
     bytes: Bytes,
-) -> Result<Vec<Step>, NoMemory>
-    ensures { IfOk result (λ steps. steps.items ≡ steps_of opening (moment_of moment) bytes) }
+) -> Result<Vec<RowChange>, NoMemory>
+    ensures { IfOk result (λ row_changes. row_changes.items ≡ row_changes_of opening (moment_of moment) bytes) }
 {
     let Opening { target, new } = opening;
-    let mut steps = Vec::new(alloc);
+    let mut row_changes = Vec::new(alloc);
     if let Some(row) = new {
-        steps.push(Step::Add(row))?;
+        row_changes.push(RowChange::Add(row))?;
     }
-    steps.push(Step::Fill {
+    row_changes.push(RowChange::Fill {
         target,
         moment: moment_of(moment),
         bytes,
     })?;
-    Ok(steps)
+    Ok(row_changes)
 }
 
 // The sources at these places are put behind one file.
@@ -206,11 +206,11 @@ fn appends(
         Ok(pairs) => pairs,
         Err(NoMemory) => return Err(Refusal::NoMemory),
     };
-    match steps_of(alloc, opening, moment, bytes) {
-        Ok(steps) => Ok(Ready {
+    match row_changes_of(alloc, opening, moment, bytes) {
+        Ok(row_changes) => Ok(Ready {
             directory: None,
             keep: keep_of(directories, to.directory.as_bytes()),
-            steps,
+            row_changes,
             pairs,
         }),
         Err(NoMemory) => Err(Refusal::NoMemory),

@@ -1,32 +1,32 @@
 // Plans are done.
 ghost use Rattle.std.specs.Prelude.{◌≡◌, ◌<◌, ◌≤◌, ◌+◌, vec_capacity, vec_len};
-ghost use Rattle.ex_store.specs.Ready.{IsFor, all_stepped, applied, moved, stepped};
+ghost use Rattle.ex_store.specs.Ready.{IsFor, applied, moved, rows_after, rows_after_all};
 
 use crate::build::make;
-use crate::change::{add, fill, put_back, take_out};
-use crate::{NamePair, Ready, Row, Step, Store};
+use crate::change::{add, fill, reinsert, remove};
+use crate::{NamePair, Ready, Row, RowChange, Store};
 
 // A file goes to another name.
-fn carry(rows: &mut Vec<Row>, pair: &NamePair, keep: u8)
+fn rename_row(rows: &mut Vec<Row>, pair: &NamePair, keep: u8)
     ensures items { rows.new.items ≡ moved keep pair.now rows.old.items }
     ensures len { vec_len rows.new ≤ vec_len rows.old }
     ensures capacity { vec_capacity rows.new ≡ vec_capacity rows.old }
 {
-    let row = take_out(rows, &pair.source);
-    put_back(rows, &pair.target, row, keep);
+    let row = remove(rows, &pair.source);
+    reinsert(rows, &pair.target, row, keep);
 }
 
-// One step, in a vector that has room for it.
-fn take_step(rows: &mut Vec<Row>, step: Step, keep: u8)
+// One change, in a vector that has room for it.
+fn change_row(rows: &mut Vec<Row>, change: RowChange, keep: u8)
     requires { vec_len rows.old < vec_capacity rows.old }
-    ensures items { rows.new.items ≡ stepped keep rows.old.items step }
+    ensures items { rows.new.items ≡ rows_after keep rows.old.items change }
     ensures len { vec_len rows.new ≤ vec_len rows.old + 1 }
     ensures capacity { vec_capacity rows.new ≡ vec_capacity rows.old }
 {
-    match step {
-        Step::Add(row) => add(rows, row, keep),
-        Step::Move(pair) => carry(rows, &pair, keep),
-        Step::Fill {
+    match change {
+        RowChange::Add(row) => add(rows, row, keep),
+        RowChange::Move(pair) => rename_row(rows, &pair, keep),
+        RowChange::Fill {
             target,
             moment,
             bytes,
@@ -34,14 +34,14 @@ fn take_step(rows: &mut Vec<Row>, step: Step, keep: u8)
     }
 }
 
-// All steps, one after the other, in a vector that has room for them.
-fn take_steps(rows: &mut Vec<Row>, steps: Vec<Step>, keep: u8)
-    requires { vec_len rows.old + vec_len steps ≤ vec_capacity rows.old }
-    ensures items { rows.new.items ≡ all_stepped keep rows.old.items steps.items }
+// All changes, one after the other, in a vector that has room for them.
+fn change_rows(rows: &mut Vec<Row>, row_changes: Vec<RowChange>, keep: u8)
+    requires { vec_len rows.old + vec_len row_changes ≤ vec_capacity rows.old }
+    ensures items { rows.new.items ≡ rows_after_all keep rows.old.items row_changes.items }
     ensures capacity { vec_capacity rows.new ≡ vec_capacity rows.old }
 {
-    for step in steps {
-        take_step(rows, step, keep);
+    for change in row_changes {
+        change_row(rows, change, keep);
     }
 }
 
@@ -54,12 +54,12 @@ impl Store {
         let Ready {
             directory,
             keep,
-            steps,
+            row_changes,
             ..
         } = ready;
         if let Some(directory) = directory {
             make(&mut self.directories, directory);
         }
-        take_steps(&mut self.rows, steps, keep);
+        change_rows(&mut self.rows, row_changes, keep);
     }
 }

@@ -1,7 +1,7 @@
 // Changes of the rows of a store.
 ghost use Rattle.std.specs.Prelude.{◌≡◌, ◌<◌, ◌≤◌, ◌+◌, length, insert, vec_capacity, vec_len, OnSome};
 ghost use Rattle.std.specs.Option.{option_to_list};
-ghost use Rattle.ex_store.specs.Ready.{put_back, under};
+ghost use Rattle.ex_store.specs.Ready.{reinserted, with_name};
 ghost use Rattle.ex_generations.specs.Generations.{rewritten};
 ghost use Rattle.ex_store.specs.Rows.{added, filled, inserted, kept_newest, retained, row_at, without};
 
@@ -73,7 +73,7 @@ pub(crate) fn add(rows: &mut Vec<Row>, row: Row, keep: u8)
 }
 
 // Takes the row of a full name out, where there is one.
-pub(crate) fn take_out(rows: &mut Vec<Row>, full: &FullName) -> Option<Row>
+pub(crate) fn remove(rows: &mut Vec<Row>, full: &FullName) -> Option<Row>
     ensures row { result ≡ row_at full.now rows.old.items }
     ensures items { rows.new.items ≡ without full.now rows.old.items }
     ensures len { vec_len rows.new + length (option_to_list result) ≡ vec_len rows.old }
@@ -87,8 +87,8 @@ pub(crate) fn take_out(rows: &mut Vec<Row>, full: &FullName) -> Option<Row>
 }
 
 // The row under another name, unmarked.
-fn under(row: Row, target: &FullName) -> Row
-    ensures { result ≡ under target.now row }
+fn with_name(row: Row, target: &FullName) -> Row
+    ensures { result ≡ with_name target.now row }
 {
     let Row { file, .. } = row;
     Row::new(
@@ -99,15 +99,15 @@ fn under(row: Row, target: &FullName) -> Row
     )
 }
 
-// Puts a row that was taken out back under another name.
-pub(crate) fn put_back(rows: &mut Vec<Row>, target: &FullName, row: Option<Row>, keep: u8)
+// Adds a row that was taken out under another name.
+pub(crate) fn reinsert(rows: &mut Vec<Row>, target: &FullName, row: Option<Row>, keep: u8)
     requires { OnSome row (vec_len rows.old < vec_capacity rows.old) }
-    ensures items { rows.new.items ≡ put_back keep target.now rows.old.items row }
+    ensures items { rows.new.items ≡ reinserted keep target.now rows.old.items row }
     ensures len { vec_len rows.new ≡ vec_len rows.old + length (option_to_list row) }
     ensures capacity { vec_capacity rows.new ≡ vec_capacity rows.old }
 {
     if let Some(row) = row {
-        add(rows, under(row, target), keep);
+        add(rows, with_name(row, target), keep);
     }
 }
 

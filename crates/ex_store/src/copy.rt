@@ -3,7 +3,7 @@ ghost use Rattle.std.specs.Prelude.{◌≡◌, ◌≤◌, true, [], ◌∷◌, �
 ghost use Rattle.std.specs.List.{list_all};
 ghost use Rattle.ex_store.specs.declared.limits.TheConstants.{ROW_LIMIT};
 ghost use Rattle.ex_store.specs.declared.plan.Plan.TheVariants as plans;
-ghost use Rattle.ex_store.specs.declared.ready.Step.TheVariants as steps;
+ghost use Rattle.ex_store.specs.declared.ready.RowChange.TheVariants as changes;
 ghost use Rattle.ex_store.specs.Adding.{new_row};
 ghost use Rattle.ex_store.specs.Copying.{all_copied, moment_of};
 ghost use Rattle.ex_store.specs.Plan.{IsRefused, IsTarget, MayPlan, planned};
@@ -15,11 +15,11 @@ ghost use Rattle.ex_store.specs.WellFormed.{AreRows, IsWellFormed};
 
 use crate::adding::admitted;
 use crate::change::add;
-use crate::course::Course;
 use crate::directory::keep_of;
 use crate::limits::MOMENT_LIMIT;
 use crate::search::total;
-use crate::{Directory, Key, NamePair, Place, Ready, Refusal, Row, Step, Store};
+use crate::simulation::Simulation;
+use crate::{Directory, Key, NamePair, Place, Ready, Refusal, Row, RowChange, Store};
 use cm_fields::Code;
 use cm_io::NoMemory;
 use std::alloc::Global;
@@ -30,7 +30,7 @@ pub(crate) fn moment_of(moment: u64) -> u64
     moment.min(MOMENT_LIMIT)
 }
 
-impl Course {
+impl Simulation {
     // A source is copied under a name and a generation.
     fn copy(
         &mut self,
@@ -41,24 +41,24 @@ impl Course {
         moment: u64,
         keep: u8,
     ) -> Result<(), NoMemory>
-        ensures steps { OnOk result (self.new.steps.items
-            ≡ self.old.steps.items ++ steps.Add (new_row key moment source.now.file.bytes generation) ∷ []) }
+        ensures row_changes { OnOk result (self.new.row_changes.items
+            ≡ self.old.row_changes.items ++ changes.Add (new_row key moment source.now.file.bytes generation) ∷ []) }
         ensures pairs { OnOk result (self.new.pairs.items
             ≡ self.old.pairs.items ++ (record {
               source = full_of source.now;
               target = record { key = key; generation = generation };
             }) ∷ []) }
-        ensures played { OnOk result (self.new.played.items
-            ≡ added keep (blank (new_row key moment source.now.file.bytes generation)) self.old.played.items) }
+        ensures simulated { OnOk result (self.new.simulated.items
+            ≡ added keep (blank (new_row key moment source.now.file.bytes generation)) self.old.simulated.items) }
     {
         let row = Row::new(key, generation, moment, source.file.bytes.copy(alloc)?);
-        self.played.reserve(1)?;
-        add(&mut self.played, row.blank(alloc), keep);
+        self.simulated.reserve(1)?;
+        add(&mut self.simulated, row.blank(alloc), keep);
         self.pairs.push(NamePair {
             source: source.full_name(),
             target: row.full_name(),
         })?;
-        self.steps.push(Step::Add(row))?;
+        self.row_changes.push(RowChange::Add(row))?;
         Ok(())
     }
 }
@@ -84,8 +84,8 @@ fn copies(
         (all_copied (keep_of to.now.directory directories.now) moment to.now sources rows.now)) }
 {
     let keep = keep_of(directories, to.directory.as_bytes());
-    let mut course = match Course::new(alloc, rows) {
-        Ok(course) => course,
+    let mut simulation = match Simulation::new(alloc, rows) {
+        Ok(simulation) => simulation,
         Err(NoMemory) => return Err(Refusal::NoMemory),
     };
     let mut bytes = total(rows);
@@ -93,16 +93,16 @@ fn copies(
         let source = &rows[usize::from(*at)];
         let key = to.key_from(&source.key);
         let size = source.file.bytes.len();
-        let generation = match admitted(&course.played, bytes, &key, to.generation, size) {
+        let generation = match admitted(&simulation.simulated, bytes, &key, to.generation, size) {
             Ok(generation) => generation,
             Err(code) => return Err(Refusal::Code(code)),
         };
-        match course.copy(alloc, source, key, generation, moment_of(moment), keep) {
+        match simulation.copy(alloc, source, key, generation, moment_of(moment), keep) {
             Ok(()) => bytes += size,
             Err(NoMemory) => return Err(Refusal::NoMemory),
         }
     }
-    Ok(course.ready(keep))
+    Ok(simulation.ready(keep))
 }
 
 impl Store {

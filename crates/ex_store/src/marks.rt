@@ -48,9 +48,8 @@ fn marked_pages(rows: &[Row], directory: &[u8]) -> u32
 }
 
 impl Store {
-    /// Marks the files that a place means as deleted, and tells how many they are.
+    /// Marks the files that a place means as deleted, and tells how many they are; 0 where there is no such directory.
     pub fn mark(&mut self, files: &Place) -> u32
-        requires { has_directory files.now.directory self.old.state.directories ≡ true }
         ensures marked { self.new ≡ record self.old {
           state = record self.old.state { rows = remarked true files.now self.old.state };
         } }
@@ -61,9 +60,9 @@ impl Store {
         positions.len() as u32
     }
 
-    /// Clears the mark of the files that a place means, and tells how many they are.
+    /// Clears the mark of the files that a place means, and tells how many they are; 0 where there is no such
+    /// directory.
     pub fn unmark(&mut self, files: &Place) -> u32
-        requires { has_directory files.now.directory self.old.state.directories ≡ true }
         ensures unmarked { self.new ≡ record self.old {
           state = record self.old.state { rows = remarked false files.now self.old.state };
         } }

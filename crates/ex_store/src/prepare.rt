@@ -24,7 +24,7 @@ impl Store {
             Ok(directory) => Ok(Ready {
                 directory: Some(directory),
                 keep: 0,
-                steps: Vec::new(self.alloc),
+                row_changes: Vec::new(self.alloc),
                 pairs: Vec::new(self.alloc),
             }),
             Err(code) => Err(Refusal::Code(code)),
@@ -52,12 +52,12 @@ impl Store {
         ensures state { self.new.state ≡ self.old.state }
         ensures directories { OnOk result
             (length self.old.state.directories + count_made ready.now.directory ≤ self.new.directory_room) }
-        ensures rows { OnOk result (length self.old.state.rows + length ready.now.steps ≤ self.new.row_room) }
+        ensures rows { OnOk result (length self.old.state.rows + length ready.now.row_changes ≤ self.new.row_room) }
     {
         if ready.directory.is_some() {
             self.directories.reserve(1)?;
         }
-        self.rows.reserve(ready.steps.len())?;
+        self.rows.reserve(ready.row_changes.len())?;
         Ok(())
     }
 

@@ -6,9 +6,9 @@ use crate::{Directory, FullName, NamePair, Pair, Row};
 use ex_generations::Bytes;
 use std::marker::Model;
 
-/// One step of a plan over files.
+/// One change of the files of a store.
 #[derive(Debug, Drop)]
-pub enum Step {
+pub enum RowChange {
     /// A file is added, and then all unmarked generations of its name and type but those that are kept are marked.
     Add(Row),
     /// A file is taken out and added under another name, unmarked.
@@ -26,7 +26,7 @@ pub enum Step {
 pub struct Ready {
     pub(crate) directory: Option<Directory>,
     pub(crate) keep: u8,
-    pub(crate) steps: Vec<Step>,
+    pub(crate) row_changes: Vec<RowChange>,
     pub(crate) pairs: Vec<NamePair>,
 }
 
@@ -40,7 +40,7 @@ impl Model for Ready {
     ghost view = { λ it. record {
       directory = it.directory;
       keep = it.keep;
-      steps = it.steps.items;
+      row_changes = it.row_changes.items;
       pairs = it.pairs.items;
     } };
 

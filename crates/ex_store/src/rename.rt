@@ -3,7 +3,7 @@ ghost use Rattle.std.specs.Prelude.{ℕ, ◌≡◌, ◌≤◌, true, [], ◌∷�
 ghost use Rattle.std.specs.List.{list_all};
 ghost use Rattle.ex_store.specs.declared.limits.TheConstants.{ROW_LIMIT};
 ghost use Rattle.ex_store.specs.declared.plan.Plan.TheVariants as plans;
-ghost use Rattle.ex_store.specs.declared.ready.Step.TheVariants as steps;
+ghost use Rattle.ex_store.specs.declared.ready.RowChange.TheVariants as changes;
 ghost use Rattle.ex_store.specs.Plan.{IsRefused, IsTarget, MayPlan, planned};
 ghost use Rattle.ex_store.specs.Positions.{elements_at};
 ghost use Rattle.ex_store.specs.Ready.{IsMade, applied, done_on, moved};
@@ -12,23 +12,23 @@ ghost use Rattle.ex_store.specs.State.{keep_of};
 ghost use Rattle.ex_store.specs.WellFormed.{AreRows, IsWellFormed};
 
 use crate::adding::numbered;
-use crate::change::{put_back, take_out};
-use crate::course::Course;
+use crate::change::{reinsert, remove};
 use crate::directory::keep_of;
-use crate::{Directory, FullName, NamePair, Place, Ready, Refusal, Row, Step, Store};
+use crate::simulation::Simulation;
+use crate::{Directory, FullName, NamePair, Place, Ready, Refusal, Row, RowChange, Store};
 use cm_fields::Code;
 use cm_io::NoMemory;
 use std::alloc::Global;
 
-// A source is played: taken out, and put back under the target's name. Which names it had and has.
-fn play(played: &mut Vec<Row>, source: &Row, to: &Place, keep: u8) -> Result<NamePair, Code>
-    ensures pair { result ≡ pair_for to.now source.now played.old.items }
-    ensures played { IfOk result (λ pair. played.new.items ≡ moved keep pair played.old.items) }
+// A source is renamed in a simulation: taken out, and added under the target's name. Which names it had and has.
+fn simulate(simulated: &mut Vec<Row>, source: &Row, to: &Place, keep: u8) -> Result<NamePair, Code>
+    ensures pair { result ≡ pair_for to.now source.now simulated.old.items }
+    ensures simulated { IfOk result (λ pair. simulated.new.items ≡ moved keep pair simulated.old.items) }
 {
     let full = source.full_name();
-    let taken = take_out(played, &full);
+    let taken = remove(simulated, &full);
     let key = to.key_from(&source.key);
-    let generation = match numbered(played, &key, to.generation) {
+    let generation = match numbered(simulated, &key, to.generation) {
         Ok(generation) => generation,
         Err(code) => return Err(code),
     };
@@ -36,19 +36,20 @@ fn play(played: &mut Vec<Row>, source: &Row, to: &Place, keep: u8) -> Result<Nam
         source: full,
         target: FullName { key, generation },
     };
-    put_back(played, &pair.target, taken, keep);
+    reinsert(simulated, &pair.target, taken, keep);
     Ok(pair)
 }
 
-impl Course {
+impl Simulation {
     // A file goes to another name.
     fn rename(&mut self, pair: NamePair) -> Result<(), NoMemory>
-        ensures steps { OnOk result (self.new.steps.items ≡ self.old.steps.items ++ steps.Move pair ∷ []) }
+        ensures row_changes { OnOk result
+            (self.new.row_changes.items ≡ self.old.row_changes.items ++ changes.Move pair ∷ []) }
         ensures pairs { OnOk result (self.new.pairs.items ≡ self.old.pairs.items ++ pair ∷ []) }
-        ensures played { self.new.played ≡ self.old.played }
+        ensures simulated { self.new.simulated ≡ self.old.simulated }
     {
         self.pairs.push(pair.copy())?;
-        self.steps.push(Step::Move(pair))?;
+        self.row_changes.push(RowChange::Move(pair))?;
         Ok(())
     }
 }
@@ -72,21 +73,21 @@ fn renames(
         (all_renamed (keep_of to.now.directory directories.now) to.now (elements_at rows.now positions.now) rows.now)) }
 {
     let keep = keep_of(directories, to.directory.as_bytes());
-    let mut course = match Course::new(alloc, rows) {
-        Ok(course) => course,
+    let mut simulation = match Simulation::new(alloc, rows) {
+        Ok(simulation) => simulation,
         Err(NoMemory) => return Err(Refusal::NoMemory),
     };
     for at in positions {
-        let pair = match play(&mut course.played, &rows[usize::from(*at)], to, keep) {
+        let pair = match simulate(&mut simulation.simulated, &rows[usize::from(*at)], to, keep) {
             Ok(pair) => pair,
             Err(code) => return Err(Refusal::Code(code)),
         };
-        match course.rename(pair) {
+        match simulation.rename(pair) {
             Ok(()) => {}
             Err(NoMemory) => return Err(Refusal::NoMemory),
         }
     }
-    Ok(course.ready(keep))
+    Ok(simulation.ready(keep))
 }
 
 impl Store {

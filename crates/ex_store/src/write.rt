@@ -1,7 +1,7 @@
 // A file is written.
 ghost use Rattle.std.specs.Prelude.{◌≡◌, [], ◌∷◌, IfOk, IfErr, None, Ok};
 ghost use Rattle.ex_store.specs.declared.plan.Plan.TheVariants as plans;
-ghost use Rattle.ex_store.specs.declared.ready.Step.TheVariants as steps;
+ghost use Rattle.ex_store.specs.declared.ready.RowChange.TheVariants as changes;
 ghost use Rattle.ex_store.specs.Plan.{IsRefused, MayPlan, planned};
 ghost use Rattle.ex_store.specs.Ready.{applied, done_on};
 ghost use Rattle.ex_store.specs.Rows.{full_of};
@@ -11,7 +11,7 @@ use crate::adding::admitted;
 use crate::copy::moment_of;
 use crate::directory::keep_of;
 use crate::search::total;
-use crate::{NamePair, Place, Ready, Refusal, Row, Step, Store};
+use crate::{NamePair, Place, Ready, Refusal, Row, RowChange, Store};
 use cm_fields::Code;
 use cm_io::NoMemory;
 use ex_generations::Bytes;
@@ -22,7 +22,7 @@ fn one_add(alloc: Global, row: Row, keep: u8) -> Result<Ready, NoMemory>
     ensures { IfOk result (λ ready. ready ≡ record {
       directory = None;
       keep = keep;
-      steps = steps.Add row ∷ [];
+      row_changes = changes.Add row ∷ [];
       pairs = (record { source = full_of row; target = full_of row }) ∷ [];
     }) }
 {
@@ -31,12 +31,12 @@ fn one_add(alloc: Global, row: Row, keep: u8) -> Result<Ready, NoMemory>
         source: row.full_name(),
         target: row.full_name(),
     })?;
-    let mut steps = Vec::new(alloc);
-    steps.push(Step::Add(row))?;
+    let mut row_changes = Vec::new(alloc);
+    row_changes.push(RowChange::Add(row))?;
     Ok(Ready {
         directory: None,
         keep,
-        steps,
+        row_changes,
         pairs,
     })
 }

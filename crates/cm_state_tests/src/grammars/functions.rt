@@ -10,44 +10,52 @@ pub(crate) fn name(text: &str) -> Option<Name> {
     Some(Name::new(text))
 }
 
-// A function: its name, and behind a space what it reads.
+// The functions that are told by their names alone.
+const PLAIN: &str =
+    "number word quoted date text comma confirm user directory infile outfile anyfile";
+
+// A function: its name, and behind a space the number or the text that it reads.
 pub(crate) fn function(text: &str) -> Option<Function> {
-    match text.split_once(' ') {
-        Some((kind, what)) => function_of(kind, what),
-        None => plain(text),
+    let Some((kind, what)) = text.split_once(' ') else {
+        return plain(text);
+    };
+    match what.parse() {
+        Ok(number) => numbered(kind, number),
+        Err(_) => named(kind, name(what)?),
     }
 }
 
-fn function_of(kind: &str, what: &str) -> Option<Function> {
+fn numbered(kind: &str, number: u8) -> Option<Function> {
     match kind {
-        "key" => Some(Function::Key(what.parse().ok()?)),
-        "switch" => Some(Function::Switch(what.parse().ok()?)),
-        "noise" => Some(Function::Noise(name(what)?)),
-        "token" => Some(Function::Token(name(what)?)),
-        "hook" => Some(Function::Hook(what.parse().ok()?)),
+        "key" => Some(Function::Key(u16::from(number))),
+        "switch" => Some(Function::Switch(u16::from(number))),
+        "hook" => Some(Function::Hook(number)),
+        _ => None,
+    }
+}
+
+fn named(kind: &str, text: Name) -> Option<Function> {
+    match kind {
+        "noise" => Some(Function::Noise(text)),
+        "token" => Some(Function::Token(text)),
         _ => None,
     }
 }
 
 fn plain(kind: &str) -> Option<Function> {
-    match kind {
-        "number" => Some(Function::Number),
-        "word" => Some(Function::Word),
-        "quoted" => Some(Function::Quoted),
-        "text" => Some(Function::Text),
-        "comma" => Some(Function::Comma),
-        "confirm" => Some(Function::Confirm),
-        _ => plain_file(kind),
-    }
-}
-
-fn plain_file(kind: &str) -> Option<Function> {
-    match kind {
-        "user" => Some(Function::User),
-        "directory" => Some(Function::Directory),
-        "infile" => Some(Function::InFile),
-        "outfile" => Some(Function::OutFile),
-        "anyfile" => Some(Function::AnyFile),
-        _ => None,
-    }
+    let place = PLAIN.split(' ').position(|word| word == kind)?;
+    Some(match place {
+        0 => Function::Number,
+        1 => Function::Word,
+        2 => Function::Quoted,
+        3 => Function::Date,
+        4 => Function::Text,
+        5 => Function::Comma,
+        6 => Function::Confirm,
+        7 => Function::User,
+        8 => Function::Directory,
+        9 => Function::InFile,
+        10 => Function::OutFile,
+        _ => Function::AnyFile,
+    })
 }

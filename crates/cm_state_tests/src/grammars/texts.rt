@@ -52,8 +52,8 @@ COPIES: 2 41
 JOBNAME: 4 43
 NOTE: 5 44";
 
-// Nodes 0 to 8 read fields but files, 10 to 18 users, directories and files. Node 20 has a block of each kind, 21 and
-// 22 stand behind its guide words, 23 has words of its own, and the others end the line or lead there.
+// Nodes 0 to 8 read fields but files, 9 and 19 dates, 10 to 18 users, directories and files. Node 20 has a block of each
+// kind, 21 and 22 stand behind its guide words, 23 has words of its own, and the others end the line or lead there.
 pub(crate) const FIELD_NODES: &str = "\
 0 key 0 > 0
 1 noise FROM > 2
@@ -64,6 +64,7 @@ pub(crate) const FIELD_NODES: &str = "\
 6 hook 2 > 8
 7 hook 1 > 8
 8 confirm > 0
+9 date > 1
 10 infile > 11 wild
 11 confirm > 0
 12 user > 11
@@ -73,6 +74,7 @@ pub(crate) const FIELD_NODES: &str = "\
 16 infile > 11 deleted
 17 anyfile > 11 wild all
 18 outfile > 11
+19 date > 11 / quoted > 11
 20 key 2 > 24 / switch 3 > 24 / noise TO > 21 / number > 24 / word > 24 / quoted > 24 / token TTY: > 24 / text > 24 / \
     comma > 24 / hook 3 > 24 / confirm > 24
 21 noise OF > 22 / comma > 24

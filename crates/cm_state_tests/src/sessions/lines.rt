@@ -126,6 +126,21 @@ fn logs_each_kind_of_value(rt: HostRuntime) -> Result<(), Fail> {
 18|NEW.X|Confirmed|0d 5 D 18.0o@0-5
 15|NEW.X|Confirmed|0d 5 D 15.0f@0-5
 6|AB|Confirmed|0d 2 D 6.0h2:2@0-2
-26|A|Confirmed|0d 1 D 26.0h3:18446744073709551615@0-1";
+26|A|Confirmed|0d 1 D 26.0h3:18446744073709551615@0-1
+19|5-JAN-1980|Confirmed|0d 10 D 19.0d3656@0-10
+19|31-DEC-99|Confirmed|0d 9 D 19.0d10956@0-9";
+    tries(&rt, &rt, fields(rt.alloc())?, cases)
+}
+
+// First what is no date by its shape, its month or a day 0, then a year that is out of range, then a day past the end
+// of its month.
+#[test]
+fn refuses_dates_in_order(rt: HostRuntime) -> Result<(), Fail> {
+    let cases = "\
+9|5-JAN|Refused(Fault { code: BadDate, node: 9, at: 0 })|0d 5 F13.9@0
+9|0-JAN-1969|Refused(Fault { code: BadDate, node: 9, at: 0 })|0d 10 F13.9@0
+9|31-APR-1969|Refused(Fault { code: YearRange, node: 9, at: 0 })|0d 11 F14.9@0
+9|31-APR-1980|Refused(Fault { code: BadDate, node: 9, at: 0 })|0d 11 F13.9@0
+9| 5-JAN-2100|Refused(Fault { code: YearRange, node: 9, at: 1 })|0d 11 F14.9@1";
     tries(&rt, &rt, fields(rt.alloc())?, cases)
 }

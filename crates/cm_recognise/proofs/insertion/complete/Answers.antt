@@ -9,6 +9,6 @@ pub returns-clause-line : goal.returns-clause-line
 returns-clause-line g c =
     let s = setting c.args.grammar.now (g.N.Names.catalogue c.args.names.now) g.R.Rules.meanings in
     subst (λ (put : Insertion). IsLine (c.args.line.now ++ put.bytes)) (sym c.inserted.ensures)
-    (line_goes_on s c.args.ending c.args.line.now c.args.mode c.has_no_fault.ensures c.is_catalogue.ensures
+    (line_goes_on s _ c.args.line.now _ c.has_no_fault.ensures c.is_catalogue.ensures
     c.has_tables.ensures
     g.R.Rules.lawful c.requires.line)

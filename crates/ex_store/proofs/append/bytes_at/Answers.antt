@@ -1,6 +1,6 @@
 use Rattle.std.proofs.Common.{ap, sym, ◌∙◌}
 use Rattle.ex_store.specs.declared.row.Row.{Row}
-use Rattle.ex_store.proofs.Placing.{row_is, row_none}
+use Rattle.ex_store.proofs.RowAtLaws.{row_is, row_none}
 use Rattle.ex_store.proofs.append.bytes_at.Goals as goal
 
 pub returns-in-Some : goal.returns-in-Some

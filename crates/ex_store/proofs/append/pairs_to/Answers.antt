@@ -4,7 +4,7 @@ use Rattle.ex_store.specs.declared.key.NamePair.{NamePair}
 use Rattle.ex_store.specs.declared.row.Row.{Row}
 use Rattle.ex_store.specs.Appending.{pairs_to}
 use Rattle.ex_store.specs.Rows.{full_of}
-use Rattle.ex_store.proofs.Elements.{all_more, elements_more, within_next}
+use Rattle.ex_store.proofs.ElementsLaws.{all_more, elements_more, within_next}
 use Rattle.ex_store.proofs.append.pairs_to.Goals as goal
 
 one_more : (target source other : FullName) (row : Row) (sources rest : List Row) (pairs new whole : List NamePair) → new ≡ pairs ++ (record { source = source; target = other }) ∷ [] → source ≡ full_of row → other ≡ target → sources ≡ row ∷ rest → pairs ++ pairs_to target sources ≡ whole → new ++ pairs_to target rest ≡ whole

@@ -1,6 +1,6 @@
 use Rattle.std.proofs.Common.{◌≡◌, ◌<◌, length, length-append, get_or, sym, ◌∙◌, arith}
-use Rattle.ex_store.proofs.Elements.{all_more, elements_more, within_next}
-use Rattle.ex_store.proofs.Pouring.{fits_within, poured_err, poured_more}
+use Rattle.ex_store.proofs.ElementsLaws.{all_more, elements_more, within_next}
+use Rattle.ex_store.proofs.PouredLaws.{fits_within, poured_err, poured_more}
 use Rattle.ex_store.proofs.append.poured.Goals as goal
 
 pub returns-in-Err-clause-refused : goal.returns-in-Err-clause-refused

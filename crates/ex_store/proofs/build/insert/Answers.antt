@@ -1,6 +1,6 @@
 use Rattle.std.proofs.Common.{◌≡◌, ◌≤◌, insert, length, ap, arith, ◌∙◌}
 use Rattle.std.proofs.lemmas.List.Sums.{prefix_len-le-length}
-use Rattle.ex_store.proofs.Making.{inserted_at, place_of}
+use Rattle.ex_store.proofs.BuiltLaws.{inserted_at, place_of}
 use Rattle.ex_store.proofs.build.insert.Goals as goal
 
 pub insert-requires : goal.insert-requires

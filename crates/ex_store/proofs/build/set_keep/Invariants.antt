@@ -1,5 +1,5 @@
 use Rattle.std.proofs.Common.{◌≡◌, ◌++◌, map, take, drop}
-use Rattle.ex_store.proofs.Making.{kept_as}
+use Rattle.ex_store.proofs.BuiltLaws.{kept_as}
 use Rattle.ex_store.proofs.build.set_keep.Given as goal
 
 abbrev pub invariant-loop-directory : goal.invariant-loop-directory

@@ -1,5 +1,5 @@
 use Rattle.std.proofs.Common.{sym, ◌∙◌}
-use Rattle.ex_store.proofs.Placing.{fill_is, filled_none}
+use Rattle.ex_store.proofs.RowAtLaws.{fill_is, filled_none}
 use Rattle.ex_store.proofs.change.fill.Goals as goal
 
 pub returns-in-Some : goal.returns-in-Some

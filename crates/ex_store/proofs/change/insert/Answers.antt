@@ -2,7 +2,7 @@ use Rattle.std.proofs.Common.{◌≡◌, insert, ap, ◌∙◌, arith}
 use Rattle.std.specs.Ordering.{is_lt}
 use Rattle.std.proofs.lemmas.List.Sums.{prefix_len-le-length}
 use Rattle.ex_store.specs.Rows.{by_row}
-use Rattle.ex_store.proofs.Placing.{inserted_at, place_of}
+use Rattle.ex_store.proofs.RowAtLaws.{inserted_at, place_of}
 use Rattle.ex_store.proofs.change.insert.Goals as goal
 
 pub put_at-requires-clause-within : goal.put_at-requires-clause-within

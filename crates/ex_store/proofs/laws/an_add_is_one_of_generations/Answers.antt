@@ -1,4 +1,4 @@
-use Rattle.ex_store.proofs.Joining.{files_added}
+use Rattle.ex_store.proofs.FilesOfLaws.{files_added}
 use Rattle.ex_store.proofs.laws.an_add_is_one_of_generations.Goals as goal
 
 pub returns : goal.returns

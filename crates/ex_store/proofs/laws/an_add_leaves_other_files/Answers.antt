@@ -1,4 +1,4 @@
-use Rattle.ex_store.proofs.Joining.{files_apart}
+use Rattle.ex_store.proofs.FilesOfLaws.{files_apart}
 use Rattle.ex_store.proofs.laws.an_add_leaves_other_files.Goals as goal
 
 pub returns : goal.returns

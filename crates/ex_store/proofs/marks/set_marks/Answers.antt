@@ -1,8 +1,8 @@
 use Rattle.std.proofs.Common.{◌<◌, length, arith, ◌∙◌}
 use Rattle.std.proofs.lemmas.List.{length-set}
 use Rattle.ex_store.specs.Rows.{with_mark}
-use Rattle.ex_store.proofs.Elements.{place_within}
-use Rattle.ex_store.proofs.Marking.{changed_more}
+use Rattle.ex_store.proofs.ElementsLaws.{place_within}
+use Rattle.ex_store.proofs.RemarkedLaws.{changed_more}
 use Rattle.ex_store.proofs.marks.set_marks.Goals as goal
 
 pub loop-at-preserved : goal.loop-at-preserved

@@ -3,7 +3,7 @@ use Rattle.std.specs.Ordering.{is_lt}
 use Rattle.std.proofs.lemmas.List.Sorted.{IsPartitionPoint-from_clause}
 use Rattle.cm_files.specs.Catalogue.{by_bytes}
 use Rattle.ex_store.specs.declared.row.Row.{Row}
-use Rattle.ex_store.proofs.Blocks.{directories_rise, lower_falls, parted, prefix_from_point}
+use Rattle.ex_store.proofs.RowsInLaws.{directories_rise, lower_falls, parted, prefix_from_point}
 use Rattle.ex_store.proofs.names.first_of.Goals as goal
 
 -- src/names.rt:14:1

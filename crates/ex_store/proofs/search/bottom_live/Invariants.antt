@@ -1,7 +1,7 @@
 use Rattle.std.proofs.Common.{◌≡◌, drop}
 use Rattle.ex_generations.specs.Generations.{lowest, unmarked}
 use Rattle.ex_store.specs.Rows.{files_of}
-use Rattle.ex_store.proofs.Counting.{lower}
+use Rattle.ex_store.proofs.HighestLaws.{lower}
 use Rattle.ex_store.proofs.search.bottom_live.Given as goal
 
 abbrev pub invariant-loop-row : goal.invariant-loop-row

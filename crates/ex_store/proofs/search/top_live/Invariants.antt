@@ -1,7 +1,7 @@
 use Rattle.std.proofs.Common.{◌≡◌, drop}
 use Rattle.ex_generations.specs.Generations.{highest, unmarked}
 use Rattle.ex_store.specs.Rows.{files_of}
-use Rattle.ex_store.proofs.Counting.{higher}
+use Rattle.ex_store.proofs.HighestLaws.{higher}
 use Rattle.ex_store.proofs.search.top_live.Given as goal
 
 abbrev pub invariant-loop-row : goal.invariant-loop-row

@@ -1,6 +1,6 @@
 use Rattle.std.proofs.Common.{◌≡◌, true}
 use Rattle.ex_store.specs.State.{has_directory}
-use Rattle.ex_store.proofs.Naming.{name_is_short}
+use Rattle.ex_store.proofs.StateLaws.{name_is_short}
 use Rattle.ex_store.proofs.draft.Draft.connect.Goals as goal
 
 pub new-self-inside-requires : goal.new-self-inside-requires

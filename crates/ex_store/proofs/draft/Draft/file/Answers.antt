@@ -1,5 +1,5 @@
 use Rattle.ex_store.specs.declared.row.Row.{Row}
-use Rattle.ex_store.proofs.Drafting.{row_is_short}
+use Rattle.ex_store.proofs.DraftLaws.{row_is_short}
 use Rattle.ex_store.proofs.draft.Draft.file.Goals as goal
 
 pub new-requires : goal.new-requires

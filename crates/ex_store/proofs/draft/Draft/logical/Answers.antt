@@ -1,4 +1,4 @@
-use Rattle.ex_store.proofs.Drafting.{definition_is_short}
+use Rattle.ex_store.proofs.DraftLaws.{definition_is_short}
 use Rattle.ex_store.proofs.draft.Draft.logical.Goals as goal
 
 pub new-name-requires : goal.new-name-requires

@@ -1,5 +1,5 @@
 use Rattle.ex_store.specs.Lent.{queue_entry}
-use Rattle.ex_store.proofs.Drafting.{entry_is_short}
+use Rattle.ex_store.proofs.DraftLaws.{entry_is_short}
 use Rattle.ex_store.proofs.draft.Draft.request.Goals as goal
 
 pub owned-entry-requires-clause-directory : goal.owned-entry-requires-clause-directory

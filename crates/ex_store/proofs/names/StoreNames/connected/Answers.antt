@@ -2,7 +2,7 @@ use Rattle.std.proofs.Common.{arith, ap, subst, ◌∙◌}
 use Rattle.std.proofs.lemmas.List.{length-map}
 use Rattle.ex_store.specs.declared.directory.Directory.{Directory}
 use Rattle.ex_store.specs.WellFormed.{IsWellFormed}
-use Rattle.ex_store.proofs.Lawful.{number_found}
+use Rattle.ex_store.proofs.CatalogueLaws.{number_found}
 use Rattle.ex_store.proofs.names.StoreNames.connected.Goals as goal
 
 -- src/names.rt:93:9

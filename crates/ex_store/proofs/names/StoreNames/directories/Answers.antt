@@ -1,6 +1,6 @@
 use Rattle.std.proofs.Common.{subst}
 use Rattle.ex_store.specs.WellFormed.{IsWellFormed}
-use Rattle.ex_store.proofs.Lawful.{catalogue_lawful}
+use Rattle.ex_store.proofs.CatalogueLaws.{catalogue_lawful}
 use Rattle.ex_store.proofs.names.StoreNames.directories.Goals as goal
 
 pub returns-clause-lawful : goal.returns-clause-lawful

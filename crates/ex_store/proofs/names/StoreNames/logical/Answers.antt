@@ -5,8 +5,8 @@ use Rattle.cm_text.specs.Case.{equals}
 use Rattle.ex_store.specs.declared.directory.Directory.{Directory}
 use Rattle.ex_store.specs.State.{number_of}
 use Rattle.ex_store.specs.WellFormed.{IsWellFormed}
-use Rattle.ex_store.proofs.Defining.{entry_there, walk_begins, walk_ends, walk_finds, walk_passes}
-use Rattle.ex_store.proofs.Lawful.{number_found}
+use Rattle.ex_store.proofs.LogicalNameLaws.{entry_there, walk_begins, walk_ends, walk_finds, walk_passes}
+use Rattle.ex_store.proofs.CatalogueLaws.{number_found}
 use Rattle.ex_store.proofs.names.StoreNames.logical.Goals as goal
 
 -- src/names.rt:92:9

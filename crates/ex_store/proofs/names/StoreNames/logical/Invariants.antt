@@ -1,7 +1,7 @@
 use Rattle.std.proofs.Common.{◌≡◌}
 use Rattle.cm_files.specs.Catalogue.{logical_of}
 use Rattle.ex_store.specs.State.{catalogue_of}
-use Rattle.ex_store.proofs.Defining.{found_from}
+use Rattle.ex_store.proofs.LogicalNameLaws.{found_from}
 use Rattle.ex_store.proofs.names.StoreNames.logical.Given as goal
 
 abbrev pub invariant-loop-entry : goal.invariant-loop-entry

@@ -1,5 +1,5 @@
 use Rattle.std.proofs.Common.{arith}
-use Rattle.ex_store.proofs.Blocks.{catalogue_row, catalogue_rows}
+use Rattle.ex_store.proofs.RowsInLaws.{catalogue_row, catalogue_rows}
 use Rattle.ex_store.proofs.names.StoreNames.row.Goals as goal
 
 -- src/names.rt:108:24

@@ -1,7 +1,7 @@
 use Rattle.std.proofs.Common.{arith, ap, subst, ◌∙◌}
 use Rattle.ex_store.specs.WellFormed.{IsWellFormed}
-use Rattle.ex_store.proofs.Blocks.{rows_between}
-use Rattle.ex_store.proofs.Lawful.{catalogue_lawful}
+use Rattle.ex_store.proofs.RowsInLaws.{rows_between}
+use Rattle.ex_store.proofs.CatalogueLaws.{catalogue_lawful}
 use Rattle.ex_store.proofs.names.StoreNames.rows.Goals as goal
 
 -- src/names.rt:103:9

@@ -12,8 +12,8 @@ use Rattle.ex_store.specs.Positions.{elements_at}
 use Rattle.ex_store.specs.Ready.{Change}
 use Rattle.ex_store.specs.Selection.{is_meant}
 use Rattle.ex_store.specs.State.{StoreWithRoom, keep_of}
-use Rattle.ex_store.proofs.Marking.{positions_fit}
-use Rattle.ex_store.proofs.Preparing.{IsOver, is_over, made_by, refused_by}
+use Rattle.ex_store.proofs.RemarkedLaws.{positions_fit}
+use Rattle.ex_store.proofs.PlannedLaws.{IsOver, is_over, made_by, refused_by}
 use Rattle.ex_store.proofs.store.Store.append.Goals as goal
 
 pub appends-requires-clause-within : goal.appends-requires-clause-within

@@ -1,7 +1,7 @@
 use Rattle.std.proofs.Common.{◌≡◌, Ok, Err, ap, sym, ◌∙◌}
 use Rattle.ex_store.specs.Building.{built}
 use Rattle.ex_store.specs.WellFormed.{IsWellFormed}
-use Rattle.ex_store.proofs.Making.{planned_built, planned_refused, sound_built}
+use Rattle.ex_store.proofs.BuiltLaws.{planned_built, planned_refused, sound_built}
 use Rattle.ex_store.proofs.store.Store.build.Goals as goal
 
 pub returns-in-Ok-clause-ready : goal.returns-in-Ok-clause-ready

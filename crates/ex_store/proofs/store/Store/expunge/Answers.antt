@@ -1,7 +1,7 @@
 use Rattle.std.proofs.Common.{◌≡◌, ◌&&◌, not, rules}
 use Rattle.std.proofs.lemmas.Fn.{filter_same}
 use Rattle.ex_store.specs.Rows.{expunged, is_in}
-use Rattle.ex_store.proofs.Marking.{rows_left, rows_short, well_formed_with_rows}
+use Rattle.ex_store.proofs.RemarkedLaws.{rows_left, rows_short, well_formed_with_rows}
 use Rattle.ex_store.proofs.store.Store.expunge.Goals as goal
 
 pub marked_pages-pages-requires-clause-short : goal.marked_pages-pages-requires-clause-short

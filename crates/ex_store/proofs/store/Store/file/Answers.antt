@@ -1,7 +1,7 @@
 use Rattle.std.proofs.Common.{subst, ◌<◌, ℕ}
 use Rattle.std.proofs.lemmas.List.{length-map}
 use Rattle.ex_store.specs.declared.directory.Directory.{Directory}
-use Rattle.ex_store.proofs.Blocks.{catalogue_rows}
+use Rattle.ex_store.proofs.RowsInLaws.{catalogue_rows}
 use Rattle.ex_store.proofs.store.Store.file.Goals as goal
 
 pub row_at-requires-clause-directory : goal.row_at-requires-clause-directory

@@ -1,7 +1,7 @@
 use Rattle.std.proofs.Common.{◌≤◌, length, arith}
 use Rattle.std.proofs.lemmas.List.Sums.{prefix_len-le-length}
 use Rattle.ex_store.specs.State.{number_of}
-use Rattle.ex_store.proofs.Naming.{logical_is}
+use Rattle.ex_store.proofs.StateLaws.{logical_is}
 use Rattle.ex_store.proofs.store.Store.logical_at.Goals as goal
 
 pub overflow_cast-result : goal.overflow_cast-result

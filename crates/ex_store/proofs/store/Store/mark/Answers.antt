@@ -5,7 +5,7 @@ use Rattle.ex_store.specs.Positions.{positions_from}
 use Rattle.ex_store.specs.Rows.{with_mark}
 use Rattle.ex_store.specs.Selection.{is_meant}
 use Rattle.ex_store.specs.State.{StoreWithRoom}
-use Rattle.ex_store.proofs.Marking.{length-positions_from, marked_rows, positions_fit, rows_marked, well_formed_with_rows, where_passing}
+use Rattle.ex_store.proofs.RemarkedLaws.{length-positions_from, marked_rows, positions_fit, rows_marked, well_formed_with_rows, where_passing}
 use Rattle.ex_store.proofs.store.Store.mark.Goals as goal
 
 rows_are : (c : goal.After-deref) → c.deref_mut.result.now ≡ c.args.self.now.state.rows

@@ -1,4 +1,4 @@
-use Rattle.ex_store.proofs.Naming.{first_well_formed}
+use Rattle.ex_store.proofs.StateLaws.{first_well_formed}
 use Rattle.ex_store.proofs.store.Store.new.Goals as goal
 
 pub invariant_of-result : goal.invariant_of-result

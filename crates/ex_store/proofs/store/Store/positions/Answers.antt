@@ -3,7 +3,7 @@ use Rattle.ex_store.specs.Positions.{positions_from}
 use Rattle.ex_store.specs.Rows.{first_in, rows_in}
 use Rattle.ex_store.specs.Selection.{is_meant}
 use Rattle.ex_store.specs.WellFormed.{IsWellFormed}
-use Rattle.ex_store.proofs.Selecting.{block_few, collects_all, collects_more, collects_none, collects_within, positions_meant}
+use Rattle.ex_store.proofs.MeantLaws.{block_few, collects_all, collects_more, collects_none, collects_within, positions_meant}
 use Rattle.ex_store.proofs.store.Store.positions.Goals as goal
 
 -- what the steps before each push give

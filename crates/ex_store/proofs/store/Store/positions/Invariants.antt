@@ -1,7 +1,7 @@
 use Rattle.std.proofs.Common.{◌-◌, length}
 use Rattle.ex_store.specs.Rows.{rows_in}
 use Rattle.ex_store.specs.Selection.{is_meant}
-use Rattle.ex_store.proofs.Selecting.{Collects}
+use Rattle.ex_store.proofs.MeantLaws.{Collects}
 use Rattle.ex_store.proofs.store.Store.positions.Given as goal
 
 abbrev pub invariant-loop-i : goal.invariant-loop-i

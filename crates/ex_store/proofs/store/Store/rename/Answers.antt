@@ -14,9 +14,9 @@ use Rattle.ex_store.specs.Renaming.{all_renamed}
 use Rattle.ex_store.specs.Rows.{by_row}
 use Rattle.ex_store.specs.Selection.{is_meant}
 use Rattle.ex_store.specs.State.{StoreWithRoom, keep_of}
-use Rattle.ex_store.proofs.Marking.{positions_fit}
-use Rattle.ex_store.proofs.Preparing.{IsOver, is_over, made_by, refused_by}
-use Rattle.ex_store.proofs.Renames.{distinct_meant}
+use Rattle.ex_store.proofs.RemarkedLaws.{positions_fit}
+use Rattle.ex_store.proofs.PlannedLaws.{IsOver, is_over, made_by, refused_by}
+use Rattle.ex_store.proofs.AllRenamedLaws.{distinct_meant}
 use Rattle.ex_store.proofs.store.Store.rename.Goals as goal
 use Rattle.ex_store.proofs.store.Store.rename.Goals.{After-deref-3}
 

@@ -1,7 +1,7 @@
 use Rattle.std.proofs.Common.{◌+◌, Some, arith, ap, sym, subst, ◌∙◌}
 use Rattle.std.proofs.lemmas.Option.{slice_get-get_or}
 use Rattle.ex_store.specs.WellFormed.{IsWellFormed}
-use Rattle.ex_store.proofs.Blocks.{row_stands}
+use Rattle.ex_store.proofs.RowsInLaws.{row_stands}
 use Rattle.ex_store.proofs.store.Store.row_at.Goals as goal
 
 -- src/names.rt:51:38

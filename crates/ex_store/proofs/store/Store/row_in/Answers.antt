@@ -1,7 +1,7 @@
 use Rattle.std.proofs.Common.{◌+◌, Some, arith, ap, sym, subst, ◌∙◌}
 use Rattle.std.proofs.lemmas.Option.{slice_get-get_or}
 use Rattle.ex_store.specs.WellFormed.{IsWellFormed}
-use Rattle.ex_store.proofs.Blocks.{row_in_stands}
+use Rattle.ex_store.proofs.RowsInLaws.{row_in_stands}
 use Rattle.ex_store.proofs.store.Store.row_in.Goals as goal
 
 pub overflow_add-first_row : goal.overflow_add-first_row

@@ -2,7 +2,7 @@ use Rattle.std.proofs.Common.{◌≡◌, List, not, filter, rules, sym, ap, ◌�
 use Rattle.std.proofs.lemmas.Fn.{filter_same}
 use Rattle.cm_text.specs.Case.{equals}
 use Rattle.ex_store.specs.declared.directory.Definition.{Definition}
-use Rattle.ex_store.proofs.Naming.{fewer_well_formed, nothing_undefined}
+use Rattle.ex_store.proofs.StateLaws.{fewer_well_formed, nothing_undefined}
 use Rattle.ex_store.proofs.store.Store.undefine.Goals as goal
 
 pub returns-then-not-is_defined-clause-gone : goal.returns-then-not-is_defined-clause-gone

@@ -5,7 +5,7 @@ use Rattle.ex_store.specs.Plan.{keep_at}
 use Rattle.ex_store.specs.Rows.{total}
 use Rattle.ex_store.specs.State.{StoreWithRoom, keep_of}
 use Rattle.ex_store.specs.WellFormed.{IsWellFormed}
-use Rattle.ex_store.proofs.Writing.{adds_one, asked_is, write_nameless, write_ready, write_refused, write_sound, written_row}
+use Rattle.ex_store.proofs.WrittenLaws.{adds_one, asked_is, write_nameless, write_ready, write_refused, write_sound, written_row}
 use Rattle.ex_store.proofs.store.Store.write.Goals as goal
 
 pub returns-then-lacks_name-clause-refused : goal.returns-then-lacks_name-clause-refused

@@ -1,0 +1,48 @@
+-- What a key does, by the mode that it meets.
+use Rattle.std.proofs.Common.{◌≡◌, ℕ, List, refl, ap, sym, subst, ◌∙◌}
+use Rattle.std.specs.Prelude.{Bool, Result}
+use Rattle.cm_state.specs.SessionState.{SessionState, IsReady}
+use Rattle.cm_state.specs.declared.prompt.Prompt.{Prompt}
+use Rattle.cm_run.specs.declared.mode.Mode.{Mode}
+use Rattle.cm_run.specs.declared.mode.Mode.TheVariants as mode
+use Rattle.cm_run.specs.declared.stop.Stop.{Stop}
+use Rattle.cm_run.specs.Observed.{Observed}
+use Rattle.cm_run.specs.Cut.{Traces}
+use Rattle.cm_run.specs.Meaning.{IsLineAt, Meaning, setting_of}
+use Rattle.cm_run.specs.Ready.{IsAtLine, IsReadyBy, IsReadyIn}
+use Rattle.cm_run.specs.Trace.{RunState, key_trace, line_stroke, raw_stroke, step, step_by, stroke_by, stroke_trace}
+
+module _ {S : Type 0} (m : Meaning S) (logging : Bool) (at : RunState S) (key : ℕ) where
+  pub line_key : (node : ℕ) (prompt : Prompt) (takes : Bool) (a b : Observed S) (result : Result Unit Stop)
+      → m.mode_of at.state ≡ mode.Line node prompt takes
+      → Traces a b (stroke_trace m logging at.state (line_stroke m at key)) result → Traces a b (key_trace m logging at key) result
+  line_key node prompt takes a b result is traces =
+      subst (λ it. Traces a b (stroke_trace m logging at.state (stroke_by m at key it)) result) (sym is) traces
+
+  pub line_step : (node : ℕ) (prompt : Prompt) (takes : Bool) (to : RunState S)
+      → m.mode_of at.state ≡ mode.Line node prompt takes → to ≡ step_by m at (line_stroke m at key) → to ≡ step m at key
+  line_step node prompt takes to is leads = leads ∙ ap (λ it. step_by m at (stroke_by m at key it)) (sym is)
+
+  pub raw_key : (a b : Observed S) (result : Result Unit Stop) → m.mode_of at.state ≡ mode.Raw
+      → Traces a b (stroke_trace m logging at.state (raw_stroke m at key)) result → Traces a b (key_trace m logging at key) result
+  raw_key a b result is traces =
+      subst (λ it. Traces a b (stroke_trace m logging at.state (stroke_by m at key it)) result) (sym is) traces
+
+  pub raw_step : (to : RunState S) → m.mode_of at.state ≡ mode.Raw → to ≡ step_by m at (raw_stroke m at key) → to ≡ step m at key
+  raw_step to is leads = leads ∙ ap (λ it. step_by m at (stroke_by m at key it)) (sym is)
+
+  pub ended_key : (a b : Observed S) (result : Result Unit Stop) → m.mode_of at.state ≡ mode.Ended
+      → Traces a b (stroke_trace m logging at.state (raw_stroke m at key)) result → Traces a b (key_trace m logging at key) result
+  ended_key a b result is traces =
+      subst (λ it. Traces a b (stroke_trace m logging at.state (stroke_by m at key it)) result) (sym is) traces
+
+  pub ended_step : (to : RunState S) → m.mode_of at.state ≡ mode.Ended → to ≡ step_by m at (raw_stroke m at key) → to ≡ step m at key
+  ended_step to is leads = leads ∙ ap (λ it. step_by m at (stroke_by m at key it)) (sym is)
+
+-- a line is edited where the mode says so
+pub line_ready : {S : Type 0} (m : Meaning S) (state : S) (session : SessionState) (node : ℕ) (prompt : Prompt) (takes : Bool)
+    → m.mode_of state ≡ mode.Line node prompt takes → IsReadyIn m state session → IsAtLine m state session
+unfolding IsReadyIn
+line_ready m state session node prompt takes is ready =
+    let now = subst (λ it. IsReadyBy m state session it) is ready in
+    record { ready = now.0; line = subst (λ it. IsLineAt it session.node) (sym is) (sym now.1) }

@@ -1,0 +1,135 @@
+use Rattle.std.proofs.Common.{refl, ap, sym, ◌∙◌, arith}
+use Rattle.cm_run.specs.Cause.{Counts, ObeyCause, StrokeCause}
+use Rattle.cm_run.specs.Trace.{run_state}
+use Rattle.cm_run.proofs.Beginning.{run_begins, run_unbegun}
+use Rattle.cm_run.proofs.Causes.{acts_cause, count_cut, count_end, count_limit, count_more, count_over, count_prompt, count_unread, counts_same, run_limit, run_quiet, run_unread, stroke_run}
+use Rattle.cm_run.proofs.Running.{run_ends, run_fails, run_goes_on, run_halts, run_over, run_stops}
+use Rattle.cm_run.proofs.engine.run.Goals as goal
+
+pub returns-in-Err-clause-traces : goal.returns-in-Err-clause-traces
+returns-in-Err-clause-traces g c = λ keys_tell clock_tells.
+    run_unbegun g.A.Application.means c.args.logging _ _ _ _ _ _ (c.in-Err.ensures.traces _ _ _ _ _)
+
+pub returns-in-Err-clause-cause : goal.returns-in-Err-clause-cause
+returns-in-Err-clause-cause g c =
+    stroke_run _ _ _ _ refl (acts_cause _ _ _ _ _ _ _ c.in-Err.ensures.cause refl refl)
+
+pub returns-in-Err-clause-count : goal.returns-in-Err-clause-count
+returns-in-Err-clause-count g c = λ keys_tell.
+    count_prompt c.args.limit _ _ _ 0 _ _ c.in-Err.ensures.cause
+
+pub loop-turn-init : goal.loop-turn-init
+unfolding ObeyCause
+loop-turn-init g c = record {
+  ahead = λ keys_tell clock_tells.
+      run_begins g.A.Application.means c.args.logging _ _ _ _ _ _ _ _ (c.in-Ok.ensures.traces _ _ _ _ _) c.new-session.ensures.session c.in-Ok.ensures.session;
+  ready = c.in-Ok.ensures.ready;
+  count = λ keys_tell. omega arith;
+  screen = c.in-Ok.ensures.cause;
+  log = refl;
+  keys = refl;
+  quiet = λ none. refl;
+}
+
+pub returns-then-has_ended-clause-traces : goal.returns-then-has_ended-clause-traces
+returns-then-has_ended-clause-traces g c = λ keys_tell clock_tells.
+    run_over g.A.Application.means c.args.logging (run_state c.loop-turn.session c.loop-turn.app (g.C.Clock.left c.loop-turn.clock)) _ _ _ _ _ _ _ _ _ _ _
+    (c.loop-turn.invariant.ahead keys_tell clock_tells) (sym c.has_ended.ensures ∙ c.if-has_ended.true)
+
+pub returns-then-has_ended-clause-cause : goal.returns-then-has_ended-clause-cause
+returns-then-has_ended-clause-cause g c =
+    run_quiet _ _ _ _ _ _ _ c.loop-turn.invariant.screen c.loop-turn.invariant.log c.loop-turn.invariant.keys
+
+pub returns-then-has_ended-clause-count : goal.returns-then-has_ended-clause-count
+returns-then-has_ended-clause-count g c = λ keys_tell.
+    count_over c.args.limit _ _ c.loop-turn._turn _ _ (c.loop-turn.invariant.count keys_tell) c.loop-turn.auto._turn-end (sym c.has_ended.ensures ∙ c.if-has_ended.true)
+
+pub returns-in-End-clause-traces : goal.returns-in-End-clause-traces
+returns-in-End-clause-traces g c = λ keys_tell clock_tells.
+    run_ends g.A.Application.means c.args.logging (run_state c.loop-turn.session c.loop-turn.app (g.C.Clock.left c.loop-turn.clock)) _ _ _ _ _ _ _ _ _ _ _ _ _
+    (c.loop-turn.invariant.ahead keys_tell clock_tells) (sym c.has_ended.ensures ∙ c.if-has_ended.false)
+    (c.in-End.ensures.bytes keys_tell).0 (c.in-End.ensures.bytes keys_tell).1 c.in-End.ensures.asked
+
+pub returns-in-End-clause-cause : goal.returns-in-End-clause-cause
+returns-in-End-clause-cause g c =
+    run_quiet _ _ _ _ _ _ _ c.loop-turn.invariant.screen c.loop-turn.invariant.log (c.in-End.ensures.cause ∙ c.loop-turn.invariant.keys)
+
+pub returns-in-End-clause-count : goal.returns-in-End-clause-count
+returns-in-End-clause-count g c = λ keys_tell.
+    count_end c.args.limit _ c.loop-turn._turn _ _ _ _ (c.loop-turn.invariant.count keys_tell) c.loop-turn-test.true
+    (c.in-End.ensures.bytes keys_tell).0 (c.in-End.ensures.bytes keys_tell).1
+
+pub returns-in-Failed-clause-traces : goal.returns-in-Failed-clause-traces
+returns-in-Failed-clause-traces g c = λ keys_tell clock_tells.
+    run_fails g.A.Application.means c.args.logging (run_state c.loop-turn.session c.loop-turn.app (g.C.Clock.left c.loop-turn.clock)) _ _ _ _ _ _ _ _ _ _ _ _
+    (c.loop-turn.invariant.ahead keys_tell clock_tells) (sym c.has_ended.ensures ∙ c.if-has_ended.false)
+    (c.in-Failed.ensures.bytes keys_tell) c.in-Failed.ensures.asked
+
+pub returns-in-Failed-clause-cause : goal.returns-in-Failed-clause-cause
+returns-in-Failed-clause-cause g c =
+    run_unread _ _ _ _ _ _ _ c.loop-turn.invariant.screen c.loop-turn.invariant.log c.loop-turn.invariant.keys c.in-Failed.ensures.cause
+
+pub returns-in-Failed-clause-count : goal.returns-in-Failed-clause-count
+returns-in-Failed-clause-count g c = λ keys_tell.
+    count_unread c.args.limit _ c.loop-turn._turn _ _ _ (c.loop-turn.invariant.count keys_tell) c.loop-turn-test.true
+    (c.in-Failed.ensures.bytes keys_tell)
+
+pub returns-in-Err-handle_key-clause-traces : goal.returns-in-Err-handle_key-clause-traces
+returns-in-Err-handle_key-clause-traces g c = λ keys_tell clock_tells.
+    run_stops g.A.Application.means c.args.logging (run_state c.loop-turn.session c.loop-turn.app (g.C.Clock.left c.loop-turn.clock)) _ _ _ _ _ _ _ _ _ _ _ _ _ c.in-Byte.key _
+    (c.loop-turn.invariant.ahead keys_tell clock_tells) (sym c.has_ended.ensures ∙ c.if-has_ended.false)
+    (c.in-Byte.ensures.bytes keys_tell) c.in-Byte.ensures.asked (c.in-Err-handle_key.ensures.traces clock_tells _ _)
+
+pub returns-in-Err-handle_key-clause-count : goal.returns-in-Err-handle_key-clause-count
+returns-in-Err-handle_key-clause-count g c = λ keys_tell.
+    count_cut c.args.limit _ c.loop-turn._turn _ _ c.in-Byte.key _ _ _ _ (c.loop-turn.invariant.count keys_tell) c.loop-turn-test.true
+    (c.in-Byte.ensures.bytes keys_tell) (c.in-Err-handle_key.ensures.cause 0)
+
+pub returns-in-Err-handle_key-clause-cause : goal.returns-in-Err-handle_key-clause-cause
+returns-in-Err-handle_key-clause-cause g c =
+    stroke_run _ _ _ _ (counts_same _ _ _ _ _ _ c.loop-turn.invariant.screen c.loop-turn.invariant.log (c.in-Byte.ensures.cause ∙ c.loop-turn.invariant.keys))
+    (c.in-Err-handle_key.ensures.cause (g.K.Source.faults c.get.new.self))
+
+pub loop-turn-preserved : goal.loop-turn-preserved
+unfolding StrokeCause
+loop-turn-preserved g c = record {
+  ahead = λ keys_tell clock_tells.
+      run_goes_on g.A.Application.means c.args.logging (run_state c.loop-turn.session c.loop-turn.app (g.C.Clock.left c.loop-turn.clock)) _ _ _ _ _ _ _ _ _ _ _ _ _ c.in-Byte.key
+      (run_state c.handle_key.new.session c.handle_key.new.app (g.C.Clock.left c.handle_key.new.clock)) _
+      (c.loop-turn.invariant.ahead keys_tell clock_tells) (sym c.has_ended.ensures ∙ c.if-has_ended.false)
+      (c.in-Byte.ensures.bytes keys_tell) c.in-Byte.ensures.asked (c.in-Ok-handle_key.ensures.traces clock_tells _ _)
+      (c.in-Ok-handle_key.ensures.next clock_tells refl);
+  ready = c.in-Ok-handle_key.ensures.ready refl;
+  count = λ keys_tell. count_more _ c.loop-turn._turn _ _ c.in-Byte.key (c.loop-turn.invariant.count keys_tell) (c.in-Byte.ensures.bytes keys_tell);
+  screen = ap (λ (n : Counts). n.screen) (c.in-Ok-handle_key.ensures.cause 0) ∙ c.loop-turn.invariant.screen;
+  log = ap (λ (n : Counts). n.log) (c.in-Ok-handle_key.ensures.cause 0) ∙ c.loop-turn.invariant.log;
+  keys = c.in-Byte.ensures.cause ∙ c.loop-turn.invariant.keys;
+  quiet = λ none. (c.in-Ok-handle_key.ensures.quiet none).0 ∙ c.loop-turn.invariant.quiet none;
+}
+
+pub returns-then-has_ended-2-clause-traces : goal.returns-then-has_ended-2-clause-traces
+returns-then-has_ended-2-clause-traces g c = λ keys_tell clock_tells.
+    run_over g.A.Application.means c.args.logging (run_state c.loop-turn.session c.loop-turn.app (g.C.Clock.left c.loop-turn.clock)) _ _ _ _ _ _ _ _ _ _ _
+    (c.loop-turn.invariant.ahead keys_tell clock_tells) (sym c.has_ended-2.ensures ∙ c.if-has_ended-2.true)
+
+pub returns-then-has_ended-2-clause-cause : goal.returns-then-has_ended-2-clause-cause
+returns-then-has_ended-2-clause-cause g c =
+    run_quiet _ _ _ _ _ _ _ c.loop-turn.invariant.screen c.loop-turn.invariant.log c.loop-turn.invariant.keys
+
+pub returns-then-has_ended-2-clause-count : goal.returns-then-has_ended-2-clause-count
+returns-then-has_ended-2-clause-count g c = λ keys_tell.
+    count_over c.args.limit _ _ c.loop-turn._turn _ _ (c.loop-turn.invariant.count keys_tell) c.loop-turn.auto._turn-end (sym c.has_ended-2.ensures ∙ c.if-has_ended-2.true)
+
+pub returns-else-has_ended-2-clause-traces : goal.returns-else-has_ended-2-clause-traces
+returns-else-has_ended-2-clause-traces g c = λ keys_tell clock_tells.
+    run_halts g.A.Application.means c.args.logging (run_state c.loop-turn.session c.loop-turn.app (g.C.Clock.left c.loop-turn.clock)) _ _ _ _ _ _ _ _ _ _
+    (c.loop-turn.invariant.ahead keys_tell clock_tells) (sym c.has_ended-2.ensures ∙ c.if-has_ended-2.false)
+
+pub returns-else-has_ended-2-clause-cause : goal.returns-else-has_ended-2-clause-cause
+returns-else-has_ended-2-clause-cause g c =
+    run_limit _ _ _ _ _ _ c.loop-turn.invariant.screen c.loop-turn.invariant.log c.loop-turn.invariant.keys
+
+pub returns-else-has_ended-2-clause-count : goal.returns-else-has_ended-2-clause-count
+returns-else-has_ended-2-clause-count g c = λ keys_tell.
+    count_limit c.args.limit _ _ c.loop-turn._turn _ (c.loop-turn.invariant.count keys_tell) c.loop-turn.auto._turn-end c.loop-turn-test.false
+    (sym c.has_ended-2.ensures ∙ c.if-has_ended-2.false)

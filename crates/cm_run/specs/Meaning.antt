@@ -1,0 +1,45 @@
+-- What an application means: what its lines are parsed under, and what they and its raw keys do.
+use Rattle.std.specs.Prelude.{◌≡◌, ◌<◌, ℕ, Bool, List, length, Option}
+use Rattle.cm_blocks.specs.Grammar.{Graph}
+use Rattle.cm_blocks.specs.Setting.{Setting, setting}
+use Rattle.cm_files.specs.Catalogue.{Catalogue}
+use Rattle.cm_hooks.specs.Meanings.{Meanings}
+use Rattle.cm_state.specs.SessionState.{SessionState}
+use Rattle.cm_run.specs.declared.mode.Mode.{Mode}
+use Rattle.cm_run.specs.declared.mode.Mode.TheVariants as mode
+
+-- one act: whether memory may be wanting for it, the state that it leaves, and what it shows
+pub record Deed (S : Type 0) : Type 0 where
+  pub may_allocate : Bool
+  pub state : S
+  pub reply : List ℕ
+
+-- the grammar and the rules; the catalogue and the mode of a state; the acts of a line that is confirmed, and the state
+-- where one is given up; what a raw key shows, and its acts; the line that waits in a command file, and its acts
+pub record Meaning (S : Type 0) : Type 0 where
+  pub graph : Graph
+  pub rules : Meanings
+  pub catalogue_of : S → Catalogue
+  pub mode_of : S → Mode
+  pub confirmed : S → SessionState → ℕ → List (Deed S)
+  pub abandoned : S → S
+  pub raw_echo : S → ℕ → List ℕ
+  pub raw : S → ℕ → List (Deed S)
+  pub waiting : S → Option (List ℕ)
+  pub taken : S → SessionState → ℕ → List (Deed S)
+
+-- what a line is parsed under in this state
+abbrev pub setting_of : {S : Type 0} → Meaning S → S → Setting
+setting_of m state = setting m.graph (m.catalogue_of state) m.rules
+
+-- a line begins at a node of the grammar
+abbrev pub IsModeOf : Graph → Mode → Type 0
+IsModeOf graph (mode.Line node prompt takes_moment) = node < length graph.nodes
+IsModeOf graph mode.Raw = Unit {0}
+IsModeOf graph mode.Ended = Unit {0}
+
+-- the line begins at this node
+abbrev pub IsLineAt : Mode → ℕ → Type 0
+IsLineAt (mode.Line node prompt takes_moment) at = node ≡ at
+IsLineAt mode.Raw at = ⊥
+IsLineAt mode.Ended at = ⊥

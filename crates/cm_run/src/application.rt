@@ -1,0 +1,98 @@
+// What an author of a command program brings.
+use crate::{Mode, Stop};
+use cm_blocks::Grammar;
+use cm_files::Names;
+use cm_hooks::Rules;
+use cm_io::{Put, Sink};
+use cm_state::Session;
+
+/// A command program, as the engine runs it: what its lines are parsed under, and what they do. An application parses
+/// nothing itself, and it asks for no key: `run` does, and hands it each line that is confirmed.
+pub trait Application {
+    ghost use Rattle.std.specs.Prelude.{◌≡◌, ◌≤◌, IfSome, option_copied};
+    ghost use Rattle.cm_text.specs.Text.{IsLine};
+    ghost use Rattle.cm_io.specs.Fault.{PutCause};
+    ghost use Rattle.cm_io.specs.Told.{Adds};
+    ghost use Rattle.cm_blocks.specs.Parse.{IsParse};
+    ghost use Rattle.cm_blocks.specs.declared.field.Ending.TheVariants as ending;
+    ghost use Rattle.cm_state.specs.SessionState.{text_of};
+    ghost use Rattle.cm_run.specs.Cause.{ObeyCause};
+    ghost use Rattle.cm_run.specs.Meaning.{IsLineAt, IsModeOf, Meaning, setting_of};
+    ghost use Rattle.cm_run.specs.Obey.{Obeys, stage};
+
+    /// What its hooks mean.
+    type Rules: Rules;
+
+    /// The directories and files that its lines may name.
+    type Names: Names;
+
+    /// What it means.
+    ghost means: { Meaning Self };
+
+    /// The directories and files that a line may name now.
+    fn names(&self) -> &Self::Names
+        ensures { Self.Names.catalogue result.now ≡ means.catalogue_of self.now };
+
+    /// What the next key is for.
+    fn mode(&self) -> Mode
+        ensures mode { result ≡ means.mode_of self.now }
+        ensures node { IsModeOf means.graph result };
+
+    /// Does what a confirmed line commands, at this moment, and shows the replies. Where it is Ended or Raw by then, the
+    /// application has become that before it puts its reply.
+    fn confirm<S: Sink>(
+        &mut self,
+        session: &Session<Self::Rules>,
+        grammar: &Grammar,
+        moment: u64,
+        screen: &mut S,
+    ) -> Result<(), Stop>
+        requires grammar { grammar.now ≡ means.graph }
+        requires line { IsLineAt (means.mode_of self.old) session.now.node }
+        requires parse { IsParse (setting_of means self.old) session.now.node (text_of session.now)
+            session.now.fields ending.Done }
+        ensures obeys { Obeys (stage (S.told screen.old) self.old) (stage (S.told screen.new) self.new)
+            (means.confirmed self.old session.now moment) result }
+        ensures later { S.faults screen.old ≤ S.faults screen.new }
+        ensures cause { ObeyCause (S.faults screen.old) (S.faults screen.new) result };
+
+    /// A line was given up.
+    fn abandon(&mut self)
+        ensures { self.new ≡ means.abandoned self.old };
+
+    /// Shows what a raw key does, and does nothing yet.
+    fn echo_raw<S: Sink>(&self, key: u8, screen: &mut S) -> Put
+        ensures bytes { Adds (S.told screen.old) (S.told screen.new) (means.raw_echo self.now key) result }
+        ensures later { S.faults screen.old ≤ S.faults screen.new }
+        ensures cause { PutCause (S.faults screen.old) (S.faults screen.new) result };
+
+    /// Takes a raw key.
+    fn take_raw<S: Sink>(&mut self, key: u8, screen: &mut S) -> Result<(), Stop>
+        ensures obeys { Obeys (stage (S.told screen.old) self.old) (stage (S.told screen.new) self.new)
+            (means.raw self.old key) result }
+        ensures later { S.faults screen.old ≤ S.faults screen.new }
+        ensures cause { ObeyCause (S.faults screen.old) (S.faults screen.new) result };
+
+    /// The next line of a command file, where one waits.
+    fn waiting(&self) -> Option<&[u8]>
+        ensures value { option_copied result ≡ means.waiting self.now }
+        ensures line { IfSome (option_copied result) IsLine };
+
+    /// Does what that line comes to, which was parsed so: what it commands, or where its parse ends in a fault its
+    /// refusal. The moment is that of the line that took the file.
+    fn take_line<S: Sink>(
+        &mut self,
+        session: &Session<Self::Rules>,
+        grammar: &Grammar,
+        moment: u64,
+        screen: &mut S,
+    ) -> Result<(), Stop>
+        requires grammar { grammar.now ≡ means.graph }
+        requires line { IsLineAt (means.mode_of self.old) session.now.node }
+        requires parse { IsParse (setting_of means self.old) session.now.node (text_of session.now)
+            session.now.fields session.now.ending }
+        ensures obeys { Obeys (stage (S.told screen.old) self.old) (stage (S.told screen.new) self.new)
+            (means.taken self.old session.now moment) result }
+        ensures later { S.faults screen.old ≤ S.faults screen.new }
+        ensures cause { ObeyCause (S.faults screen.old) (S.faults screen.new) result };
+}

@@ -1,0 +1,95 @@
+// The run over the keys.
+ghost use Rattle.std.specs.Prelude.{◌≡◌, ◌≤◌, false, length, IsTrue};
+ghost use Rattle.cm_hooks.specs.Ties.{Ties, count};
+ghost use Rattle.cm_blocks.specs.Grammar.{hook_count};
+ghost use Rattle.cm_run.specs.Cause.{KeyCount, RunCause, counts};
+ghost use Rattle.cm_run.specs.Cut.{Traces};
+ghost use Rattle.cm_run.specs.Observed.{observed};
+ghost use Rattle.cm_run.specs.Trace.{is_ended, run_trace};
+
+use crate::key::handle_key;
+use crate::line::open_line;
+use crate::{Application, Mode, Stop};
+use cm_blocks::{Grammar, Steps};
+use cm_hooks::Hooks;
+use cm_io::{Clock, Got, Sink, Source};
+use cm_state::Session;
+use std::sync::ledger::Ledger;
+
+/// The most lines of command files that are taken for one typed line.
+pub const FILE_LINES: u32 = 10_000;
+
+/// Runs an application: shows the first prompt and takes the keys in turn, until the application has ended, no key is
+/// left, as many are taken as the limit says, the outside fails, or memory is wanting. Nothing is asked of the outside
+/// behind a call that failed.
+pub fn run<A: Application, K: Source, S: Sink, W: Sink, C: Clock, L: Ledger>(
+    limit: u64,
+    logging: bool,
+    app: &mut A,
+    grammar: &Grammar,
+    hooks: &Hooks<A::Rules>,
+    keys: &mut K,
+    screen: &mut S,
+    log: &mut W,
+    clock: &mut C,
+    steps: &mut Steps<L>,
+) -> Result<(), Stop>
+    requires grammar { grammar.now ≡ A.means.graph }
+    requires rules { A.Rules.meanings ≡ A.means.rules }
+    requires ties { Ties A.Rules.meanings hooks.now }
+    requires hooks { hook_count grammar.now ≤ count hooks.now }
+    // What stands is the trace of the run, or a cut of it.
+    ensures traces { IsTrue K.tells → IsTrue C.tells → Traces
+        (observed (S.told screen.old) (W.told log.old) (K.left keys.old) (K.gets keys.old) (C.left clock.old)
+        steps.old app.old)
+        (observed (S.told screen.new) (W.told log.new) (K.left keys.new) (K.gets keys.new) (C.left clock.new)
+        steps.new app.new)
+        (run_trace A.means logging app.old (C.left clock.old) (K.left keys.old)) result }
+    ensures cause { RunCause
+        (counts (S.faults screen.old) (W.faults log.old) (K.faults keys.old))
+        (counts (S.faults screen.new) (W.faults log.new) (K.faults keys.new)) result }
+    // How many keys were taken.
+    ensures count { IsTrue K.tells → KeyCount limit (length (K.left keys.old)) (length (K.left keys.new))
+        (is_ended (A.means.mode_of app.new)) result }
+    // Without a log nothing is put on it.
+    ensures quiet { logging ≡ false → (W.told log.new ≡ W.told log.old) × (W.faults log.new ≡ W.faults log.old) }
+{
+    let mut session = Session::new();
+    grammar.has_no_fault();
+    match open_line(app, &mut session, screen) {
+        Ok(()) => {}
+        Err(stop) => return Err(stop),
+    }
+    for _turn in 0..limit {
+        if has_ended(app) {
+            return Ok(());
+        }
+        let key = match keys.get() {
+            Got::Byte(key) => key,
+            Got::End => return Ok(()),
+            Got::Failed => return Err(Stop::Keys),
+        };
+        match handle_key(
+            logging, key, app, &mut session, grammar, hooks, screen, log, clock, steps,
+        ) {
+            Ok(()) => {}
+            Err(stop) => return Err(stop),
+        }
+    }
+    if has_ended(app) {
+        Ok(())
+    } else {
+        Err(Stop::Limit)
+    }
+}
+
+// The application has ended the run.
+fn has_ended<A: Application>(app: &A) -> bool
+    ensures { result ≡ is_ended (A.means.mode_of app.now) }
+{
+    match app.mode() {
+        Mode::Ended => true,
+        Mode::Line { .. } => false,
+        Mode::Raw => false,
+    }
+}

@@ -1,0 +1,169 @@
+// Where a line begins, and what a line that is confirmed does.
+ghost use Rattle.std.specs.Prelude.{◌≡◌, ◌≤◌, ◌<◌, ◌+◌, ℕ, List, [], length, None, is_some};
+ghost use Rattle.cm_text.specs.Text.{IsLine, finished};
+ghost use Rattle.cm_io.specs.Told.{Told};
+ghost use Rattle.cm_blocks.specs.Fault.{grammar_fault};
+ghost use Rattle.cm_blocks.specs.Kept.{cost};
+ghost use Rattle.cm_blocks.specs.Parse.{IsParse};
+ghost use Rattle.cm_blocks.specs.declared.field.Ending.TheVariants as ending;
+ghost use Rattle.cm_state.specs.SessionState.{text_of};
+ghost use Rattle.cm_run.specs.Cause.{ObeyCause};
+ghost use Rattle.cm_run.specs.Cut.{Traces};
+ghost use Rattle.cm_run.specs.Meaning.{IsLineAt, setting_of};
+ghost use Rattle.cm_run.specs.Observed.{observed};
+ghost use Rattle.cm_run.specs.Ready.{IsReadyIn, Serves};
+ghost use Rattle.cm_run.specs.Trace.{confirmed_trace, file_session, file_trace, line_trace, next_line, node_of, opened, opening};
+
+use crate::{Application, FILE_LINES, Mode, Stop};
+use cm_blocks::{Grammar, Steps};
+use cm_hooks::Hooks;
+use cm_io::{Put, Sink};
+use cm_state::Session;
+use std::sync::ledger::Ledger;
+
+/// Begins the next line, if the next key is for one: shows its prompt.
+#[tactic(auto, using(crate::proofs::Opening::shows_whole, crate::proofs::Opening::shows_part, crate::proofs::Joining::traces_none), unfolding(crate::specs::Ready::IsReadyIn, crate::specs::Cause::ObeyCause))]
+pub(crate) fn open_line<A: Application, S: Sink>(
+    app: &A,
+    session: &mut Session<A::Rules>,
+    screen: &mut S,
+) -> Result<(), Stop>
+    requires faultless { grammar_fault A.means.graph ≡ None }
+    ensures session { session.new ≡ opened (A.means.mode_of app.now) session.old }
+    ensures ready { IsReadyIn A.means app.now session.new }
+    ensures traces { (log : Told) → (keys : List ℕ) → (gets : ℕ) → (moments : List ℕ) → (trials : ℕ) → Traces
+        (observed (S.told screen.old) log keys gets moments trials app.now)
+        (observed (S.told screen.new) log keys gets moments trials app.now)
+        (opening (A.means.mode_of app.now)) result }
+    ensures later { S.faults screen.old ≤ S.faults screen.new }
+    ensures cause { ObeyCause (S.faults screen.old) (S.faults screen.new) result }
+{
+    let Mode::Line { node, prompt, .. } = app.mode() else {
+        return Ok(());
+    };
+    match session.begin(node, prompt, screen) {
+        Put::Done => Ok(()),
+        Put::Failed => Err(Stop::Screen),
+    }
+}
+
+// A line of a command file is taken next.
+fn has_line<A: Application>(app: &A) -> bool
+    ensures { result ≡ is_some (next_line A.means app.now) }
+{
+    match app.mode() {
+        Mode::Line { .. } => app.waiting().is_some(),
+        Mode::Raw => false,
+        Mode::Ended => false,
+    }
+}
+
+// Parses a line of a command file, from the node at which a typed line would begin.
+#[tactic(auto, using(crate::proofs::FileLines::file_text, crate::proofs::FileLines::file_node))]
+fn parse_line<A: Application, L: Ledger>(
+    app: &A,
+    node: u16,
+    line: &[u8],
+    grammar: &Grammar,
+    hooks: &Hooks<A::Rules>,
+    steps: &mut Steps<L>,
+) -> Session<A::Rules>
+    requires serves { Serves A.means grammar.now A.Rules.meanings hooks.now }
+    requires node { node_of (A.means.mode_of app.now) ≡ node }
+    requires within { node < length A.means.graph.nodes }
+    requires line { IsLine line.now }
+    ensures session { result ≡ file_session A.means app.now line.now }
+    ensures node { result.node ≡ node }
+    ensures parse { IsParse (setting_of A.means app.now) result.node (text_of result) result.fields result.ending }
+    ensures steps { steps.new ≡ steps.old + cost (setting_of A.means app.now) node [] (finished line.now) }
+{
+    let mut session = Session::new();
+    session.whole(node, line, grammar, app.names(), hooks, steps);
+    session
+}
+
+// Takes a line of a command file, if one is next: parses it under the state that it finds, and does what it comes to.
+#[tactic(auto, using(crate::proofs::Joining::traces_none, crate::proofs::FileLines::line_traces), unfolding(crate::specs::Cause::ObeyCause))]
+fn take_line<A: Application, S: Sink, L: Ledger>(
+    app: &mut A,
+    grammar: &Grammar,
+    hooks: &Hooks<A::Rules>,
+    moment: u64,
+    screen: &mut S,
+    steps: &mut Steps<L>,
+) -> Result<(), Stop>
+    requires serves { Serves A.means grammar.now A.Rules.meanings hooks.now }
+    ensures traces { (log : Told) → (keys : List ℕ) → (gets : ℕ) → (moments : List ℕ) → Traces
+        (observed (S.told screen.old) log keys gets moments steps.old app.old)
+        (observed (S.told screen.new) log keys gets moments steps.new app.new)
+        (line_trace A.means moment app.old (next_line A.means app.old)) result }
+    ensures later { S.faults screen.old ≤ S.faults screen.new }
+    ensures cause { ObeyCause (S.faults screen.old) (S.faults screen.new) result }
+{
+    let Mode::Line { node, .. } = app.mode() else {
+        return Ok(());
+    };
+    let Some(line) = app.waiting() else {
+        return Ok(());
+    };
+    let session = parse_line(app, node, line, grammar, hooks, steps);
+    app.take_line(&session, grammar, moment, screen)
+}
+
+// Takes the lines of command files that wait, one after the other.
+#[tactic(auto, using(crate::proofs::Waiting::files_over, crate::proofs::Waiting::files_full, crate::proofs::Waiting::files_more, crate::proofs::Waiting::files_cut, crate::proofs::Running::ahead_first, crate::proofs::Causes::obey_cause_on), unfolding(crate::specs::Cause::ObeyCause))]
+fn take_lines<A: Application, S: Sink, L: Ledger>(
+    app: &mut A,
+    grammar: &Grammar,
+    hooks: &Hooks<A::Rules>,
+    moment: u64,
+    screen: &mut S,
+    steps: &mut Steps<L>,
+) -> Result<(), Stop>
+    requires serves { Serves A.means grammar.now A.Rules.meanings hooks.now }
+    ensures traces { (log : Told) → (keys : List ℕ) → (gets : ℕ) → (moments : List ℕ) → Traces
+        (observed (S.told screen.old) log keys gets moments steps.old app.old)
+        (observed (S.told screen.new) log keys gets moments steps.new app.new)
+        (file_trace A.means FILE_LINES moment app.old) result }
+    ensures later { S.faults screen.old ≤ S.faults screen.new }
+    ensures cause { ObeyCause (S.faults screen.old) (S.faults screen.new) result }
+{
+    for _line in 0..FILE_LINES {
+        if !has_line(app) {
+            return Ok(());
+        }
+        match take_line(app, grammar, hooks, moment, screen, steps) {
+            Ok(()) => {}
+            Err(stop) => return Err(stop),
+        }
+    }
+    Ok(())
+}
+
+/// Does what a confirmed line commands, and then takes the lines of the command files that it names.
+#[tactic(auto, using(crate::proofs::Outcomes::confirmed_on, crate::proofs::Outcomes::confirmed_cut, crate::proofs::Causes::obey_cause_on), unfolding(crate::specs::Cause::ObeyCause))]
+pub(crate) fn confirm_line<A: Application, S: Sink, L: Ledger>(
+    app: &mut A,
+    session: &Session<A::Rules>,
+    grammar: &Grammar,
+    hooks: &Hooks<A::Rules>,
+    moment: u64,
+    screen: &mut S,
+    steps: &mut Steps<L>,
+) -> Result<(), Stop>
+    requires serves { Serves A.means grammar.now A.Rules.meanings hooks.now }
+    requires line { IsLineAt (A.means.mode_of app.old) session.now.node }
+    requires parse { IsParse (setting_of A.means app.old) session.now.node (text_of session.now)
+        session.now.fields ending.Done }
+    ensures traces { (log : Told) → (keys : List ℕ) → (gets : ℕ) → (moments : List ℕ) → Traces
+        (observed (S.told screen.old) log keys gets moments steps.old app.old)
+        (observed (S.told screen.new) log keys gets moments steps.new app.new)
+        (confirmed_trace A.means app.old session.now moment) result }
+    ensures later { S.faults screen.old ≤ S.faults screen.new }
+    ensures cause { ObeyCause (S.faults screen.old) (S.faults screen.new) result }
+{
+    match app.confirm(session, grammar, moment, screen) {
+        Ok(()) => take_lines(app, grammar, hooks, moment, screen, steps),
+        Err(stop) => Err(stop),
+    }
+}

@@ -1,0 +1,126 @@
+-- Rows without their bytes are counted, added and taken out as the rows themselves.
+use Rattle.std.proofs.Common.{◌≡◌, ℕ, suc, max, ◌==◌, ◌&&◌, ◌||◌, nat_le, Bool, true, false, not, cond, List, [], ◌∷◌, length, filter, map, Option, Some, None, refl, ap}
+use Rattle.std.specs.Option.{option_map, option_map_or}
+use Rattle.std.specs.Ordering.{is_lt}
+use Rattle.cm_fields.specs.declared.value.Gen.{Gen}
+use Rattle.cm_fields.specs.declared.value.Gen.TheVariants.{Missing, Highest, Next, Lowest, All, Number}
+use Rattle.ex_generations.specs.declared.file.File.{File}
+use Rattle.ex_generations.specs.Generations.{has, highest, is_generation, unmarked}
+use Rattle.ex_generations.specs.Retention.{live}
+use Rattle.ex_store.specs.declared.key.FullName.{FullName}
+use Rattle.ex_store.specs.declared.key.Key.{Key}
+use Rattle.ex_store.specs.declared.row.Row.{Row}
+use Rattle.ex_store.specs.Adding.{next_of, numbered}
+use Rattle.ex_store.specs.Ready.{reinserted, with_name}
+use Rattle.ex_store.specs.Rows.{added, blank, by_row, files_of, inserted, is_full, is_of, kept_newest, retained, row_at, with_mark, without}
+
+-- a file without its bytes
+abbrev blank_file : File → File
+blank_file file = record file { bytes = [] }
+
+files_blank : (key : Key) (rows : List Row) → files_of key (map blank rows) ≡ map blank_file (files_of key rows)
+files_blank key [] = refl
+files_blank key (row ∷ rows) = by (is_of key row) (files_blank key rows)
+  where
+    by : (b : Bool) → files_of key (map blank rows) ≡ map blank_file (files_of key rows)
+        → map (λ (each : Row). each.file) (cond b (blank row ∷ filter (is_of key) (map blank rows)) (filter (is_of key) (map blank rows)))
+        ≡ map blank_file (map (λ (each : Row). each.file) (cond b (row ∷ filter (is_of key) rows) (filter (is_of key) rows)))
+    by true rest = ap (λ files. blank_file row.file ∷ files) rest
+    by false rest = rest
+
+live_blank : (files : List File) → live (map blank_file files) ≡ live files
+live_blank [] = refl
+live_blank (file ∷ files) = by file.deleted (live_blank files)
+  where
+    by : (b : Bool) → live (map blank_file files) ≡ live files
+        → length (cond (not b) (blank_file file ∷ unmarked (map blank_file files)) (unmarked (map blank_file files)))
+        ≡ length (cond (not b) (file ∷ unmarked files) (unmarked files))
+    by true rest = rest
+    by false rest = ap (λ n. suc n) rest
+
+has_blank : (number : ℕ) (files : List File) → has number (map blank_file files) ≡ has number files
+has_blank number [] = refl
+has_blank number (file ∷ files) = ap (λ rest. is_generation number file || rest) (has_blank number files)
+
+highest_blank : (files : List File) → highest (map blank_file files) ≡ highest files
+highest_blank [] = refl
+highest_blank (file ∷ files) =
+    ap (λ rest. Some (option_map_or (max file.generation) rest file.generation)) (highest_blank files)
+
+next_blank : (files : List File) → next_of (map blank_file files) ≡ next_of files
+next_blank files = rw (highest_blank files)
+
+numbered_files : (generation : Gen) (files : List File) → numbered generation (map blank_file files) ≡ numbered generation files
+numbered_files Missing files = next_blank files
+numbered_files Highest files = next_blank files
+numbered_files Next files = next_blank files
+numbered_files Lowest files = next_blank files
+numbered_files All files = next_blank files
+numbered_files (Number number) files = rw (has_blank number files)
+
+pub numbered_blank : (generation : Gen) (key : Key) (rows : List Row)
+    → numbered generation (files_of key (map blank rows)) ≡ numbered generation (files_of key rows)
+numbered_blank generation key rows = rw (files_blank key rows) (numbered_files generation (files_of key rows))
+
+inserted_blank : (row : Row) (rows : List Row) → inserted (blank row) (map blank rows) ≡ map blank (inserted row rows)
+inserted_blank row [] = refl
+inserted_blank row (other ∷ rows) = by (is_lt (by_row other row)) (inserted_blank row rows)
+  where
+    by : (b : Bool) → inserted (blank row) (map blank rows) ≡ map blank (inserted row rows)
+        → cond b (blank other ∷ inserted (blank row) (map blank rows)) (blank row ∷ blank other ∷ map blank rows)
+        ≡ map blank (cond b (other ∷ inserted row rows) (row ∷ other ∷ rows))
+    by true rest = ap (λ more. blank other ∷ more) rest
+    by false rest = refl
+
+live_of_blank : (key : Key) (rows : List Row) → live (files_of key (map blank rows)) ≡ live (files_of key rows)
+live_of_blank key rows = rw (files_blank key rows) (live_blank (files_of key rows))
+
+kept_blank : (keep : ℕ) (key : Key) (rows : List Row)
+    → kept_newest keep key (map blank rows) ≡ map blank (kept_newest keep key rows)
+kept_blank keep key [] = refl
+kept_blank keep key (row ∷ rows) =
+    rw (live_of_blank key rows, kept_blank keep key rows)
+    (by (is_of key row && nat_le keep (live (files_of key rows))))
+  where
+    by : (b : Bool) → cond b (with_mark true (blank row)) (blank row) ∷ map blank (kept_newest keep key rows)
+        ≡ blank (cond b (with_mark true row) row) ∷ map blank (kept_newest keep key rows)
+    by true = refl
+    by false = refl
+
+retained_blank : (keep : ℕ) (key : Key) (rows : List Row)
+    → retained keep key (map blank rows) ≡ map blank (retained keep key rows)
+retained_blank keep key rows = by (keep == 0)
+  where
+    by : (b : Bool) → cond b (map blank rows) (kept_newest keep key (map blank rows))
+        ≡ map blank (cond b rows (kept_newest keep key rows))
+    by true = refl
+    by false = kept_blank keep key rows
+
+pub added_blank : (keep : ℕ) (row : Row) (rows : List Row)
+    → added keep (blank row) (map blank rows) ≡ map blank (added keep row rows)
+added_blank keep row rows = rw (inserted_blank row rows) (retained_blank keep row.key (inserted row rows))
+
+pub without_blank : (full : FullName) (rows : List Row) → without full (map blank rows) ≡ map blank (without full rows)
+without_blank full [] = refl
+without_blank full (row ∷ rows) = by (is_full full row) (without_blank full rows)
+  where
+    by : (b : Bool) → without full (map blank rows) ≡ map blank (without full rows)
+        → cond b (map blank rows) (blank row ∷ without full (map blank rows))
+        ≡ map blank (cond b rows (row ∷ without full rows))
+    by true rest = refl
+    by false rest = ap (λ more. blank row ∷ more) rest
+
+pub row_at_blank : (full : FullName) (rows : List Row) → row_at full (map blank rows) ≡ option_map blank (row_at full rows)
+row_at_blank full [] = refl
+row_at_blank full (row ∷ rows) = by (is_full full row) (row_at_blank full rows)
+  where
+    by : (b : Bool) → row_at full (map blank rows) ≡ option_map blank (row_at full rows)
+        → cond b (Some (blank row)) (row_at full (map blank rows))
+        ≡ option_map blank (cond b (Some row) (row_at full rows))
+    by true rest = refl
+    by false rest = rest
+
+pub reinserted_blank : (keep : ℕ) (target : FullName) (rows : List Row) (row : Option Row)
+    → reinserted keep target (map blank rows) (option_map blank row) ≡ map blank (reinserted keep target rows row)
+reinserted_blank keep target rows None = refl
+reinserted_blank keep target rows (Some row) = added_blank keep (with_name target row) rows

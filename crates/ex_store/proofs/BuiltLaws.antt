@@ -1,0 +1,298 @@
+-- A directory is made, or keeps another number of generations: what is well formed stays so.
+use Rattle.std.proofs.Common.{◌≡◌, ℕ, ◌+◌, ◌<◌, ◌≤◌, suc, Bool, true, false, cond, ◌&&◌, ◌||◌, nat_le, List, [], ◌∷◌, length, insert, map, find, Option, Some, None, unwrap_or, Ok, Err, IfSome, refl, ap, sym, subst, ◌∙◌, arith}
+use Rattle.std.specs.Cmp.{IsTotalOrder}
+use Rattle.std.specs.Cmp.Lexicographic.{on_texts}
+use Rattle.std.specs.List.{list_all, prefix_len}
+use Rattle.std.specs.Option.{option_map}
+use Rattle.std.specs.Ordering.{is_lt, on, ordering_reverse}
+use Rattle.std.specs.Str.{bytes_eq}
+use Rattle.std.specs.declared.cmp.Ordering.{Ordering}
+use Rattle.std.specs.declared.cmp.Ordering.TheVariants.{Less, Equal, Greater}
+use Rattle.std.proofs.lemmas.Bool.{and_from, and_parts, both_ways, le-leb, leb-false, leb-true, or_parts, or_right}
+use Rattle.std.proofs.lemmas.List.{length-map}
+use Rattle.std.proofs.lemmas.Map.Lookups.{exact_bytes}
+use Rattle.std.proofs.lemmas.Slice.Eq.{bytes_eq-Decides}
+use Rattle.cm_fields.specs.declared.code.Code.{Code}
+use Rattle.cm_fields.specs.declared.code.Code.TheVariants.{DirLimit}
+use Rattle.cm_files.specs.Catalogue.{ascends, by_bytes, is_directory_name}
+use Rattle.ex_store.specs.declared.directory.Definition.{Definition}
+use Rattle.ex_store.specs.declared.directory.Directory.{Directory}
+use Rattle.ex_store.specs.declared.key.NamePair.{NamePair}
+use Rattle.ex_store.specs.declared.limits.TheConstants.{DIRECTORY_LIMIT, RETENTION_LIMIT}
+use Rattle.ex_store.specs.declared.plan.Plan.TheVariants as plans
+use Rattle.ex_store.specs.declared.queue.QueueEntry.{QueueEntry}
+use Rattle.ex_store.specs.declared.ready.RowChange.{RowChange}
+use Rattle.ex_store.specs.declared.row.Row.{Row}
+use Rattle.ex_store.specs.Building.{built, directory_inserted, kept_by, with_directory}
+use Rattle.ex_store.specs.Plan.{planned}
+use Rattle.ex_store.specs.Ready.{Change, applied, done_on}
+use Rattle.ex_store.specs.State.{State, has_directory, is_named}
+use Rattle.ex_store.specs.WellFormed.{IsWellFormed, is_definition_among, is_directory, is_entry_among, is_row_among}
+use Rattle.ex_store.proofs.AscendsLaws.{ascends_map}
+
+-- the directory of a name keeps as many generations
+abbrev pub kept_as : List ℕ → ℕ → Directory → Directory
+kept_as name keep other = cond (is_named name other) (record other { keep = keep }) other
+
+-- the place of a new directory
+abbrev pub place_of : Directory → List Directory → ℕ
+place_of new directories = prefix_len (λ other. is_lt (by_bytes other.name new.name)) directories
+
+one-add : (n : ℕ) → 1 + n ≡ suc n
+one-add n = omega arith
+
+-- a directory is inserted at its place
+pub inserted_at : (new : Directory) (directories : List Directory) → insert directories (place_of new directories) new ≡ directory_inserted new directories
+inserted_at new [] = refl
+inserted_at new (other ∷ more) = by (is_lt (by_bytes other.name new.name)) (inserted_at new more)
+  where
+    by : (below : Bool) → insert more (place_of new more) new ≡ directory_inserted new more
+        → insert (other ∷ more) (cond below (1 + place_of new more) 0) new
+        ≡ cond below (other ∷ directory_inserted new more) (new ∷ other ∷ more)
+    by true rest = rw (one-add (place_of new more)) (ap (λ others. other ∷ others) rest)
+    by false rest = refl
+
+-- directories by their names
+abbrev by_name : Directory → Directory → Ordering
+by_name = on (λ directory. directory.name) by_bytes
+
+by_name_total : IsTotalOrder by_name
+by_name_total = on_texts (λ (directory : Directory). directory.name)
+
+-- of two names that differ, the one that does not stand below the other stands above it
+turned : (o : Ordering) → (o ≡ Equal → ⊥) → is_lt o ≡ false → is_lt (ordering_reverse o) ≡ true
+turned Less differ below = absurd (cc)
+turned Equal differ below = absurd (differ refl)
+turned Greater differ below = refl
+
+above : (new other : Directory) → is_named new.name other ≡ false → is_lt (by_name other new) ≡ false → is_lt (by_name new other) ≡ true
+above new other named below =
+    let differ = λ (same : by_name other new ≡ Equal). both_ways _ named ((bytes_eq-Decides other.name new.name).1 (exact_bytes other.name new.name same)) in
+    subst (λ (o : Ordering). is_lt o ≡ true) (sym (by_name_total.antisymm new other)) (turned (by_name other new) differ below)
+
+-- with a new directory among them, the directories ascend still
+inserted_ascends : (new : Directory) (directories : List Directory) → ascends by_name directories ≡ true
+    → has_directory new.name directories ≡ false → ascends by_name (directory_inserted new directories) ≡ true
+inserted_ascends new [] ascend absent = refl
+inserted_ascends new (other ∷ []) ascend absent = by (is_lt (by_name other new)) refl
+  where
+    by : (below : Bool) → is_lt (by_name other new) ≡ below → ascends by_name (cond below (other ∷ new ∷ []) (new ∷ other ∷ [])) ≡ true
+    by true is = and_from _ _ is refl
+    by false is = and_from _ _ (above new other (or_parts _ _ absent).0 is) refl
+inserted_ascends new (other ∷ next ∷ more) ascend absent =
+    by (is_lt (by_name other new)) (is_lt (by_name next new)) refl
+    (inserted_ascends new (next ∷ more) (and_parts _ _ ascend).1 (or_parts _ _ absent).1)
+  where
+    by : (below under : Bool) → is_lt (by_name other new) ≡ below
+        → ascends by_name (cond under (next ∷ directory_inserted new more) (new ∷ next ∷ more)) ≡ true
+        → ascends by_name (cond below (other ∷ cond under (next ∷ directory_inserted new more) (new ∷ next ∷ more)) (new ∷ other ∷ next ∷ more)) ≡ true
+    by true true is rest = and_from _ _ (and_parts _ _ ascend).0 rest
+    by true false is rest = and_from _ _ is rest
+    by false under is rest = and_from _ _ (above new other (or_parts _ _ absent).0 is) ascend
+
+-- the names stay where a directory keeps another number
+kept_name : (name : List ℕ) (keep : ℕ) (other : Directory) → (kept_as name keep other).name ≡ other.name
+kept_name name keep other = by (is_named name other)
+  where
+    by : (named : Bool) → (cond named (record other { keep = keep }) other).name ≡ other.name
+    by true = refl
+    by false = refl
+
+kept_order : (name : List ℕ) (keep : ℕ) (other next : Directory) → by_name (kept_as name keep other) (kept_as name keep next) ≡ by_name other next
+kept_order name keep other next =
+    ap (λ text. by_bytes text (kept_as name keep next).name) (kept_name name keep other)
+    ∙ ap (by_bytes other.name) (kept_name name keep next)
+
+kept_ascends : (name : List ℕ) (keep : ℕ) (directories : List Directory) → ascends by_name (map (kept_as name keep) directories) ≡ ascends by_name directories
+kept_ascends name keep directories = ascends_map by_name by_name (kept_as name keep) (kept_order name keep) directories
+
+pub kept_has : (x name : List ℕ) (keep : ℕ) (directories : List Directory) → has_directory x (map (kept_as name keep) directories) ≡ has_directory x directories
+kept_has x name keep [] = refl
+kept_has x name keep (other ∷ more) =
+    ap (λ text. bytes_eq text x || has_directory x (map (kept_as name keep) more)) (kept_name name keep other)
+    ∙ ap (λ rest. is_named x other || rest) (kept_has x name keep more)
+
+kept_within : (name : List ℕ) (keep : ℕ) (directories : List Directory) → keep ≤ RETENTION_LIMIT → list_all is_directory directories ≡ true
+    → list_all is_directory (map (kept_as name keep) directories) ≡ true
+kept_within name keep [] few within = refl
+kept_within name keep (other ∷ more) few within =
+    and_from _ _ (by (is_named name other)) (kept_within name keep more few (and_parts _ _ within).1)
+  where
+    by : (named : Bool) → is_directory (cond named (record other { keep = keep }) other) ≡ true
+    by true = and_from _ _ (and_parts _ _ (and_parts _ _ within).0).0 (le-leb keep RETENTION_LIMIT few)
+    by false = (and_parts _ _ within).0
+
+pub inserted_has : (x : List ℕ) (new : Directory) (directories : List Directory) → has_directory x directories ≡ true
+    → has_directory x (directory_inserted new directories) ≡ true
+inserted_has x new [] there = absurd (cc)
+inserted_has x new (other ∷ more) there = by (is_lt (by_name other new)) (is_named x other) refl there (inserted_has x new more)
+  where
+    by : (below named : Bool) → is_named x other ≡ named → (named || has_directory x more) ≡ true
+        → (has_directory x more ≡ true → has_directory x (directory_inserted new more) ≡ true)
+        → has_directory x (cond below (other ∷ directory_inserted new more) (new ∷ other ∷ more)) ≡ true
+    by true true is there rest = rw is refl
+    by true false is there rest = rw is (rest there)
+    by false named is there rest = or_right (is_named x new) (has_directory x (other ∷ more)) (rw is there)
+
+inserted_within : (new : Directory) (directories : List Directory) → is_directory new ≡ true → list_all is_directory directories ≡ true
+    → list_all is_directory (directory_inserted new directories) ≡ true
+inserted_within new [] is within = and_from _ _ is refl
+inserted_within new (other ∷ more) is within = by (is_lt (by_name other new)) (inserted_within new more is (and_parts _ _ within).1)
+  where
+    by : (below : Bool) → list_all is_directory (directory_inserted new more) ≡ true
+        → list_all is_directory (cond below (other ∷ directory_inserted new more) (new ∷ other ∷ more)) ≡ true
+    by true rest = and_from _ _ (and_parts _ _ within).0 rest
+    by false rest = and_from _ _ is within
+
+inserted_length : (new : Directory) (directories : List Directory) → length (directory_inserted new directories) ≡ length directories + 1
+inserted_length new [] = refl
+inserted_length new (other ∷ more) = by (is_lt (by_name other new)) (inserted_length new more)
+  where
+    by : (below : Bool) → length (directory_inserted new more) ≡ length more + 1
+        → length (cond below (other ∷ directory_inserted new more) (new ∷ other ∷ more)) ≡ length (other ∷ more) + 1
+    by true rest = omega arith
+    by false rest = omega arith
+
+-- how many generations it keeps is within the limit
+found_keep : (name : List ℕ) (directories : List Directory) → list_all is_directory directories ≡ true
+    → unwrap_or (option_map (λ (directory : Directory). directory.keep) (find (is_named name) directories)) 1 ≤ RETENTION_LIMIT
+found_keep name [] within = omega arith
+found_keep name (other ∷ more) within = by (is_named name other) (found_keep name more (and_parts _ _ within).1)
+  where
+    by : (named : Bool) → unwrap_or (option_map (λ (directory : Directory). directory.keep) (find (is_named name) more)) 1 ≤ RETENTION_LIMIT
+        → unwrap_or (option_map (λ (directory : Directory). directory.keep) (cond named (Some other) (find (is_named name) more))) 1 ≤ RETENTION_LIMIT
+    by true rest = leb-true other.keep RETENTION_LIMIT (and_parts _ _ (and_parts _ _ within).0).1
+    by false rest = rest
+
+kept_limit : (name : List ℕ) (keep : Option ℕ) (directories : List Directory) → IfSome keep (λ count. count ≤ RETENTION_LIMIT)
+    → list_all is_directory directories ≡ true → kept_by name keep directories ≤ RETENTION_LIMIT
+kept_limit name None directories few within = found_keep name directories within
+kept_limit name (Some count) directories few within = few
+
+-- what a list of directories has to be
+record AreDirectories (directories : List Directory) : Type 0 where
+  ascend : ascends by_name directories ≡ true
+  within : list_all is_directory directories ≡ true
+  few : length directories ≤ DIRECTORY_LIMIT
+
+-- the directories with another one are such a list, and each that was there is there
+record AreMore (before after : List Directory) : Type 0 where
+  are : AreDirectories after
+  there : (x : List ℕ) → has_directory x before ≡ true → has_directory x after ≡ true
+
+with_more : (made : Directory) (directories : List Directory) → AreDirectories directories → is_directory made ≡ true
+    → (has_directory made.name directories ≡ false → length directories < DIRECTORY_LIMIT) → AreMore directories (with_directory made directories)
+with_more made directories are is room = by (has_directory made.name directories) refl
+  where
+    by : (there : Bool) → has_directory made.name directories ≡ there
+        → AreMore directories (cond there (map (kept_as made.name made.keep) directories) (directory_inserted made directories))
+    by true known = record {
+      are = record {
+        ascend = kept_ascends made.name made.keep directories ∙ are.ascend;
+        within = kept_within made.name made.keep directories (leb-true made.keep RETENTION_LIMIT (and_parts _ _ is).1) are.within;
+        few = omega (arith, length-map directories (kept_as made.name made.keep), are.few);
+      };
+      there = λ x there. kept_has x made.name made.keep directories ∙ there;
+    }
+    by false new = record {
+      are = record {
+        ascend = inserted_ascends made directories are.ascend new;
+        within = inserted_within made directories is are.within;
+        few = omega (arith, inserted_length made directories, room new);
+      };
+      there = λ x there. inserted_has x made directories there;
+    }
+
+built_parts : (name : List ℕ) (keep : Option ℕ) (directories : List Directory) (made : Directory) → built name keep directories ≡ Ok made
+    → (record { name = name; keep = kept_by name keep directories } ≡ made) × (has_directory name directories ≡ false → length directories < DIRECTORY_LIMIT)
+built_parts name keep directories made is = by (has_directory name directories) (nat_le DIRECTORY_LIMIT (length directories)) refl refl is
+  where
+    by : (there full : Bool) → has_directory name directories ≡ there → nat_le DIRECTORY_LIMIT (length directories) ≡ full
+        → cond there (Ok (record { name = name; keep = kept_by name keep directories })) (cond full (Err DirLimit) (Ok (record { name = name; keep = kept_by name keep directories }))) ≡ Ok made
+        → (record { name = name; keep = kept_by name keep directories } ≡ made) × (has_directory name directories ≡ false → length directories < DIRECTORY_LIMIT)
+    by true full known limit is = (cc, λ absent. absurd (both_ways _ absent known))
+    by false true known limit is = absurd (cc)
+    by false false known limit is = (cc, λ absent. leb-false DIRECTORY_LIMIT (length directories) limit)
+
+-- what is so of all, and what follows from it
+pub all_more : {X : Type 0} (test other : X → Bool) (xs : List X) → ((x : X) → test x ≡ true → other x ≡ true) → list_all test xs ≡ true
+    → list_all other xs ≡ true
+all_more test other [] more all = refl
+all_more test other (x ∷ xs) more all =
+    and_from _ _ (more x (and_parts _ _ all).0) (all_more test other xs more (and_parts _ _ all).1)
+
+-- another test in the place of the first
+onto : (x y rest : Bool) → (x ≡ true → y ≡ true) → (x && rest) ≡ true → (y && rest) ≡ true
+onto x y rest more all = and_from _ _ (more (and_parts _ _ all).0) (and_parts _ _ all).1
+
+definition_more : (before after : List Directory) → ((x : List ℕ) → has_directory x before ≡ true → has_directory x after ≡ true)
+    → (entry : Definition) → is_definition_among before entry ≡ true → is_definition_among after entry ≡ true
+definition_more before after there entry = onto _ _ _ (onto _ _ _ (there entry.directory))
+
+row_more : (before after : List Directory) → ((x : List ℕ) → has_directory x before ≡ true → has_directory x after ≡ true)
+    → (row : Row) → is_row_among before row ≡ true → is_row_among after row ≡ true
+row_more before after there row = onto _ _ _ (onto _ _ _ (onto _ _ _ (onto _ _ _ (onto _ _ _ (there row.key.directory)))))
+
+entry_more : (before after : List Directory) → ((x : List ℕ) → has_directory x before ≡ true → has_directory x after ≡ true)
+    → (entry : QueueEntry) → is_entry_among before entry ≡ true → is_entry_among after entry ≡ true
+entry_more before after there entry =
+    onto _ _ _ (onto _ _ _ (onto _ _ _ (onto _ _ _ (onto _ _ _
+    (onto _ _ _ (onto _ _ _ (onto _ _ _ (onto _ _ _ (onto _ _ _ (there entry.file.key.directory))))))))))
+
+well_formed_with_more : (state : State) (after : List Directory) → IsWellFormed state → AreMore state.directories after
+    → IsWellFormed (record state { directories = after })
+well_formed_with_more state after well more = record {
+  draft = record {
+    directories_ascend = more.are.ascend;
+    directories_within = more.are.within;
+    few_directories = more.are.few;
+    logical_ascend = well.draft.logical_ascend;
+    logical_within = all_more (is_definition_among state.directories) (is_definition_among after) state.logical
+        (definition_more state.directories after more.there) well.draft.logical_within;
+    few_logical = well.draft.few_logical;
+    rows = record {
+      ascend = well.draft.rows.ascend;
+      within = all_more (is_row_among state.directories) (is_row_among after) state.rows
+          (row_more state.directories after more.there) well.draft.rows.within;
+      few = well.draft.rows.few;
+      small = well.draft.rows.small;
+    };
+    queue_within = all_more (is_entry_among state.directories) (is_entry_among after) state.queue
+        (entry_more state.directories after more.there) well.draft.queue_within;
+    few_entries = well.draft.few_entries;
+  };
+  connected_there = more.there state.connected well.connected_there;
+}
+
+-- the state with a directory that is made is well formed
+pub well_formed_built : (state : State) (name : List ℕ) (keep : Option ℕ) (made : Directory) → IsWellFormed state
+    → is_directory_name name ≡ true → IfSome keep (λ count. count ≤ RETENTION_LIMIT) → built name keep state.directories ≡ Ok made
+    → IsWellFormed (record state { directories = with_directory made state.directories })
+well_formed_built state name keep made well named few is =
+    let parts = built_parts name keep state.directories made is in
+    let are : AreDirectories state.directories = record { ascend = well.draft.directories_ascend; within = well.draft.directories_within; few = well.draft.few_directories } in
+    let limit : kept_by name keep state.directories ≤ RETENTION_LIMIT = kept_limit name keep state.directories few well.draft.directories_within in
+    let form : is_directory (record { name = name; keep = kept_by name keep state.directories }) ≡ true = and_from _ _ named (le-leb _ _ limit) in
+    subst (λ (made : Directory). IsWellFormed (record state { directories = with_directory made state.directories })) parts.0
+    (well_formed_with_more state _ well (with_more _ state.directories are form parts.1))
+
+-- the change that makes a directory
+abbrev change_of : Directory → List RowChange → List NamePair → Change
+change_of made row_changes pairs = record { directory = Some made; keep = 0; row_changes = row_changes; pairs = pairs }
+
+pub planned_built : (state : State) (name : List ℕ) (keep : Option ℕ) (made : Directory) (row_changes : List RowChange) (pairs : List NamePair) (moment : ℕ)
+    → built name keep state.directories ≡ Ok made → row_changes ≡ [] → pairs ≡ []
+    → planned (plans.Build name keep) moment state ≡ Ok (done_on state (change_of made row_changes pairs))
+unfolding planned
+planned_built state name keep made row_changes pairs moment is none nobody = rw (is, none, nobody) refl
+
+pub planned_refused : (state : State) (name : List ℕ) (keep : Option ℕ) (code : Code) (moment : ℕ)
+    → built name keep state.directories ≡ Err code → planned (plans.Build name keep) moment state ≡ Err code
+unfolding planned
+planned_refused state name keep code moment is = rw is refl
+
+pub sound_built : (state : State) (name : List ℕ) (keep : Option ℕ) (made : Directory) (row_changes : List RowChange) (pairs : List NamePair) → IsWellFormed state
+    → is_directory_name name ≡ true → IfSome keep (λ count. count ≤ RETENTION_LIMIT) → built name keep state.directories ≡ Ok made → row_changes ≡ []
+    → IsWellFormed (applied (change_of made row_changes pairs) state)
+sound_built state name keep made row_changes pairs well named few is none =
+    rw none (well_formed_built state name keep made well named few is)

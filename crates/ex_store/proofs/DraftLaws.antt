@@ -1,0 +1,88 @@
+-- A state with one part more: the names of that part are short.
+use Rattle.std.proofs.Common.{◌≡◌, ℕ, ◌≤◌, Bool, true, ◌&&◌, nat_le, List, [], ◌∷◌, ◌++◌, length}
+use Rattle.std.specs.List.{list_all}
+use Rattle.std.proofs.lemmas.Bool.{and_parts, leb-true}
+use Rattle.cm_text.specs.declared.name.TheConstants.{NAME_LIMIT}
+use Rattle.cm_files.specs.LogicalName.{is_logical_name}
+use Rattle.ex_store.specs.declared.directory.Definition.{Definition}
+use Rattle.ex_store.specs.declared.directory.Directory.{Directory}
+use Rattle.ex_store.specs.declared.key.Key.{Key}
+use Rattle.ex_store.specs.declared.queue.QueueEntry.{QueueEntry}
+use Rattle.ex_store.specs.declared.row.Row.{Row}
+use Rattle.ex_store.specs.WellFormed.{is_definition_among, is_directory, is_entry_among, is_file_name, is_file_type, is_row_among}
+use Rattle.ex_store.proofs.StateLaws.{name_is_short}
+
+-- what is so of all is so of the last
+last_is : {X : Type 0} (test : X → Bool) (xs : List X) (x : X) → list_all test (xs ++ x ∷ []) ≡ true → test x ≡ true
+last_is test [] x all = (and_parts _ _ all).0
+last_is test (other ∷ xs) x all = last_is test xs x (and_parts _ _ all).1
+
+-- one test of two, the first or the second
+first : (x y : Bool) → (x && y) ≡ true → x ≡ true
+first x y both = (and_parts x y both).0
+
+second : (x y : Bool) → (x && y) ≡ true → y ≡ true
+second x y both = (and_parts x y both).1
+
+short : (name : List ℕ) → nat_le (length name) NAME_LIMIT ≡ true → length name ≤ NAME_LIMIT
+short name within = leb-true (length name) NAME_LIMIT within
+
+file_name_is_short : (name : List ℕ) → is_file_name name ≡ true → length name ≤ NAME_LIMIT
+file_name_is_short name is = short name (second _ _ (first _ _ is))
+
+file_type_is_short : (kind : List ℕ) → is_file_type kind ≡ true → length kind ≤ NAME_LIMIT
+file_type_is_short kind is = short kind (first _ _ is)
+
+logical_name_is_short : (name : List ℕ) → is_logical_name name ≡ true → length name ≤ NAME_LIMIT
+unfolding is_logical_name
+logical_name_is_short name is = short name (first _ _ (first _ _ (first _ _ (first _ _ (first _ _ is)))))
+
+-- a logical name that is added, and the directory that it stands for
+pub definition_is_short : (directories : List Directory) (entries : List Definition) (entry : Definition) → list_all is_directory directories ≡ true
+    → list_all (is_definition_among directories) (entries ++ entry ∷ []) ≡ true
+    → (length entry.name ≤ NAME_LIMIT) × (length entry.directory ≤ NAME_LIMIT)
+definition_is_short directories entries entry within all =
+    let is = last_is (is_definition_among directories) entries entry all in (
+      logical_name_is_short entry.name (second _ _ (first _ _ is)),
+      name_is_short entry.directory directories within (first _ _ (first _ _ is)),
+    )
+
+-- the names of a file
+pub record IsShort (key : Key) : Type 0 where
+  pub directory : length key.directory ≤ NAME_LIMIT
+  pub name : length key.name ≤ NAME_LIMIT
+  pub kind : length key.kind ≤ NAME_LIMIT
+
+-- a file that is added
+pub row_is_short : (directories : List Directory) (rows : List Row) (row : Row) → list_all is_directory directories ≡ true
+    → list_all (is_row_among directories) (rows ++ row ∷ []) ≡ true → IsShort row.key
+row_is_short directories rows row within all =
+    let named = first _ _ (first _ _ (first _ _ (last_is (is_row_among directories) rows row all))) in
+    record {
+      directory = name_is_short row.key.directory directories within (first _ _ (first _ _ named));
+      name = file_name_is_short row.key.name (second _ _ (first _ _ named));
+      kind = file_type_is_short row.key.kind (second _ _ named);
+    }
+
+-- the names of an entry of the queue
+pub record AreShort (entry : QueueEntry) : Type 0 where
+  pub file : IsShort entry.file.key
+  pub job : length entry.job ≤ NAME_LIMIT
+  pub note : length entry.note ≤ NAME_LIMIT
+
+-- an entry that is added
+pub entry_is_short : (directories : List Directory) (queue : List QueueEntry) (entry : QueueEntry) → list_all is_directory directories ≡ true
+    → list_all (is_entry_among directories) (queue ++ entry ∷ []) ≡ true → AreShort entry
+entry_is_short directories queue entry within all =
+    let is = last_is (is_entry_among directories) queue entry all in
+    let behind = first _ _ (first _ _ is) in
+    let named = first _ _ (first _ _ (first _ _ (first _ _ (first _ _ (first _ _ behind))))) in
+    record {
+      file = record {
+        directory = name_is_short entry.file.key.directory directories within (first _ _ (first _ _ named));
+        name = file_name_is_short entry.file.key.name (second _ _ (first _ _ named));
+        kind = file_type_is_short entry.file.key.kind (second _ _ named);
+      };
+      job = file_name_is_short entry.job (second _ _ behind);
+      note = short entry.note (second _ _ (first _ _ is));
+    }

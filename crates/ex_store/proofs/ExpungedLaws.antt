@@ -1,0 +1,96 @@
+-- What stays: the rows that are not expunged, and the directories under every plan.
+use Rattle.std.proofs.Common.{◌≡◌, ℕ, ◌<◌, ◌&&◌, suc, zero, Bool, true, false, not, cond, List, [], ◌∷◌, length, get_or, filter, map, Contains, Result, Ok, Err, refl, arith, ◌∙◌, sym, subst}
+use Rattle.std.proofs.lemmas.Bool.{not-true, not_from_false}
+use Rattle.cm_fields.specs.declared.code.Code.{Code}
+use Rattle.ex_store.specs.declared.directory.Directory.{Directory}
+use Rattle.ex_store.specs.declared.plan.Plan.{Plan}
+use Rattle.ex_store.specs.declared.plan.Plan.TheVariants as plans
+use Rattle.ex_store.specs.declared.row.Row.{Row}
+use Rattle.ex_store.specs.Adding.{Outcome, and_then}
+use Rattle.ex_store.specs.Building.{built, directory_inserted, with_directory}
+use Rattle.ex_store.specs.Plan.{Planned, planned, with_rows}
+use Rattle.ex_store.specs.Rows.{expunged, is_in}
+use Rattle.ex_store.specs.State.{State, has_directory}
+use Rattle.ex_store.proofs.BuiltLaws.{inserted_has, kept_as, kept_has}
+
+contains_more : {X : Type 0} (first x : X) (xs : List X) → Contains xs x → Contains (first ∷ xs) x
+contains_more first x xs there = (suc there.0, omega (arith, there.1), there.2)
+
+from_kept : {X : Type 0} (test : X → Bool) (first x : X) (xs rest : List X) (b : Bool) (k : ℕ) → test first ≡ b
+    → k < length (cond b (first ∷ rest) rest) → get_or (cond b (first ∷ rest) rest) k x ≡ x
+    → (Contains rest x → Contains xs x × (test x ≡ true)) → Contains (first ∷ xs) x × (test x ≡ true)
+from_kept test first x xs rest true zero is lt at more = ((0, omega arith, at), subst (λ other. test other ≡ true) at is)
+from_kept test first x xs rest true (suc k) is lt at more =
+    let found : Contains xs x × (test x ≡ true) = more (k, omega arith, at) in
+    (contains_more first x xs found.0, found.1)
+from_kept test first x xs rest false k is lt at more =
+    let found : Contains xs x × (test x ≡ true) = more (k, lt, at) in
+    (contains_more first x xs found.0, found.1)
+
+from_filter : {X : Type 0} (test : X → Bool) (x : X) (xs : List X) → Contains (filter test xs) x → Contains xs x × (test x ≡ true)
+from_filter test x [] there = absurd (omega (arith, there.1))
+from_filter test x (first ∷ xs) there =
+    from_kept test first x xs (filter test xs) _ there.0 refl there.1 there.2 (from_filter test x xs)
+
+contains_cond : {X : Type 0} (b : Bool) (first x : X) (rest : List X) → Contains rest x → Contains (cond b (first ∷ rest) rest) x
+contains_cond true first x rest there = contains_more first x rest there
+contains_cond false first x rest there = there
+
+into_filter : {X : Type 0} (test : X → Bool) (x : X) (xs : List X) (k : ℕ) → k < length xs → get_or xs k x ≡ x → test x ≡ true
+    → Contains (filter test xs) x
+into_filter test x [] k lt at is = absurd (omega arith)
+into_filter test x (first ∷ xs) zero lt at is =
+    let here : test first ≡ true = subst (λ other. test other ≡ true) (sym at) is in
+    rw here (0, omega arith, at)
+into_filter test x (first ∷ xs) (suc k) lt at is =
+    contains_cond (test first) first x (filter test xs) (into_filter test x xs k (omega arith) at is)
+
+pub expunged_rows : (directory : List ℕ) (row : Row) (rows : List Row)
+    → (Contains (expunged directory rows) row → Contains rows row × ((is_in directory row && row.file.deleted) ≡ false))
+    × (Contains rows row × ((is_in directory row && row.file.deleted) ≡ false) → Contains (expunged directory rows) row)
+expunged_rows directory row rows = (there, back)
+  where
+    left : Row → Bool
+    left other = not (is_in directory other && other.file.deleted)
+
+    there : Contains (expunged directory rows) row → Contains rows row × ((is_in directory row && row.file.deleted) ≡ false)
+    there stays =
+        let found : Contains rows row × (left row ≡ true) = from_filter left row rows stays in
+        (found.0, not-true (is_in directory row && row.file.deleted) found.1)
+
+    back : Contains rows row × ((is_in directory row && row.file.deleted) ≡ false) → Contains (expunged directory rows) row
+    back stands = into_filter left row rows stands.0.0 stands.0.1 stands.0.2 (not_from_false (is_in directory row && row.file.deleted) stands.1)
+
+with_there : (made : Directory) (directories : List Directory) (name : List ℕ) → has_directory name directories ≡ true
+    → has_directory name (with_directory made directories) ≡ true
+with_there made directories name there = by (has_directory made.name directories)
+  where
+    by : (b : Bool) → has_directory name (cond b (map (kept_as made.name made.keep) directories) (directory_inserted made directories)) ≡ true
+    by true = kept_has name made.name made.keep directories ∙ there
+    by false = inserted_has name made directories there
+
+built_there : (state : State) (plan : Result Directory Code) (made : Planned)
+    → and_then (λ (directory : Directory).
+    Ok (record { state = record state { directories = with_directory directory state.directories }; pairs = [] })) plan ≡ Ok made
+    → (name : List ℕ) → has_directory name state.directories ≡ true → has_directory name made.state.directories ≡ true
+built_there state (Ok directory) made is name there =
+    let same : record { state = record state { directories = with_directory directory state.directories }; pairs = [] } ≡ made = cc in
+    subst (λ (each : Planned). has_directory name each.state.directories ≡ true) same (with_there directory state.directories name there)
+built_there state (Err code) made is name there = absurd (cc)
+
+rows_there : (state : State) (plan : Result Outcome Code) (made : Planned) → with_rows state plan ≡ Ok made
+    → (name : List ℕ) → has_directory name state.directories ≡ true → has_directory name made.state.directories ≡ true
+rows_there state (Ok outcome) made is name there =
+    let same : record { state = record state { rows = outcome.rows }; pairs = outcome.pairs } ≡ made = cc in
+    subst (λ (each : Planned). has_directory name each.state.directories ≡ true) same there
+rows_there state (Err code) made is name there = absurd (cc)
+
+-- no plan takes a directory away
+pub directories_stay : (plan : Plan) (moment : ℕ) (state : State) (made : Planned) → planned plan moment state ≡ Ok made
+    → (name : List ℕ) → has_directory name state.directories ≡ true → has_directory name made.state.directories ≡ true
+unfolding planned
+directories_stay (plans.Build directory keep) moment state made is = built_there state (built directory keep state.directories) made is
+directories_stay (plans.Copy from to) moment state made is = rows_there state _ made is
+directories_stay (plans.Rename from to) moment state made is = rows_there state _ made is
+directories_stay (plans.Append from to) moment state made is = rows_there state _ made is
+directories_stay (plans.Write to bytes) moment state made is = rows_there state _ made is

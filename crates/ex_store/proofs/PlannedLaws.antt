@@ -1,0 +1,53 @@
+-- What is made of the sources of a plan is what the plan makes of the state.
+use Rattle.std.proofs.Common.{◌≡◌, ℕ, List, Result, Ok, Err, refl}
+use Rattle.cm_fields.specs.declared.code.Code.{Code}
+use Rattle.ex_store.specs.declared.directory.Directory.{Directory}
+use Rattle.ex_store.specs.declared.place.Place.{Place}
+use Rattle.ex_store.specs.declared.plan.Refusal.{Refusal}
+use Rattle.ex_store.specs.declared.plan.Refusal.TheVariants as refusals
+use Rattle.ex_store.specs.declared.row.Row.{Row}
+use Rattle.ex_store.specs.Adding.{Outcome}
+use Rattle.ex_store.specs.Plan.{IsRefused, sources, with_rows}
+use Rattle.ex_store.specs.Positions.{elements_at, positions_from}
+use Rattle.ex_store.specs.Ready.{Change, IsMade, done_on, outcome_of}
+use Rattle.ex_store.specs.Selection.{is_meant}
+use Rattle.ex_store.specs.State.{State}
+use Rattle.ex_store.proofs.PositionsLaws.{elements_filter}
+
+-- the directories, sources and rows that a plan is made of are those of the state
+pub record IsOver (state : State) (from : Place) (directories : List Directory) (taken rows : List Row) : Type 0 where
+  pub directories_are : directories ≡ state.directories
+  pub sources_are : taken ≡ sources from state
+  pub rows_are : rows ≡ state.rows
+
+-- the sources are taken by the places that the code walks
+pub is_over : (state : State) (from : Place) (directories : List Directory) (rows : List Row) (given positions : List ℕ)
+    → directories ≡ state.directories → rows ≡ state.rows → given ≡ positions
+    → positions ≡ positions_from (is_meant from.flags.deleted from state) 0 state.rows
+    → IsOver state from directories (elements_at rows given) rows
+is_over state from directories rows given positions same_directories same_rows told found = record {
+  directories_are = same_directories;
+  sources_are = rw (same_rows, told, found) (elements_filter (is_meant from.flags.deleted from state) state.rows);
+  rows_are = same_rows;
+}
+
+-- what is made of the lists that the code has is the plan, done on the state
+pub made_by : (plan : List Directory → List Row → List Row → Result Outcome Code) (state : State) (from : Place)
+    (directories : List Directory) (taken rows : List Row) (change : Change) → IsOver state from directories taken rows
+    → IsMade directories rows (plan directories taken rows) change
+    → with_rows state (plan state.directories (sources from state) state.rows) ≡ Ok (done_on state change)
+made_by plan state from directories taken rows change over made =
+    let comes : plan state.directories (sources from state) state.rows ≡ Ok (outcome_of state.rows change) =
+    rw (← over.sources_are, ← over.directories_are, ← over.rows_are) made.outcome in
+    rw (comes, made.none) refl
+
+-- and what is refused of them, the plan refuses
+pub refused_by : (plan : List Directory → List Row → List Row → Result Outcome Code) (state : State) (from : Place)
+    (directories : List Directory) (taken rows : List Row) (refusal : Refusal) → IsOver state from directories taken rows
+    → IsRefused (plan directories taken rows) refusal
+    → IsRefused (with_rows state (plan state.directories (sources from state) state.rows)) refusal
+refused_by plan state from directories taken rows refusals.NoMemory over refused = tt
+refused_by plan state from directories taken rows (refusals.Code code) over refused =
+    let comes : plan state.directories (sources from state) state.rows ≡ Err code =
+    rw (← over.sources_are, ← over.directories_are, ← over.rows_are) refused in
+    rw comes refl

@@ -1,0 +1,219 @@
+-- Rows are marked, cleared of their mark, and taken out: the rows stay those of a store.
+use Rattle.std.proofs.Common.{◌≡◌, ℕ, suc, zero, ◌+◌, ◌<◌, ◌≤◌, nat_lt, ◌&&◌, Bool, true, false, cond, List, [], ◌∷◌, ◌++◌, append_assoc, drop, drop-cons, filter, get_or, length, length-append, map, set, refl, ap, arith, ◌∙◌, sym}
+use Rattle.std.specs.List.{list_all}
+use Rattle.std.proofs.lemmas.Bool.{and_from, and_parts, lt-ltb}
+use Rattle.std.proofs.lemmas.List.{length-map}
+use Rattle.std.proofs.lemmas.List.Sums.{count_by-le-length, length-filter}
+use Rattle.ex_store.specs.declared.directory.Directory.{Directory}
+use Rattle.ex_store.specs.declared.row.Row.{Row}
+use Rattle.ex_store.specs.Positions.{all_changed_at, changed_at, positions_from}
+use Rattle.ex_store.specs.Rows.{by_row, full_of, is_short, total, with_mark}
+use Rattle.ex_store.specs.State.{State}
+use Rattle.ex_store.specs.WellFormed.{AreRows, IsWellFormed, is_row_among}
+use Rattle.ex_store.proofs.AscendsLaws.{all_filter, ascends_filter, ascends_map}
+use Rattle.ex_store.proofs.BuiltLaws.{all_more}
+use Rattle.ex_store.proofs.TotalLaws.{total_cons}
+use Rattle.ex_store.proofs.AreRowsLaws.{by_row_total}
+
+next_one : (n : ℕ) → suc n + 1 ≡ suc (n + 1)
+next_one n = omega arith
+
+add_one : (n : ℕ) → n + 1 ≡ suc n
+add_one n = omega arith
+
+-- the element at a place is changed
+changed_is_set : {X : Type 0} (change : X → X) (xs : List X) (at : ℕ) (d : X) → at < length xs
+    → changed_at change xs at ≡ set xs at (change (get_or xs at d))
+changed_is_set change [] at d below = absurd (omega arith)
+changed_is_set change (x ∷ xs) zero d below = refl
+changed_is_set change (x ∷ xs) (suc at) d below =
+    rw (next_one at) (ap (λ rest. x ∷ rest) (changed_is_set change xs at d (omega arith)))
+
+-- one place more
+pub changed_more : {X : Type 0} (change : X → X) (xs : List X) (positions : List ℕ) (i at : ℕ) (d : X) → i < length positions
+    → at ≡ get_or positions i 0 → at < length xs
+    → all_changed_at change (set xs at (change (get_or xs at d))) (drop (i + 1) positions) ≡ all_changed_at change xs (drop i positions)
+changed_more change xs positions i at d within is below =
+    let first : drop i positions ≡ at ∷ drop (i + 1) positions = rw (add_one i, is) (drop-cons positions i 0 within) in
+    ap (λ changed. all_changed_at change changed (drop (i + 1) positions)) (sym (changed_is_set change xs at d below))
+    ∙ ap (all_changed_at change xs) (sym first)
+
+-- the element behind those that are passed is changed
+changed_behind : {X : Type 0} (change : X → X) (front : List X) (x : X) (xs : List X)
+    → changed_at change (front ++ x ∷ xs) (length front) ≡ front ++ change x ∷ xs
+changed_behind change [] x xs = refl
+changed_behind change (y ∷ front) x xs =
+    rw (next_one (length front)) (ap (λ rest. y ∷ rest) (changed_behind change front x xs))
+
+-- an element more is passed
+passed : {X : Type 0} (front : List X) (x : X) (xs : List X) → (front ++ x ∷ []) ++ xs ≡ front ++ x ∷ xs
+passed front x xs = append_assoc front (x ∷ []) xs
+
+counted : {X : Type 0} (front : List X) (x : X) → length (front ++ x ∷ []) ≡ length front + 1
+counted front x = length-append front (x ∷ [])
+
+-- an element that passes a test is changed, and else stays
+abbrev pub where_passing : {X : Type 0} → (X → Bool) → (X → X) → X → X
+where_passing test change x = cond (test x) (change x) x
+
+changed_from : {X : Type 0} (test : X → Bool) (change : X → X) (front xs : List X)
+    → all_changed_at change (front ++ xs) (positions_from test (length front) xs) ≡ front ++ map (where_passing test change) xs
+changed_from test change front [] = refl
+changed_from test change front (x ∷ xs) =
+    by (test x) (changed_from test change (front ++ change x ∷ []) xs) (changed_from test change (front ++ x ∷ []) xs)
+  where
+    by : (passes : Bool)
+        → all_changed_at change ((front ++ change x ∷ []) ++ xs) (positions_from test (length (front ++ change x ∷ [])) xs)
+        ≡ (front ++ change x ∷ []) ++ map (where_passing test change) xs
+        → all_changed_at change ((front ++ x ∷ []) ++ xs) (positions_from test (length (front ++ x ∷ [])) xs)
+        ≡ (front ++ x ∷ []) ++ map (where_passing test change) xs
+        → all_changed_at change (front ++ x ∷ xs)
+        (cond passes (length front ∷ positions_from test (length front + 1) xs) (positions_from test (length front + 1) xs))
+        ≡ front ++ cond passes (change x) x ∷ map (where_passing test change) xs
+    by true changed kept =
+        ap (λ rows. all_changed_at change rows (positions_from test (length front + 1) xs)) (changed_behind change front x xs ∙ sym (passed front (change x) xs))
+        ∙ (ap (λ n. all_changed_at change ((front ++ change x ∷ []) ++ xs) (positions_from test n xs)) (sym (counted front (change x)))
+        ∙ (changed ∙ passed front (change x) (map (where_passing test change) xs)))
+    by false changed kept =
+        ap (λ rows. all_changed_at change rows (positions_from test (length front + 1) xs)) (sym (passed front x xs))
+        ∙ (ap (λ n. all_changed_at change ((front ++ x ∷ []) ++ xs) (positions_from test n xs)) (sym (counted front x))
+        ∙ (kept ∙ passed front x (map (where_passing test change) xs)))
+
+-- what passes a test is changed, and nothing else
+pub changed_at_positions : {X : Type 0} (test : X → Bool) (change : X → X) (xs : List X)
+    → all_changed_at change xs (positions_from test 0 xs) ≡ map (where_passing test change) xs
+changed_at_positions test change xs = changed_from test change [] xs
+
+-- each place is one of the list
+positions_below : {X : Type 0} (test : X → Bool) (at : ℕ) (xs : List X) (n : ℕ) → at + length xs ≤ n
+    → list_all (λ position. nat_lt position n) (positions_from test at xs) ≡ true
+positions_below test at [] n within = refl
+positions_below test at (x ∷ xs) n within = by (test x) (positions_below test (at + 1) xs n (omega arith))
+  where
+    by : (passes : Bool) → list_all (λ position. nat_lt position n) (positions_from test (at + 1) xs) ≡ true
+        → list_all (λ position. nat_lt position n) (cond passes (at ∷ positions_from test (at + 1) xs) (positions_from test (at + 1) xs)) ≡ true
+    by true rest = and_from _ _ (lt-ltb at n (omega arith)) rest
+    by false rest = rest
+
+pub positions_within : {X : Type 0} (test : X → Bool) (xs : List X)
+    → list_all (λ position. nat_lt position (length xs)) (positions_from test 0 xs) ≡ true
+positions_within test xs = positions_below test 0 xs (length xs) (omega arith)
+
+-- as many as pass
+pub length-positions_from : {X : Type 0} (test : X → Bool) (at : ℕ) (xs : List X)
+    → length (positions_from test at xs) ≡ length (filter test xs)
+length-positions_from test at [] = refl
+length-positions_from test at (x ∷ xs) = by (test x) (length-positions_from test (at + 1) xs)
+  where
+    by : (passes : Bool) → length (positions_from test (at + 1) xs) ≡ length (filter test xs)
+        → length (cond passes (at ∷ positions_from test (at + 1) xs) (positions_from test (at + 1) xs))
+        ≡ length (cond passes (x ∷ filter test xs) (filter test xs))
+    by true rest = ap suc rest
+    by false rest = rest
+
+-- a test that does not see a change
+all_map_same : {X : Type 0} (test : X → Bool) (change : X → X) → ((x : X) → test (change x) ≡ test x) → (xs : List X)
+    → list_all test (map change xs) ≡ list_all test xs
+all_map_same test change same [] = refl
+all_map_same test change same (x ∷ xs) = rw (same x) (ap (λ rest. test x && rest) (all_map_same test change same xs))
+
+total_map_same : (change : Row → Row) → ((row : Row) → length (change row).file.bytes ≡ length row.file.bytes) → (rows : List Row)
+    → total (map change rows) ≡ total rows
+total_map_same change same [] = refl
+total_map_same change same (row ∷ rows) =
+    let rest : total (map change rows) ≡ total rows = total_map_same change same rows in
+    omega (arith, total_cons (change row) (map change rows), total_cons row rows, same row)
+
+total_filter : (keep : Row → Bool) (rows : List Row) → total (filter keep rows) ≤ total rows
+total_filter keep [] = omega arith
+total_filter keep (row ∷ rows) = by (keep row) (total_filter keep rows)
+  where
+    by : (kept : Bool) → total (filter keep rows) ≤ total rows
+        → total (cond kept (row ∷ filter keep rows) (filter keep rows)) ≤ total (row ∷ rows)
+    by true rest = omega (arith, total_cons row (filter keep rows), total_cons row rows)
+    by false rest = omega (arith, total_cons row rows)
+
+same_full : (test : Row → Bool) (deleted : Bool) (row : Row) → full_of (where_passing test (with_mark deleted) row) ≡ full_of row
+same_full test deleted row = by (test row)
+  where
+    by : (passes : Bool) → full_of (cond passes (with_mark deleted row) row) ≡ full_of row
+    by true = refl
+    by false = refl
+
+same_form : (directories : List Directory) (test : Row → Bool) (deleted : Bool) (row : Row)
+    → is_row_among directories (where_passing test (with_mark deleted) row) ≡ is_row_among directories row
+same_form directories test deleted row = by (test row)
+  where
+    by : (passes : Bool) → is_row_among directories (cond passes (with_mark deleted row) row) ≡ is_row_among directories row
+    by true = refl
+    by false = refl
+
+same_size : (test : Row → Bool) (deleted : Bool) (row : Row)
+    → length (where_passing test (with_mark deleted) row).file.bytes ≡ length row.file.bytes
+same_size test deleted row = by (test row)
+  where
+    by : (passes : Bool) → length (cond passes (with_mark deleted row) row).file.bytes ≡ length row.file.bytes
+    by true = refl
+    by false = refl
+
+same_order : (test : Row → Bool) (deleted : Bool) (row other : Row)
+    → by_row (where_passing test (with_mark deleted) row) (where_passing test (with_mark deleted) other) ≡ by_row row other
+same_order test deleted row other = by (test row) (test other)
+  where
+    by : (first second : Bool) → by_row (cond first (with_mark deleted row) row) (cond second (with_mark deleted other) other) ≡ by_row row other
+    by true true = refl
+    by true false = refl
+    by false true = refl
+    by false false = refl
+
+-- rows that are marked are rows of a store
+pub rows_marked : (directories : List Directory) (rows : List Row) (test : Row → Bool) (deleted : Bool) → AreRows directories rows
+    → AreRows directories (map (where_passing test (with_mark deleted)) rows)
+rows_marked directories rows test deleted are = record {
+  ascend = ascends_map by_row by_row _ (same_order test deleted) rows ∙ are.ascend;
+  within = all_map_same (is_row_among directories) _ (same_form directories test deleted) rows ∙ are.within;
+  few = omega (arith, length-map rows (where_passing test (with_mark deleted)), are.few);
+  small = omega (arith, total_map_same (where_passing test (with_mark deleted)) (same_size test deleted) rows, are.small);
+}
+
+-- rows that are left are rows of a store
+pub rows_left : (directories : List Directory) (rows : List Row) (keep : Row → Bool) → AreRows directories rows
+    → AreRows directories (filter keep rows)
+rows_left directories rows keep are = record {
+  ascend = ascends_filter by_row by_row_total keep rows are.ascend;
+  within = all_filter (is_row_among directories) keep rows are.within;
+  few = omega (arith, length-filter keep rows, count_by-le-length keep rows, are.few);
+  small = omega (arith, total_filter keep rows, are.small);
+}
+
+-- a file of a store has no more bytes than one may have
+pub rows_short : (directories : List Directory) (rows : List Row) → AreRows directories rows → list_all is_short rows ≡ true
+rows_short directories rows are = all_more (is_row_among directories) is_short rows (λ row is. (and_parts _ _ is).1) are.within
+
+pub well_formed_with_rows : (state : State) (rows : List Row) → IsWellFormed state → AreRows state.directories rows
+    → IsWellFormed (record state { rows = rows })
+well_formed_with_rows state rows well are = record {
+  draft = record {
+    directories_ascend = well.draft.directories_ascend;
+    directories_within = well.draft.directories_within;
+    few_directories = well.draft.few_directories;
+    logical_ascend = well.draft.logical_ascend;
+    logical_within = well.draft.logical_within;
+    few_logical = well.draft.few_logical;
+    rows = are;
+    queue_within = well.draft.queue_within;
+    few_entries = well.draft.few_entries;
+  };
+  connected_there = well.connected_there;
+}
+
+-- the rows that are marked are those that pass
+pub marked_rows : (test : Row → Bool) (deleted : Bool) (rows before after : List Row) (given positions : List ℕ) → before ≡ rows
+    → given ≡ positions → positions ≡ positions_from test 0 rows → after ≡ all_changed_at (with_mark deleted) before given
+    → after ≡ map (where_passing test (with_mark deleted)) rows
+marked_rows test deleted rows before after given positions same told found marked =
+    rw (marked, told, found, same) (changed_at_positions test (with_mark deleted) rows)
+
+pub positions_fit : (test : Row → Bool) (rows before : List Row) (given positions : List ℕ) → before ≡ rows → given ≡ positions
+    → positions ≡ positions_from test 0 rows → list_all (λ at. nat_lt at (length before)) given ≡ true
+positions_fit test rows before given positions same told found = rw (told, found, same) (positions_within test rows)

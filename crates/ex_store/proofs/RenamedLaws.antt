@@ -1,0 +1,191 @@
+-- A source that is taken out and added under another name: one step of a renaming.
+use Rattle.std.proofs.Common.{◌≡◌, ℕ, ◌+◌, nat_lt, nat_le, true, false, List, [], ◌∷◌, ◌++◌, length, map, Result, Ok, Err, Some, refl, ap, arith, ◌∙◌, sym, subst}
+use Rattle.std.specs.Option.{option_map}
+use Rattle.std.proofs.lemmas.Bool.Decides.{nat_tests}
+use Rattle.cm_fields.specs.declared.code.Code.{Code}
+use Rattle.ex_generations.specs.declared.file.TheConstants.{FILE_LIMIT}
+use Rattle.ex_store.specs.declared.directory.Directory.{Directory}
+use Rattle.ex_store.specs.declared.key.FullName.{FullName}
+use Rattle.ex_store.specs.declared.key.NamePair.{NamePair}
+use Rattle.ex_store.specs.declared.limits.TheConstants.{ROW_LIMIT, STORE_LIMIT}
+use Rattle.ex_store.specs.declared.place.Place.{Place}
+use Rattle.ex_store.specs.declared.ready.RowChange.{RowChange}
+use Rattle.ex_store.specs.declared.ready.RowChange.TheVariants as changes
+use Rattle.ex_store.specs.declared.row.Row.{Row}
+use Rattle.ex_store.specs.Adding.{admitted, and_then, each_in_turn, limited, new_row, numbered}
+use Rattle.ex_store.specs.Copying.{key_from}
+use Rattle.ex_store.specs.Plan.{IsTarget}
+use Rattle.ex_store.specs.Positions.{elements_at}
+use Rattle.ex_store.specs.Ready.{rows_after_all, moved, reinserted, with_name}
+use Rattle.ex_store.specs.Renaming.{AreDistinct, renamed}
+use Rattle.ex_store.specs.Rows.{added, blank, files_of, full_of, row_at, total, without}
+use Rattle.ex_store.specs.WellFormed.{AreRows, is_row_among}
+use Rattle.ex_store.proofs.AdmittedLaws.{IsRoomy, and_then_ok, counted_target, numbered_free, rows_added}
+use Rattle.ex_store.proofs.AscendsLaws.{sorted_ascends}
+use Rattle.ex_store.proofs.BlankLaws.{numbered_blank, reinserted_blank, row_at_blank, without_blank}
+use Rattle.ex_store.proofs.AllCopiedLaws.{IsUnderWay, way_start, formed, from_formed, outcome_at, rows_after_more}
+use Rattle.ex_store.proofs.AllRenamedLaws.{AreThere, length_without, plain, rows_without, some_of, there_elements, there_moved, total_without}
+use Rattle.ex_store.proofs.AreRowsLaws.{absent_has, by_row_total}
+use Rattle.ex_store.specs.Rows.{by_row}
+
+roomy_limited : (files bytes size generation : ℕ) → IsRoomy files bytes size → limited files bytes size generation ≡ Ok generation
+roomy_limited files bytes size generation room =
+    let few : nat_le ROW_LIMIT files ≡ false = grind (arith, nat_tests, room.few) in
+    let short : nat_lt FILE_LIMIT size ≡ false = grind (arith, nat_tests, room.short) in
+    let small : nat_lt STORE_LIMIT (bytes + size) ≡ false = grind (arith, nat_tests, room.small) in
+    rw (few, short, small) refl
+
+roomy_then : (files bytes size : ℕ) (asked : Result ℕ Code) → IsRoomy files bytes size → and_then (limited files bytes size) asked ≡ asked
+roomy_then files bytes size (Ok number) room = roomy_limited files bytes size number room
+roomy_then files bytes size (Err code) room = refl
+
+-- what is known where a source is taken out
+pub record IsTaken (directories : List Directory) (to : Place) (rows : List Row) (source : Row) : Type 0 where
+  pub found : Row
+  pub is : row_at (full_of source) rows ≡ Some found
+  pub moment : found.file.moment ≡ source.file.moment
+  pub bytes : found.file.bytes ≡ source.file.bytes
+  pub left : AreRows directories (without (full_of source) rows)
+  pub room : IsRoomy (length (without (full_of source) rows)) (total (without (full_of source) rows)) (length source.file.bytes)
+
+taken : (directories : List Directory) (to : Place) (rows : List Row) (source : Row) → AreRows directories rows
+    → is_row_among directories source ≡ true
+    → option_map plain (row_at (full_of source) rows) ≡ Some (plain source) → IsTaken directories to rows source
+taken directories to rows source are form here =
+    let found = some_of (row_at (full_of source) rows) source here in
+    let bytes : found.0.file.bytes ≡ source.file.bytes = ap (λ (row : Row). row.file.bytes) found.2 in
+    let size : length found.0.file.bytes ≡ length source.file.bytes = ap length bytes in
+    let count = length_without (full_of source) rows found.0 found.1 in
+    let all = total_without (full_of source) rows found.0 found.1 in
+    let few = are.few in
+    let small = are.small in
+    let short = (formed directories source form).short in
+    record {
+      found = found.0;
+      is = found.1;
+      moment = ap (λ (row : Row). row.file.moment) found.2;
+      bytes = bytes;
+      left = rows_without directories (full_of source) rows found.0 are found.1;
+      room = record {
+        few = omega (arith, count, few);
+        short = grind (arith, nat_tests);
+        small = omega (arith, all, size, small);
+      };
+    }
+
+-- the names that a source had and has
+abbrev pub pair_for : Place → Row → List Row → Result NamePair Code
+pair_for to source rows =
+    and_then (λ generation. Ok (record {
+      source = full_of source;
+      target = record { key = key_from to source.key; generation = generation };
+    })) (numbered to.generation (files_of (key_from to source.key) (without (full_of source) rows)))
+
+-- the walk over the sources of a renaming
+pub record IsRenaming (directories : List Directory) (keep : ℕ) (to : Place) (rows whole left : List Row)
+    (done : List RowChange) (pairs : List NamePair) (simulated : List Row) : Type 0 where
+  pub on : IsUnderWay (renamed keep to) directories keep rows whole left done pairs simulated
+  pub there : AreThere (rows_after_all keep rows done) left
+  pub distinct : AreDistinct left
+
+pub renaming_start : (directories : List Directory) (keep : ℕ) (to : Place) (rows : List Row) (positions : List ℕ) → AreRows directories rows
+    → AreDistinct (elements_at rows positions)
+    → IsRenaming directories keep to rows (elements_at rows positions) (elements_at rows positions) [] [] (map blank rows)
+renaming_start directories keep to rows positions are distinct = record {
+  on = way_start (renamed keep to) directories keep rows (elements_at rows positions) are;
+  there = there_elements rows positions (sorted_ascends by_row by_row_total rows are.ascend);
+  distinct = distinct;
+}
+
+-- the code asks the rows without their bytes
+simulated_pair : (to : Place) (source : Row) (rows simulated : List Row) → simulated ≡ map blank rows → pair_for to source simulated ≡ pair_for to source rows
+simulated_pair to source rows simulated is =
+    rw (is, without_blank (full_of source) rows, numbered_blank to.generation (key_from to source.key) (without (full_of source) rows)) refl
+
+pub renames_refused : (directories : List Directory) (keep : ℕ) (to : Place) (rows whole more : List Row) (source : Row)
+    (done : List RowChange) (pairs : List NamePair) (simulated : List Row) (code : Code) → is_row_among directories source ≡ true
+    → IsRenaming directories keep to rows whole (source ∷ more) done pairs simulated → pair_for to source simulated ≡ Err code
+    → each_in_turn (renamed keep to) whole (record { rows = rows; pairs = [] }) ≡ Err code
+renames_refused directories keep to rows whole more source done pairs simulated code form is refused =
+    let so_far = rows_after_all keep rows done in
+    let key = key_from to source.key in
+    let known = taken directories to so_far source is.on.sound form is.there.0 in
+    let none : numbered to.generation (files_of key (without (full_of source) so_far)) ≡ Err code =
+    asked_none (numbered to.generation (files_of key (without (full_of source) so_far))) (sym (simulated_pair to source so_far simulated is.on.simulated_are) ∙ refused) in
+    let asked : admitted key to.generation (length source.file.bytes) (without (full_of source) so_far) ≡ Err code =
+    roomy_then _ _ _ (numbered to.generation (files_of key (without (full_of source) so_far))) known.room ∙ none in
+    sym is.on.walk ∙ rw asked refl
+  where
+    asked_none : (asked : Result ℕ Code) → and_then {B = NamePair} (λ generation. Ok (record {
+      source = full_of source;
+      target = record { key = key_from to source.key; generation = generation };
+    })) asked ≡ Err code → asked ≡ Err code
+    asked_none (Ok number) is = absurd (cc)
+    asked_none (Err other) is = cc
+
+simulated_moved : (keep : ℕ) (full target : FullName) (rows simulated : List Row) → simulated ≡ map blank rows
+    → reinserted keep target (without full simulated) (row_at full simulated)
+    ≡ map blank (reinserted keep target (without full rows) (row_at full rows))
+simulated_moved keep full target rows simulated is =
+    rw (is, without_blank full rows, row_at_blank full rows) (reinserted_blank keep target (without full rows) (row_at full rows))
+
+-- the names that a source had and has under a number
+abbrev named : Place → Row → ℕ → NamePair
+named to source number =
+    record { source = full_of source; target = record { key = key_from to source.key; generation = number } }
+
+renames_step : (directories : List Directory) (keep : ℕ) (to : Place) (rows whole more : List Row) (source : Row)
+    (done : List RowChange) (pairs : List NamePair) (simulated : List Row) (number : ℕ) → IsTarget to directories
+    → is_row_among directories source ≡ true
+    → IsRenaming directories keep to rows whole (source ∷ more) done pairs simulated
+    → numbered to.generation (files_of (key_from to source.key) (without (full_of source) (rows_after_all keep rows done))) ≡ Ok number
+    → IsRenaming directories keep to rows whole more (done ++ changes.Move (named to source number) ∷ [])
+    (pairs ++ named to source number ∷ [])
+    (moved keep (named to source number) simulated)
+renames_step directories keep to rows whole more source done pairs simulated number target form is numbers =
+    let so_far = rows_after_all keep rows done in
+    let key = key_from to source.key in
+    let left = without (full_of source) so_far in
+    let known = taken directories to so_far source is.on.sound form is.there.0 in
+    let new = new_row key source.file.moment source.file.bytes number in
+    let asked : admitted key to.generation (length source.file.bytes) left ≡ Ok number =
+    roomy_then _ _ _ (numbered to.generation (files_of key left)) known.room ∙ numbers in
+    let free = numbered_free to.generation (files_of key left) number (counted_target to.generation target.generation) numbers in
+    let shape = from_formed directories to source source.file.moment number target form (formed directories source form).moment free.within in
+    let same : with_name (named to source number).target known.found ≡ new = rw (known.moment, known.bytes) refl in
+    let put : reinserted keep (named to source number).target left (row_at (full_of source) so_far) ≡ added keep new left =
+    rw (known.is, same) refl in
+    let next : rows_after_all keep rows (done ++ changes.Move (named to source number) ∷ []) ≡ added keep new left =
+    rows_after_more keep rows done (changes.Move (named to source number)) ∙ put in
+    record {
+      on = record {
+        walk = rw next (step_on asked is.on.walk);
+        sound = rw next (rows_added directories keep new left known.left (record { free = free; roomy = known.room }) shape);
+        simulated_are = rw next (simulated_moved keep (full_of source) (named to source number).target so_far simulated is.on.simulated_are ∙ ap (map blank) put);
+      };
+      there = rw next (there_moved keep source new so_far more (absent_has key number left free.absent) is.distinct.0 is.there.1);
+      distinct = is.distinct.1;
+    }
+  where
+    step_on : admitted (key_from to source.key) to.generation (length source.file.bytes) (without (full_of source) (rows_after_all keep rows done)) ≡ Ok number
+        → each_in_turn (renamed keep to) (source ∷ more) (outcome_at keep rows done pairs) ≡ each_in_turn (renamed keep to) whole (record { rows = rows; pairs = [] })
+        → each_in_turn (renamed keep to) more (record {
+          rows = added keep (new_row (key_from to source.key) source.file.moment source.file.bytes number) (without (full_of source) (rows_after_all keep rows done));
+          pairs = pairs ++ named to source number ∷ [];
+        }) ≡ each_in_turn (renamed keep to) whole (record { rows = rows; pairs = [] })
+    step_on asked walk = rw asked at walk
+
+pub renames_more : (directories : List Directory) (keep : ℕ) (to : Place) (rows whole more : List Row) (source : Row)
+    (done : List RowChange) (pairs : List NamePair) (simulated : List Row) (pair : NamePair) → IsTarget to directories
+    → is_row_among directories source ≡ true
+    → IsRenaming directories keep to rows whole (source ∷ more) done pairs simulated → pair_for to source simulated ≡ Ok pair
+    → IsRenaming directories keep to rows whole more (done ++ changes.Move pair ∷ []) (pairs ++ pair ∷ [])
+    (moved keep pair simulated)
+renames_more directories keep to rows whole more source done pairs simulated pair target form is names =
+    let parts = and_then_ok (λ number. Ok (named to source number))
+    (numbered to.generation (files_of (key_from to source.key) (without (full_of source) (rows_after_all keep rows done)))) pair
+    (sym (simulated_pair to source (rows_after_all keep rows done) simulated is.on.simulated_are) ∙ names) in
+    let same : named to source parts.0 ≡ pair = cc in
+    subst (λ (pair : NamePair). IsRenaming directories keep to rows whole more (done ++ changes.Move pair ∷ []) (pairs ++ pair ∷ [])
+    (moved keep pair simulated)) same
+    (renames_step directories keep to rows whole more source done pairs simulated parts.0 target form is parts.1)

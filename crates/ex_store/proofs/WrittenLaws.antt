@@ -1,0 +1,109 @@
+-- A file is written: the row that is added, and what the plan comes to.
+use Rattle.std.proofs.Common.{◌≡◌, ◌||◌, ℕ, Bool, true, false, cond, List, [], ◌∷◌, length, unwrap_or, Result, Ok, Err, Option, Some, None, refl, ap}
+use Rattle.std.proofs.lemmas.Bool.{le-leb, or_parts}
+use Rattle.cm_fields.specs.declared.code.Code.{Code}
+use Rattle.cm_fields.specs.declared.code.Code.TheVariants.{NameNeeded}
+use Rattle.cm_fields.specs.declared.value.Gen.{Gen}
+use Rattle.ex_generations.specs.declared.file.TheConstants.{FILE_LIMIT}
+use Rattle.ex_store.specs.declared.key.Key.{Key}
+use Rattle.ex_store.specs.declared.place.Place.{Place}
+use Rattle.ex_store.specs.declared.plan.Plan.TheVariants as plans
+use Rattle.ex_store.specs.declared.ready.RowChange.TheVariants as changes
+use Rattle.ex_store.specs.declared.row.Row.{Row}
+use Rattle.ex_store.specs.Adding.{admitted, and_then, limited, new_row, numbered, placed}
+use Rattle.ex_store.specs.Copying.{is_star, lacks_name, moment_of, own_key, written}
+use Rattle.ex_store.specs.Plan.{IsTarget, keep_at, may_be, planned, with_rows}
+use Rattle.ex_store.specs.Ready.{Change, applied, done_on}
+use Rattle.ex_store.specs.Rows.{files_of, full_of, total}
+use Rattle.ex_store.specs.State.{State}
+use Rattle.ex_store.specs.WellFormed.{IsWellFormed, is_file_name, is_file_type, is_row_among}
+use Rattle.ex_store.proofs.AdmittedLaws.{admitted_is, counted_target, rows_added}
+use Rattle.ex_store.proofs.AllCopiedLaws.{formed_is, moment_within}
+use Rattle.ex_store.proofs.RemarkedLaws.{well_formed_with_rows}
+
+-- what is asked of the rows that the code has is what is asked of those of the state
+pub asked_is : (key given : Key) (generation : Gen) (size count all : ℕ) (rows before : List Row) (answer : Result ℕ Code) → given ≡ key → before ≡ rows
+    → all ≡ total rows → count ≡ size → answer ≡ and_then (limited (length before) all count) (numbered generation (files_of given before))
+    → answer ≡ admitted key generation size rows
+asked_is key given generation size count all rows before answer same from sum sized is =
+    rw (is, same, from, sum, sized) refl
+
+-- the row that is written
+abbrev pub written_row : Place → ℕ → List ℕ → ℕ → Row
+written_row to moment bytes generation = new_row (own_key to) (moment_of moment) bytes generation
+
+-- the change that adds one row, which is its own source
+abbrev pub adds_one : ℕ → Row → Change
+adds_one keep row =
+    record {
+      directory = None;
+      keep = keep;
+      row_changes = changes.Add row ∷ [];
+      pairs = (record { source = full_of row; target = full_of row }) ∷ [];
+    }
+
+nameless : {A : Type 0} (b : Bool) (rest : Result A Code) → b ≡ true → cond b (Err NameNeeded) rest ≡ Err NameNeeded
+nameless true rest is = refl
+nameless false rest is = absurd (cc)
+
+named : {A : Type 0} (b : Bool) (rest out : Result A Code) → b ≡ false → rest ≡ out → cond b (Err NameNeeded) rest ≡ out
+named true rest out is e = absurd (cc)
+named false rest out is e = e
+
+pub write_nameless : (state : State) (to : Place) (bytes : List ℕ) (moment : ℕ) → lacks_name to ≡ true
+    → planned (plans.Write to bytes) moment state ≡ Err NameNeeded
+unfolding planned
+write_nameless state to bytes moment lacks = ap (with_rows state) (nameless (lacks_name to) _ lacks)
+
+pub write_refused : (state : State) (to : Place) (bytes : List ℕ) (moment : ℕ) (code : Code) → lacks_name to ≡ false
+    → admitted (own_key to) to.generation (length bytes) state.rows ≡ Err code
+    → planned (plans.Write to bytes) moment state ≡ Err code
+unfolding planned
+write_refused state to bytes moment code has refused =
+    ap (with_rows state) (named (lacks_name to) _ (Err code) has (rw refused refl))
+
+pub write_ready : (state : State) (to : Place) (bytes : List ℕ) (moment keep generation : ℕ) (change : Change) → lacks_name to ≡ false
+    → admitted (own_key to) to.generation (length bytes) state.rows ≡ Ok generation → keep ≡ keep_at to state
+    → change ≡ adds_one keep (written_row to moment bytes generation)
+    → planned (plans.Write to bytes) moment state ≡ Ok (done_on state change)
+unfolding planned
+write_ready state to bytes moment keep generation change has admits kept is =
+    let row = written_row to moment bytes generation in
+    let done : written (keep_at to state) moment to bytes state.rows ≡ Ok (placed (keep_at to state) (full_of row) (record { rows = state.rows; pairs = [] }) row) =
+    named (lacks_name to) _ _ has (rw admits refl) in
+    rw (is, kept) (ap (with_rows state) done)
+
+plain : (star own : Bool) → star ≡ false → (star || own) ≡ true → own ≡ true
+plain true own no_star may = absurd (cc)
+plain false own no_star may = may
+
+-- name and type of a target that has a name have their forms
+own_forms : (to : Place) (name kind : Option (List ℕ)) → lacks_name (record to { name = name; kind = kind }) ≡ false
+    → may_be is_file_name name ≡ true → may_be is_file_type kind ≡ true
+    → (is_file_name (unwrap_or name []) ≡ true) × (is_file_type (unwrap_or kind []) ≡ true)
+own_forms to None kind has may_name may_kind = absurd (cc)
+own_forms to (Some name) None has may_name may_kind =
+    let parts = or_parts (is_star name) false has in
+    (plain (is_star name) (is_file_name name) parts.0 may_name, refl)
+own_forms to (Some name) (Some kind) has may_name may_kind =
+    let parts = or_parts (is_star name) (is_star kind) has in
+    (plain (is_star name) (is_file_name name) parts.0 may_name, plain (is_star kind) (is_file_type kind) parts.1 may_kind)
+
+pub write_sound : (state : State) (to : Place) (bytes : List ℕ) (moment keep generation : ℕ) (change : Change) → IsWellFormed state
+    → IsTarget to state.directories → lacks_name to ≡ false
+    → admitted (own_key to) to.generation (length bytes) state.rows ≡ Ok generation
+    → change ≡ adds_one keep (written_row to moment bytes generation)
+    → IsWellFormed (applied change state)
+write_sound state to bytes moment keep generation change well target has admits is =
+    let known = admitted_is (own_key to) to.generation (length bytes) state.rows generation (counted_target to.generation target.generation) admits in
+    let forms = own_forms to to.name to.kind has target.name target.kind in
+    let form : is_row_among state.directories (written_row to moment bytes generation) ≡ true =
+    formed_is state.directories (written_row to moment bytes generation) (record {
+      there = target.there;
+      name = forms.0;
+      kind = forms.1;
+      generation = known.free.within;
+      moment = moment_within moment;
+      short = le-leb (length bytes) FILE_LIMIT known.roomy.short;
+    }) in
+    rw is (well_formed_with_rows state _ well (rows_added state.directories keep (written_row to moment bytes generation) state.rows well.draft.rows known form))

@@ -1,0 +1,10 @@
+use Rattle.std.proofs.Common.{◌≡◌, ◌+◌, ◌≤◌, length, vec_capacity, vec_len}
+use Rattle.ex_store.specs.Ready.{rows_after_all}
+use Rattle.ex_store.proofs.apply.change_rows.Given as goal
+
+abbrev pub invariant-loop-change : goal.invariant-loop-change
+invariant-loop-change l = record {
+  done : l.rows.items ≡ rows_after_all l.keep l.fn.rows.items l.yielded;
+  len : vec_len l.rows ≤ vec_len l.fn.rows + length l.yielded;
+  capacity : vec_capacity l.rows ≡ vec_capacity l.fn.rows;
+}

@@ -1,6 +1,0 @@
-use Rattle.std.proofs.Common.{◌≡◌, ◌++◌, drop, map}
-use Rattle.ex_store.specs.Rows.{blank}
-use Rattle.ex_store.proofs.course.blanks.Given as goal
-
-abbrev pub invariant-loop-row : goal.invariant-loop-row
-invariant-loop-row l = l.blanks.items ++ map blank (drop l.row-index l.rows) ≡ map blank l.rows

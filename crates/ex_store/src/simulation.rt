@@ -1,0 +1,65 @@
+// A plan over files, as far as it has come.
+ghost use Rattle.std.specs.Prelude.{◌≡◌, ◌≤◌, [], length, map, IfOk, None};
+ghost use Rattle.ex_store.specs.declared.limits.TheConstants.{ROW_LIMIT};
+ghost use Rattle.ex_store.specs.Rows.{blank};
+
+use crate::{NamePair, Ready, Row, RowChange};
+use cm_io::NoMemory;
+use std::alloc::Global;
+
+// What is to be done, from which file to which one each goes, and the rows as they stand then, without their bytes.
+#[derive(Drop)]
+pub(crate) struct Simulation {
+    pub(crate) row_changes: Vec<RowChange>,
+    pub(crate) pairs: Vec<NamePair>,
+    pub(crate) simulated: Vec<Row>,
+}
+
+// The rows without their bytes.
+fn blanks(alloc: Global, rows: &[Row]) -> Result<Vec<Row>, NoMemory>
+    ensures { IfOk result (λ blanks. blanks.items ≡ map blank rows.now) }
+{
+    let mut blanks = Vec::new(alloc);
+    for row in rows {
+        blanks.push(row.blank(alloc))?;
+    }
+    Ok(blanks)
+}
+
+impl Simulation {
+    // Nothing is done yet.
+    pub(crate) fn new(alloc: Global, rows: &[Row]) -> Result<Simulation, NoMemory>
+        ensures row_changes { IfOk result (λ simulation. simulation.row_changes.items ≡ []) }
+        ensures pairs { IfOk result (λ simulation. simulation.pairs.items ≡ []) }
+        ensures simulated { IfOk result (λ simulation. simulation.simulated.items ≡ map blank rows.now) }
+    {
+        Ok(Simulation {
+            row_changes: Vec::new(alloc),
+            pairs: Vec::new(alloc),
+            simulated: blanks(alloc, rows)?,
+        })
+    }
+
+    // All that is to be done, where so many generations are kept.
+    pub(crate) fn ready(self, keep: u8) -> Ready
+        requires { length self.pairs.items ≤ ROW_LIMIT }
+        ensures { result ≡ record {
+          directory = None;
+          keep = keep;
+          row_changes = self.row_changes.items;
+          pairs = self.pairs.items;
+        } }
+    {
+        let Simulation {
+            row_changes,
+            pairs,
+            ..
+        } = self;
+        Ready {
+            directory: None,
+            keep,
+            row_changes,
+            pairs,
+        }
+    }
+}

@@ -1,0 +1,4 @@
+pub mod Feeding
+pub mod Holding
+mod Reading
+mod Writing

@@ -1,0 +1,47 @@
+// The grammar of the sessions, which asks no hook.
+use cm_blocks::{Block, Function, Grammar, Node, Role};
+use cm_hooks::Rules;
+use cm_tables::{Entry, Table};
+use cm_text::Name;
+use std::alloc::Global;
+use std::test::Fail;
+
+// What hooks mean where there are none.
+pub(crate) struct NoRules;
+
+impl Rules for NoRules {
+    ghost use Rattle.std.specs.Prelude.{[]};
+    ghost use Rattle.cm_hooks.specs.declared.answer.Answer.TheVariants.{No};
+    ghost use Rattle.cm_hooks.specs.declared.answer.Tail.TheVariants as tails;
+
+    ghost meanings = { record {
+      verdict = λ id atom. No;
+      completion = λ id atom. tails.None;
+      help = λ id. [];
+    } };
+
+    ghost lawful = { record { completes = λ id atom short. tt } };
+}
+
+// `DELETE`, and `DIRECTORY (OF) text`.
+pub(crate) fn grammar_of(alloc: Global) -> Result<Grammar, Fail> {
+    let commands = Table::new(vec![in alloc;
+        Entry::new("DELETE", 0, 1),
+        Entry::new("DIRECTORY", 1, 2),
+    ]?)?;
+    let mut nodes = Vec::new(alloc);
+    for block in blocks(alloc)? {
+        nodes.push(Node::new(vec![in alloc; block]?))?;
+    }
+    Ok(Grammar::new(nodes, vec![in alloc; commands]?)?)
+}
+
+// The blocks of the nodes, one each.
+fn blocks(alloc: Global) -> Result<Vec<Block>, Fail> {
+    Ok(vec![in alloc;
+        Block::new(Function::Key(0), Role::None, 1),
+        Block::new(Function::Confirm, Role::None, 1),
+        Block::new(Function::Noise(Name::new("OF")), Role::None, 3),
+        Block::new(Function::Text, Role::None, 1),
+    ]?)
+}
