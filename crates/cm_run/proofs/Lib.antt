@@ -5,9 +5,11 @@ pub mod Deeds
 mod FileLines
 pub mod Joining
 mod Keys
+mod LawLemmas
 mod Modes
 mod Opening
 mod Outcomes
+pub mod Prefixes
 mod Running
 mod Strokes
 mod Waiting
