@@ -55,15 +55,15 @@ module _ (state : State) (held : Option Typing) (ended : Bool) (now : ExecState)
       → ForSome held (λ (it : Typing). IsTarget it.to left.directories)
   act_target told then left answer line target acts =
       by (left_by told then (act_of command moment state) (may_allocate command) state left answer acts) where
-    behind : ForSome held (λ (it : Typing). IsTarget it.to (act_of command moment now.state).state.directories)
-    behind = subst (λ (it : Option Typing). ForSome it (λ (typing : Typing). IsTarget typing.to (act_of command moment now.state).state.directories))
-        (sym (ap (λ (it : ExecState). it.typing) is))
-        (target_kept now moment command line
-        (subst (λ (it : State). ForSome (becomes now moment command (act_of command moment now.state).answer).typing (λ (typing : Typing). IsTarget typing.to it.directories))
-        (state_kept now moment command (act_of command moment now.state).answer)
-        (subst (λ (it : ExecState). ForSome it.typing (λ (typing : Typing). IsTarget typing.to it.state.directories)) is target)))
+        behind : ForSome held (λ (it : Typing). IsTarget it.to (act_of command moment now.state).state.directories)
+        behind = subst (λ (it : Option Typing). ForSome it (λ (typing : Typing). IsTarget typing.to (act_of command moment now.state).state.directories))
+            (sym (ap (λ (it : ExecState). it.typing) is))
+            (target_kept now moment command line
+            (subst (λ (it : State). ForSome (becomes now moment command (act_of command moment now.state).answer).typing (λ (typing : Typing). IsTarget typing.to it.directories))
+            (state_kept now moment command (act_of command moment now.state).answer)
+            (subst (λ (it : ExecState). ForSome it.typing (λ (typing : Typing). IsTarget typing.to it.state.directories)) is target)))
 
-    by : (left ≡ (act_of command moment state).state) ⊎ (left ≡ state) → ForSome held (λ (it : Typing). IsTarget it.to left.directories)
-    by (inl acted) = subst (λ (it : State). ForSome held (λ (typing : Typing). IsTarget typing.to it.directories))
-        (sym (acted ∙ ap (λ (it : State). (act_of command moment it).state) state_is)) behind
-    by (inr same) = subst (λ (it : State). ForSome held (λ (typing : Typing). IsTarget typing.to it.directories)) (sym same) target
+        by : (left ≡ (act_of command moment state).state) ⊎ (left ≡ state) → ForSome held (λ (it : Typing). IsTarget it.to left.directories)
+        by (inl acted) = subst (λ (it : State). ForSome held (λ (typing : Typing). IsTarget typing.to it.directories))
+            (sym (acted ∙ ap (λ (it : State). (act_of command moment it).state) state_is)) behind
+        by (inr same) = subst (λ (it : State). ForSome held (λ (typing : Typing). IsTarget typing.to it.directories)) (sym same) target
