@@ -1,8 +1,10 @@
 // A file that is typed in.
-ghost use Rattle.std.specs.Prelude.{◌≡◌, ◌-◌, ◌≤◌, [], length, slice_get, vec_capacity, IfOk};
+ghost use Rattle.std.specs.Prelude.{◌≡◌, ◌+◌, ◌-◌, ◌≤◌, [], length, slice_get, vec_capacity, IfOk};
+ghost use Rattle.cm_io.specs.Fault.{PutCause};
+ghost use Rattle.cm_io.specs.Told.{Adds};
 ghost use Rattle.ex_generations.specs.declared.file.TheConstants.{FILE_LIMIT};
 ghost use Rattle.cm_io.specs.Writer.{Writes};
-ghost use Rattle.ex_commands.specs.Typed.{TurnCause, Types, adding, echo_text, edit, rubbing, turn_of};
+ghost use Rattle.ex_commands.specs.Typed.{adding, bytes_behind, bytes_by, echo_of, echo_text, rubbing, size_of, turn_of};
 
 use cm_io::{NoMemory, Put, Sink, Writer};
 use cm_text::{bell, control_c, end_of_line, rubout, screen_byte};
@@ -46,8 +48,6 @@ pub enum DataTurn {
     Write,
     /// Control-C: what was typed is dropped.
     Dropped,
-    /// The sink failed in the midst of what the key shows. The key has had its effect all the same.
-    Failed,
 }
 
 /// What is shown for a key.
@@ -91,77 +91,109 @@ impl Data {
         self.bytes
     }
 
-    /// Takes one key, and puts what it shows. A text byte or TAB is put in, CR or LF puts in CR and LF; what has no
-    /// room in a file rings the bell and puts nothing in. DEL takes the last byte away, but no end of a line.
+    /// Puts what a key shows, and does nothing yet. A key that has no effect rings the bell.
+    pub fn echo<S: Sink>(&self, key: u8, sink: &mut S) -> Put
+        ensures bytes { Adds (S.told sink.old) (S.told sink.new) (echo_text (echo_of self.now key)) result }
+        ensures later { S.faults sink.old ≤ S.faults sink.new }
+        ensures cause { PutCause (S.faults sink.old) (S.faults sink.new) result }
+    {
+        let mut out = Writer::new(sink);
+        put_echo(echo_of(&self.bytes, key), &mut out);
+        out.went()
+    }
+
+    /// Takes one key. A text byte or TAB is put in, CR or LF puts in CR and LF; what has no room in a file puts nothing
+    /// in. DEL takes the last byte away, but no end of a line.
     ///
     /// The answer is Write exactly at control-Z and Dropped exactly at control-C, behind which there is nothing any
-    /// more; every other key rings the bell. Failed comes only where the sink failed.
-    pub fn key<S: Sink>(&mut self, key: u8, sink: &mut S) -> DataTurn
-        ensures bytes { self.new ≡ (edit self.old key).bytes }
-        ensures typed { Types (S.told sink.old) (S.told sink.new) (edit self.old key) result }
-        ensures later { S.faults sink.old ≤ S.faults sink.new }
-        ensures cause { TurnCause (S.faults sink.old) (S.faults sink.new) result }
+    /// more; every other key has no effect.
+    pub fn take(&mut self, key: u8) -> DataTurn
+        ensures bytes { self.new ≡ bytes_behind self.old key }
+        ensures turn { result ≡ turn_of (echo_of self.old key) }
     {
-        let echo = edit(&mut self.bytes, key);
-        let mut out = Writer::new(sink);
-        put_echo(echo, &mut out);
-        match out.went() {
-            Put::Done => turn_of(echo),
-            Put::Failed => DataTurn::Failed,
-        }
+        let echo = echo_of(&self.bytes, key);
+        put_in(&mut self.bytes, echo);
+        turn_of(echo)
     }
 }
 
-// Puts bytes in, where a file has room for them.
-fn add(bytes: &mut Vec<u8>, more: &[u8], echo: Echo) -> Echo
-    requires short { length bytes.old.items ≤ FILE_LIMIT }
-    requires room { FILE_LIMIT ≤ vec_capacity bytes.old }
-    ensures edit { record { bytes = bytes.new.items; echo = result } ≡ adding bytes.old.items more.now echo }
-    ensures short { length bytes.new.items ≤ FILE_LIMIT }
-    ensures room { FILE_LIMIT ≤ vec_capacity bytes.new }
+// The key, where a file has room for what it puts in.
+fn add(bytes: &[u8], echo: Echo) -> Echo
+    requires { length bytes.now ≤ FILE_LIMIT }
+    ensures echo { result ≡ adding bytes.now echo }
+    ensures room { length bytes.now + size_of result ≤ FILE_LIMIT }
 {
-    if bytes.len() + more.len() > FILE_LIMIT {
+    if bytes.len() + size_of(echo) > FILE_LIMIT {
         return Echo::Bell;
     }
-    let _ = bytes.extend_from_slice(more);
     echo
 }
 
-// Takes the last byte away, but no end of a line.
-fn rub(bytes: &mut Vec<u8>) -> Echo
-    ensures edit { record { bytes = bytes.new.items; echo = result }
-        ≡ rubbing bytes.old.items (slice_get bytes.old.items (length bytes.old.items - 1)) }
-    ensures short { length bytes.new.items ≤ length bytes.old.items }
-    ensures room { vec_capacity bytes.new ≡ vec_capacity bytes.old }
+// How many bytes a key puts in.
+fn size_of(echo: Echo) -> usize
+    ensures size { result ≡ size_of echo }
+    ensures small { result ≤ 2 }
 {
-    match bytes.last() {
-        None | Some(&b'\n') => Echo::Bell,
-        Some(_) => {
-            bytes.pop();
-            Echo::Rubout
-        }
+    match echo {
+        Echo::Byte(_) => 1,
+        Echo::Line => 2,
+        Echo::Bell => 0,
+        Echo::Rubout => 0,
+        Echo::Written => 0,
+        Echo::Dropped => 0,
     }
 }
 
-// What a key does to the bytes, and what is shown for it.
-#[tactic(auto, unfolding(crate::specs::Typed::edit))]
-fn edit(bytes: &mut Vec<u8>, key: u8) -> Echo
+// What DEL does: the last byte goes, but no end of a line does.
+fn rub(bytes: &[u8]) -> Echo
+    ensures echo { result ≡ rubbing (slice_get bytes.now (length bytes.now - 1)) }
+    ensures size { size_of result ≡ 0 }
+{
+    match bytes.last() {
+        None | Some(&b'\n') => Echo::Bell,
+        Some(_) => Echo::Rubout,
+    }
+}
+
+// What is shown for a key.
+#[tactic(auto, unfolding(crate::specs::Typed::echo_of))]
+fn echo_of(bytes: &[u8], key: u8) -> Echo
+    requires { length bytes.now ≤ FILE_LIMIT }
+    ensures echo { result ≡ echo_of bytes.now key }
+    ensures room { length bytes.now + size_of result ≤ FILE_LIMIT }
+{
+    match key {
+        b'\t' | b' '..=b'~' => add(bytes, Echo::Byte(key)),
+        b'\r' | b'\n' => add(bytes, Echo::Line),
+        DELETE => rub(bytes),
+        CONTROL_Z => Echo::Written,
+        CONTROL_C => Echo::Dropped,
+        _ => Echo::Bell,
+    }
+}
+
+// Does to the bytes what a key does that is shown so.
+fn put_in(bytes: &mut Vec<u8>, echo: Echo)
     requires short { length bytes.old.items ≤ FILE_LIMIT }
+    requires fits { length bytes.old.items + size_of echo ≤ FILE_LIMIT }
     requires room { FILE_LIMIT ≤ vec_capacity bytes.old }
-    ensures edit { record { bytes = bytes.new.items; echo = result } ≡ edit bytes.old.items key }
+    ensures bytes { bytes.new.items ≡ bytes_by bytes.old.items echo }
     ensures short { length bytes.new.items ≤ FILE_LIMIT }
     ensures room { FILE_LIMIT ≤ vec_capacity bytes.new }
 {
-    match key {
-        b'\t' | b' '..=b'~' => add(bytes, &[key], Echo::Byte(key)),
-        b'\r' | b'\n' => add(bytes, b"\r\n", Echo::Line),
-        DELETE => rub(bytes),
-        CONTROL_Z => Echo::Written,
-        CONTROL_C => {
-            bytes.clear();
-            Echo::Dropped
+    match echo {
+        Echo::Byte(byte) => {
+            let _ = bytes.push(byte);
         }
-        _ => Echo::Bell,
+        Echo::Line => {
+            let _ = bytes.extend_from_slice(b"\r\n");
+        }
+        Echo::Rubout => {
+            bytes.pop();
+        }
+        Echo::Dropped => bytes.clear(),
+        Echo::Bell => {}
+        Echo::Written => {}
     }
 }
 

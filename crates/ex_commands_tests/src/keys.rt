@@ -1,6 +1,6 @@
 // Keys that are typed into a file.
 use crate::bytes::{are_bytes, bytes_of, cut};
-use cm_io::{CountSink, MemSink};
+use cm_io::MemSink;
 use ex_commands::{Data, DataTurn};
 use ex_generations::FILE_LIMIT;
 use std::process::Abort;
@@ -25,7 +25,8 @@ fn is_typed(
 pub(crate) fn press(typed: &mut Data, keys: &[u8], sink: &mut MemSink) -> DataTurn {
     let mut turn = DataTurn::More;
     for key in keys {
-        turn = typed.key(*key, sink);
+        typed.echo(*key, sink);
+        turn = typed.take(*key);
     }
     turn
 }
@@ -84,22 +85,21 @@ fn other_keys_ring(rt: HostRuntime) {
 }
 
 #[test]
-fn a_key_has_its_effect_when_the_sink_fails(rt: HostRuntime) {
-    let cases = "AB|Failed|AB|A
-        ^M|Failed|^M^J|^M
-        A^?|Failed||A
-        A^G|Failed|A|A
-        ^Z|Failed||^^
-        A^C|Failed||A";
+fn a_key_has_its_effect_when_its_echo_fails(rt: HostRuntime) {
+    let cases = "AB|More|AB|A
+        ^M|More|^M^J|^M
+        A^?|More||A
+        A^G|More|A|A
+        ^Z|Write||^^
+        A^C|Dropped||A";
     types_lines(&rt, 1, cases);
 }
 
 // A file with so many bytes.
 fn filled(rt: &(impl Abort + AllocGlobal), size: usize) -> Data {
     let mut typed = Data::new(rt.alloc()).expect(rt, "memory");
-    let mut sink = CountSink::new();
     for _ in 0..size {
-        typed.key(b'A', &mut sink);
+        typed.take(b'A');
     }
     typed
 }

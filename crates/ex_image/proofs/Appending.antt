@@ -45,6 +45,8 @@ appends_none tells at opened = record {
   target = λ told. refl;
   file = λ told. longer_none (at.files at.target);
   others = λ told other differs. refl;
+  loads = refl;
+  creates = refl;
   later = omega arith;
   cause = refl;
 }
@@ -62,6 +64,8 @@ appends_both tells before middle now first second result one two = record {
       (subst (λ target. Writes (middle.files target) (now.files target) second result) (one.target told) (two.file told));
   others = λ told other differs.
       two.others told other (λ same. differs (same ∙ one.target told)) ∙ one.others told other differs;
+  loads = two.loads ∙ one.loads;
+  creates = two.creates ∙ one.creates;
   later = omega arith;
   cause = cause_late before.faults middle.faults now.faults result one.cause two.cause;
 }
@@ -83,6 +87,8 @@ appends_early tells before now first second one = record {
     appended = (one.file told).appended;
   };
   others = one.others;
+  loads = one.loads;
+  creates = one.creates;
   later = one.later;
   cause = one.cause;
 }

@@ -1,7 +1,7 @@
 // The image is written to a file.
 ghost use Rattle.std.specs.Prelude.{◌≡◌, ◌≤◌, true, false, nat_lt, [], ◌++◌, map, IsTrue};
 ghost use Rattle.std.specs.List.{flat_map, list_all};
-ghost use Rattle.cm_io.specs.Fault.{PutCause};
+ghost use Rattle.cm_io.specs.Fault.{PutCause, next_count};
 ghost use Rattle.cm_io.specs.Host.{KeepsOthers};
 ghost use Rattle.ex_store.specs.declared.limits.TheConstants.{FORMS};
 ghost use Rattle.ex_store.specs.Lent.{state_of};
@@ -83,14 +83,16 @@ pub(crate) fn put_all<T: Target>(parts: &Parts<'_>, target: &mut T) -> Put
 
 /// Writes the image of a store to a file of a host: a head, a line for each directory, for the connected one, for each
 /// logical name, for each file, with its bytes behind it, and for each entry of the print queue, and an end. It takes
-/// no memory. Where the host fails, the file is absent, as before, or holds a prefix of the image. No file is open
-/// afterwards.
+/// no memory. The file is created once. Where the host fails, the file is absent, as before, or holds a prefix of the
+/// image. No file is open afterwards.
 #[tactic(auto, using(cm_io::proofs::Adding::rose_early, cm_io::proofs::Adding::rose_late, crate::proofs::Sounding::forms_of_parts,))]
 pub fn encode<H: Host>(store: &Store, host: &mut H, name: &str) -> Put
     ensures saved { IsTrue H.tells
         → Saves (image_text store.now.state) (H.files host.old name.now) (H.files host.new name.now) result }
     ensures others { IsTrue H.tells → KeepsOthers name.now (H.files host.old) (H.files host.new) }
     ensures closed { H.is_open host.new ≡ false }
+    ensures created { H.creates host.new ≡ next_count (H.creates host.old) }
+    ensures loads { H.loads host.new ≡ H.loads host.old }
     ensures later { H.faults host.old ≤ H.faults host.new }
     ensures cause { PutCause (H.faults host.old) (H.faults host.new) result }
 {

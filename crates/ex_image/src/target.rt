@@ -25,6 +25,8 @@ impl<H: Host> Target for H {
       is_open = H.is_open host;
       target = H.target host;
       files = H.files host;
+      loads = H.loads host;
+      creates = H.creates host;
       faults = H.faults host;
     } };
 

@@ -1,13 +1,5 @@
-pub mod Parts
-pub mod ExecSetting
-pub mod Steps
-pub mod Acting
-pub mod Folds
-pub mod Running
-pub mod Trying
-pub mod Ending
-pub mod Meaning
 pub mod Beginning
-pub mod Refusing
-pub mod Counting
-pub mod Leaving
+pub mod Ending
+pub mod Hooking
+pub mod Quieting
+pub mod Running

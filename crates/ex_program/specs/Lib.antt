@@ -1,14 +1,5 @@
 pub mod Asked
-pub mod Cause
-pub mod Cut
-pub mod End
 pub mod Form
-pub mod Messages
 pub mod Run
-pub mod Saving
 pub mod Scene
-pub mod Setting
-pub mod Start
-pub mod Step
-pub mod Stop
-pub mod World
+pub mod Stands

@@ -1,44 +1,45 @@
 // The program over what is outside of it.
-ghost use Rattle.std.specs.Prelude.{◌≡◌, ◌⊎◌, ◌≤◌, ◌<◌, ◌↔◌, ◌+◌, ℕ, false, List, [], ◌++◌, length, None, Some, IsTrue};
-ghost use Rattle.cm_io.specs.Host.{KeepsOthers};
+ghost use Rattle.std.specs.Prelude.{◌≡◌, ◌⊎◌, ◌≤◌, ◌<◌, ◌↔◌, ◌+◌, ℕ, false, List, ◌++◌, length, None, Some, IsTrue};
 ghost use Rattle.cm_io.specs.Told.{add};
 ghost use Rattle.cm_hooks.specs.Ties.{Ties, count};
 ghost use Rattle.cm_blocks.specs.Grammar.{hook_count};
+ghost use Rattle.cm_run.specs.Cause.{counts};
+ghost use Rattle.cm_run.specs.Event.{log_bytes, trials_of};
 ghost use Rattle.ex_grammar.specs.ExecRules.{exec_meanings};
 ghost use Rattle.ex_grammar.specs.Graph.{exec_graph};
 ghost use Rattle.ex_image.specs.Image.{image_text};
-ghost use Rattle.ex_store.specs.State.{State, first_state};
-ghost use Rattle.ex_program.specs.Cause.{HostCause, IsQuiet, StatusCause};
-ghost use Rattle.ex_program.specs.End.{Leaves, Ran, Stands};
+ghost use Rattle.ex_store.specs.State.{State};
+ghost use Rattle.ex_exec.specs.ExecState.{exec_start};
+ghost use Rattle.ex_system.specs.Cause.{IsQuiet, StatusCause};
+ghost use Rattle.ex_system.specs.Disk.{disk_of};
+ghost use Rattle.ex_system.specs.Saving.{HostCause, Saves};
+ghost use Rattle.ex_system.specs.Start.{IsRun};
+ghost use Rattle.ex_program.specs.Asked.{form_view};
 ghost use Rattle.ex_program.specs.Form.{Form, form_of};
-ghost use Rattle.ex_program.specs.Messages.{message};
-ghost use Rattle.ex_program.specs.Run.{bytes_logged, run_shown, total, world_after};
-ghost use Rattle.ex_program.specs.Saving.{Keeps};
-ghost use Rattle.ex_program.specs.Scene.{Tried};
-ghost use Rattle.ex_program.specs.Start.{Asks, StartCause};
-ghost use Rattle.ex_program.specs.Stop.{IsRun};
-ghost use Rattle.ex_program.specs.World.{starting};
-ghost use Rattle.ex_program.specs.declared.run.TheConstants.{KEY_LIMIT};
+ghost use Rattle.ex_program.specs.Run.{exec_left, exec_trace, run_shown};
+ghost use Rattle.ex_program.specs.Scene.{scene};
+ghost use Rattle.ex_program.specs.Stands.{Asks, Ran, Stands, StartCause, logs};
 
-use crate::course::Course;
-use crate::end::{close, show_message};
-use crate::run::run;
-use crate::setting::Setting;
-use crate::start::start;
 use crate::{Status, Words, words};
-use cm_blocks::Steps;
+use cm_blocks::{Grammar, Steps};
 use cm_hooks::Hooks;
 use cm_io::{Clock, Host, Sink, Source};
-use cm_state::Session;
+use cm_run::run;
+use ex_exec::Exec;
 use ex_grammar::{ExecRules, grammar};
+use ex_system::{close, refuse, start};
 use std::alloc::Global;
 use std::sync::ledger::Ledger;
 
+/// The most keys that a run takes.
+pub const KEY_LIMIT: u64 = 16_777_216;
+
 // Runs over the keys to the end, writes the image, and shows the message of the status.
-fn run_all<H: Host, K: Source, S: Sink, W: Sink, C: Clock, L: Ledger>(
-    form: words::Form<'_>,
-    under: &Setting<'_>,
-    course: &mut Course,
+fn run_exec<H: Host, K: Source, S: Sink, W: Sink, C: Clock, L: Ledger>(
+    form: &words::Form<'_>,
+    exec: &mut Exec,
+    grammar: &Grammar,
+    hooks: &Hooks<ExecRules>,
     host: &mut H,
     keys: &mut K,
     screen: &mut S,
@@ -46,58 +47,25 @@ fn run_all<H: Host, K: Source, S: Sink, W: Sink, C: Clock, L: Ledger>(
     clock: &mut C,
     steps: &mut Steps<L>,
 ) -> Status
-    requires exec { under.now.grammar ≡ exec_graph }
-    requires ties { Ties exec_meanings under.now.hooks.now }
-    requires hooks { hook_count under.now.grammar ≤ count under.now.hooks.now }
-    requires kept { course.old.session.kept ≡ None }
-    ensures ran { IsTrue K.tells → IsTrue C.tells → Ran form.entry.logs
-        (record {
-          screen = S.told screen.old;
-          screen_faults = S.faults screen.old;
-          log = W.told log.old;
-          log_faults = W.faults log.old;
-          keys = K.left keys.old;
-          keys_faults = K.faults keys.old;
-          moments = C.left clock.old;
-          steps = steps.old;
-          state = course.old.store.state;
-        })
-        (record {
-          screen = S.told screen.new;
-          screen_faults = S.faults screen.new;
-          log = W.told log.new;
-          log_faults = W.faults log.new;
-          keys = K.left keys.new;
-          keys_faults = K.faults keys.new;
-          moments = C.left clock.new;
-          steps = steps.new;
-          state = course.new.store.state;
-        })
+    requires grammar { grammar.now ≡ exec_graph }
+    requires ties { Ties exec_meanings hooks.now }
+    requires hooks { hook_count grammar.now ≤ count hooks.now }
+    requires start { exec.old ≡ exec_start exec.old.state }
+    ensures ran { Ran (IsTrue K.tells × IsTrue C.tells) (form_view form.now) exec.old.state exec.new
+        (scene S.Sink screen.old W.Sink log.old K.Source keys.old C.Clock clock.old steps.old)
+        (scene S.Sink screen.new W.Sink log.new K.Source keys.new C.Clock clock.new steps.new)
         result }
-    ensures counts { StatusCause
-        (record { screen = S.faults screen.old; log = W.faults log.old; keys = K.faults keys.old })
-        (record { screen = S.faults screen.new; log = W.faults log.new; keys = K.faults keys.new })
-        result }
-    ensures kept { IsTrue H.tells → Keeps (image_text course.new.store.state)
-        (H.files host.old form.entry.out.now) (H.files host.new form.entry.out.now) result }
-    ensures others { IsTrue H.tells
-        → KeepsOthers form.entry.out.now (H.files host.old) (H.files host.new) }
-    ensures host_cause { HostCause (H.faults host.old) (H.faults host.new) result }
+    ensures counts { StatusCause (counts (S.faults screen.old) (W.faults log.old) (K.faults keys.old))
+        (counts (S.faults screen.new) (W.faults log.new) (K.faults keys.new)) result }
+    ensures saves { Saves (disk_of H.Host host.old) (disk_of H.Host host.new) form.now.out.now exec.new.state result }
+    ensures unlogged { form.now.logs ≡ false
+        → (W.told log.new ≡ W.told log.old) × (W.faults log.new ≡ W.faults log.old) }
     ensures past_the_prompt { IsRun result }
 {
-    let stop = run(form.logs, under, course, keys, screen, log, clock, steps);
-    close(stop, &course.store, form.out, host, screen)
-}
-
-// Shows the message of a status that comes before the first prompt.
-fn refuse<S: Sink>(status: Status, screen: &mut S) -> Status
-    ensures status { result ≡ status }
-    ensures shown { Tried (S.told screen.old) (S.told screen.new)
-        (S.faults screen.old) (S.faults screen.new) [] (message status) }
-    ensures later { S.faults screen.old ≤ S.faults screen.new }
-{
-    show_message(status, screen);
-    status
+    let stop = run(
+        KEY_LIMIT, form.logs, exec, grammar, hooks, keys, screen, log, clock, steps,
+    );
+    close(stop, exec.has_ended(), exec.store(), form.out, host, screen)
 }
 
 /// The program `exec20`: takes the keys in turn, shows what they come to, logs the parse that is held after
@@ -111,7 +79,7 @@ fn refuse<S: Sink>(status: Status, screen: &mut S) -> Status
 ///
 /// `hooks` answer the EXEC's rules. `steps` counts the trials: a key costs those of its line behind the
 /// fields that the unchanged front of the line decides.
-#[tactic(auto, using(crate::proofs::ExecSetting::enough_hooks))]
+#[tactic(auto, using(crate::proofs::Hooking::enough_hooks))]
 pub fn exec20<H: Host, K: Source, S: Sink, W: Sink, C: Clock, L: Ledger>(
     alloc: Global,
     words: &Words,
@@ -129,85 +97,59 @@ pub fn exec20<H: Host, K: Source, S: Sink, W: Sink, C: Clock, L: Ledger>(
     // Where the run is Done, the screen was given what the run over all keys shows, from the state that it begins in,
     // the first one or that whose image the file IN has ..
     ensures done_shown { IsTrue K.tells → IsTrue C.tells → result ≡ Status.Done
-        → (form : Form) → (start : State)
-        → Asks (form_of words.now) (record { tells = H.tells; files = H.files host.old }) form start
+        → (form : Form) → (start : State) → Asks (form_of words.now) (disk_of H.Host host.old) form start
         → S.told screen.new ≡ add (S.told screen.old)
-        (run_shown (starting start (C.left clock.old)) (K.left keys.old)) }
+        (run_shown form.logs start (C.left clock.old) (K.left keys.old)) }
     // .. the log what it logs ..
     ensures done_logged { IsTrue K.tells → IsTrue C.tells → result ≡ Status.Done
-        → (form : Form) → (start : State)
-        → Asks (form_of words.now) (record { tells = H.tells; files = H.files host.old }) form start
+        → (form : Form) → (start : State) → Asks (form_of words.now) (disk_of H.Host host.old) form start
         → W.told log.new ≡ add (W.told log.old)
-        (bytes_logged form.logs (starting start (C.left clock.old)) (K.left keys.old)) }
+        (log_bytes (exec_trace form.logs start (C.left clock.old) (K.left keys.old))) }
     // .. the counter has risen by what the trials of all keys cost, with a log or without ..
     ensures done_counted { IsTrue K.tells → IsTrue C.tells → result ≡ Status.Done
-        → (form : Form) → (start : State)
-        → Asks (form_of words.now) (record { tells = H.tells; files = H.files host.old }) form start
-        → steps.new ≡ steps.old + total (starting start (C.left clock.old)) (K.left keys.old) }
+        → (form : Form) → (start : State) → Asks (form_of words.now) (disk_of H.Host host.old) form start
+        → steps.new ≡ steps.old + trials_of (exec_trace form.logs start (C.left clock.old) (K.left keys.old)) }
     // .. and OUT holds the image of the state that the keys leave.
     ensures done_saved { IsTrue K.tells → IsTrue C.tells → IsTrue H.tells → result ≡ Status.Done
-        → (form : Form) → (start : State)
-        → Asks (form_of words.now) (record { tells = H.tells; files = H.files host.old }) form start
+        → (form : Form) → (start : State) → Asks (form_of words.now) (disk_of H.Host host.old) form start
         → H.files host.new form.out
-        ≡ Some (image_text (world_after (starting start (C.left clock.old)) (K.left keys.old)).state) }
+        ≡ Some (image_text (exec_left form.logs start (C.left clock.old) (K.left keys.old)).state) }
 
-    // What stands, whatever the status: on the screen, in the log, in the counter, and in the file of the image ..
-    ensures stands { IsTrue K.tells → IsTrue C.tells → Stands (form_of words.now)
-        (record {
-          screen = S.told screen.old;
-          screen_faults = S.faults screen.old;
-          log = W.told log.old;
-          log_faults = W.faults log.old;
-          keys = K.left keys.old;
-          keys_faults = K.faults keys.old;
-          moments = C.left clock.old;
-          steps = steps.old;
-          state = first_state;
-        })
-        (record {
-          screen = S.told screen.new;
-          screen_faults = S.faults screen.new;
-          log = W.told log.new;
-          log_faults = W.faults log.new;
-          keys = K.left keys.new;
-          keys_faults = K.faults keys.new;
-          moments = C.left clock.new;
-          steps = steps.new;
-          state = first_state;
-        })
-        (record { tells = H.tells; files = H.files host.old })
-        (record { tells = H.tells; files = H.files host.new })
-        result }
-    // .. and in all files, whether keys and clock tell what they give or not.
-    ensures files { IsTrue H.tells → Leaves (form_of words.now)
-        (H.files host.old) (H.files host.new) result }
+    // What stands, whatever the status: before the first prompt the message alone is shown, IN is loaded once, if there
+    // is one, and OUT is not created. Past it the trace of the run stands, or a cut of it, and then how it was closed;
+    // OUT is created once, is closed, and holds the image of the state that the run left. No other file changes.
+    ensures stands { Stands (IsTrue K.tells × IsTrue C.tells) (form_of words.now)
+        (scene S.Sink screen.old W.Sink log.old K.Source keys.old C.Clock clock.old steps.old)
+        (scene S.Sink screen.new W.Sink log.new K.Source keys.new C.Clock clock.new steps.new)
+        (disk_of H.Host host.old) (disk_of H.Host host.new) result }
+    // Without a log nothing is asked of it.
+    ensures unlogged { logs (form_of words.now) ≡ false
+        → (W.told log.new ≡ W.told log.old) × (W.faults log.new ≡ W.faults log.old) }
 
     // When each status may come.
     ensures usage { (result ≡ Status.Usage) ↔ (form_of words.now ≡ None) }
-    ensures cause { StatusCause
-        (record { screen = S.faults screen.old; log = W.faults log.old; keys = K.faults keys.old })
-        (record { screen = S.faults screen.new; log = W.faults log.new; keys = K.faults keys.new })
-        result }
+    ensures cause { StatusCause (counts (S.faults screen.old) (W.faults log.old) (K.faults keys.old))
+        (counts (S.faults screen.new) (W.faults log.new) (K.faults keys.new)) result }
     ensures host_cause { HostCause (H.faults host.old) (H.faults host.new) result }
 
     // And by the file that the run is to begin from: NoImage exactly where there is none, ImageTooLarge exactly where
     // it has more bytes than any image, BadImage exactly where its bytes are no image, with the place and the kind of
     // the first wrong record.
-    ensures start { StartCause (record { tells = H.tells; files = H.files host.old }) (form_of words.now) result }
+    ensures start { StartCause (disk_of H.Host host.old) (form_of words.now) result }
 
     // With words of a form, an image where they name one, fewer keys than a run takes, and nothing outside that fails,
     // the run is Done.
     ensures complete { IsTrue K.tells → IsTrue C.tells → (form : Form) → (start : State)
-        → Asks (form_of words.now) (record { tells = H.tells; files = H.files host.old }) form start
+        → Asks (form_of words.now) (disk_of H.Host host.old) form start
         → length (K.left keys.old) < KEY_LIMIT
         → IsQuiet (S.faults screen.old) (S.faults screen.new) → IsQuiet (W.faults log.old) (W.faults log.new)
         → IsQuiet (K.faults keys.old) (K.faults keys.new) → IsQuiet (H.faults host.old) (H.faults host.new)
         → (result ≡ Status.Done) ⊎ (result ≡ Status.NoMemory) }
     // With as many keys as a run takes, in which LOGOUT does not act, it is KeyLimit.
     ensures limit { IsTrue K.tells → IsTrue C.tells → (form : Form) → (start : State)
-        → Asks (form_of words.now) (record { tells = H.tells; files = H.files host.old }) form start
+        → Asks (form_of words.now) (disk_of H.Host host.old) form start
         → (taken rest : List ℕ) → taken ++ rest ≡ K.left keys.old → length taken ≡ KEY_LIMIT
-        → (world_after (starting start (C.left clock.old)) taken).ended ≡ false
+        → (exec_left form.logs start (C.left clock.old) taken).ended ≡ false
         → IsQuiet (S.faults screen.old) (S.faults screen.new) → IsQuiet (W.faults log.old) (W.faults log.new)
         → IsQuiet (K.faults keys.old) (K.faults keys.new) → IsQuiet (H.faults host.old) (H.faults host.new)
         → (result ≡ Status.KeyLimit) ⊎ (result ≡ Status.NoMemory) }
@@ -215,24 +157,15 @@ pub fn exec20<H: Host, K: Source, S: Sink, W: Sink, C: Clock, L: Ledger>(
     let Some(form) = words.form() else {
         return refuse(Status::Usage, screen);
     };
-    let Ok(grammar) = grammar(alloc) else {
-        return refuse(Status::NoMemory, screen);
-    };
     let store = match start(alloc, form.input, host) {
         Ok(store) => store,
         Err(status) => return refuse(status, screen),
     };
-    let under = Setting {
-        alloc,
-        grammar,
-        hooks,
+    let Ok(grammar) = grammar(alloc) else {
+        return refuse(Status::NoMemory, screen);
     };
-    let mut now = Course {
-        session: Session::new(),
-        store,
-        typing: None,
-    };
-    run_all(
-        form, &under, &mut now, host, keys, screen, log, clock, steps,
+    let mut exec = Exec::new(alloc, store);
+    run_exec(
+        &form, &mut exec, &grammar, hooks, host, keys, screen, log, clock, steps,
     )
 }

@@ -1,12 +1,17 @@
-use Rattle.std.proofs.Common.{◌≡◌, Some, inr, refl, subst, ◌∙◌}
+use Rattle.std.proofs.Common.{◌≡◌, ◌+◌, false, Some, inr, ap, ◌∙◌}
 use Rattle.cm_io.specs.Told.{add}
+use Rattle.cm_run.specs.Event.{log_bytes, trials_of}
 use Rattle.ex_image.specs.Image.{image_text}
-use Rattle.ex_store.specs.State.{first_state}
+use Rattle.ex_exec.specs.ExecState.{ExecState}
+use Rattle.ex_store.specs.State.{State}
+use Rattle.ex_program.specs.Asked.{form_view}
 use Rattle.ex_program.specs.Form.{Form}
-use Rattle.ex_program.specs.Run.{bytes_logged, world_after}
-use Rattle.ex_program.specs.World.{starting}
-use Rattle.ex_program.proofs.Beginning.{asked_memory, asked_start, kept_since, leaves_past, others_since, quiet_since, refused_causes, stands_past, started}
-use Rattle.ex_program.proofs.Meaning.{done_counted, done_logged, done_saved, done_shown, from_first, one_form, quiet_done, quiet_limit}
+use Rattle.ex_program.specs.Run.{exec_left, exec_trace, run_shown}
+use Rattle.ex_system.specs.Disk.{disk_of}
+use Rattle.ex_system.proofs.Beginning.{refused_causes}
+use Rattle.ex_program.proofs.Beginning.{as_asked, asked_memory, back_to_asked, quiet_since, started}
+use Rattle.ex_program.proofs.Ending.{done_counted, done_logged, done_saved, done_shown}
+use Rattle.ex_program.proofs.Quieting.{quiet_done, quiet_limit}
 use Rattle.ex_program.proofs.program.exec20.Goals as goal
 
 -- before the first prompt
@@ -16,72 +21,61 @@ returns-in-Err-clause-cause g c = refused_causes _ c.in-Err.status _ _ _ _ _ c.r
 pub returns-in-Err-clause-complete : goal.returns-in-Err-clause-complete
 returns-in-Err-clause-complete g c = λ keys clock form start asks few screen log source host.
     inr (c.refuse-in-Err.ensures.status
-    ∙ asked_memory _ _ _ form start _ _ c.in-Err.status c.in-Some.ensures c.in-Err.ensures.early c.in-Err.ensures.cause asks
+    ∙ asked_memory _ (disk_of g.H.Host c.args.host.now) _ form start _ _ c.in-Err.status c.in-Some.ensures c.in-Err.ensures.early c.in-Err.ensures.cause asks
     c.in-Err.ensures.host_cause host)
 
 pub returns-in-Err-clause-limit : goal.returns-in-Err-clause-limit
 returns-in-Err-clause-limit g c = λ keys clock form start asks taken rest all count going screen log source host.
     inr (c.refuse-in-Err.ensures.status
-    ∙ asked_memory _ _ _ form start _ _ c.in-Err.status c.in-Some.ensures c.in-Err.ensures.early c.in-Err.ensures.cause asks
+    ∙ asked_memory _ (disk_of g.H.Host c.args.host.now) _ form start _ _ c.in-Err.status c.in-Some.ensures c.in-Err.ensures.early c.in-Err.ensures.cause asks
     c.in-Err.ensures.host_cause host)
 
 -- past it
 pub returns-clause-done_shown : goal.returns-clause-done_shown
 returns-clause-done_shown g c = λ keys clock done form start asks.
-    done_shown _ _ _ c.run_all.result
-    (from_first _ _ _ start _ (asked_start _ _ _ form _ start c.in-Some.ensures c.in-Ok-start.ensures.began asks) (c.run_all.ensures.ran keys clock))
-    done
+    as_asked (λ (it : Form) (at : State). g.S.Sink.told c.run_exec.new.screen
+    ≡ add (g.S.Sink.told c.args.screen.now) (run_shown it.logs at (g.C.Clock.left c.args.clock.now) (g.K.Source.left c.args.keys.now)))
+    _ (disk_of g.H.Host c.args.host.now) (form_view c.in-Some.form) form c.new-exec.result.state c.in-Ok.store.state start c.in-Some.ensures
+    (ap (λ (it : ExecState). it.state) c.new-exec.ensures) c.in-Ok.ensures.began asks
+    (done_shown _ _ _ _ _ _ c.run_exec.result c.run_exec.ensures.ran done (keys, clock))
 
 pub returns-clause-done_logged : goal.returns-clause-done_logged
 returns-clause-done_logged g c = λ keys clock done form start asks.
-    subst (λ (it : Form). g.W.Sink.told c.run_all.new.log ≡ add (g.W.Sink.told c.args.log.now)
-    (bytes_logged it.logs (starting start (g.C.Clock.left c.args.clock.now)) (g.K.Source.left c.args.keys.now)))
-    (one_form _ _ form c.in-Some.ensures asks.0)
-    (done_logged _ _ _ c.run_all.result
-    (from_first _ _ _ start _ (asked_start _ _ _ form _ start c.in-Some.ensures c.in-Ok-start.ensures.began asks) (c.run_all.ensures.ran keys clock))
-    done)
+    as_asked (λ (it : Form) (at : State). g.W.Sink.told c.run_exec.new.log
+    ≡ add (g.W.Sink.told c.args.log.now) (log_bytes (exec_trace it.logs at (g.C.Clock.left c.args.clock.now) (g.K.Source.left c.args.keys.now))))
+    _ (disk_of g.H.Host c.args.host.now) (form_view c.in-Some.form) form c.new-exec.result.state c.in-Ok.store.state start c.in-Some.ensures
+    (ap (λ (it : ExecState). it.state) c.new-exec.ensures) c.in-Ok.ensures.began asks
+    (done_logged _ _ _ _ _ _ c.run_exec.result c.run_exec.ensures.ran done (keys, clock))
 
 pub returns-clause-done_counted : goal.returns-clause-done_counted
 returns-clause-done_counted g c = λ keys clock done form start asks.
-    done_counted _ _ _ c.run_all.result
-    (from_first _ _ _ start _ (asked_start _ _ _ form _ start c.in-Some.ensures c.in-Ok-start.ensures.began asks) (c.run_all.ensures.ran keys clock))
-    done
+    as_asked (λ (it : Form) (at : State). c.run_exec.new.steps
+    ≡ c.args.steps.now + trials_of (exec_trace it.logs at (g.C.Clock.left c.args.clock.now) (g.K.Source.left c.args.keys.now)))
+    _ (disk_of g.H.Host c.args.host.now) (form_view c.in-Some.form) form c.new-exec.result.state c.in-Ok.store.state start c.in-Some.ensures
+    (ap (λ (it : ExecState). it.state) c.new-exec.ensures) c.in-Ok.ensures.began asks
+    (done_counted _ _ _ _ _ _ c.run_exec.result c.run_exec.ensures.ran done (keys, clock))
 
 pub returns-clause-done_saved : goal.returns-clause-done_saved
 returns-clause-done_saved g c = λ keys clock host done form start asks.
-    subst (λ (it : Form). g.H.Host.files c.run_all.new.host it.out
-    ≡ Some (image_text (world_after (starting start (g.C.Clock.left c.args.clock.now)) (g.K.Source.left c.args.keys.now)).state))
-    (one_form _ _ form c.in-Some.ensures asks.0)
-    (done_saved _ _ _ _ _ c.run_all.result
-    (from_first _ _ _ start _ (asked_start _ _ _ form _ start c.in-Some.ensures c.in-Ok-start.ensures.began asks) (c.run_all.ensures.ran keys clock))
-    done (c.run_all.ensures.kept host))
-
-pub returns-clause-stands : goal.returns-clause-stands
-returns-clause-stands g c = λ keys clock.
-    stands_past _ _ _ _ c.in-Ok-start.store.state first_state _ _ c.run_all.result c.in-Some.ensures refl c.in-Ok-start.ensures.began
-    (c.run_all.ensures.ran keys clock)
-    (record {
-      kept = λ host. kept_since _ _ _ _ c.run_all.result (c.in-Ok-start.ensures.files host c.in-Some.form.out.now) (c.run_all.ensures.kept host);
-      others = λ host. others_since _ _ _ _ (c.in-Ok-start.ensures.files host) (c.run_all.ensures.others host);
-    })
-
-pub returns-clause-files : goal.returns-clause-files
-returns-clause-files g c = λ host.
-    leaves_past _ _ _ _ c.run_all.new.course.store.state c.run_all.result c.in-Some.ensures
-    (others_since _ _ _ _ (c.in-Ok-start.ensures.files host) (c.run_all.ensures.others host))
-    (kept_since _ _ _ _ c.run_all.result (c.in-Ok-start.ensures.files host c.in-Some.form.out.now) (c.run_all.ensures.kept host))
+    as_asked (λ (it : Form) (at : State). g.H.Host.files c.run_exec.new.host it.out
+    ≡ Some (image_text (exec_left it.logs at (g.C.Clock.left c.args.clock.now) (g.K.Source.left c.args.keys.now)).state))
+    _ (disk_of g.H.Host c.args.host.now) (form_view c.in-Some.form) form c.new-exec.result.state c.in-Ok.store.state start c.in-Some.ensures
+    (ap (λ (it : ExecState). it.state) c.new-exec.ensures) c.in-Ok.ensures.began asks
+    (done_saved _ _ _ _ _ _ c.run_exec.result c.run_exec.ensures.ran done (disk_of g.H.Host c.start.new.host) (disk_of g.H.Host c.run_exec.new.host) (keys, clock) host c.run_exec.ensures.saves)
 
 pub returns-clause-start : goal.returns-clause-start
 returns-clause-start g c =
-    started _ _ _ _ c.run_all.result c.in-Some.ensures c.in-Ok-start.ensures.began c.run_all.ensures.past_the_prompt
+    started _ (disk_of g.H.Host c.args.host.now) _ _ c.run_exec.result c.in-Some.ensures c.in-Ok.ensures.began c.run_exec.ensures.past_the_prompt
 
 pub returns-clause-complete : goal.returns-clause-complete
 returns-clause-complete g c = λ keys clock form start asks few screen log source host.
-    quiet_done _ _ _ _ _ _ _ c.run_all.result screen log source (quiet_since _ _ _ c.in-Ok-start.ensures.quiet host) c.run_all.ensures.counts
-    c.run_all.ensures.host_cause few (c.run_all.ensures.ran keys clock)
+    quiet_done _ (keys, clock) _ _ _ _ _ _ _ c.run_exec.result c.run_exec.ensures.ran c.run_exec.ensures.past_the_prompt c.run_exec.ensures.counts
+    c.run_exec.ensures.saves.cause screen log source (quiet_since _ _ _ c.in-Ok.ensures.quiet host) few
 
 pub returns-clause-limit : goal.returns-clause-limit
 returns-clause-limit g c = λ keys clock form start asks taken rest all count going screen log source host.
-    quiet_limit _ _ _ _ _ _ _ c.run_all.result screen log source (quiet_since _ _ _ c.in-Ok-start.ensures.quiet host) c.run_all.ensures.counts
-    c.run_all.ensures.host_cause taken rest all count going
-    (from_first _ _ _ start _ (asked_start _ _ _ form _ start c.in-Some.ensures c.in-Ok-start.ensures.began asks) (c.run_all.ensures.ran keys clock))
+    quiet_limit _ (keys, clock) _ _ _ _ _ _ _ c.run_exec.result c.run_exec.ensures.ran c.run_exec.ensures.past_the_prompt c.run_exec.ensures.counts
+    c.run_exec.ensures.saves.cause screen log source (quiet_since _ _ _ c.in-Ok.ensures.quiet host) taken rest all count
+    (back_to_asked (λ (it : Form) (at : State). (exec_left it.logs at (g.C.Clock.left c.args.clock.now) taken).ended ≡ false)
+    _ (disk_of g.H.Host c.args.host.now) (form_view c.in-Some.form) form c.new-exec.result.state c.in-Ok.store.state start c.in-Some.ensures
+    (ap (λ (it : ExecState). it.state) c.new-exec.ensures) c.in-Ok.ensures.began asks going)

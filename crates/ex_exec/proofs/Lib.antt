@@ -1,0 +1,4 @@
+pub mod Acting
+pub mod Becoming
+pub mod Obeying
+pub mod TypedKeys

@@ -1,0 +1,3 @@
+pub mod Exec
+pub mod ExecState
+pub mod Outcome

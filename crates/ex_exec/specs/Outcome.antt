@@ -1,0 +1,14 @@
+-- How the engine is told what came of a command.
+use Rattle.std.specs.Prelude.{Result, Ok, Err}
+use Rattle.cm_run.specs.declared.stop.Stop.{Stop}
+use Rattle.cm_run.specs.declared.stop.Stop.TheVariants as stop
+use Rattle.ex_commands.specs.declared.acted.Acted.{Acted}
+use Rattle.ex_commands.specs.declared.acted.Acted.TheVariants as answers
+
+abbrev pub outcome_of : Acted → Result Unit Stop
+outcome_of answers.Ok = Ok tt
+outcome_of (answers.Refused code) = Ok tt
+outcome_of answers.Data = Ok tt
+outcome_of answers.Logout = Ok tt
+outcome_of answers.NoMemory = Err stop.Memory
+outcome_of answers.Failed = Err stop.Screen

@@ -1,0 +1,4 @@
+pub mod Beginning
+pub mod Causing
+pub mod Parts
+pub mod TryingLemmas
