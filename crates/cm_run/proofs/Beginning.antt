@@ -1,12 +1,11 @@
 -- Where a run begins: the first prompt.
-use Rattle.std.proofs.Common.{◌≡◌, ℕ, List, []}
-use Rattle.std.specs.Prelude.{Bool, Result, Ok, Err, None}
-use Rattle.cm_io.specs.Told.{Told}
+use Rattle.std.proofs.Common.{◌≡◌, ℕ, List}
+use Rattle.std.specs.Prelude.{Bool, Ok, Err, None}
 use Rattle.cm_state.specs.SessionState.{SessionState, at_start}
 use Rattle.cm_state.specs.declared.prompt.Prompt.TheVariants.{Main}
 use Rattle.std.proofs.Common.{subst, sym, ap, ◌∙◌}
 use Rattle.cm_run.specs.declared.stop.Stop.{Stop}
-use Rattle.cm_run.specs.Observed.{Observed, observed}
+use Rattle.cm_run.specs.Observed.{Observed}
 use Rattle.cm_run.specs.Cut.{Traces}
 use Rattle.cm_run.specs.Meaning.{Meaning}
 use Rattle.cm_run.specs.Trace.{is_ended, keys_trace, opened, opening, run_state, run_trace, starting, unless}

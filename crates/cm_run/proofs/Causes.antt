@@ -2,8 +2,7 @@
 use Rattle.std.specs.Prelude.{Bool, true, false, List, [], ◌∷◌, length, ◌<◌, ◌+◌}
 use Rattle.std.proofs.Common.{arith, ◌≡◌, ◌≤◌, ℕ, refl, ap, sym, subst, ◌∙◌}
 use Rattle.std.specs.Prelude.{Result, Ok, Err}
-use Rattle.cm_io.specs.Fault.{PutCause, Rose}
-use Rattle.cm_io.specs.declared.sink.Put.{Put}
+use Rattle.cm_io.specs.Fault.{Rose}
 use Rattle.cm_run.specs.declared.stop.Stop.{Stop}
 use Rattle.cm_run.specs.declared.stop.Stop.TheVariants as stop
 use Rattle.cm_run.specs.Cause.{Counts, KeyCount, ObeyCause, OverCount, RunCause, StopCause, StrokeCause, counts}

@@ -1,14 +1,14 @@
 -- What is shown and logged of a trace that is cut is a beginning of what the whole trace shows and logs.
-use Rattle.std.proofs.Common.{◌≡◌, ℕ, List, [], ◌∷◌, ◌++◌, refl, ap, sym, subst, ◌∙◌, append_assoc}
+use Rattle.std.proofs.Common.{◌≡◌, ℕ, List, [], ◌∷◌, ◌++◌, refl, ap, sym, ◌∙◌, append_assoc}
 use Rattle.std.specs.Prelude.{Result, Ok, Err}
 use Rattle.std.specs.List.{flat_map}
 use Rattle.std.proofs.lemmas.List.{append-nil}
 use Rattle.std.proofs.lemmas.Grind.{flat_map-append}
-use Rattle.cm_io.specs.Told.{AddsPart, IsPart, add}
+use Rattle.cm_io.specs.Told.{AddsPart, IsPart}
 use Rattle.cm_run.specs.declared.stop.Stop.{Stop}
 use Rattle.cm_run.specs.Event.{Event, event_log, event_screen}
 use Rattle.cm_run.specs.Observed.{Observed, Performs}
-use Rattle.cm_run.specs.Cut.{Cut, EndCut, IsCut, KeyCut, LimitCut, LogCut, MemoryCut, ScreenCut, Traces, event_of, part_of}
+use Rattle.cm_run.specs.Cut.{Cut, EndCut, KeyCut, LimitCut, LogCut, MemoryCut, ScreenCut, Traces, event_of, part_of}
 
 none : IsPart [] []
 none = record { rest = []; joined = refl }

@@ -1,18 +1,18 @@
 -- Acts that are done in order are the trace of them.
-use Rattle.std.proofs.Common.{◌≡◌, ℕ, ◌+◌, Bool, true, false, List, [], ◌∷◌, ◌++◌, refl, ap, sym, subst, ◌∙◌, arith, append_assoc}
+use Rattle.std.proofs.Common.{◌≡◌, ℕ, Bool, true, false, List, [], ◌∷◌, ◌++◌, refl, ap, sym, subst, ◌∙◌, arith, append_assoc}
 use Rattle.std.specs.Prelude.{Result, Ok, Err}
 use Rattle.std.specs.List.{flat_map}
 use Rattle.std.proofs.lemmas.List.{append-nil}
 use Rattle.std.proofs.lemmas.Grind.{flat_map-append}
-use Rattle.cm_io.specs.Told.{Told, AddsPart, IsPart, add}
+use Rattle.cm_io.specs.Told.{Told, add}
 use Rattle.cm_io.proofs.Adding.{add_none, add_append}
 use Rattle.cm_run.specs.declared.stop.Stop.{Stop}
 use Rattle.cm_run.specs.declared.stop.Stop.TheVariants as stop
-use Rattle.cm_run.specs.Event.{Event, Screen, Memory, Act}
+use Rattle.cm_run.specs.Event.{Screen, Memory, Act}
 use Rattle.cm_run.specs.Observed.{Observed, Performs, observed}
 use Rattle.cm_run.specs.Cut.{MemoryCut, ScreenCut, Traces}
 use Rattle.cm_run.specs.Meaning.{Deed}
-use Rattle.cm_run.specs.Obey.{IsReplyCut, IsWanting, Obeys, Stage, behind, left_by, replies, stage}
+use Rattle.cm_run.specs.Obey.{Obeys, Stage, behind, left_by, replies, stage}
 use Rattle.cm_run.specs.Trace.{deed_trace, deeds_trace, events_if}
 use Rattle.cm_run.proofs.Joining.{performs_both, performs_none}
 

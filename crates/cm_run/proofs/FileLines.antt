@@ -1,6 +1,6 @@
 -- Lines of command files.
-use Rattle.std.proofs.Common.{◌≡◌, ℕ, ◌+◌, List, [], ◌∷◌, refl, ap, sym, subst, ◌∙◌, arith}
-use Rattle.std.specs.Prelude.{None, Result, true}
+use Rattle.std.proofs.Common.{◌≡◌, ℕ, ◌+◌, List, [], ◌∷◌, refl, sym, arith}
+use Rattle.std.specs.Prelude.{None, Result}
 use Rattle.cm_text.specs.Bytes.{is_text}
 use Rattle.cm_text.specs.Text.{finished}
 use Rattle.cm_io.specs.Told.{Told}
@@ -11,8 +11,8 @@ use Rattle.cm_state.specs.Edit.{edited}
 use Rattle.cm_state.specs.SessionState.{at_start, text_of}
 use Rattle.cm_state.specs.declared.prompt.Prompt.TheVariants.{Main}
 use Rattle.cm_run.specs.declared.stop.Stop.{Stop}
-use Rattle.cm_run.specs.Event.{Event, Trials}
-use Rattle.cm_run.specs.Observed.{Observed, Performs, observed}
+use Rattle.cm_run.specs.Event.{Trials}
+use Rattle.cm_run.specs.Observed.{Performs, observed}
 use Rattle.cm_run.specs.Cut.{Traces}
 use Rattle.cm_run.specs.Meaning.{Deed}
 use Rattle.cm_run.specs.Obey.{Obeys, stage}

@@ -1,17 +1,15 @@
 -- Traces that are joined, one behind the other.
 use Rattle.std.specs.List.{flat_map, fold, sum_by}
-use Rattle.std.proofs.Common.{◌≡◌, ℕ, ◌+◌, List, [], ◌∷◌, ◌++◌, refl, ap, sym, subst, ◌∙◌, arith, append_assoc}
+use Rattle.std.proofs.Common.{◌≡◌, ◌+◌, List, [], ◌∷◌, ◌++◌, refl, ap, sym, subst, ◌∙◌, arith, append_assoc}
 use Rattle.std.specs.Prelude.{Result, Ok, Err}
-use Rattle.std.proofs.lemmas.List.{append-nil}
 use Rattle.std.proofs.lemmas.List.Sums.{fold-append, sum_by-append}
 use Rattle.std.proofs.lemmas.Grind.{flat_map-append}
-use Rattle.cm_io.specs.Told.{Told, AddsPart, IsPart, add}
+use Rattle.cm_io.specs.Told.{add}
 use Rattle.cm_io.proofs.Adding.{add_none, add_append}
 use Rattle.cm_run.specs.declared.stop.Stop.{Stop}
-use Rattle.cm_run.specs.declared.stop.Stop.TheVariants as stop
 use Rattle.cm_run.specs.Event.{Event, event_key, event_log, event_screen, event_trials, gets_after, moments_after, state_after}
-use Rattle.cm_run.specs.Observed.{Between, Observed, Performs, observed}
-use Rattle.cm_run.specs.Cut.{IsCut, Traces, event_of, part_of}
+use Rattle.cm_run.specs.Observed.{Observed, Performs}
+use Rattle.cm_run.specs.Cut.{Traces, event_of, part_of}
 
 -- nothing happens
 pub performs_none : {S : Type 0} (a : Observed S) → Performs a a []

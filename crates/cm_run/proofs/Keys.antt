@@ -1,5 +1,5 @@
 -- What a key of a line, and a raw key, does.
-use Rattle.std.proofs.Common.{◌≡◌, ℕ, ◌+◌, List, [], ◌∷◌, ◌++◌, refl, ap, sym, subst, ◌∙◌, arith}
+use Rattle.std.proofs.Common.{◌≡◌, ℕ, ◌+◌, List, refl, ap, sym, subst, ◌∙◌, arith}
 use Rattle.std.specs.Prelude.{Bool, true, false, Result, Ok, Err}
 use Rattle.cm_io.specs.declared.sink.Put.{Put}
 use Rattle.cm_io.specs.declared.sink.Put.TheVariants.{Done, Failed}
@@ -16,12 +16,12 @@ use Rattle.cm_state.specs.declared.turn.Turn.{Turn}
 use Rattle.cm_state.specs.declared.turn.Turn.TheVariants as turn
 use Rattle.cm_run.specs.declared.stop.Stop.{Stop}
 use Rattle.cm_run.specs.declared.stop.Stop.TheVariants as stop
-use Rattle.cm_run.specs.Event.{Event, state_behind}
+use Rattle.cm_run.specs.Event.{state_behind}
 use Rattle.cm_run.specs.Observed.{Observed, Performs, observed}
 use Rattle.cm_run.specs.Cut.{Traces}
 use Rattle.cm_run.specs.Meaning.{Meaning, setting_of}
 use Rattle.cm_run.specs.Obey.{Obeys, stage}
-use Rattle.cm_run.specs.Trace.{RunState, Stroke, deeds_trace, line_stroke, moment_at, opened, opening, outcome_trace, raw_log, raw_stroke, run_state, step_by, step_of, stroke_trace, turn_outcome}
+use Rattle.cm_run.specs.Trace.{RunState, deeds_trace, line_stroke, moment_at, opened, opening, outcome_trace, raw_log, raw_stroke, run_state, step_by, step_of, stroke_trace, turn_outcome}
 use Rattle.cm_run.proofs.Deeds.{deeds_traces}
 use Rattle.cm_run.proofs.Joining.{traces_cut, traces_on}
 use Rattle.cm_run.proofs.Strokes.{logged_if, stroke_log_cut, stroke_on, stroke_screen_cut}
@@ -75,7 +75,7 @@ module _ {S : Type 0} (m : Meaning S) (logging : Bool) (key : ℕ) (session now 
       let s = line_stroke m (run_state session state moments) key in
       let to : outcome_trace m state (turn_outcome m state now (moment_at m state moments) it) ≡ outcome_trace m state s.outcome
       = ap (λ that. outcome_trace m state (turn_outcome m state now (moment_at m state moments) that)) is
-          ∙ ap (λ (it : SessionState). outcome_trace m state (turn_outcome m state it (moment_at m state moments) (turn_of (class_of key) it.ending))) edits in
+      ∙ ap (λ (it : SessionState). outcome_trace m state (turn_outcome m state it (moment_at m state moments) (turn_of (class_of key) it.ending))) edits in
       stroke_on m state s logging screen log screen' log' keys gets moments trials trials' b result
       (subst (λ events. Traces (observed screen' log' keys gets moments trials' state) b events result) to traces)
       shown

@@ -5,9 +5,12 @@ pub mod Deeds
 mod FileLines
 pub mod Joining
 mod Keys
+mod LawLemmas
 mod Modes
+pub mod Obeying
 mod Opening
 mod Outcomes
+pub mod Prefixes
 mod Running
 mod Strokes
 mod Waiting

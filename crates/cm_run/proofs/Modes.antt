@@ -1,14 +1,13 @@
 -- What a key does, by the mode that it meets.
-use Rattle.std.proofs.Common.{◌≡◌, ℕ, List, refl, ap, sym, subst, ◌∙◌}
+use Rattle.std.proofs.Common.{◌≡◌, ℕ, ap, sym, subst, ◌∙◌}
 use Rattle.std.specs.Prelude.{Bool, Result}
-use Rattle.cm_state.specs.SessionState.{SessionState, IsReady}
+use Rattle.cm_state.specs.SessionState.{SessionState}
 use Rattle.cm_state.specs.declared.prompt.Prompt.{Prompt}
-use Rattle.cm_run.specs.declared.mode.Mode.{Mode}
 use Rattle.cm_run.specs.declared.mode.Mode.TheVariants as mode
 use Rattle.cm_run.specs.declared.stop.Stop.{Stop}
 use Rattle.cm_run.specs.Observed.{Observed}
 use Rattle.cm_run.specs.Cut.{Traces}
-use Rattle.cm_run.specs.Meaning.{IsLineAt, Meaning, setting_of}
+use Rattle.cm_run.specs.Meaning.{IsLineAt, Meaning}
 use Rattle.cm_run.specs.Ready.{IsAtLine, IsReadyBy, IsReadyIn}
 use Rattle.cm_run.specs.Trace.{RunState, key_trace, line_stroke, raw_stroke, step, step_by, stroke_by, stroke_trace}
 

@@ -1,11 +1,11 @@
 -- Bytes that are shown, and nothing else.
-use Rattle.std.proofs.Common.{◌≡◌, ℕ, ◌+◌, List, [], ◌∷◌, ◌++◌, refl, ap, sym, subst, ◌∙◌, arith}
+use Rattle.std.proofs.Common.{◌≡◌, ℕ, List, [], ◌∷◌, refl, ap, sym, ◌∙◌, arith}
 use Rattle.std.specs.Prelude.{Ok, Err}
 use Rattle.std.proofs.lemmas.List.{append-nil}
 use Rattle.cm_io.specs.Told.{Told, AddsPart, add}
 use Rattle.cm_io.proofs.Adding.{add_none}
 use Rattle.cm_run.specs.declared.stop.Stop.TheVariants as stop
-use Rattle.cm_run.specs.Event.{Event, Screen}
+use Rattle.cm_run.specs.Event.{Screen}
 use Rattle.cm_run.specs.Observed.{Performs, observed}
 use Rattle.cm_run.specs.Cut.{ScreenCut, Traces}
 

@@ -1,5 +1,5 @@
 -- What a key comes to behind its echo and its log line.
-use Rattle.std.proofs.Common.{◌≡◌, ℕ, ◌+◌, List, [], ◌∷◌, ◌++◌, refl, ap, sym, subst, ◌∙◌, arith}
+use Rattle.std.proofs.Common.{◌≡◌, ℕ, List, [], ◌∷◌, ◌++◌, refl, ap, sym, subst, ◌∙◌, arith}
 use Rattle.std.specs.Prelude.{Bool, true, false, Result, Ok, Err}
 use Rattle.cm_io.specs.Told.{Told}
 use Rattle.cm_io.proofs.Adding.{add_none}
@@ -7,12 +7,12 @@ use Rattle.cm_state.specs.SessionState.{SessionState}
 use Rattle.cm_state.specs.declared.turn.Turn.TheVariants as turn
 use Rattle.cm_blocks.specs.declared.field.Fault.{Fault}
 use Rattle.cm_run.specs.declared.stop.Stop.{Stop}
-use Rattle.cm_run.specs.Event.{Event, Act, Moment, state_behind}
+use Rattle.cm_run.specs.Event.{Act, Moment, state_behind}
 use Rattle.cm_run.specs.Observed.{Observed, Performs, observed}
 use Rattle.cm_run.specs.Cut.{Traces}
 use Rattle.cm_run.specs.Meaning.{Meaning}
 use Rattle.cm_run.specs.Obey.{Obeys, stage}
-use Rattle.cm_run.specs.Trace.{Outcome, confirmed_trace, deeds_trace, events_if, file_trace, moment_at, moments_later, opened, opening, outcome_trace, run_state, step_of, takes_moment, turn_outcome}
+use Rattle.cm_run.specs.Trace.{confirmed_trace, deeds_trace, events_if, file_trace, moment_at, moments_later, opened, opening, outcome_trace, run_state, step_of, takes_moment, turn_outcome}
 use Rattle.cm_run.specs.declared.engine.TheConstants.{FILE_LINES}
 use Rattle.cm_run.proofs.Deeds.{deeds_traces}
 use Rattle.cm_run.proofs.Joining.{performs_none, traces_both, traces_cut, traces_none, traces_on}

@@ -1,17 +1,16 @@
 -- What a key does, part by part, is its trace.
-use Rattle.std.proofs.Common.{◌≡◌, ℕ, ◌+◌, Bool, true, false, List, [], ◌∷◌, ◌++◌, refl, ap, sym, subst, ◌∙◌, arith, append_assoc}
-use Rattle.std.specs.Prelude.{Result, Ok, Err}
+use Rattle.std.proofs.Common.{◌≡◌, ℕ, ◌+◌, Bool, true, false, List, [], ◌∷◌, ◌++◌, refl, ap, sym, subst, arith}
+use Rattle.std.specs.Prelude.{Result, Err}
 use Rattle.std.proofs.lemmas.List.{append-nil}
-use Rattle.cm_io.specs.Told.{Told, AddsPart, IsPart, add}
+use Rattle.cm_io.specs.Told.{Told, AddsPart, add}
 use Rattle.cm_io.proofs.Adding.{add_none}
-use Rattle.cm_run.specs.declared.mode.Mode.{Mode}
 use Rattle.cm_run.specs.declared.stop.Stop.{Stop}
 use Rattle.cm_run.specs.declared.stop.Stop.TheVariants as stop
-use Rattle.cm_run.specs.Event.{Event, Trials, Screen, Log}
+use Rattle.cm_run.specs.Event.{Trials, Screen, Log}
 use Rattle.cm_run.specs.Observed.{Observed, Performs, observed}
 use Rattle.cm_run.specs.Cut.{LogCut, ScreenCut, Traces}
 use Rattle.cm_run.specs.Meaning.{Meaning}
-use Rattle.cm_run.specs.Trace.{Outcome, Stroke, events_if, opening, outcome_trace, stroke_trace}
+use Rattle.cm_run.specs.Trace.{Stroke, events_if, outcome_trace, stroke_trace}
 use Rattle.cm_run.proofs.Joining.{performs_both, performs_none, traces_both}
 
 -- the log behind a line that is put where there is a log

@@ -1,13 +1,13 @@
 -- Lines of command files, one after the other.
-use Rattle.std.proofs.Common.{◌≡◌, ◌<◌, ◌≤◌, ℕ, zero, suc, ◌+◌, ◌-◌, List, [], ◌∷◌, ◌++◌, refl, ap, sym, subst, ◌∙◌, arith}
-use Rattle.std.specs.Prelude.{Bool, true, false, Option, None, Some, Result, Ok, Err, is_some, not}
+use Rattle.std.proofs.Common.{◌≡◌, ◌<◌, ◌≤◌, ℕ, zero, suc, ◌+◌, ◌-◌, List, [], ◌++◌, refl, ap, sym, subst, ◌∙◌, arith}
+use Rattle.std.specs.Prelude.{false, Option, None, Some, Ok, Err, is_some}
 use Rattle.cm_run.specs.declared.stop.Stop.{Stop}
 use Rattle.cm_run.specs.Event.{Event, state_behind}
 use Rattle.cm_run.specs.Observed.{Observed, Performs}
 use Rattle.cm_run.specs.Cut.{Traces}
 use Rattle.cm_run.specs.Meaning.{Meaning}
 use Rattle.cm_run.specs.Trace.{file_trace, line_trace, next_line}
-use Rattle.cm_run.proofs.Joining.{performs_both, performs_none, traces_both, traces_cut}
+use Rattle.cm_run.proofs.Joining.{traces_cut}
 use Rattle.cm_run.proofs.Running.{Ahead, ahead_all, ahead_more, ahead_trace}
 
 module _ {S : Type 0} (m : Meaning S) (moment : ℕ) where

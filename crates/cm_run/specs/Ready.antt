@@ -18,12 +18,16 @@ module _ {S R I J K : Type 0} {F : I → Type 0} {G : J → Type 0} {H : K → T
     {v : Mut ((i : I) × F i) (Bor (List ℕ) × Unit {0}) Answer}
     {c : Mut ((j : J) × G j) (Bor (List ℕ) × Unit {0}) Tail}
     {h : Mut ((k : K) × H k) (Unit {0}) (List ℕ)} where
-  -- the grammar, the rules and the hooks are those of the meaning, and the grammar has no fault
+  -- the grammar, the rules and the hooks are those of the meaning
   pub record Serves (m : Meaning S) (graph : Graph) (meanings : Meanings) (hooks : Hooks R I J K F G H v c h) : Type 0 where
     pub grammar : graph ≡ m.graph
     pub rules : meanings ≡ m.rules
     pub ties : Ties meanings hooks
     pub enough : hook_count graph ≤ count hooks
+
+  -- and the grammar has no fault
+  pub record ServesWell (m : Meaning S) (graph : Graph) (meanings : Meanings) (hooks : Hooks R I J K F G H v c h) : Type 0 where
+    pub serves : Serves m graph meanings hooks
     pub faultless : grammar_fault m.graph ≡ None
 
 -- a line is edited: its session is ready for a key, and begins at the node of the mode

@@ -1,5 +1,5 @@
 -- The trace of a run: what happens at each key, in order.
-use Rattle.std.specs.Prelude.{ℕ, zero, suc, Bool, true, false, List, [], ◌∷◌, ◌++◌, Option, None, Some, codes, if◌then◌else◌}
+use Rattle.std.specs.Prelude.{ℕ, zero, suc, Bool, true, false, List, [], ◌∷◌, ◌++◌, Option, None, Some, codes}
 use Rattle.std.specs.List.{flat_map}
 use Rattle.cm_text.specs.Text.{finished}
 use Rattle.cm_io.specs.Clock.{later_moments, next_moment}
@@ -17,7 +17,7 @@ use Rattle.cm_state.specs.declared.turn.Turn.TheVariants as turn
 use Rattle.cm_run.specs.declared.mode.Mode.{Mode}
 use Rattle.cm_run.specs.declared.mode.Mode.TheVariants as mode
 use Rattle.cm_run.specs.declared.engine.TheConstants.{FILE_LINES}
-use Rattle.cm_run.specs.Event.{Event, Ask, Key, End, Trials, Screen, Log, Moment, Memory, Act, moments_behind, state_behind}
+use Rattle.cm_run.specs.Event.{Event, Ask, Key, End, Trials, Screen, Log, Moment, Memory, Act, state_behind}
 use Rattle.cm_run.specs.Meaning.{Deed, Meaning, setting_of}
 
 -- the line under edit, the state of the application, and the moments to come

@@ -1,10 +1,9 @@
 // The run over the keys.
-ghost use Rattle.std.specs.Prelude.{◌≡◌, ◌≤◌, false, length, IsTrue};
-ghost use Rattle.cm_hooks.specs.Ties.{Ties, count};
-ghost use Rattle.cm_blocks.specs.Grammar.{hook_count};
+ghost use Rattle.std.specs.Prelude.{◌≡◌, false, length, IsTrue};
 ghost use Rattle.cm_run.specs.Cause.{KeyCount, RunCause, counts};
 ghost use Rattle.cm_run.specs.Cut.{Traces};
 ghost use Rattle.cm_run.specs.Observed.{observed};
+ghost use Rattle.cm_run.specs.Ready.{Serves};
 ghost use Rattle.cm_run.specs.Trace.{is_ended, run_trace};
 
 use crate::key::handle_key;
@@ -34,10 +33,8 @@ pub fn run<A: Application, K: Source, S: Sink, W: Sink, C: Clock, L: Ledger>(
     clock: &mut C,
     steps: &mut Steps<L>,
 ) -> Result<(), Stop>
-    requires grammar { grammar.now ≡ A.means.graph }
-    requires rules { A.Rules.meanings ≡ A.means.rules }
-    requires ties { Ties A.Rules.meanings hooks.now }
-    requires hooks { hook_count grammar.now ≤ count hooks.now }
+    // The grammar is that of the application, and the hooks answer its rules.
+    requires serves { Serves A.means grammar.now A.Rules.meanings hooks.now }
     // What stands is the trace of the run, or a cut of it.
     ensures traces { IsTrue K.tells → IsTrue C.tells → Traces
         (observed (S.told screen.old) (W.told log.old) (K.left keys.old) (K.gets keys.old) (C.left clock.old)
@@ -70,7 +67,16 @@ pub fn run<A: Application, K: Source, S: Sink, W: Sink, C: Clock, L: Ledger>(
             Got::Failed => return Err(Stop::Keys),
         };
         match handle_key(
-            logging, key, app, &mut session, grammar, hooks, screen, log, clock, steps,
+            logging,
+            key,
+            app,
+            &mut session,
+            grammar,
+            hooks,
+            screen,
+            log,
+            clock,
+            steps,
         ) {
             Ok(()) => {}
             Err(stop) => return Err(stop),

@@ -17,7 +17,7 @@ ghost use Rattle.cm_run.specs.Cause.{ObeyCause, StrokeCause, counts};
 ghost use Rattle.cm_run.specs.Cut.{Traces};
 ghost use Rattle.cm_run.specs.Meaning.{IsLineAt, setting_of};
 ghost use Rattle.cm_run.specs.Observed.{observed};
-ghost use Rattle.cm_run.specs.Ready.{IsAtLine, IsReadyIn, Serves};
+ghost use Rattle.cm_run.specs.Ready.{IsAtLine, IsReadyIn, ServesWell};
 ghost use Rattle.cm_run.specs.Trace.{key_trace, line_stroke, moment_at, moments_later, outcome_trace, raw_log, raw_mark, raw_stroke, run_state, step, step_by, step_of, stroke_trace, takes_moment, turn_outcome};
 
 use crate::line::{confirm_line, open_line};
@@ -41,7 +41,7 @@ pub(crate) fn handle_key<A: Application, S: Sink, W: Sink, C: Clock, L: Ledger>(
     clock: &mut C,
     steps: &mut Steps<L>,
 ) -> Result<(), Stop>
-    requires serves { Serves A.means grammar.now A.Rules.meanings hooks.now }
+    requires serves { ServesWell A.means grammar.now A.Rules.meanings hooks.now }
     requires ready { IsReadyIn A.means app.old session.old }
     ensures traces { IsTrue C.tells → (keys : List ℕ) → (gets : ℕ) → Traces
         (observed (S.told screen.old) (W.told log.old) keys gets (C.left clock.old) steps.old app.old)
@@ -79,7 +79,7 @@ fn handle_line_key<A: Application, S: Sink, W: Sink, C: Clock, L: Ledger>(
     clock: &mut C,
     steps: &mut Steps<L>,
 ) -> Result<(), Stop>
-    requires serves { Serves A.means grammar.now A.Rules.meanings hooks.now }
+    requires serves { ServesWell A.means grammar.now A.Rules.meanings hooks.now }
     requires at { IsAtLine A.means app.old session.old }
     ensures traces { IsTrue C.tells → (keys : List ℕ) → (gets : ℕ) → Traces
         (observed (S.told screen.old) (W.told log.old) keys gets (C.left clock.old) steps.old app.old)
@@ -117,7 +117,7 @@ fn edit_line<A: Application, S: Sink, L: Ledger>(
     screen: &mut S,
     steps: &mut Steps<L>,
 ) -> Turn
-    requires serves { Serves A.means grammar.now A.Rules.meanings hooks.now }
+    requires serves { ServesWell A.means grammar.now A.Rules.meanings hooks.now }
     requires ready { IsReady (setting_of A.means app.now) session.old }
     ensures edited { session.new ≡ edited (setting_of A.means app.now) session.old key }
     ensures parse { IsParse (setting_of A.means app.now) session.new.node (text_of session.new) session.new.fields
@@ -163,7 +163,7 @@ fn finish_key<A: Application, S: Sink, C: Clock, L: Ledger>(
     clock: &mut C,
     steps: &mut Steps<L>,
 ) -> Result<(), Stop>
-    requires serves { Serves A.means grammar.now A.Rules.meanings hooks.now }
+    requires serves { ServesWell A.means grammar.now A.Rules.meanings hooks.now }
     requires at { IsAtLine A.means app.old session.old }
     requires parse { turn ≡ Turn.Confirmed → IsParse (setting_of A.means app.old) session.old.node
         (text_of session.old) session.old.fields ending.Done }
@@ -198,13 +198,7 @@ fn moment_of<A: Application, C: Clock>(app: &A, clock: &mut C) -> u64
         ≡ moments_later (takes_moment (A.means.mode_of app.now)) (C.left clock.old) }
 {
     match app.mode() {
-        Mode::Line { takes_moment, .. } => {
-            if takes_moment {
-                clock.now()
-            } else {
-                0
-            }
-        }
+        Mode::Line { takes_moment, .. } => { if takes_moment { clock.now() } else { 0 } }
         Mode::Raw => 0,
         Mode::Ended => 0,
     }
@@ -221,7 +215,7 @@ fn act<A: Application, S: Sink, C: Clock, L: Ledger>(
     clock: &mut C,
     steps: &mut Steps<L>,
 ) -> Result<(), Stop>
-    requires serves { Serves A.means grammar.now A.Rules.meanings hooks.now }
+    requires serves { ServesWell A.means grammar.now A.Rules.meanings hooks.now }
     requires line { IsLineAt (A.means.mode_of app.old) session.old.node }
     requires parse { IsParse (setting_of A.means app.old) session.old.node (text_of session.old) session.old.fields
         ending.Done }

@@ -3,15 +3,16 @@
 #![tactic(auto)]
 
 mod application;
+mod engine;
 mod key;
+pub mod laws;
 mod line;
 mod mode;
 mod no_clock;
-mod engine;
 mod stop;
 
 pub use application::Application;
+pub use engine::{FILE_LINES, run};
 pub use mode::Mode;
 pub use no_clock::NoClock;
-pub use engine::{FILE_LINES, run};
 pub use stop::Stop;

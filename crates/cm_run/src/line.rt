@@ -11,7 +11,7 @@ ghost use Rattle.cm_run.specs.Cause.{ObeyCause};
 ghost use Rattle.cm_run.specs.Cut.{Traces};
 ghost use Rattle.cm_run.specs.Meaning.{IsLineAt, setting_of};
 ghost use Rattle.cm_run.specs.Observed.{observed};
-ghost use Rattle.cm_run.specs.Ready.{IsReadyIn, Serves};
+ghost use Rattle.cm_run.specs.Ready.{IsReadyIn, ServesWell};
 ghost use Rattle.cm_run.specs.Trace.{confirmed_trace, file_session, file_trace, line_trace, next_line, node_of, opened, opening};
 
 use crate::{Application, FILE_LINES, Mode, Stop};
@@ -68,7 +68,7 @@ fn parse_line<A: Application, L: Ledger>(
     hooks: &Hooks<A::Rules>,
     steps: &mut Steps<L>,
 ) -> Session<A::Rules>
-    requires serves { Serves A.means grammar.now A.Rules.meanings hooks.now }
+    requires serves { ServesWell A.means grammar.now A.Rules.meanings hooks.now }
     requires node { node_of (A.means.mode_of app.now) ≡ node }
     requires within { node < length A.means.graph.nodes }
     requires line { IsLine line.now }
@@ -92,7 +92,7 @@ fn take_line<A: Application, S: Sink, L: Ledger>(
     screen: &mut S,
     steps: &mut Steps<L>,
 ) -> Result<(), Stop>
-    requires serves { Serves A.means grammar.now A.Rules.meanings hooks.now }
+    requires serves { ServesWell A.means grammar.now A.Rules.meanings hooks.now }
     ensures traces { (log : Told) → (keys : List ℕ) → (gets : ℕ) → (moments : List ℕ) → Traces
         (observed (S.told screen.old) log keys gets moments steps.old app.old)
         (observed (S.told screen.new) log keys gets moments steps.new app.new)
@@ -120,7 +120,7 @@ fn take_lines<A: Application, S: Sink, L: Ledger>(
     screen: &mut S,
     steps: &mut Steps<L>,
 ) -> Result<(), Stop>
-    requires serves { Serves A.means grammar.now A.Rules.meanings hooks.now }
+    requires serves { ServesWell A.means grammar.now A.Rules.meanings hooks.now }
     ensures traces { (log : Told) → (keys : List ℕ) → (gets : ℕ) → (moments : List ℕ) → Traces
         (observed (S.told screen.old) log keys gets moments steps.old app.old)
         (observed (S.told screen.new) log keys gets moments steps.new app.new)
@@ -151,7 +151,7 @@ pub(crate) fn confirm_line<A: Application, S: Sink, L: Ledger>(
     screen: &mut S,
     steps: &mut Steps<L>,
 ) -> Result<(), Stop>
-    requires serves { Serves A.means grammar.now A.Rules.meanings hooks.now }
+    requires serves { ServesWell A.means grammar.now A.Rules.meanings hooks.now }
     requires line { IsLineAt (A.means.mode_of app.old) session.now.node }
     requires parse { IsParse (setting_of A.means app.old) session.now.node (text_of session.now)
         session.now.fields ending.Done }

@@ -1,4 +1,4 @@
-use Rattle.std.proofs.Common.{◌≡◌, ◌+◌, ℕ, false, length, IsTrue}
+use Rattle.std.proofs.Common.{◌≡◌, ◌+◌, false, length, IsTrue}
 use Rattle.cm_run.specs.Observed.{observed}
 use Rattle.cm_run.specs.Ready.{IsReadyIn}
 use Rattle.cm_run.specs.Trace.{is_ended, keys_trace, run_state, run_trace, unless}

@@ -1,4 +1,4 @@
-use Rattle.std.proofs.Common.{◌∙◌, []}
+use Rattle.std.proofs.Common.{[]}
 use Rattle.cm_run.specs.Cause.{ObeyCause}
 use Rattle.cm_run.proofs.Causes.{acts_cause, obey_cause_on}
 use Rattle.cm_run.proofs.Keys.{raw_cut, raw_log_cut, raw_next, raw_on, raw_screen_cut}

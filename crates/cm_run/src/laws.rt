@@ -1,0 +1,64 @@
+// Laws of every run, whatever the application.
+ghost use Rattle.std.specs.Prelude.{◌≡◌, ◌≢◌, ◌⊎◌, ◌+◌, ◌<◌, ◌^◌, ◌-◌, ℕ, Bool, false, List, [], ◌∷◌, ◌++◌, Result, Ok, Err};
+ghost use Rattle.cm_io.specs.Told.{AddsPart};
+ghost use Rattle.cm_state.specs.SessionState.{SessionState};
+ghost use Rattle.cm_state.specs.declared.turn.Turn.{Turn};
+ghost use Rattle.cm_state.specs.declared.turn.Turn.TheVariants as turn;
+ghost use Rattle.cm_run.specs.Cause.{Counts, KeyCount, RunCause};
+ghost use Rattle.cm_run.specs.Cut.{Traces};
+ghost use Rattle.cm_run.specs.Event.{Act, Event, Log, Screen, Trials, gets_behind, keys_of, log_bytes, moments_behind, screen_bytes, state_behind, trials_of};
+ghost use Rattle.cm_run.specs.Meaning.{Meaning};
+ghost use Rattle.cm_run.specs.Observed.{Observed};
+ghost use Rattle.cm_run.specs.Trace.{RunState, events_if, key_trace, stroke, turn_outcome};
+ghost use Rattle.cm_run.specs.declared.engine.TheConstants.{FILE_LINES};
+
+use crate::{Application, Stop};
+
+/// Nothing acts before confirmation: a line that goes on, or that is refused, does nothing and takes no moment.
+pub fn only_a_line_that_is_done_acts<A: Application>()
+    ensures { (m : Meaning A) → (state : A) → (session : SessionState) → (moment : ℕ) → (it : Turn)
+        → it ≢ turn.Confirmed → it ≢ turn.Abandoned
+        → ((turn_outcome m state session moment it).events ≡ [])
+        × ((turn_outcome m state session moment it).takes_moment ≡ false) }
+{}
+
+/// Nothing acts before the key that confirms it is shown whole, and logged where there is a log: whatever of the trace
+/// of a key stands before an act begins with its trials, its echo and its line of the log.
+pub fn nothing_acts_before_its_line_is_logged<A: Application>()
+    ensures { (m : Meaning A) → (logging : Bool) → (at : RunState A) → (key : ℕ)
+        → (first more : List (Event A)) → (left : A) → first ++ Act left ∷ more ≡ key_trace m logging at key
+        → (between : List (Event A)) × (first ≡ Trials (stroke m at key).cost ∷ Screen (stroke m at key).echo
+        ∷ (events_if logging (Log (stroke m at key).log ∷ []) ++ between)) }
+{}
+
+/// A run that is cut short shows and logs a beginning of what the whole run shows and logs: a failed screen, or a failed
+/// log, is given no more.
+pub fn a_cut_run_is_a_beginning<A: Application>()
+    ensures screen { (before now : Observed A) → (events : List (Event A)) → (result : Result Unit Stop)
+        → Traces before now events result → AddsPart before.screen now.screen (screen_bytes events) }
+    ensures log { (before now : Observed A) → (events : List (Event A)) → (result : Result Unit Stop)
+        → Traces before now events result → AddsPart before.log now.log (log_bytes events) }
+{}
+
+/// What stands at a cut is exact: the keys that are taken and how often keys were asked for, the moments, the counter of
+/// trials and the state are those of the events before the one that was cut, and no key is taken behind it.
+pub fn what_stands_at_a_cut_is_exact<A: Application>()
+    ensures { (before now : Observed A) → (events : List (Event A)) → (why : Stop) → Traces before now events (Err why)
+        → (done rest : List (Event A)) × (done ++ rest ≡ events)
+        × (keys_of done ++ now.keys ≡ before.keys) × (now.gets ≡ gets_behind before.gets done)
+        × (now.moments ≡ moments_behind before.moments done) × (now.trials ≡ before.trials + trials_of done)
+        × (now.state ≡ state_behind before.state done) }
+{}
+
+/// With fewer keys than the limit, and no fault counted, a run goes to its end, but for want of memory.
+pub fn a_quiet_run_goes_to_its_end()
+    ensures { (limit before now : ℕ) → (ended : Bool) → (counts : Counts) → (result : Result Unit Stop)
+        → RunCause counts counts result → KeyCount limit before now ended result
+        → counts.screen < 2 ^ 64 - 1 → counts.log < 2 ^ 64 - 1 → counts.keys < 2 ^ 64 - 1 → before < limit
+        → (result ≡ Ok tt) ⊎ (result ≡ Err Stop.Memory) }
+{}
+
+/// The numbers of the engine: the most lines of command files that are taken for one typed line.
+pub fn these_are_the_numbers()
+    ensures lines { FILE_LINES ≡ 10000 }
+{}
