@@ -1,18 +1,12 @@
 -- How a run ends.
-use Rattle.std.proofs.Common.{◌≡◌, ℕ, ◌<◌, ◌≤◌, Result, Ok, Err, ap, arith}
-use Rattle.cm_blocks.specs.Grammar.{Graph, hook_count}
+use Rattle.std.proofs.Common.{◌≡◌, ℕ, Result, Ok, Err, ap, arith}
 use Rattle.cm_io.specs.Fault.{Rose}
 use Rattle.cm_run.specs.Cause.{Counts, RunCause, counts}
 use Rattle.cm_run.specs.declared.stop.Stop.{Stop}
 use Rattle.cm_run.specs.declared.stop.Stop.TheVariants as stop
-use Rattle.eg_lamps.specs.Graph.{lamp_graph}
 use Rattle.eg_lamps.specs.Program.{EndCause, status_of}
-use Rattle.eg_lamps.proofs.Faultless.{graph_hooks}
 
--- one hook is enough
-pub enough_hooks : (graph : Graph) (count : ℕ) → graph ≡ lamp_graph → 0 < count → hook_count graph ≤ count
-enough_hooks graph count is one = omega (arith, ap hook_count is, graph_hooks)
-
+-- a log that counts no fault does not fail
 never_rises : Rose 0 0 → ⊥
 unfolding Rose
 never_rises rose = omega (arith, rose)

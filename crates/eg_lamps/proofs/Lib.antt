@@ -1,5 +1,4 @@
 pub mod Changing
 pub mod Ending
 pub mod Faultless
-pub mod Obeying
 pub mod Parts

@@ -4,7 +4,7 @@ ghost use Rattle.cm_hooks.specs.Ties.{Ties, count};
 ghost use Rattle.cm_io.specs.Told.{Number};
 ghost use Rattle.cm_run.specs.Observed.{observed};
 ghost use Rattle.eg_lamps.specs.Graph.{lamp_graph};
-ghost use Rattle.eg_lamps.specs.Program.{EndCause, Ends, house, is_quit, lamp_start, number_of, status_of};
+ghost use Rattle.eg_lamps.specs.Program.{EndCause, Ends, lamp_start, number_of, status_of};
 ghost use Rattle.eg_lamps.specs.Rooms.{room_meanings};
 
 use crate::grammar::COMMANDS;
@@ -75,7 +75,7 @@ impl Program {
     /// lamps and shows its reply. It ends where QUIT has acted, no key is left, or keys or screen fail.
     ///
     /// The hooks have one that reads rooms, and `steps` counts the trials.
-    #[tactic(auto, using(crate::proofs::Ending::enough_hooks, crate::proofs::Ending::end_cause))]
+    #[tactic(auto, using(crate::proofs::Ending::end_cause))]
     pub fn run<K: Source, S: Sink, L: Ledger>(
         &mut self,
         grammar: &Grammar,
@@ -145,7 +145,7 @@ impl Application for Program {
         }
     }
 
-    #[tactic(auto, using(crate::proofs::Obeying::obeys_done, crate::proofs::Obeying::obeys_cut), unfolding(cm_run::specs::Cause::ObeyCause))]
+    #[tactic(auto, using(cm_run::proofs::Obeying::obeys_done, cm_run::proofs::Obeying::obeys_cut), unfolding(cm_run::specs::Cause::ObeyCause))]
     fn confirm<S: Sink>(
         &mut self,
         session: &Session<RoomRules>,
@@ -154,7 +154,7 @@ impl Application for Program {
         screen: &mut S,
     ) -> Result<(), Stop> {
         let command = command_of(session);
-        self.has_quit = is_quit(&command);
+        self.has_quit = matches!(command, Command::Quit);
         match obey(command, &mut self.lamps, screen) {
             Put::Done => Ok(()),
             Put::Failed => Err(Stop::Screen),
@@ -168,7 +168,7 @@ impl Application for Program {
         Put::Done
     }
 
-    #[tactic(auto, using(crate::proofs::Obeying::obeys_nothing), unfolding(cm_run::specs::Cause::ObeyCause))]
+    #[tactic(auto, using(cm_run::proofs::Obeying::obeys_nothing), unfolding(cm_run::specs::Cause::ObeyCause))]
     fn take_raw<S: Sink>(&mut self, _key: u8, _screen: &mut S) -> Result<(), Stop> {
         Ok(())
     }
@@ -177,7 +177,7 @@ impl Application for Program {
         None
     }
 
-    #[tactic(auto, using(crate::proofs::Obeying::obeys_nothing), unfolding(cm_run::specs::Cause::ObeyCause))]
+    #[tactic(auto, using(cm_run::proofs::Obeying::obeys_nothing), unfolding(cm_run::specs::Cause::ObeyCause))]
     fn take_line<S: Sink>(
         &mut self,
         _session: &Session<RoomRules>,
@@ -187,10 +187,4 @@ impl Application for Program {
     ) -> Result<(), Stop> {
         Ok(())
     }
-}
-
-fn is_quit(command: &Command) -> bool
-    ensures { result ≡ is_quit command.now }
-{
-    matches!(command, Command::Quit)
 }
