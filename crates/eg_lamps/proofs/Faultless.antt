@@ -1,17 +1,8 @@
--- The tables and the grammar of the lamps have no fault.
+-- The grammar of the lamps: it has no fault, one hook, and twelve nodes.
 use Rattle.std.proofs.Common.{◌≡◌, length, None, refl}
-use Rattle.cm_tables.specs.Order.{table_fault}
 use Rattle.cm_blocks.specs.Fault.{grammar_fault}
 use Rattle.cm_blocks.specs.Grammar.{hook_count}
 use Rattle.eg_lamps.specs.Graph.{blocks, command_entries, lamp_graph, lamp_nodes, switch_entries}
-
-pub commands_have_no_fault : table_fault command_entries ≡ None
-unfolding table_fault command_entries
-commands_have_no_fault = refl
-
-pub switches_have_no_fault : table_fault switch_entries ≡ None
-unfolding table_fault switch_entries
-switches_have_no_fault = refl
 
 pub graph_has_no_fault : grammar_fault lamp_graph ≡ None
 unfolding grammar_fault lamp_graph lamp_nodes blocks command_entries switch_entries

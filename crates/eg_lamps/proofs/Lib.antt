@@ -1,9 +1,4 @@
-pub mod Faultless
-pub mod Pieces
-pub mod Lines
-pub mod LampSetting
-pub mod Running
-pub mod Steps
-pub mod Acting
 pub mod Changing
+pub mod Ending
+pub mod Faultless
 pub mod Parts

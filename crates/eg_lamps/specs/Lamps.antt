@@ -33,17 +33,16 @@ obeyed (commands.Change room change) lamps =
 obeyed commands.List lamps = lamps
 obeyed commands.Quit lamps = lamps
 
--- a space and a note, where there is one
+unfoldable pub blank : List ℕ
+blank = codes " "
+
+-- a blank and a note, where there is one
 unfoldable pub note_shown : List ℕ → List ℕ
-note_shown note = if length note == 0 then [] else codes " " ++ note
+note_shown note = if length note == 0 then [] else blank ++ note
 
--- `HALL 40`
-unfoldable pub level_shown : Lamp → List ℕ
-level_shown lamp = lamp.room ++ codes " " ++ decimal lamp.brightness
-
--- the line of a lamp
+-- the line of a lamp: `HALL 40`, and its note
 unfoldable pub lamp_line : Lamp → List ℕ
-lamp_line lamp = level_shown lamp ++ note_shown lamp.note ++ end_of_line
+lamp_line lamp = lamp.room ++ blank ++ decimal lamp.brightness ++ note_shown lamp.note ++ end_of_line
 
 unfoldable pub lamp_lines : List Lamp → List ℕ
 lamp_lines lamps = flat_map lamp_line lamps

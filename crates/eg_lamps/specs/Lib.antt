@@ -1,8 +1,6 @@
 pub mod Command
-pub mod End
 pub mod Graph
 pub mod Lamps
+pub mod Program
 pub mod RoomLaws
 pub mod Rooms
-pub mod Run
-pub mod Setting

@@ -35,7 +35,7 @@ pub fn grammar(alloc: Global) -> Result<Grammar, NoMemory>
 }
 
 // The commands, each with the node behind it.
-#[tactic(auto, using(crate::proofs::Faultless::commands_have_no_fault), unfolding(crate::specs::Graph::command_entries))]
+#[tactic(auto, unfolding(crate::specs::Graph::command_entries, cm_tables::specs::Order::table_fault))]
 fn commands(alloc: Global) -> Result<Table, NoMemory>
     ensures { IfOk result (λ table. table ≡ command_entries) }
 {
@@ -49,7 +49,7 @@ fn commands(alloc: Global) -> Result<Table, NoMemory>
 }
 
 // The switch of DIM, and its number.
-#[tactic(auto, using(crate::proofs::Faultless::switches_have_no_fault), unfolding(crate::specs::Graph::switch_entries))]
+#[tactic(auto, unfolding(crate::specs::Graph::switch_entries, cm_tables::specs::Order::table_fault))]
 fn switches(alloc: Global) -> Result<Table, NoMemory>
     ensures { IfOk result (λ table. table ≡ switch_entries) }
 {

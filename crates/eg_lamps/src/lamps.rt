@@ -1,14 +1,13 @@
 // The lamps, what a command makes of them, and what it shows.
-#![tactic(auto, using(crate::proofs::Pieces::pieces))]
-
-ghost use Rattle.std.specs.Prelude.{◌≡◌, ◌≢◌, ◌≤◌, [], length};
-ghost use Rattle.cm_io.specs.Told.{Adds};
+ghost use Rattle.std.specs.Prelude.{◌≡◌, ◌≤◌, length};
 ghost use Rattle.cm_io.specs.Fault.{PutCause};
+ghost use Rattle.cm_io.specs.Told.{Adds};
+ghost use Rattle.cm_io.specs.Writer.{Writes};
 ghost use Rattle.cm_text.specs.declared.name.TheConstants.{NAME_LIMIT};
-ghost use Rattle.eg_lamps.specs.Lamps.{changed, dark, dark_lamps, lamp_line, lamp_lines, level_shown, note_shown, obeyed, refusal, reply, too_bright};
+ghost use Rattle.eg_lamps.specs.Lamps.{blank, changed, dark, dark_lamps, lamp_line, lamp_lines, note_shown, obeyed, refusal, reply};
 
 use crate::rooms::ROOMS;
-use cm_io::{Put, Sink, put_decimal, put_line};
+use cm_io::{Put, Sink, Writer};
 use cm_text::{NAME_LIMIT, Name, end_of_line};
 
 /// How bright a lamp may be. A dark one has 0.
@@ -69,37 +68,30 @@ fn dark(room: &str) -> Lamp
 }
 
 /// Does what a command says, and shows its reply, which LIST and a refused SET have. It acts also where the screen
-/// fails, and is Failed only where there is a reply.
+/// fails.
 pub fn obey<S: Sink>(command: Command, lamps: &mut [Lamp], screen: &mut S) -> Put
     ensures lamps { lamps.new ≡ obeyed command lamps.old }
     ensures reply { Adds (S.told screen.old) (S.told screen.new) (reply command lamps.old) result }
-    ensures fails { result ≡ Put.Failed → reply command lamps.old ≢ [] }
     ensures later { S.faults screen.old ≤ S.faults screen.new }
     ensures cause { PutCause (S.faults screen.old) (S.faults screen.new) result }
 {
-    match command {
-        Command::Nothing => Put::Done,
-        Command::Change { room, change } => change_room(room, change, lamps, screen),
-        Command::List => put_lamps(lamps, screen),
-        Command::Quit => Put::Done,
-    }
+    let mut out = Writer::new(screen);
+    put_reply(&command, lamps, &mut out);
+    change_lamp(command, lamps);
+    out.went()
 }
 
 // Changes the lamp of a room, of which there may be none.
 #[tactic(auto, using(crate::proofs::Changing::set_at, crate::proofs::Changing::none_at))]
-fn change_room<S: Sink>(room: u64, change: Change, lamps: &mut [Lamp], screen: &mut S) -> Put
-    ensures lamps { lamps.new ≡ obeyed (Command.Change room change) lamps.old }
-    ensures reply { Adds (S.told screen.old) (S.told screen.new) (refusal change) result }
-    ensures fails { result ≡ Put.Failed → refusal change ≢ [] }
-    ensures later { S.faults screen.old ≤ S.faults screen.new }
-    ensures cause { PutCause (S.faults screen.old) (S.faults screen.new) result }
+fn change_lamp(command: Command, lamps: &mut [Lamp])
+    ensures { lamps.new ≡ obeyed command lamps.old }
 {
-    let put = put_refusal(&change, screen);
-    let room = room as usize;
-    if room < lamps.len() {
-        apply(change, &mut lamps[room]);
+    if let Command::Change { room, change } = command {
+        let room = room as usize;
+        if room < lamps.len() {
+            apply(change, &mut lamps[room]);
+        }
     }
-    put
 }
 
 // Changes a lamp. A brightness past the limit is refused.
@@ -114,79 +106,67 @@ fn apply(change: Change, lamp: &mut Lamp)
     }
 }
 
+// Shows the reply of a command.
+#[tactic(auto, using(cm_io::proofs::Texts::writes_none))]
+fn put_reply<S: Sink>(command: &Command, lamps: &[Lamp], out: &mut Writer<'_, S>)
+    ensures { Writes S.Sink out.old out.new (reply command.now lamps.now) }
+{
+    match command {
+        Command::Change { change, .. } => put_refusal(change, out),
+        Command::List => put_lamps(lamps, out),
+        Command::Nothing => {}
+        Command::Quit => {}
+    }
+}
+
 // Shows why a change is refused, where it is.
-#[tactic(auto, using(crate::proofs::Pieces::pieces), unfolding(crate::specs::Lamps::too_bright))]
-fn put_refusal<S: Sink>(change: &Change, screen: &mut S) -> Put
-    ensures bytes { Adds (S.told screen.old) (S.told screen.new) (refusal change.now) result }
-    ensures fails { result ≡ Put.Failed → refusal change.now ≢ [] }
-    ensures later { S.faults screen.old ≤ S.faults screen.new }
-    ensures cause { PutCause (S.faults screen.old) (S.faults screen.new) result }
+#[tactic(auto, using(cm_io::proofs::Texts::writes_none), unfolding(crate::specs::Lamps::too_bright))]
+fn put_refusal<S: Sink>(change: &Change, out: &mut Writer<'_, S>)
+    ensures { Writes S.Sink out.old out.new (refusal change.now) }
 {
     match change {
-        Change::Set(level) if *level > BRIGHTEST => put_line(b"?Brightness is 0 to 100", screen),
-        _ => Put::Done,
+        Change::Set(level) if *level > BRIGHTEST => out.put_line(b"?Brightness is 0 to 100"),
+        _ => {}
     }
 }
 
 // Shows the line of each lamp.
-#[tactic(auto, using(crate::proofs::Lines::add_no_lines, crate::proofs::Lines::add_lines_more, crate::proofs::Lines::lines_late, crate::proofs::Lines::some_lines))]
-fn put_lamps<S: Sink>(lamps: &[Lamp], screen: &mut S) -> Put
-    ensures bytes { Adds (S.told screen.old) (S.told screen.new) (lamp_lines lamps.now) result }
-    ensures fails { result ≡ Put.Failed → lamp_lines lamps.now ≢ [] }
-    ensures later { S.faults screen.old ≤ S.faults screen.new }
-    ensures cause { PutCause (S.faults screen.old) (S.faults screen.new) result }
+#[tactic(auto, using(cm_io::proofs::Texts::each), unfolding(crate::specs::Lamps::lamp_lines))]
+fn put_lamps<S: Sink>(lamps: &[Lamp], out: &mut Writer<'_, S>)
+    ensures { Writes S.Sink out.old out.new (lamp_lines lamps.now) }
 {
     for lamp in lamps {
-        if let Put::Failed = put_lamp(lamp, screen) {
-            return Put::Failed;
-        }
+        put_lamp(lamp, out);
     }
-    Put::Done
 }
 
 // Shows the line of a lamp: `HALL 40`, and the note behind it.
-#[tactic(auto, using(crate::proofs::Pieces::pieces), unfolding(crate::specs::Lamps::lamp_line))]
-fn put_lamp<S: Sink>(lamp: &Lamp, screen: &mut S) -> Put
-    ensures bytes { Adds (S.told screen.old) (S.told screen.new) (lamp_line lamp.now) result }
-    ensures later { S.faults screen.old ≤ S.faults screen.new }
-    ensures cause { PutCause (S.faults screen.old) (S.faults screen.new) result }
+#[tactic(auto, using(cm_io::proofs::Texts::texts), unfolding(crate::specs::Lamps::lamp_line))]
+fn put_lamp<S: Sink>(lamp: &Lamp, out: &mut Writer<'_, S>)
+    ensures { Writes S.Sink out.old out.new (lamp_line lamp.now) }
 {
-    if let Put::Failed = put_level(lamp, screen) {
-        return Put::Failed;
-    }
-    if let Put::Failed = put_note(lamp.note.as_bytes(), screen) {
-        return Put::Failed;
-    }
-    screen.put(end_of_line())
+    out.put(lamp.room.as_bytes());
+    out.put(blank());
+    out.put_decimal(lamp.brightness);
+    put_note(lamp.note.as_bytes(), out);
+    out.put(end_of_line());
 }
 
-#[tactic(auto, using(crate::proofs::Pieces::pieces), unfolding(crate::specs::Lamps::level_shown))]
-fn put_level<S: Sink>(lamp: &Lamp, screen: &mut S) -> Put
-    ensures bytes { Adds (S.told screen.old) (S.told screen.new) (level_shown lamp.now) result }
-    ensures later { S.faults screen.old ≤ S.faults screen.new }
-    ensures cause { PutCause (S.faults screen.old) (S.faults screen.new) result }
-{
-    if let Put::Failed = screen.put(lamp.room.as_bytes()) {
-        return Put::Failed;
-    }
-    if let Put::Failed = screen.put(b" ") {
-        return Put::Failed;
-    }
-    put_decimal(lamp.brightness, screen)
-}
-
-// Shows a space and a note, where there is one.
-#[tactic(auto, using(crate::proofs::Pieces::pieces, crate::proofs::Pieces::add_byte, crate::proofs::Pieces::adds_byte, crate::proofs::Pieces::adds_behind_byte), unfolding(crate::specs::Lamps::note_shown))]
-fn put_note<S: Sink>(note: &[u8], screen: &mut S) -> Put
-    ensures bytes { Adds (S.told screen.old) (S.told screen.new) (note_shown note.now) result }
-    ensures later { S.faults screen.old ≤ S.faults screen.new }
-    ensures cause { PutCause (S.faults screen.old) (S.faults screen.new) result }
+// Shows a blank and a note, where there is one.
+#[tactic(auto, using(cm_io::proofs::Texts::texts, cm_io::proofs::Texts::writes_none), unfolding(crate::specs::Lamps::note_shown))]
+fn put_note<S: Sink>(note: &[u8], out: &mut Writer<'_, S>)
+    ensures { Writes S.Sink out.old out.new (note_shown note.now) }
 {
     if note.is_empty() {
-        return Put::Done;
+        return;
     }
-    if let Put::Failed = screen.put(b" ") {
-        return Put::Failed;
-    }
-    screen.put(note)
+    out.put(blank());
+    out.put(note);
+}
+
+#[tactic(auto, unfolding(crate::specs::Lamps::blank))]
+fn blank() -> &'static [u8]
+    ensures { result.now ≡ blank }
+{
+    b" "
 }

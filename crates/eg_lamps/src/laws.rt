@@ -1,21 +1,9 @@
-// Laws of the program.
-ghost use Rattle.std.specs.Prelude.{◌≡◌, ◌≢◌, ◌^◌, ◌-◌};
-ghost use Rattle.cm_state.specs.declared.turn.Turn.{Turn};
-ghost use Rattle.eg_lamps.specs.Run.{after_turn};
+// The numbers of the program.
+ghost use Rattle.std.specs.Prelude.{◌≡◌, ◌^◌, ◌-◌};
 ghost use Rattle.eg_lamps.specs.declared.command.TheConstants.{NO_ROOM, STEP};
 ghost use Rattle.eg_lamps.specs.declared.grammar.TheConstants.{COMMANDS, DIM, LINE_END, LIST, NAME, QUIT, SET};
 ghost use Rattle.eg_lamps.specs.declared.lamps.TheConstants.{BRIGHTEST};
-ghost use Rattle.eg_lamps.specs.declared.program.Program.{Program};
 ghost use Rattle.eg_lamps.specs.declared.program.TheConstants.{KEY_LIMIT};
-
-use cm_state::Turn;
-
-/// Nothing acts before confirmation: a key that confirms no line leaves the lamps as they are, and does not end
-/// the run.
-pub fn only_a_confirmed_line_acts()
-    ensures { (at : Program) → (turn : Turn) → turn ≢ Turn.Confirmed
-        → ((after_turn at turn).lamps ≡ at.lamps) × ((after_turn at turn).has_quit ≡ at.has_quit) }
-{}
 
 /// The numbers of the lamps: how bright one may be, by how much DIM goes where the line does not say, the most keys
 /// that a run takes, the number that no room has, the codes of the commands, and the nodes where a line begins and

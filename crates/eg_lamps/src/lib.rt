@@ -10,5 +10,5 @@ pub mod rooms;
 
 pub use command::command_of;
 pub use lamps::{Change, Command, Lamp, dark_lamps, obey};
-pub use program::{Parser, Program, Status, house};
+pub use program::{Program, Status};
 pub use rooms::RoomRules;

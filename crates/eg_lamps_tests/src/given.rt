@@ -7,7 +7,7 @@ use cm_hooks::{Answer, Hook, Hooks, Tail};
 use cm_io::{Got, MemSink, MemSource, NoMemory, Sink, Source};
 use cm_text::Name;
 use eg_lamps::grammar::grammar;
-use eg_lamps::{Parser, Program, RoomRules, Status, house, rooms};
+use eg_lamps::{Program, RoomRules, Status, rooms};
 use std::marker::Brand;
 use std::sync::ledger::{Blank, Ledger};
 use std::test::Fail;
@@ -94,7 +94,6 @@ fn is_so(runtime: &HostRuntime, case: &Case<'_>) -> Result<bool, NoMemory> {
 }
 
 // Boxes the hook, makes the grammar and the counter of trials, and runs the program, as its `main` does.
-#[tactic(auto, using(eg_lamps::proofs::LampSetting::is_lamp, eg_lamps::proofs::LampSetting::enough_hooks))]
 fn run_with_hook<K: Source, S: Sink, L: Ledger>(
     rt: &HostRuntime,
     blank: Blank,
@@ -127,10 +126,5 @@ fn run_with_hook<K: Source, S: Sink, L: Ledger>(
     let mut hooks: Hooks<RoomRules> = Hooks::new();
     let _ = hooks.push(Hook::new(0, verdict, completion, help));
     let mut steps: Steps<L> = Steps::new(rt, blank);
-    let parser = Parser {
-        grammar,
-        names: house(),
-        hooks: &hooks,
-    };
-    program.run(&parser, keys, screen, &mut steps)
+    program.run(&grammar, &hooks, keys, screen, &mut steps)
 }

@@ -1,11 +1,9 @@
-use Rattle.std.proofs.Common.{◌≡◌, take}
-use Rattle.cm_io.specs.Told.{add}
-use Rattle.eg_lamps.specs.Lamps.{lamp_lines}
+use Rattle.std.proofs.Common.{take}
+use Rattle.std.specs.List.{flat_map}
+use Rattle.cm_io.specs.Writer.{Writes}
+use Rattle.eg_lamps.specs.Lamps.{lamp_line}
 use Rattle.eg_lamps.proofs.lamps.put_lamps.Given as goal
 
--- the lines so far are put, and no fault was counted
+-- the lines so far are written
 abbrev pub invariant-loop-lamp : goal.invariant-loop-lamp
-invariant-loop-lamp g l = record {
-  told : g.S.Sink.told l.screen ≡ add (g.S.Sink.told l.fn.screen) (lamp_lines (take l.lamp-index l.lamps));
-  faults : g.S.Sink.faults l.screen ≡ g.S.Sink.faults l.fn.screen;
-}
+invariant-loop-lamp g l = Writes g.S.Sink l.fn.out l.out (flat_map lamp_line (take l.lamp-index l.lamps))

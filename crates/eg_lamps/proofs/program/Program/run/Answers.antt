@@ -1,12 +1,16 @@
-use Rattle.std.proofs.Common.{◌∙◌}
-use Rattle.eg_lamps.proofs.Running.{runs_more}
+use Rattle.std.proofs.Common.{ap, arith, refl}
+use Rattle.cm_blocks.specs.Grammar.{hook_count}
+use Rattle.eg_lamps.proofs.Faultless.{graph_hooks}
 use Rattle.eg_lamps.proofs.program.Program.run.Goals as goal
 
-pub loop-turn-preserved : goal.loop-turn-preserved
-loop-turn-preserved g c = record {
-  runs = λ tells. runs_more _ _ _ (c.loop-turn.invariant.runs tells) _ c.in-Byte.key (c.in-Byte.ensures.bytes tells)
-      c.in_default-take_key.ensures.took.0 c.in_default-take_key.ensures.took.1;
-  ready = c.in_default-take_key.ensures.ready;
-  screen = c.in_default-take_key.ensures.cause ∙ c.loop-turn.invariant.screen;
-  keys = c.in-Byte.ensures.cause ∙ c.loop-turn.invariant.keys;
-}
+-- one hook is enough
+pub run-went-requires : goal.run-went-requires
+run-went-requires g c = (
+  omega arith,
+  record {
+    grammar = c.requires.grammar;
+    rules = refl;
+    ties = c.requires.ties;
+    enough = omega (arith, c.requires.hook, ap hook_count c.requires.grammar, graph_hooks);
+  },
+)
