@@ -12,5 +12,6 @@ mod Opening
 mod Outcomes
 pub mod Prefixes
 mod Running
+mod Sparing
 mod Strokes
 mod Waiting

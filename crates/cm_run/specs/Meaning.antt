@@ -1,5 +1,6 @@
 -- What an application means: what its lines are parsed under, and what they and its raw keys do.
-use Rattle.std.specs.Prelude.{◌≡◌, ◌<◌, ℕ, Bool, List, length, Option}
+use Rattle.std.specs.Prelude.{◌≡◌, ◌<◌, ℕ, Bool, true, not, List, length, Option}
+use Rattle.std.specs.List.{list_all}
 use Rattle.cm_blocks.specs.Grammar.{Graph}
 use Rattle.cm_blocks.specs.Setting.{Setting, setting}
 use Rattle.cm_files.specs.Catalogue.{Catalogue}
@@ -27,6 +28,16 @@ pub record Meaning (S : Type 0) : Type 0 where
   pub raw : S → ℕ → List (Deed S)
   pub waiting : S → Option (List ℕ)
   pub taken : S → SessionState → ℕ → List (Deed S)
+
+-- memory may be wanting for none of the acts
+abbrev pub is_sparing : {S : Type 0} → List (Deed S) → Bool
+is_sparing deeds = list_all (λ deed. not deed.may_allocate) deeds
+
+-- nor for any act that an application means
+pub record IsSparing {S : Type 0} (m : Meaning S) : Type 0 where
+  pub confirmed : (state : S) (session : SessionState) (moment : ℕ) → is_sparing (m.confirmed state session moment) ≡ true
+  pub raw : (state : S) (key : ℕ) → is_sparing (m.raw state key) ≡ true
+  pub taken : (state : S) (session : SessionState) (moment : ℕ) → is_sparing (m.taken state session moment) ≡ true
 
 -- what a line is parsed under in this state
 abbrev pub setting_of : {S : Type 0} → Meaning S → S → Setting

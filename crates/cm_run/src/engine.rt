@@ -1,7 +1,8 @@
 // The run over the keys.
-ghost use Rattle.std.specs.Prelude.{◌≡◌, false, length, IsTrue};
+ghost use Rattle.std.specs.Prelude.{◌≡◌, ◌≢◌, Err, false, length, IsTrue};
 ghost use Rattle.cm_run.specs.Cause.{KeyCount, RunCause, counts};
 ghost use Rattle.cm_run.specs.Cut.{Traces};
+ghost use Rattle.cm_run.specs.Meaning.{IsSparing};
 ghost use Rattle.cm_run.specs.Observed.{observed};
 ghost use Rattle.cm_run.specs.Ready.{Serves};
 ghost use Rattle.cm_run.specs.Trace.{is_ended, run_trace};
@@ -50,6 +51,8 @@ pub fn run<A: Application, K: Source, S: Sink, W: Sink, C: Clock, L: Ledger>(
         (is_ended (A.means.mode_of app.new)) result }
     // Without a log nothing is put on it.
     ensures quiet { logging ≡ false → (W.told log.new ≡ W.told log.old) × (W.faults log.new ≡ W.faults log.old) }
+    // Where memory may be wanting for no act, it is not.
+    ensures spares { IsSparing A.means → result ≢ Err Stop.Memory }
 {
     let mut session = Session::new();
     grammar.has_no_fault();

@@ -1,5 +1,5 @@
 // What one key of a run does.
-ghost use Rattle.std.specs.Prelude.{◌≡◌, ◌≤◌, ◌+◌, ℕ, List, None, Ok, IsTrue, true, false};
+ghost use Rattle.std.specs.Prelude.{◌≡◌, ◌≢◌, Err, ◌≤◌, ◌+◌, ℕ, List, None, Ok, IsTrue, true, false};
 ghost use Rattle.cm_io.specs.Fault.{PutCause};
 ghost use Rattle.cm_io.specs.Told.{Adds, Told};
 ghost use Rattle.cm_io.specs.Writer.{Writes};
@@ -15,7 +15,7 @@ ghost use Rattle.cm_state.specs.SessionState.{IsReady, met_line, text_of};
 ghost use Rattle.cm_state.specs.Turn.{put_of, turn_of};
 ghost use Rattle.cm_run.specs.Cause.{ObeyCause, StrokeCause, counts};
 ghost use Rattle.cm_run.specs.Cut.{Traces};
-ghost use Rattle.cm_run.specs.Meaning.{IsLineAt, setting_of};
+ghost use Rattle.cm_run.specs.Meaning.{IsLineAt, IsSparing, setting_of};
 ghost use Rattle.cm_run.specs.Observed.{observed};
 ghost use Rattle.cm_run.specs.Ready.{IsAtLine, IsReadyIn, ServesWell};
 ghost use Rattle.cm_run.specs.Trace.{key_trace, line_stroke, moment_at, moments_later, outcome_trace, raw_log, raw_mark, raw_stroke, run_state, step, step_by, step_of, stroke_trace, takes_moment, turn_outcome};
@@ -55,6 +55,7 @@ pub(crate) fn handle_key<A: Application, S: Sink, W: Sink, C: Clock, L: Ledger>(
     ensures quiet { logging ≡ false → (W.told log.new ≡ W.told log.old) × (W.faults log.new ≡ W.faults log.old) }
     ensures cause { (keys : ℕ) → StrokeCause (counts (S.faults screen.old) (W.faults log.old) keys)
         (counts (S.faults screen.new) (W.faults log.new) keys) result }
+    ensures spares { IsSparing A.means → result ≢ Err Stop.Memory }
 {
     match app.mode() {
         Mode::Line { .. } => handle_line_key(
@@ -95,6 +96,7 @@ fn handle_line_key<A: Application, S: Sink, W: Sink, C: Clock, L: Ledger>(
     ensures quiet { logging ≡ false → (W.told log.new ≡ W.told log.old) × (W.faults log.new ≡ W.faults log.old) }
     ensures cause { (keys : ℕ) → StrokeCause (counts (S.faults screen.old) (W.faults log.old) keys)
         (counts (S.faults screen.new) (W.faults log.new) keys) result }
+    ensures spares { IsSparing A.means → result ≢ Err Stop.Memory }
 {
     let turn = edit_line(key, app, session, grammar, hooks, screen, steps);
     if let Turn::Failed = turn {
@@ -178,6 +180,7 @@ fn finish_key<A: Application, S: Sink, C: Clock, L: Ledger>(
     ensures ready { result ≡ Ok tt → IsReadyIn A.means app.new session.new }
     ensures later { S.faults screen.old ≤ S.faults screen.new }
     ensures cause { ObeyCause (S.faults screen.old) (S.faults screen.new) result }
+    ensures spares { IsSparing A.means → result ≢ Err Stop.Memory }
 {
     match turn {
         Turn::Edited => Ok(()),
@@ -230,6 +233,7 @@ fn act<A: Application, S: Sink, C: Clock, L: Ledger>(
     ensures ready { result ≡ Ok tt → IsReadyIn A.means app.new session.new }
     ensures later { S.faults screen.old ≤ S.faults screen.new }
     ensures cause { ObeyCause (S.faults screen.old) (S.faults screen.new) result }
+    ensures spares { IsSparing A.means → result ≢ Err Stop.Memory }
 {
     let moment = moment_of(app, clock);
     match confirm_line(app, session, grammar, hooks, moment, screen, steps) {
@@ -239,7 +243,7 @@ fn act<A: Application, S: Sink, C: Clock, L: Ledger>(
 }
 
 // Takes a raw key: shows what it does, logs it, and does it.
-#[tactic(auto, using(crate::proofs::Causes::acts_cause, crate::proofs::Causes::echo_cause, crate::proofs::Causes::log_cause, crate::proofs::Causes::obey_cause_on), unfolding(crate::specs::Cause::ObeyCause))]
+#[tactic(auto, using(crate::proofs::Causes::acts_cause, crate::proofs::Causes::echo_cause, crate::proofs::Causes::log_cause, crate::proofs::Causes::obey_cause_on, crate::proofs::Sparing::acts_spare), unfolding(crate::specs::Cause::ObeyCause))]
 fn handle_raw_key<A: Application, S: Sink, W: Sink>(
     logging: bool,
     key: u8,
@@ -262,6 +266,7 @@ fn handle_raw_key<A: Application, S: Sink, W: Sink>(
     ensures quiet { logging ≡ false → (W.told log.new ≡ W.told log.old) × (W.faults log.new ≡ W.faults log.old) }
     ensures cause { (keys : ℕ) → StrokeCause (counts (S.faults screen.old) (W.faults log.old) keys)
         (counts (S.faults screen.new) (W.faults log.new) keys) result }
+    ensures spares { IsSparing A.means → result ≢ Err Stop.Memory }
 {
     if let Put::Failed = app.echo_raw(key, screen) {
         return Err(Stop::Screen);

@@ -1,5 +1,5 @@
 // Where a line begins, and what a line that is confirmed does.
-ghost use Rattle.std.specs.Prelude.{◌≡◌, ◌≤◌, ◌<◌, ◌+◌, ℕ, List, [], length, None, is_some};
+ghost use Rattle.std.specs.Prelude.{◌≡◌, ◌≢◌, Err, ◌≤◌, ◌<◌, ◌+◌, ℕ, List, [], length, None, is_some};
 ghost use Rattle.cm_text.specs.Text.{IsLine, finished};
 ghost use Rattle.cm_io.specs.Told.{Told};
 ghost use Rattle.cm_blocks.specs.Fault.{grammar_fault};
@@ -9,7 +9,7 @@ ghost use Rattle.cm_blocks.specs.declared.field.Ending.TheVariants as ending;
 ghost use Rattle.cm_state.specs.SessionState.{text_of};
 ghost use Rattle.cm_run.specs.Cause.{ObeyCause};
 ghost use Rattle.cm_run.specs.Cut.{Traces};
-ghost use Rattle.cm_run.specs.Meaning.{IsLineAt, setting_of};
+ghost use Rattle.cm_run.specs.Meaning.{IsLineAt, IsSparing, setting_of};
 ghost use Rattle.cm_run.specs.Observed.{observed};
 ghost use Rattle.cm_run.specs.Ready.{IsReadyIn, ServesWell};
 ghost use Rattle.cm_run.specs.Trace.{confirmed_trace, file_session, file_trace, line_trace, next_line, node_of, opened, opening};
@@ -37,6 +37,7 @@ pub(crate) fn open_line<A: Application, S: Sink>(
         (opening (A.means.mode_of app.now)) result }
     ensures later { S.faults screen.old ≤ S.faults screen.new }
     ensures cause { ObeyCause (S.faults screen.old) (S.faults screen.new) result }
+    ensures spares { result ≢ Err Stop.Memory }
 {
     let Mode::Line { node, prompt, .. } = app.mode() else {
         return Ok(());
@@ -83,7 +84,7 @@ fn parse_line<A: Application, L: Ledger>(
 }
 
 // Takes a line of a command file, if one is next: parses it under the state that it finds, and does what it comes to.
-#[tactic(auto, using(crate::proofs::Joining::traces_none, crate::proofs::FileLines::line_traces), unfolding(crate::specs::Cause::ObeyCause))]
+#[tactic(auto, using(crate::proofs::Joining::traces_none, crate::proofs::FileLines::line_traces, crate::proofs::Sparing::acts_spare), unfolding(crate::specs::Cause::ObeyCause))]
 fn take_line<A: Application, S: Sink, L: Ledger>(
     app: &mut A,
     grammar: &Grammar,
@@ -99,6 +100,7 @@ fn take_line<A: Application, S: Sink, L: Ledger>(
         (line_trace A.means moment app.old (next_line A.means app.old)) result }
     ensures later { S.faults screen.old ≤ S.faults screen.new }
     ensures cause { ObeyCause (S.faults screen.old) (S.faults screen.new) result }
+    ensures spares { IsSparing A.means → result ≢ Err Stop.Memory }
 {
     let Mode::Line { node, .. } = app.mode() else {
         return Ok(());
@@ -127,6 +129,7 @@ fn take_lines<A: Application, S: Sink, L: Ledger>(
         (file_trace A.means FILE_LINES moment app.old) result }
     ensures later { S.faults screen.old ≤ S.faults screen.new }
     ensures cause { ObeyCause (S.faults screen.old) (S.faults screen.new) result }
+    ensures spares { IsSparing A.means → result ≢ Err Stop.Memory }
 {
     for _line in 0..FILE_LINES {
         if !has_line(app) {
@@ -141,7 +144,7 @@ fn take_lines<A: Application, S: Sink, L: Ledger>(
 }
 
 /// Does what a confirmed line commands, and then takes the lines of the command files that it names.
-#[tactic(auto, using(crate::proofs::Outcomes::confirmed_on, crate::proofs::Outcomes::confirmed_cut, crate::proofs::Causes::obey_cause_on), unfolding(crate::specs::Cause::ObeyCause))]
+#[tactic(auto, using(crate::proofs::Outcomes::confirmed_on, crate::proofs::Outcomes::confirmed_cut, crate::proofs::Causes::obey_cause_on, crate::proofs::Sparing::acts_spare), unfolding(crate::specs::Cause::ObeyCause))]
 pub(crate) fn confirm_line<A: Application, S: Sink, L: Ledger>(
     app: &mut A,
     session: &Session<A::Rules>,
@@ -161,6 +164,7 @@ pub(crate) fn confirm_line<A: Application, S: Sink, L: Ledger>(
         (confirmed_trace A.means app.old session.now moment) result }
     ensures later { S.faults screen.old ≤ S.faults screen.new }
     ensures cause { ObeyCause (S.faults screen.old) (S.faults screen.new) result }
+    ensures spares { IsSparing A.means → result ≢ Err Stop.Memory }
 {
     match app.confirm(session, grammar, moment, screen) {
         Ok(()) => take_lines(app, grammar, hooks, moment, screen, steps),
