@@ -1,11 +1,13 @@
 // What lines of the EXEC's grammar cost to parse, by example.
-ghost use Rattle.std.specs.Prelude.{◌≡◌, ◌∷◌, ◌++◌, [], codes};
+ghost use Rattle.std.specs.Prelude.{◌≡◌, ◌∷◌, ◌++◌, [], codes, false};
 ghost use Rattle.cm_blocks.specs.Kept.{cost};
 ghost use Rattle.ex_grammar.specs.declared.node.TheConstants.{COMMANDS};
 ghost use Rattle.ex_store.specs.State.{State};
-ghost use Rattle.ex_program.specs.Run.{total};
-ghost use Rattle.ex_program.specs.Setting.{exec_setting};
-ghost use Rattle.ex_program.specs.World.{starting};
+ghost use Rattle.cm_run.specs.Event.{trials_of};
+ghost use Rattle.cm_run.specs.Meaning.{setting_of};
+ghost use Rattle.ex_exec.specs.Exec.{exec_meaning};
+ghost use Rattle.ex_exec.specs.ExecState.{exec_start};
+ghost use Rattle.ex_program.specs.Run.{exec_trace};
 
 // The counter takes no bytes, so that no run can show it. Whatever the files are:
 //
@@ -15,9 +17,9 @@ ghost use Rattle.ex_program.specs.World.{starting};
 //   opens it again.
 fn lines_cost_their_trials()
     ensures { (state : State)
-        → (cost (exec_setting state) COMMANDS (codes "DIR A") (codes "DIR AB") ≡ 3)
-        × (cost (exec_setting state) COMMANDS [] (codes "DIR AB") ≡ 12)
-        × (total (starting state []) (codes "DIR " ++ 127 ∷ []) ≡ 29) }
+        → (cost (setting_of exec_meaning (exec_start state)) COMMANDS (codes "DIR A") (codes "DIR AB") ≡ 3)
+        × (cost (setting_of exec_meaning (exec_start state)) COMMANDS [] (codes "DIR AB") ≡ 12)
+        × (trials_of (exec_trace false state [] (codes "DIR " ++ 127 ∷ [])) ≡ 29) }
 {}
 
 #[test]

@@ -11,11 +11,9 @@ use Rattle.cm_blocks.specs.Trial.{trial}
 use Rattle.cm_state.specs.Edit.{edited}
 use Rattle.ex_grammar.specs.Graph.{append_blocks, build_blocks, define_blocks, delete_blocks, exec_graph, exec_nodes, first_nodes, information_blocks, print_blocks, source_nodes, subcommand_blocks, target_blocks, type_blocks}
 use Rattle.ex_grammar.specs.Tables.{command_entries, exec_tables, topic_entries}
-use Rattle.ex_program.specs.Run.{key_cost, key_leads, step}
-use Rattle.ex_program.specs.Setting.{exec_setting}
-use Rattle.ex_program.specs.World.{world_after_turn}
+use Rattle.cm_run.specs.Trace.{line_stroke, outcome_trace, run_trace, step_of, stroke_trace, turn_outcome}
 use Rattle.ex_program_tests.proofs.costs.lines_cost_their_trials.Goals as goal
 
 pub returns : goal.returns
-unfolding cost kept parse_of chain_at trial entry_position look begins_with equals is_blank is_name is_text is_word class_of edited exec_graph exec_nodes first_nodes append_blocks build_blocks define_blocks delete_blocks information_blocks print_blocks source_nodes subcommand_blocks target_blocks type_blocks command_entries exec_tables topic_entries key_cost key_leads step exec_setting world_after_turn
+unfolding cost kept parse_of chain_at trial entry_position look begins_with equals is_blank is_name is_text is_word class_of edited exec_graph exec_nodes first_nodes append_blocks build_blocks define_blocks delete_blocks information_blocks print_blocks source_nodes subcommand_blocks target_blocks type_blocks command_entries exec_tables topic_entries line_stroke outcome_trace run_trace step_of stroke_trace turn_outcome
 returns c = λ state. (refl, refl, refl)
