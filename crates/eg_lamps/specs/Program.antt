@@ -75,12 +75,13 @@ pub record Ends (before now : Observed Program) (status : Status) : Type 0 where
   pub traces : Traces before now (run_trace lamp_meaning false before.state before.moments before.keys) went
   pub count : KeyCount KEY_LIMIT (length before.keys) (length now.keys) now.state.has_quit went
 
--- the counts of faults of the keys and the screen: that of what failed rose, and each other stayed
+-- the counts of faults of the keys and the screen: that of what failed rose, and each other stayed; memory is never
+-- wanting
 abbrev pub EndCause : (keys keys' screen screen' : ℕ) → Status → Type 0
 EndCause keys keys' screen screen' status.Done = (keys' ≡ keys) × (screen' ≡ screen)
 EndCause keys keys' screen screen' status.ReadFault = Rose keys keys' × (screen' ≡ screen)
 EndCause keys keys' screen screen' status.WriteFault = (keys' ≡ keys) × Rose screen screen'
-EndCause keys keys' screen screen' status.NoMemory = (keys' ≡ keys) × (screen' ≡ screen)
+EndCause keys keys' screen screen' status.NoMemory = ⊥
 
 -- the number that the process ends with
 abbrev pub number_of : Status → ℕ

@@ -29,7 +29,7 @@ pub enum Status {
     ReadFault,
     /// The screen could not be written on.
     WriteFault,
-    /// Memory was wanting.
+    /// Memory was wanting, before the first prompt.
     NoMemory,
 }
 
