@@ -65,41 +65,32 @@ abbrev pub is_confirm : Value → Bool
 is_confirm Confirm = true
 is_confirm value = false
 
--- a field of the text, or the end of the line
-abbrev pub typed : ℕ → ℕ → Walk → Chain
-typed node start (Takes block role next value looked end) =
-    if is_confirm value then chain.Done end
+-- a field, or the end of the line; a field of the default stands at its place with no bytes, and the end of the line
+-- decides it
+abbrev pub answered : Bool → ℕ → ℕ → Walk → Chain
+answered on_default node start (Takes block role next value looked end) =
+    if is_confirm value then chain.Done (if on_default then start else end)
     else chain.Field (record {
       node = node;
       block = block;
       value = value;
       start = start;
-      end = end;
-      need = start + looked;
-      defaulted = false;
+      end = if on_default then start else end;
+      need = if on_default then start + 1 else start + looked;
+      defaulted = on_default;
       role = role;
       next = next;
     })
-typed node start (Wants block) = chain.Open (record { node = node; block = Some block; at = start })
-typed node start (Fails code) = chain.Fault (record { code = code; node = node; at = start })
+answered on_default node start (Wants block) = chain.Open (record { node = node; block = Some block; at = start })
+answered on_default node start (Fails code) = chain.Fault (record { code = code; node = node; at = start })
 
--- a field of the default stands at its place with no bytes, and the end of the line decides it
+-- on the text
+abbrev pub typed : ℕ → ℕ → Walk → Chain
+typed = answered false
+
+-- on the default
 abbrev pub defaulted : ℕ → ℕ → Walk → Chain
-defaulted node start (Takes block role next value looked end) =
-    if is_confirm value then chain.Done start
-    else chain.Field (record {
-      node = node;
-      block = block;
-      value = value;
-      start = start;
-      end = start;
-      need = start + 1;
-      defaulted = true;
-      role = role;
-      next = next;
-    })
-defaulted node start (Wants block) = chain.Open (record { node = node; block = Some block; at = start })
-defaulted node start (Fails code) = chain.Fault (record { code = code; node = node; at = start })
+defaulted = answered true
 
 -- what a chain answers, and the bytes that its blocks looked at, with one for each block
 pub record Counted : Type 0 where

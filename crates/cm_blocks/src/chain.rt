@@ -1,9 +1,9 @@
 // The chain of a node, tried on a text.
-ghost use Rattle.std.specs.Prelude.{◌≡◌, ◌+◌, ◌≤◌, ◌<◌, All, drop, length};
+ghost use Rattle.std.specs.Prelude.{◌≡◌, ◌+◌, ◌≤◌, ◌<◌, All, drop, if◌then◌else◌, length};
 ghost use Rattle.cm_text.specs.Text.{finished};
 ghost use Rattle.cm_fields.specs.declared.code.Code.TheVariants.{NotConfirmed};
 ghost use Rattle.cm_hooks.specs.Ties.{Ties, count};
-ghost use Rattle.cm_blocks.specs.Chain.{ChainLeads, IsNear, chain_at, default_place, default_rest, defaulted, spent, typed, walk};
+ghost use Rattle.cm_blocks.specs.Chain.{ChainLeads, IsNear, answered, by_default, chain_at, default_place, default_rest, spent, walk};
 ghost use Rattle.cm_blocks.specs.Grammar.{hook_count};
 ghost use Rattle.cm_blocks.specs.Setting.{setting};
 ghost use Rattle.cm_blocks.specs.Well.{IsWell, IsWellBlock};
@@ -95,18 +95,52 @@ fn walk_blocks<N: Names, R: Rules, L: Ledger>(
     Walk::Fails { code }
 }
 
-// What the blocks of a node answer at a place of the text.
-fn typed(node: u16, start: u16, walk: Walk) -> Chain
-    requires near { IsNear walk }
-    requires place { start ≤ TEXT_LIMIT }
-    ensures { result ≡ typed node start walk }
+// What the blocks of a node answer at a place: on the text, or where the line ends there on the node's default.
+struct Walked {
+    node: u16,
+    start: u16,
+    on_default: bool,
+    walk: Walk,
+}
+
+// The place behind a field: that of a default has no bytes.
+fn end_of(on_default: bool, start: u16, end: u16) -> u16
+    ensures { result ≡ (if on_default then start else end) }
 {
+    if on_default { start } else { end }
+}
+
+// How many bytes decide a field: of a default those before it and the end of the line.
+fn need_of(on_default: bool, start: u16, looked: u16) -> u16
+    requires looked { looked ≤ TEXT_LIMIT }
+    requires place { start ≤ TEXT_LIMIT }
+    ensures { result ≡ (if on_default then start + 1 else start + looked) }
+{
+    if on_default {
+        start + 1
+    } else {
+        start + looked
+    }
+}
+
+// What a chain answers whose blocks answer so.
+fn answered(walked: Walked) -> Chain
+    requires near { IsNear walked.walk }
+    requires place { walked.start ≤ TEXT_LIMIT }
+    ensures { result ≡ answered walked.on_default walked.node walked.start walked.walk }
+{
+    let Walked {
+        node,
+        start,
+        on_default,
+        walk,
+    } = walked;
     match walk {
         Walk::Takes {
             value: Value::Confirm,
             end,
             ..
-        } => Chain::Done(end),
+        } => Chain::Done(end_of(on_default, start, end)),
         Walk::Takes {
             block,
             role,
@@ -119,49 +153,9 @@ fn typed(node: u16, start: u16, walk: Walk) -> Chain
             block,
             value,
             start,
-            end,
-            need: start + looked,
-            defaulted: false,
-            role,
-            next,
-        }),
-        Walk::Wants { block } => Chain::Open(Open {
-            node,
-            block: Some(block),
-            at: start,
-        }),
-        Walk::Fails { code } => Chain::Fault(Fault {
-            code,
-            node,
-            at: start,
-        }),
-    }
-}
-
-// What the blocks of a node answer on its default, at a place where the line ends.
-fn defaulted(node: u16, start: u16, walk: Walk) -> Chain
-    requires { start ≤ TEXT_LIMIT }
-    ensures { result ≡ defaulted node start walk }
-{
-    match walk {
-        Walk::Takes {
-            value: Value::Confirm,
-            ..
-        } => Chain::Done(start),
-        Walk::Takes {
-            block,
-            role,
-            next,
-            value,
-            ..
-        } => Chain::Field(Field {
-            node,
-            block,
-            value,
-            start,
-            end: start,
-            need: start + 1,
-            defaulted: true,
+            end: end_of(on_default, start, end),
+            need: need_of(on_default, start, looked),
+            defaulted: on_default,
             role,
             next,
         }),
@@ -205,6 +199,7 @@ fn walk_default<N: Names, R: Rules, L: Ledger>(
         node.now.chain }
     ensures steps { steps.new ≡ steps.old + spent (setting grammar.now (N.catalogue names.now) R.meanings)
         (default_rest node.now.raw text.now) (default_place node.now.raw text.now) node.now.chain }
+    ensures near { IsNear result }
 {
     let line = finished(text);
     let line = line.as_slice();
@@ -218,6 +213,54 @@ fn walk_default<N: Names, R: Rules, L: Ledger>(
         hooks,
         steps,
     )
+}
+
+// Tries the blocks of a node at a place, on the text, or where the line ends there on the node's default.
+fn walk_node<N: Names, R: Rules, L: Ledger>(
+    grammar: &Grammar,
+    number: u16,
+    node: &Node,
+    text: &[u8],
+    start: usize,
+    names: &N,
+    hooks: &Hooks<R>,
+    steps: &mut Steps<L>,
+) -> Walked
+    requires well { IsWell grammar.now node.now }
+    requires ties { Ties R.meanings hooks.now }
+    requires hooks { hook_count grammar.now ≤ count hooks.now }
+    requires short { length text.now ≤ TEXT_LIMIT }
+    requires place { start ≤ length text.now }
+    ensures value { answered result.on_default result.node result.start result.walk
+        ≡ (by_default (setting grammar.now (N.catalogue names.now) R.meanings)
+        number node.now (drop start text.now) start node.now.default).chain }
+    ensures steps { steps.new ≡ steps.old + (by_default (setting grammar.now (N.catalogue names.now) R.meanings)
+        number node.now (drop start text.now) start node.now.default).spent }
+    ensures near { IsNear result.walk }
+    ensures place { result.start ≡ start }
+{
+    match &node.default {
+        Some(default) if text.get(start) == Some(&b'\r') => Walked {
+            node: number,
+            start: start as u16,
+            on_default: true,
+            walk: walk_default(grammar, node, default, names, hooks, steps),
+        },
+        _ => Walked {
+            node: number,
+            start: start as u16,
+            on_default: false,
+            walk: walk_blocks(
+                grammar,
+                node.chain.as_slice(),
+                text,
+                start,
+                names,
+                hooks,
+                steps,
+            ),
+        },
+    }
 }
 
 /// What the chain of a node makes of a text from a place on (COMND).
@@ -259,22 +302,6 @@ pub fn try_chain<N: Names, R: Rules, L: Ledger>(
             });
         }
     };
-    match &found.default {
-        Some(default) if text.get(start) == Some(&b'\r') => {
-            let walk = walk_default(grammar, found, default, names, hooks, steps);
-            defaulted(node, start as u16, walk)
-        }
-        _ => {
-            let walk = walk_blocks(
-                grammar,
-                found.chain.as_slice(),
-                text,
-                start,
-                names,
-                hooks,
-                steps,
-            );
-            typed(node, start as u16, walk)
-        }
-    }
+    let walked = walk_node(grammar, node, found, text, start, names, hooks, steps);
+    answered(walked)
 }

@@ -1,6 +1,6 @@
 // A catalogue of one directory.
-ghost use Rattle.std.specs.Prelude.{◌≡◌, true};
-ghost use Rattle.cm_files.specs.Catalogue.{is_directory_name};
+ghost use Rattle.std.specs.Prelude.{◌≡◌, true, [], length};
+ghost use Rattle.cm_files.specs.Catalogue.{IsCatalogue, is_directory_name};
 ghost use Rattle.cm_files.specs.OneDirectory.{one_directory};
 
 use crate::{FileRow, Names, Row};
@@ -41,13 +41,23 @@ impl OneDirectory {
             file: None,
         }
     }
+
+    // What it keeps: facts for the proofs of those calls whose answers ask no field.
+    fn sees_one_directory(&self)
+        ensures catalogue { IsCatalogue self.now }
+        ensures directories { length self.now.directories ≡ 1 }
+        ensures connected { self.now.connected ≡ 0 }
+        ensures logical { self.now.logical ≡ [] }
+    {
+        let _ = &self.file;
+    }
 }
 
 impl Names for OneDirectory {
     ghost catalogue = { λ it. it };
 
     fn directories(&self) -> u16 {
-        let _ = &self.file;
+        self.sees_one_directory();
         1
     }
 
@@ -56,12 +66,12 @@ impl Names for OneDirectory {
     }
 
     fn connected(&self) -> u16 {
-        let _ = &self.file;
+        self.sees_one_directory();
         0
     }
 
     fn logical(&self, _name: &[u8]) -> Option<u16> {
-        let _ = &self.file;
+        self.sees_one_directory();
         None
     }
 

@@ -12,7 +12,8 @@ add_none (Number n) = ap Number (omega arith)
 add_none (Bytes given) = ap Bytes (append-nil given)
 
 -- a number that counts on in two steps counts as far as in one
-number_append : (n a b m : ℕ) → max n (min (n + (a + b)) m) ≡ max (max n (min (n + a) m)) (min (max n (min (n + a) m) + b) m)
+number_append : (n a b m : ℕ) → max n (min (n + (a + b)) m) ≡ max (max n (min (n + a) m))
+    (min (max n (min (n + a) m) + b) m)
 number_append n a b m = omega arith
 
 -- two pieces put one after the other are put as one
@@ -24,24 +25,36 @@ add_append (Number n) first second =
 add_append (Bytes given) first second = ap Bytes (sym (append_assoc given first second))
 
 -- a part of the first piece is a part of both
-pub adds_early : (before now : Told) (first second : List ℕ) → AddsPart before now first → AddsPart before now (first ++ second)
+pub adds_early : (before now : Told) (first second : List ℕ) → AddsPart before now first
+    → AddsPart before now (first ++ second)
 adds_early before now first second adds = record {
   part = adds.part;
-  is_part = record { rest = adds.is_part.rest ++ second; joined = sym (append_assoc adds.part adds.is_part.rest second) ∙ ap (λ bytes. bytes ++ second) adds.is_part.joined };
+  is_part = record {
+    rest = adds.is_part.rest ++ second;
+    joined = sym (append_assoc adds.part adds.is_part.rest second)
+        ∙ ap (λ bytes. bytes ++ second) adds.is_part.joined;
+  };
   added = adds.added;
 }
 
 -- the first piece and a part of the second are a part of both
-pub adds_late : (before now : Told) (first second : List ℕ) → AddsPart (add before first) now second → AddsPart before now (first ++ second)
+pub adds_late : (before now : Told) (first second : List ℕ) → AddsPart (add before first) now second
+    → AddsPart before now (first ++ second)
 adds_late before now first second adds = record {
   part = first ++ adds.part;
-  is_part = record { rest = adds.is_part.rest; joined = append_assoc first adds.part adds.is_part.rest ∙ ap (λ bytes. first ++ bytes) adds.is_part.joined };
+  is_part = record {
+    rest = adds.is_part.rest;
+    joined = append_assoc first adds.part adds.is_part.rest
+        ∙ ap (λ bytes. first ++ bytes) adds.is_part.joined;
+  };
   added = adds.added ∙ sym (add_append before first adds.part);
 }
 
 -- a part of the second of three pieces is a part of all
-pub adds_between : (before now : Told) (first second third : List ℕ) → AddsPart (add before first) now second → AddsPart before now ((first ++ second) ++ third)
-adds_between before now first second third adds = adds_early before now (first ++ second) third (adds_late before now first second adds)
+pub adds_between : (before now : Told) (first second third : List ℕ) → AddsPart (add before first) now second
+    → AddsPart before now ((first ++ second) ++ third)
+adds_between before now first second third adds = adds_early before now (first ++ second) third
+    (adds_late before now first second adds)
 
 -- a count that rose has risen also later
 pub rose_early : (before middle now : ℕ) → Rose before middle → middle ≤ now → Rose before now

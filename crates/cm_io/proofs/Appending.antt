@@ -13,7 +13,8 @@ appends_nothing content bytes = record {
 }
 
 -- a prefix of the bytes is a part of them
-pub appends_prefix : (content bytes : List ℕ) (n : ℕ) → AppendsPart (Some content) (Some (content ++ take n bytes)) bytes
+pub appends_prefix : (content bytes : List ℕ) (n : ℕ)
+    → AppendsPart (Some content) (Some (content ++ take n bytes)) bytes
 appends_prefix content bytes n = record {
   part = take n bytes;
   is_part = record { rest = drop n bytes; joined = take-append-drop n bytes };

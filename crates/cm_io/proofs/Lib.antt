@@ -1,4 +1,5 @@
 pub mod Adding
 mod Appending
+mod Decimal
 mod Repeating
 pub mod Texts

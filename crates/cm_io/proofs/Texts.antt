@@ -9,13 +9,15 @@ use Rattle.cm_io.specs.declared.writer.Writer.{Writer}
 use Rattle.cm_io.specs.Told.{Told, Adds, AddsPart, add}
 use Rattle.cm_io.specs.Fault.{PutCause, Rose}
 use Rattle.cm_io.specs.Writer.{Outlet, Puts, PutsOn, Writes, outlet}
+pub use Rattle.cm_io.specs.Writer.{Left}
 use Rattle.std.specs.List.{flat_map}
 use Rattle.cm_io.specs.Pieces.{times}
 use Rattle.cm_io.proofs.Repeating.{times_none, times_more}
 use Rattle.cm_io.proofs.Adding.{add_none, add_append, adds_early, adds_late}
 
 -- a text put behind one that was put
-adds_both : (a b c : Told) (first second : List ℕ) (went : Put) → b ≡ add a first → Adds b c second went → Adds a c (first ++ second) went
+adds_both : (a b c : Told) (first second : List ℕ) (went : Put) → b ≡ add a first → Adds b c second went
+    → Adds a c (first ++ second) went
 adds_both a b c first second Done put adds = adds ∙ ap (λ told. add told second) put ∙ sym (add_append a first second)
 adds_both a b c first second Failed put adds =
     adds_late a c first second (subst (λ told. AddsPart told c second) put adds)
@@ -25,7 +27,8 @@ cause_both : (a b c : ℕ) (went : Put) → b ≡ a → PutCause b c went → Pu
 cause_both a b c went stays cause = subst (λ n. PutCause n c went) stays cause
 
 -- both texts, by how the first went and how the second did
-puts_both : (a b c : Outlet) (first second : List ℕ) → PutsOn b.went b c second → PutsOn a.went a b first → PutsOn a.went a c (first ++ second)
+puts_both : (a b c : Outlet) (first second : List ℕ) → PutsOn b.went b c second → PutsOn a.went a b first
+    → PutsOn a.went a c (first ++ second)
 puts_both a b c first second late early = by a.went b.went refl refl late early
   where
     whole : b.went ≡ Done → Puts b c second → Puts a b first → Puts a c (first ++ second)
@@ -42,7 +45,9 @@ puts_both a b c first second late early = by a.went b.went refl refl late early
     part failed same puts =
         let added : AddsPart a.told b.told first = subst (λ went. Adds a.told b.told first went) failed puts.bytes in
         let rose : Rose a.faults b.faults = subst (λ went. PutCause a.faults b.faults went) failed puts.cause in
-        let bytes : Adds a.told b.told (first ++ second) b.went = subst (λ went. Adds a.told b.told (first ++ second) went) (sym failed) (adds_early a.told b.told first second added) in
+        let bytes : Adds a.told b.told (first ++ second) b.went =
+        subst (λ went. Adds a.told b.told (first ++ second) went) (sym failed)
+        (adds_early a.told b.told first second added) in
         subst (λ (at : Outlet). Puts a at (first ++ second)) (sym same)
         (record { bytes = bytes; later = puts.later; cause = puts.cause })
 
@@ -52,13 +57,15 @@ puts_both a b c first second late early = by a.went b.went refl refl late early
         let stays : c ≡ b = subst (λ went. PutsOn went b c second) failed more in
         stays ∙ same
 
-    by : (before middle : Put) → a.went ≡ before → b.went ≡ middle → PutsOn middle b c second → PutsOn before a b first → PutsOn before a c (first ++ second)
+    by : (before middle : Put) → a.went ≡ before → b.went ≡ middle → PutsOn middle b c second → PutsOn before a b first
+        → PutsOn before a c (first ++ second)
     by Done Done was is more puts = whole is more puts
     by Done Failed was is same puts = part is same puts
     by Failed middle was is more same = none middle was is more same
 
 -- two texts, one behind the other
-pub writes_both : {T : Type 0} (s : Ghosts T) (a b c : Writer T) (first second : List ℕ) → Writes s b c second → Writes s a b first → Writes s a c (first ++ second)
+pub writes_both : {T : Type 0} (s : Ghosts T) (a b c : Writer T) (first second : List ℕ) → Writes s b c second
+    → Writes s a b first → Writes s a c (first ++ second)
 writes_both s a b c first second late early = record {
   same = late.same ∙ early.same;
   puts = puts_both (outlet s a) (outlet s b) (outlet s c) first second late.puts early.puts;
@@ -70,42 +77,43 @@ writes_none s a = record { same = refl; puts = by a.went refl }
   where
     by : (went : Put) → a.went ≡ went → PutsOn went (outlet s a) (outlet s a) []
     by Done is = record {
-      bytes = subst (λ went. Adds (outlet s a).told (outlet s a).told [] went) (sym is) (sym (add_none (outlet s a).told));
+      bytes = subst (λ went. Adds (outlet s a).told (outlet s a).told [] went) (sym is)
+          (sym (add_none (outlet s a).told));
       later = omega arith;
       cause = subst (λ went. PutCause (outlet s a).faults (outlet s a).faults went) (sym is) refl;
     }
     by Failed is = refl
 
 -- the text of one element more, behind those of the elements before it
-pub writes_each : {T A : Type 0} (s : Ghosts T) (a b c : Writer T) (f : A → List ℕ) (xs : List A) (i : ℕ) (d : A) → i < length xs
-    → Writes s b c (f (get_or xs i d)) → Writes s a b (flat_map f (take i xs)) → Writes s a c (flat_map f (take (i + 1) xs))
+pub writes_each : {T A : Type 0} (s : Ghosts T) (a b c : Writer T) (f : A → List ℕ) (xs : List A) (i : ℕ) (d : A)
+    → i < length xs
+    → Writes s b c (f (get_or xs i d)) → Writes s a b (flat_map f (take i xs))
+    → Writes s a c (flat_map f (take (i + 1) xs))
 writes_each s a b c f xs i d here late early =
     let one : flat_map f (get_or xs i d ∷ []) ≡ f (get_or xs i d) = append-nil (f (get_or xs i d)) in
     let more : flat_map f (take (i + 1) xs) ≡ flat_map f (take i xs) ++ f (get_or xs i d) =
-    ap (flat_map f) (take_more xs i d here) ∙ flat_map-append f (take i xs) (get_or xs i d ∷ []) ∙ ap (λ text. flat_map f (take i xs) ++ text) one in
-    subst (λ text. Writes s a c text) (sym more) (writes_both s a b c (flat_map f (take i xs)) (f (get_or xs i d)) late early)
+    ap (flat_map f) (take_more xs i d here) ∙ flat_map-append f (take i xs) (get_or xs i d ∷ [])
+    ∙ ap (λ text. flat_map f (take i xs) ++ text) one in
+    subst (λ text. Writes s a c text) (sym more) (writes_both s a b c (flat_map f (take i xs)) (f (get_or xs i d)) late
+    early)
 
 -- no times of a piece
 pub writes_no_times : {T : Type 0} (s : Ghosts T) (a : Writer T) (piece : List ℕ) → Writes s a a (times 0 piece)
 writes_no_times s a piece = subst (λ text. Writes s a a text) (sym (times_none piece)) (writes_none s a)
 
 -- a piece one time more
-pub writes_time : {T : Type 0} (s : Ghosts T) (a b c : Writer T) (n : ℕ) (piece : List ℕ) → Writes s b c piece → Writes s a b (times n piece) → Writes s a c (times (n + 1) piece)
+pub writes_time : {T : Type 0} (s : Ghosts T) (a b c : Writer T) (n : ℕ) (piece : List ℕ) → Writes s b c piece
+    → Writes s a b (times n piece) → Writes s a c (times (n + 1) piece)
 writes_time s a b c n piece late early =
     subst (λ text. Writes s a c text) (sym (times_more n piece)) (writes_both s a b c (times n piece) piece late early)
-
--- of the whole text some is written, and the rest is left
-pub record Left {T : Type 0} (s : Ghosts T) (before now : Writer T) (rest whole : List ℕ) : Type 0 where
-  pub front : List ℕ
-  pub writes : Writes s before now front
-  pub joined : front ++ rest ≡ whole
 
 -- at first all is left
 pub left_whole : {T : Type 0} (s : Ghosts T) (before : Writer T) (whole : List ℕ) → Left s before before whole whole
 left_whole s before whole = record { front = []; writes = writes_none s before; joined = refl }
 
 -- where one more text is written, less is left
-pub left_less : {T : Type 0} (s : Ghosts T) (before now later : Writer T) (rest text more whole : List ℕ) → Writes s now later text → Left s before now rest whole
+pub left_less : {T : Type 0} (s : Ghosts T) (before now later : Writer T) (rest text more whole : List ℕ)
+    → Writes s now later text → Left s before now rest whole
     → rest ≡ text ++ more → Left s before later more whole
 left_less s before now later rest text more whole writes left splits = record {
   front = left.front ++ text;
@@ -114,9 +122,43 @@ left_less s before now later rest text more whole writes left splits = record {
 }
 
 -- where nothing is left, all is written
-pub left_nothing : {T : Type 0} (s : Ghosts T) (before now : Writer T) (whole : List ℕ) → Left s before now [] whole → Writes s before now whole
+pub left_nothing : {T : Type 0} (s : Ghosts T) (before now : Writer T) (whole : List ℕ) → Left s before now [] whole
+    → Writes s before now whole
 left_nothing s before now whole left =
     subst (λ text. Writes s before now text) (sym (append-nil left.front) ∙ left.joined) left.writes
+
+-- where some of what is left is written, the rest of that is left
+pub left_on : {T : Type 0} (s : Ghosts T) (before now later : Writer T) (rest middle whole : List ℕ)
+    → Left s now later rest middle
+    → Left s before now middle whole → Left s before later rest whole
+left_on s before now later rest middle whole late early = record {
+  front = early.front ++ late.front;
+  writes = writes_both s before now later early.front late.front late.writes early.writes;
+  joined = append_assoc early.front late.front rest ∙ ap (λ bytes. early.front ++ bytes) late.joined ∙ early.joined;
+}
+
+-- where the whole has a text more at its end, that is left too
+pub left_more : {T : Type 0} (s : Ghosts T) (before now : Writer T) (rest whole text : List ℕ)
+    → Left s before now rest whole
+    → Left s before now (rest ++ text) (whole ++ text)
+left_more s before now rest whole text left = record {
+  front = left.front;
+  writes = left.writes;
+  joined = sym (append_assoc left.front rest text) ∙ ap (λ bytes. bytes ++ text) left.joined;
+}
+
+-- a text that is written leaves nothing of it
+pub left_none : {T : Type 0} (s : Ghosts T) (before now : Writer T) (whole : List ℕ) → Writes s before now whole
+    → Left s before now [] whole
+left_none s before now whole writes = record { front = whole; writes = writes; joined = append-nil whole }
+
+-- where all that is left is written, the whole is
+pub left_written : {T : Type 0} (s : Ghosts T) (before now later : Writer T) (rest whole : List ℕ)
+    → Writes s now later rest
+    → Left s before now rest whole → Writes s before later whole
+left_written s before now later rest whole writes left =
+    subst (λ text. Writes s before later text) left.joined
+    (writes_both s before now later left.front rest writes left.writes)
 
 -- texts one behind the other
 pub ruleset texts = (writes_both)

@@ -1,5 +1,5 @@
 -- What a writer leaves: the sink that it writes on, and whether a put has failed.
-use Rattle.std.specs.Prelude.{◌≡◌, ℕ, ◌≤◌, List}
+use Rattle.std.specs.Prelude.{◌≡◌, ℕ, ◌≤◌, List, ◌++◌}
 use Rattle.std.specs.Borrow.{MutBor}
 use Rattle.cm_io.specs.Told.{Told, Adds}
 use Rattle.cm_io.specs.Fault.{PutCause}
@@ -38,3 +38,9 @@ pub record Writes {T : Type 0} (s : Ghosts T) (before now : Writer T) (text : Li
 pub record Begins {T : Type 0} (s : Ghosts T) (sink : MutBor T) (out : Writer T) : Type 0 where
   pub same : out.sink.ghost_name ≡ sink.ghost_name
   pub begins : outlet s out ≡ record { told = s.told sink.now; faults = s.faults sink.now; went = Done }
+
+-- of the whole text some is written, and the rest is left
+pub record Left {T : Type 0} (s : Ghosts T) (before now : Writer T) (rest whole : List ℕ) : Type 0 where
+  pub front : List ℕ
+  pub writes : Writes s before now front
+  pub joined : front ++ rest ≡ whole

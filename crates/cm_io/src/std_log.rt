@@ -44,6 +44,17 @@ impl StdLog {
         }
     }
 
+    // Takes bytes. Where nothing is held and they have a line feed they are written as they come, with no copy.
+    // Tells whether what was written was taken.
+    fn take(&mut self, bytes: &[u8]) -> bool
+        ensures { self.new ≡ self.old }
+    {
+        if self.held.is_empty() && bytes.contains(&b'\n') {
+            return write_whole(&mut self.output, bytes);
+        }
+        self.make_room(bytes.len()) && self.hold(bytes)
+    }
+
     // Writes what is held, and tells whether all was taken. Then nothing is held.
     fn write_held(&mut self) -> bool
         ensures { self.new ≡ self.old }
@@ -82,7 +93,7 @@ impl Sink for StdLog {
         if bytes.is_empty() {
             return Put::Done;
         }
-        if self.make_room(bytes.len()) && self.hold(bytes) {
+        if self.take(bytes) {
             return Put::Done;
         }
         self.faults = raised(self.faults);

@@ -78,8 +78,9 @@ impl Line {
         ensures empty { IfNone result (self.old ≡ []) }
         ensures rest { self.new ≡ take (length self.old - 1) self.old }
     {
-        let last = self.bytes().last().copied();
-        self.cut(self.bytes().len().saturating_sub(1));
+        self.text.pop();
+        let last = self.text.pop();
+        self.text.push(b'\r');
         last
     }
 

@@ -21,7 +21,7 @@ use Rattle.cm_run.specs.Observed.{Observed, Performs, observed}
 use Rattle.cm_run.specs.Cut.{Traces}
 use Rattle.cm_run.specs.Meaning.{Meaning, setting_of}
 use Rattle.cm_run.specs.Obey.{Obeys, stage}
-use Rattle.cm_run.specs.Trace.{RunState, deeds_trace, line_stroke, moment_at, opened, opening, outcome_trace, raw_log, raw_stroke, run_state, step_by, step_of, stroke_trace, turn_outcome}
+use Rattle.cm_run.specs.Trace.{RunState, deeds_trace, line_stroke, moment_at, line_start, opening, outcome_trace, raw_log, raw_stroke, run_state, step_by, step_of, stroke_trace, turn_outcome}
 use Rattle.cm_run.proofs.Deeds.{deeds_traces}
 use Rattle.cm_run.proofs.Joining.{traces_cut, traces_on}
 use Rattle.cm_run.proofs.Strokes.{logged_if, stroke_log_cut, stroke_on, stroke_screen_cut}
@@ -121,24 +121,24 @@ module _ {S : Type 0} (m : Meaning S) (logging : Bool) (key : ℕ) (session now 
   -- a raw key is shown and logged, and then it is done, and the next line begins where one does
   pub raw_on : (screen'' : Told) (left : S) (value : Unit) (b : Observed S) (result : Result Unit Stop)
       → Traces (observed screen'' log' keys gets moments trials left) b (opening (m.mode_of left)) result
-      → Obeys (stage screen' state) (stage screen'' left) (m.raw state key) (Ok value)
+      → Obeys (stage screen' state) (stage screen'' left) (m.raw_deeds state key) (Ok value)
       → screen' ≡ add screen (m.raw_echo state key)
       → (logging ≡ true → Adds log log' (raw_log key) Done) → (logging ≡ false → log' ≡ log)
       → Traces (observed screen log keys gets moments trials state) b (stroke_trace m logging state (raw_stroke m (run_state session state moments) key)) result
   unfolding raw_stroke outcome_trace Traces Performs
   raw_on screen'' left value b result opens obeys shown adds stays =
       let s = raw_stroke m (run_state session state moments) key in
-      let acts : Traces (observed screen' log' keys gets moments trials state) (observed screen'' log' keys gets moments trials left) (deeds_trace (m.raw state key)) (Ok value)
-      = deeds_traces log' keys gets moments trials (m.raw state key) screen' screen'' state left (Ok value) obeys in
+      let acts : Traces (observed screen' log' keys gets moments trials state) (observed screen'' log' keys gets moments trials left) (deeds_trace (m.raw_deeds state key)) (Ok value)
+      = deeds_traces log' keys gets moments trials (m.raw_deeds state key) screen' screen'' state left (Ok value) obeys in
       stroke_on m state s logging screen log screen' log' keys gets moments trials trials b result
       (traces_on (observed screen' log' keys gets moments trials state) (observed screen'' log' keys gets moments trials left) b
-      (deeds_trace (m.raw state key)) (opening (m.mode_of (state_behind state (deeds_trace (m.raw state key))))) value result
+      (deeds_trace (m.raw_deeds state key)) (opening (m.mode_of (state_behind state (deeds_trace (m.raw_deeds state key))))) value result
       (subst (λ it. Traces (observed screen'' log' keys gets moments trials left) b (opening (m.mode_of it)) result) acts.state opens) acts)
       shown (logs_done logging log log' (raw_log key) adds stays) (omega arith)
 
   -- or it is cut
   pub raw_cut : (screen'' : Told) (left : S) (why : Stop)
-      → Obeys (stage screen' state) (stage screen'' left) (m.raw state key) (Err why)
+      → Obeys (stage screen' state) (stage screen'' left) (m.raw_deeds state key) (Err why)
       → screen' ≡ add screen (m.raw_echo state key)
       → (logging ≡ true → Adds log log' (raw_log key) Done) → (logging ≡ false → log' ≡ log)
       → Traces (observed screen log keys gets moments trials state) (observed screen'' log' keys gets moments trials left) (stroke_trace m logging state (raw_stroke m (run_state session state moments) key)) (Err why)
@@ -147,8 +147,8 @@ module _ {S : Type 0} (m : Meaning S) (logging : Bool) (key : ℕ) (session now 
       let s = raw_stroke m (run_state session state moments) key in
       stroke_on m state s logging screen log screen' log' keys gets moments trials trials (observed screen'' log' keys gets moments trials left) (Err why)
       (traces_cut (observed screen' log' keys gets moments trials state) (observed screen'' log' keys gets moments trials left)
-      (deeds_trace (m.raw state key)) (opening (m.mode_of (state_behind state (deeds_trace (m.raw state key))))) why
-      (deeds_traces log' keys gets moments trials (m.raw state key) screen' screen'' state left (Err why) obeys))
+      (deeds_trace (m.raw_deeds state key)) (opening (m.mode_of (state_behind state (deeds_trace (m.raw_deeds state key))))) why
+      (deeds_traces log' keys gets moments trials (m.raw_deeds state key) screen' screen'' state left (Err why) obeys))
       shown (logs_done logging log log' (raw_log key) adds stays) (omega arith)
 
   -- its echo is cut
@@ -171,12 +171,12 @@ module _ {S : Type 0} (m : Meaning S) (logging : Bool) (key : ℕ) (session now 
 
   -- where a raw key leads
   pub raw_next : (left : S) (screen'' : Told) (value : Unit) (to : SessionState)
-      → Obeys (stage screen' state) (stage screen'' left) (m.raw state key) (Ok value)
-      → to ≡ opened (m.mode_of left) session
+      → Obeys (stage screen' state) (stage screen'' left) (m.raw_deeds state key) (Ok value)
+      → to ≡ line_start (m.mode_of left) session
       → run_state to left moments ≡ step_by m (run_state session state moments) (raw_stroke m (run_state session state moments) key)
   unfolding raw_stroke step_of Traces Performs
   raw_next left screen'' value to obeys opens =
-      let acts : Traces (observed screen' log keys gets moments trials state) (observed screen'' log keys gets moments trials left) (deeds_trace (m.raw state key)) (Ok value)
-      = deeds_traces log keys gets moments trials (m.raw state key) screen' screen'' state left (Ok value) obeys in
-      subst (λ s. run_state to left moments ≡ run_state (opened (m.mode_of s) session) s moments) acts.state
+      let acts : Traces (observed screen' log keys gets moments trials state) (observed screen'' log keys gets moments trials left) (deeds_trace (m.raw_deeds state key)) (Ok value)
+      = deeds_traces log keys gets moments trials (m.raw_deeds state key) screen' screen'' state left (Ok value) obeys in
+      subst (λ s. run_state to left moments ≡ run_state (line_start (m.mode_of s) session) s moments) acts.state
       (ap (λ it. run_state it left moments) opens)

@@ -1,8 +1,10 @@
 mod Beginning
 mod Causes
+mod Counting
 pub mod Cutting
 pub mod Deeds
 mod FileLines
+pub mod Fileless
 pub mod Joining
 mod Keys
 mod LawLemmas
@@ -11,7 +13,9 @@ pub mod Obeying
 mod Opening
 mod Outcomes
 pub mod Prefixes
+pub mod Progressing
 mod Running
+pub mod Screens
 mod Sparing
 mod Strokes
 mod Waiting

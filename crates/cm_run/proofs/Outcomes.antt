@@ -12,7 +12,7 @@ use Rattle.cm_run.specs.Observed.{Observed, Performs, observed}
 use Rattle.cm_run.specs.Cut.{Traces}
 use Rattle.cm_run.specs.Meaning.{Meaning}
 use Rattle.cm_run.specs.Obey.{Obeys, stage}
-use Rattle.cm_run.specs.Trace.{confirmed_trace, deeds_trace, events_if, file_trace, moment_at, moments_later, opened, opening, outcome_trace, run_state, step_of, takes_moment, turn_outcome}
+use Rattle.cm_run.specs.Trace.{line_trace, deeds_trace, events_if, file_trace, moment_at, moments_later, line_start, opening, outcome_trace, run_state, step_of, takes_moment, turn_outcome}
 use Rattle.cm_run.specs.declared.engine.TheConstants.{FILE_LINES}
 use Rattle.cm_run.proofs.Deeds.{deeds_traces}
 use Rattle.cm_run.proofs.Joining.{performs_none, traces_both, traces_cut, traces_none, traces_on}
@@ -21,27 +21,27 @@ module _ {S : Type 0} (m : Meaning S) (log : Told) (keys : List ℕ) (gets : ℕ
   -- a line that is confirmed acts, and takes the lines of its files
   pub confirmed_on : (screen screen' : Told) (trials moment : ℕ) (session : SessionState) (state state' : S) (value : Unit) (b : Observed S) (result : Result Unit Stop)
       → Traces (observed screen' log keys gets moments trials state') b (file_trace m FILE_LINES moment state') result
-      → Obeys (stage screen state) (stage screen' state') (m.confirmed state session moment) (Ok value)
-      → Traces (observed screen log keys gets moments trials state) b (confirmed_trace m state session moment) result
-  unfolding confirmed_trace Traces Performs
+      → Obeys (stage screen state) (stage screen' state') (m.line_deeds state session moment) (Ok value)
+      → Traces (observed screen log keys gets moments trials state) b (line_trace m state session moment) result
+  unfolding line_trace Traces Performs
   confirmed_on screen screen' trials moment session state state' value b result more obeys =
-      let acts = deeds_trace (m.confirmed state session moment) in
+      let acts = deeds_trace (m.line_deeds state session moment) in
       let first : Traces (observed screen log keys gets moments trials state) (observed screen' log keys gets moments trials state') acts (Ok value)
-      = deeds_traces log keys gets moments trials (m.confirmed state session moment) screen screen' state state' (Ok value) obeys in
+      = deeds_traces log keys gets moments trials (m.line_deeds state session moment) screen screen' state state' (Ok value) obeys in
       traces_on (observed screen log keys gets moments trials state) (observed screen' log keys gets moments trials state') b acts
       (file_trace m FILE_LINES moment (state_behind state acts)) value result
       (subst (λ s. Traces (observed screen' log keys gets moments trials state') b (file_trace m FILE_LINES moment s) result) first.state more) first
 
   -- or is cut
   pub confirmed_cut : (screen screen' : Told) (trials moment : ℕ) (session : SessionState) (state state' : S) (why : Stop)
-      → Obeys (stage screen state) (stage screen' state') (m.confirmed state session moment) (Err why)
-      → Traces (observed screen log keys gets moments trials state) (observed screen' log keys gets moments trials state') (confirmed_trace m state session moment) (Err why)
-  unfolding confirmed_trace
+      → Obeys (stage screen state) (stage screen' state') (m.line_deeds state session moment) (Err why)
+      → Traces (observed screen log keys gets moments trials state) (observed screen' log keys gets moments trials state') (line_trace m state session moment) (Err why)
+  unfolding line_trace
   confirmed_cut screen screen' trials moment session state state' why obeys =
-      let acts = deeds_trace (m.confirmed state session moment) in
+      let acts = deeds_trace (m.line_deeds state session moment) in
       traces_cut (observed screen log keys gets moments trials state) (observed screen' log keys gets moments trials state') acts
       (file_trace m FILE_LINES moment (state_behind state acts)) why
-      (deeds_traces log keys gets moments trials (m.confirmed state session moment) screen screen' state state' (Err why) obeys)
+      (deeds_traces log keys gets moments trials (m.line_deeds state session moment) screen screen' state state' (Err why) obeys)
 
   -- a moment is taken, or none
   moment_taken : (takes : Bool) (screen : Told) (trials : ℕ) (state : S)
@@ -61,14 +61,14 @@ module _ {S : Type 0} (m : Meaning S) (log : Told) (keys : List ℕ) (gets : ℕ
   -- the line is done, and the next begins
   pub acts_on : (screen screen' : Told) (trials trials' moment : ℕ) (session : SessionState) (state state' : S) (moments' : List ℕ) (value : Unit) (b : Observed S) (result : Result Unit Stop)
       → Traces (observed screen' log keys gets moments' trials' state') b (opening (m.mode_of state')) result
-      → Traces (observed screen log keys gets moments' trials state) (observed screen' log keys gets moments' trials' state') (confirmed_trace m state session moment) (Ok value)
+      → Traces (observed screen log keys gets moments' trials state) (observed screen' log keys gets moments' trials' state') (line_trace m state session moment) (Ok value)
       → moment ≡ moment_at m state moments → moments' ≡ moments_later (takes_moment (m.mode_of state)) moments
       → Traces (observed screen log keys gets moments trials state) b (outcome_trace m state (turn_outcome m state session (moment_at m state moments) turn.Confirmed)) result
   unfolding outcome_trace turn_outcome Traces Performs
   acts_on screen screen' trials trials' moment session state state' moments' value b result opens acts at later =
-      let events = confirmed_trace m state session (moment_at m state moments) in
+      let events = line_trace m state session (moment_at m state moments) in
       let done : Traces (observed screen log keys gets moments' trials state) (observed screen' log keys gets moments' trials' state') events (Ok value)
-      = subst (λ n. Traces (observed screen log keys gets moments' trials state) (observed screen' log keys gets moments' trials' state') (confirmed_trace m state session n) (Ok value)) at acts in
+      = subst (λ n. Traces (observed screen log keys gets moments' trials state) (observed screen' log keys gets moments' trials' state') (line_trace m state session n) (Ok value)) at acts in
       let leads : state' ≡ state_behind state events = done.state in
       traces_both (observed screen log keys gets moments trials state) (observed screen log keys gets moments' trials state) b
       (events_if (takes_moment (m.mode_of state)) (Moment ∷ [])) (events ++ opening (m.mode_of (state_behind state events))) result
@@ -79,34 +79,34 @@ module _ {S : Type 0} (m : Meaning S) (log : Told) (keys : List ℕ) (gets : ℕ
 
   -- where that leads
   pub acts_next : (screen screen' : Told) (trials trials' moment : ℕ) (session session' : SessionState) (state state' : S) (moments' : List ℕ) (value : Unit)
-      → Traces (observed screen log keys gets moments' trials state) (observed screen' log keys gets moments' trials' state') (confirmed_trace m state session moment) (Ok value)
+      → Traces (observed screen log keys gets moments' trials state) (observed screen' log keys gets moments' trials' state') (line_trace m state session moment) (Ok value)
       → moment ≡ moment_at m state moments → moments' ≡ moments_later (takes_moment (m.mode_of state)) moments
-      → session' ≡ opened (m.mode_of state') session
+      → session' ≡ line_start (m.mode_of state') session
       → run_state session' state' moments' ≡ step_of m session state moments (turn_outcome m state session (moment_at m state moments) turn.Confirmed)
   unfolding step_of turn_outcome Traces Performs
   acts_next screen screen' trials trials' moment session session' state state' moments' value acts at later opens =
-      let events = confirmed_trace m state session (moment_at m state moments) in
+      let events = line_trace m state session (moment_at m state moments) in
       let leads : state' ≡ state_behind state events
-      = (subst (λ n. Traces (observed screen log keys gets moments' trials state) (observed screen' log keys gets moments' trials' state') (confirmed_trace m state session n) (Ok value)) at acts).state in
-      subst (λ s. run_state session' state' moments' ≡ run_state (opened (m.mode_of s) session) s (moments_later (takes_moment (m.mode_of state)) moments)) leads
+      = (subst (λ n. Traces (observed screen log keys gets moments' trials state) (observed screen' log keys gets moments' trials' state') (line_trace m state session n) (Ok value)) at acts).state in
+      subst (λ s. run_state session' state' moments' ≡ run_state (line_start (m.mode_of s) session) s (moments_later (takes_moment (m.mode_of state)) moments)) leads
       (ap (λ xs. run_state session' state' xs) later ∙ ap (λ it. run_state it state' (moments_later (takes_moment (m.mode_of state)) moments)) opens)
 
   -- or it is cut
   pub acts_cut : (screen : Told) (trials moment : ℕ) (session : SessionState) (state : S) (moments' : List ℕ) (b : Observed S) (why : Stop)
-      → Traces (observed screen log keys gets moments' trials state) b (confirmed_trace m state session moment) (Err why)
+      → Traces (observed screen log keys gets moments' trials state) b (line_trace m state session moment) (Err why)
       → moment ≡ moment_at m state moments → moments' ≡ moments_later (takes_moment (m.mode_of state)) moments
       → Traces (observed screen log keys gets moments trials state) b (outcome_trace m state (turn_outcome m state session (moment_at m state moments) turn.Confirmed)) (Err why)
   unfolding outcome_trace turn_outcome
   acts_cut screen trials moment session state moments' b why acts at later =
-      let events = confirmed_trace m state session (moment_at m state moments) in
+      let events = line_trace m state session (moment_at m state moments) in
       traces_both (observed screen log keys gets moments trials state) (observed screen log keys gets moments' trials state) b
       (events_if (takes_moment (m.mode_of state)) (Moment ∷ [])) (events ++ opening (m.mode_of (state_behind state events))) (Err why)
       (traces_cut (observed screen log keys gets moments' trials state) b events (opening (m.mode_of (state_behind state events))) why
-      (subst (λ n. Traces (observed screen log keys gets moments' trials state) b (confirmed_trace m state session n) (Err why)) at acts))
+      (subst (λ n. Traces (observed screen log keys gets moments' trials state) b (line_trace m state session n) (Err why)) at acts))
       (subst (λ xs. Performs (observed screen log keys gets moments trials state) (observed screen log keys gets xs trials state) (events_if (takes_moment (m.mode_of state)) (Moment ∷ [])))
       (sym later) (moment_taken (takes_moment (m.mode_of state)) screen trials state))
 
-  given_up : (screen : Told) (trials : ℕ) (state : S) → Performs (observed screen log keys gets moments trials state) (observed screen log keys gets moments trials (m.abandoned state)) (Act (m.abandoned state) ∷ [])
+  given_up : (screen : Told) (trials : ℕ) (state : S) → Performs (observed screen log keys gets moments trials state) (observed screen log keys gets moments trials (m.abandonment state)) (Act (m.abandonment state) ∷ [])
   unfolding Performs
   given_up screen trials state = record {
     screen = sym (add_none screen);
@@ -120,12 +120,12 @@ module _ {S : Type 0} (m : Meaning S) (log : Told) (keys : List ℕ) (gets : ℕ
 
   -- a line is given up, and the next begins
   pub abandons : (screen : Told) (trials moment : ℕ) (session : SessionState) (state : S) (b : Observed S) (result : Result Unit Stop)
-      → Traces (observed screen log keys gets moments trials (m.abandoned state)) b (opening (m.mode_of (m.abandoned state))) result
+      → Traces (observed screen log keys gets moments trials (m.abandonment state)) b (opening (m.mode_of (m.abandonment state))) result
       → Traces (observed screen log keys gets moments trials state) b (outcome_trace m state (turn_outcome m state session moment turn.Abandoned)) result
   unfolding outcome_trace turn_outcome
   abandons screen trials moment session state b result opens =
-      traces_both (observed screen log keys gets moments trials state) (observed screen log keys gets moments trials (m.abandoned state)) b
-      (Act (m.abandoned state) ∷ []) (opening (m.mode_of (m.abandoned state))) result opens (given_up screen trials state)
+      traces_both (observed screen log keys gets moments trials state) (observed screen log keys gets moments trials (m.abandonment state)) b
+      (Act (m.abandonment state) ∷ []) (opening (m.mode_of (m.abandonment state))) result opens (given_up screen trials state)
 
   -- a line is refused, and the next begins
   pub refuses : (screen : Told) (trials moment : ℕ) (session : SessionState) (state : S) (fault : Fault) (b : Observed S) (result : Result Unit Stop)
@@ -154,13 +154,13 @@ module _ {S : Type 0} (m : Meaning S) (log : Told) (keys : List ℕ) (gets : ℕ
   unfolding step_of turn_outcome
   fails_next session state moment = refl
 
-  pub refuses_next : (session to : SessionState) (state : S) (moment : ℕ) (fault : Fault) → to ≡ opened (m.mode_of state) session
+  pub refuses_next : (session to : SessionState) (state : S) (moment : ℕ) (fault : Fault) → to ≡ line_start (m.mode_of state) session
       → run_state to state moments ≡ step_of m session state moments (turn_outcome m state session moment (turn.Refused fault))
   unfolding step_of turn_outcome
   refuses_next session to state moment fault opens = ap (λ it. run_state it state moments) opens
 
-  pub abandons_next : (session to : SessionState) (state left : S) (moment : ℕ) → left ≡ m.abandoned state → to ≡ opened (m.mode_of left) session
+  pub abandons_next : (session to : SessionState) (state left : S) (moment : ℕ) → left ≡ m.abandonment state → to ≡ line_start (m.mode_of left) session
       → run_state to left moments ≡ step_of m session state moments (turn_outcome m state session moment turn.Abandoned)
   unfolding step_of turn_outcome
   abandons_next session to state left moment gives opens =
-      ap (λ it. run_state it left moments) opens ∙ ap (λ s. run_state (opened (m.mode_of s) session) s moments) gives
+      ap (λ it. run_state it left moments) opens ∙ ap (λ s. run_state (line_start (m.mode_of s) session) s moments) gives

@@ -1,5 +1,5 @@
 -- A run over more keys begins as the run over the first of them.
-use Rattle.std.proofs.Common.{◌≡◌, ℕ, zero, suc, List, [], ◌∷◌, ◌++◌, refl, ap, subst, ◌∙◌}
+use Rattle.std.proofs.Common.{◌≡◌, ℕ, zero, suc, cond, List, [], ◌∷◌, ◌++◌, refl, ap, subst, ◌∙◌}
 use Rattle.std.specs.Prelude.{Bool, true, false, Option, None, Some}
 use Rattle.std.specs.List.{flat_map, fold}
 use Rattle.std.proofs.lemmas.List.Sums.{fold-append}
@@ -12,7 +12,8 @@ use Rattle.cm_run.specs.declared.mode.Mode.{Mode}
 use Rattle.cm_run.specs.declared.mode.Mode.TheVariants as mode
 use Rattle.cm_run.specs.Event.{Event, Act, Log, Memory, Moment, Screen, event_key, state_after, state_behind}
 use Rattle.cm_run.specs.Meaning.{Deed, Meaning}
-use Rattle.cm_run.specs.Trace.{RunState, confirmed_trace, deed_trace, deeds_trace, events_if, file_trace, is_ended, key_trace, keys_trace, line_stroke, line_trace, next_line, opening, outcome_trace, raw_stroke, run_trace, starting, step, step_of, stroke, stroke_by, stroke_trace, turn_outcome, unless}
+use Rattle.cm_run.specs.Progress.{progress}
+use Rattle.cm_run.specs.Trace.{RunState, line_trace, deed_trace, deeds_trace, events_if, file_trace, is_ended, key_trace, keys_trace, line_stroke, file_line_trace, next_line, opening, outcome_trace, raw_stroke, run_trace, starting, step, step_of, stroke, stroke_by, stroke_trace, turn_outcome, unless}
 
 -- a line that begins takes no key
 keys_of_opening : (S : Type 0) (it : Mode) → flat_map event_key (opening {S = S} it) ≡ []
@@ -41,7 +42,7 @@ module _ {S : Type 0} where
   keys_if false events none = refl
 
   module _ (m : Meaning S) where
-    keys_of_line : (moment : ℕ) (state : S) (line : Option (List ℕ)) → flat_map event_key (line_trace m moment state line) ≡ []
+    keys_of_line : (moment : ℕ) (state : S) (line : Option (List ℕ)) → flat_map event_key (file_line_trace m moment state line) ≡ []
     keys_of_line moment state None = refl
     keys_of_line moment state (Some line) = keys_of_deeds _
 
@@ -49,15 +50,15 @@ module _ {S : Type 0} where
     unfolding file_trace
     keys_of_files zero moment state = refl
     keys_of_files (suc lines) moment state =
-        let events = line_trace m moment state (next_line m state) in
+        let events = file_line_trace m moment state (next_line m state) in
         no_keys events (file_trace m lines moment (state_behind state events)) (keys_of_line moment state (next_line m state))
         (keys_of_files lines moment (state_behind state events))
 
     keys_of_turn : (state : S) (session : SessionState) (moment : ℕ) (it : Turn) → flat_map event_key (turn_outcome m state session moment it).events ≡ []
-    unfolding turn_outcome confirmed_trace
+    unfolding turn_outcome line_trace
     keys_of_turn state session moment turn.Confirmed =
-        let acts = deeds_trace (m.confirmed state session moment) in
-        no_keys acts (file_trace m FILE_LINES moment (state_behind state acts)) (keys_of_deeds (m.confirmed state session moment))
+        let acts = deeds_trace (m.line_deeds state session moment) in
+        no_keys acts (file_trace m FILE_LINES moment (state_behind state acts)) (keys_of_deeds (m.line_deeds state session moment))
         (keys_of_files FILE_LINES moment (state_behind state acts))
     keys_of_turn state session moment (turn.Refused fault) = refl
     keys_of_turn state session moment turn.Abandoned = refl
@@ -111,6 +112,37 @@ module _ {S : Type 0} where
         ∙ ap (λ state. fold state_after state (s.outcome.events ++ begins)) (state_of_moment s.outcome.takes_moment at.state)
         ∙ fold-append state_after at.state s.outcome.events begins
         ∙ state_of_opening s.outcome.begins left (m.mode_of left)
+
+    -- and keys in turn lead to their progress
+    keys_lead : (logging : Bool) (keys : List ℕ) (at : RunState S)
+        → fold state_after at.state (unless (is_ended (m.mode_of at.state)) (keys_trace m logging at keys)) ≡ (progress m at keys).state
+    unfolding progress
+    keys_lead logging [] at = by (is_ended (m.mode_of at.state))
+      where
+        by : (test : Bool) → fold state_after at.state (unless test (keys_trace m logging at [])) ≡ at.state
+        by true = refl
+        by false = refl
+    keys_lead logging (key ∷ keys) at = by (is_ended (m.mode_of at.state)) (keys_lead logging keys (step m at key))
+      where
+        by : (test : Bool)
+            → fold state_after (step m at key).state (unless (is_ended (m.mode_of (step m at key).state)) (keys_trace m logging (step m at key) keys))
+            ≡ (progress m (step m at key) keys).state
+            → fold state_after at.state (unless test (keys_trace m logging at (key ∷ keys))) ≡ (cond test at (progress m (step m at key) keys)).state
+        by true later = refl
+        by false later =
+            let more = unless (is_ended (m.mode_of (step m at key).state)) (keys_trace m logging (step m at key) keys) in
+            fold-append state_after at.state (key_trace m logging at key) more
+            ∙ ap (λ state. fold state_after state more) (state_of_key logging at key)
+            ∙ later
+
+    pub run_leads : (logging : Bool) (state : S) (moments keys : List ℕ)
+        → state_behind state (run_trace m logging state moments keys) ≡ (progress m (starting m state moments) keys).state
+    unfolding run_trace
+    run_leads logging state moments keys =
+        let more = unless (is_ended (m.mode_of state)) (keys_trace m logging (starting m state moments) keys) in
+        fold-append state_after state (opening (m.mode_of state)) more
+        ∙ ap (λ it. fold state_after it more) (state_of_opening true state (m.mode_of state))
+        ∙ keys_lead logging keys (starting m state moments)
 
     -- behind the keys that are taken the run goes on so, from where they lead
     pub record GoesOn (logging : Bool) (state : S) (events : List (Event S)) (taken rest : List ℕ) : Type 0 where

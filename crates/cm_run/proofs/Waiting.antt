@@ -6,7 +6,7 @@ use Rattle.cm_run.specs.Event.{Event, state_behind}
 use Rattle.cm_run.specs.Observed.{Observed, Performs}
 use Rattle.cm_run.specs.Cut.{Traces}
 use Rattle.cm_run.specs.Meaning.{Meaning}
-use Rattle.cm_run.specs.Trace.{file_trace, line_trace, next_line}
+use Rattle.cm_run.specs.Trace.{file_trace, file_line_trace, next_line}
 use Rattle.cm_run.proofs.Joining.{traces_cut}
 use Rattle.cm_run.proofs.Running.{Ahead, ahead_all, ahead_more, ahead_trace}
 
@@ -16,7 +16,7 @@ module _ {S : Type 0} (m : Meaning S) (moment : ℕ) where
   unfolding file_trace
   none_waits zero state none = refl
   none_waits (suc lines) state none =
-      let no_line : line_trace m moment state (next_line m state) ≡ [] = ap (line_trace m moment state) none in
+      let no_line : file_line_trace m moment state (next_line m state) ≡ [] = ap (file_line_trace m moment state) none in
       ap (λ events. events ++ file_trace m lines moment (state_behind state events)) no_line ∙ none_waits lines state none
 
   is_none : (line : Option (List ℕ)) → is_some line ≡ false → line ≡ None
@@ -39,8 +39,8 @@ module _ {S : Type 0} (m : Meaning S) (moment : ℕ) where
       ahead_all a b whole value (subst (λ n. Ahead a b (file_trace m n moment state) whole) done ahead)
 
   split_line : (limit taken : ℕ) (state : S) → taken < limit
-      → file_trace m (limit - taken) moment state ≡ line_trace m moment state (next_line m state)
-      ++ file_trace m (limit - (taken + 1)) moment (state_behind state (line_trace m moment state (next_line m state)))
+      → file_trace m (limit - taken) moment state ≡ file_line_trace m moment state (next_line m state)
+      ++ file_trace m (limit - (taken + 1)) moment (state_behind state (file_line_trace m moment state (next_line m state)))
   unfolding file_trace
   split_line limit taken state below =
       let one : limit - taken ≡ suc (limit - (taken + 1)) = omega arith in
@@ -49,11 +49,11 @@ module _ {S : Type 0} (m : Meaning S) (moment : ℕ) where
   -- one more is done
   pub files_more : (a b c : Observed S) (limit taken : ℕ) (state left : S) (whole : List (Event S)) (value : Unit) → taken < limit
       → Ahead a b (file_trace m (limit - taken) moment state) whole
-      → Traces b c (line_trace m moment state (next_line m state)) (Ok value) → b.state ≡ state → c.state ≡ left
+      → Traces b c (file_line_trace m moment state (next_line m state)) (Ok value) → b.state ≡ state → c.state ≡ left
       → Ahead a c (file_trace m (limit - (taken + 1)) moment left) whole
   unfolding Traces Performs
   files_more a b c limit taken state left whole value below ahead traces from to =
-      let events = line_trace m moment state (next_line m state) in
+      let events = file_line_trace m moment state (next_line m state) in
       let leads : state_behind state events ≡ left = ap (λ s. state_behind s events) (sym from) ∙ sym traces.state ∙ to in
       subst (λ s. Ahead a c (file_trace m (limit - (taken + 1)) moment s) whole) leads
       (ahead_more a b c events (file_trace m (limit - (taken + 1)) moment (state_behind state events)) whole
@@ -62,9 +62,9 @@ module _ {S : Type 0} (m : Meaning S) (moment : ℕ) where
   -- or cut
   pub files_cut : (a b c : Observed S) (limit taken : ℕ) (state : S) (whole : List (Event S)) (why : Stop) → taken < limit
       → Ahead a b (file_trace m (limit - taken) moment state) whole
-      → Traces b c (line_trace m moment state (next_line m state)) (Err why) → Traces a c whole (Err why)
+      → Traces b c (file_line_trace m moment state (next_line m state)) (Err why) → Traces a c whole (Err why)
   files_cut a b c limit taken state whole why below ahead traces =
-      let events = line_trace m moment state (next_line m state) in
+      let events = file_line_trace m moment state (next_line m state) in
       let more = file_trace m (limit - (taken + 1)) moment (state_behind state events) in
       ahead_trace a b c (events ++ more) whole (Err why)
       (subst (λ rest. Ahead a b rest whole) (split_line limit taken state below) ahead)

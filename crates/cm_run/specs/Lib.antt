@@ -4,5 +4,7 @@ pub mod Event
 pub mod Meaning
 pub mod Obey
 pub mod Observed
+pub mod Progress
 pub mod Ready
+pub mod Sound
 pub mod Trace

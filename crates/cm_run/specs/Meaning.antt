@@ -16,18 +16,18 @@ pub record Deed (S : Type 0) : Type 0 where
   pub reply : List ℕ
 
 -- the grammar and the rules; the catalogue and the mode of a state; the acts of a line that is confirmed, and the state
--- where one is given up; what a raw key shows, and its acts; the line that waits in a command file, and its acts
+-- behind one that is given up; what a raw key shows, and its acts; the line that waits in a command file, and its acts
 pub record Meaning (S : Type 0) : Type 0 where
   pub graph : Graph
   pub rules : Meanings
   pub catalogue_of : S → Catalogue
   pub mode_of : S → Mode
-  pub confirmed : S → SessionState → ℕ → List (Deed S)
-  pub abandoned : S → S
+  pub line_deeds : S → SessionState → ℕ → List (Deed S)
+  pub abandonment : S → S
   pub raw_echo : S → ℕ → List ℕ
-  pub raw : S → ℕ → List (Deed S)
-  pub waiting : S → Option (List ℕ)
-  pub taken : S → SessionState → ℕ → List (Deed S)
+  pub raw_deeds : S → ℕ → List (Deed S)
+  pub file_line : S → Option (List ℕ)
+  pub file_line_deeds : S → SessionState → ℕ → List (Deed S)
 
 -- memory may be wanting for none of the acts
 abbrev pub is_sparing : {S : Type 0} → List (Deed S) → Bool
@@ -35,9 +35,11 @@ is_sparing deeds = list_all (λ deed. not deed.may_allocate) deeds
 
 -- nor for any act that an application means
 pub record IsSparing {S : Type 0} (m : Meaning S) : Type 0 where
-  pub confirmed : (state : S) (session : SessionState) (moment : ℕ) → is_sparing (m.confirmed state session moment) ≡ true
-  pub raw : (state : S) (key : ℕ) → is_sparing (m.raw state key) ≡ true
-  pub taken : (state : S) (session : SessionState) (moment : ℕ) → is_sparing (m.taken state session moment) ≡ true
+  pub line_deeds : (state : S) (session : SessionState) (moment : ℕ)
+      → is_sparing (m.line_deeds state session moment) ≡ true
+  pub raw_deeds : (state : S) (key : ℕ) → is_sparing (m.raw_deeds state key) ≡ true
+  pub file_line_deeds : (state : S) (session : SessionState) (moment : ℕ)
+      → is_sparing (m.file_line_deeds state session moment) ≡ true
 
 -- what a line is parsed under in this state
 abbrev pub setting_of : {S : Type 0} → Meaning S → S → Setting

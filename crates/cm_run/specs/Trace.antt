@@ -60,11 +60,11 @@ opening (mode.Line node prompt takes_moment) = Screen (prompt_text prompt) ∷ [
 opening mode.Raw = []
 opening mode.Ended = []
 
--- and the session is at its start; what is kept for control-H stays
-abbrev pub opened : Mode → SessionState → SessionState
-opened (mode.Line node prompt takes_moment) session = at_start node prompt session.kept
-opened mode.Raw session = session
-opened mode.Ended session = session
+-- and the session is at its start; what control-H brings back stays
+abbrev pub line_start : Mode → SessionState → SessionState
+line_start (mode.Line node prompt takes_moment) session = at_start node prompt session.restorable
+line_start mode.Raw session = session
+line_start mode.Ended session = session
 
 -- a session that has read a line of a command file and CR
 abbrev pub file_session : {S : Type 0} → Meaning S → S → List ℕ → SessionState
@@ -78,26 +78,26 @@ line_by mode.Raw line = None
 line_by mode.Ended line = None
 
 abbrev pub next_line : {S : Type 0} → Meaning S → S → Option (List ℕ)
-next_line m state = line_by (m.mode_of state) (m.waiting state)
+next_line m state = line_by (m.mode_of state) (m.file_line state)
 
 -- a line of a command file, parsed under the state that it finds
-abbrev pub line_trace : {S : Type 0} → Meaning S → ℕ → S → Option (List ℕ) → List (Event S)
-line_trace m moment state None = []
-line_trace m moment state (Some line) =
+abbrev pub file_line_trace : {S : Type 0} → Meaning S → ℕ → S → Option (List ℕ) → List (Event S)
+file_line_trace m moment state None = []
+file_line_trace m moment state (Some line) =
     Trials (cost (setting_of m state) (node_of (m.mode_of state)) [] (finished line))
-    ∷ deeds_trace (m.taken state (file_session m state line) moment)
+    ∷ deeds_trace (m.file_line_deeds state (file_session m state line) moment)
 
 -- the lines of command files that wait, at most so many
 unfoldable pub file_trace : {S : Type 0} → Meaning S → ℕ → ℕ → S → List (Event S)
 file_trace m zero moment state = []
 file_trace m (suc lines) moment state =
-    let events = line_trace m moment state (next_line m state) in
+    let events = file_line_trace m moment state (next_line m state) in
     events ++ file_trace m lines moment (state_behind state events)
 
 -- a line that is confirmed acts, and then the lines of the command files that it takes
-unfoldable pub confirmed_trace : {S : Type 0} → Meaning S → S → SessionState → ℕ → List (Event S)
-confirmed_trace m state session moment =
-    let acts = deeds_trace (m.confirmed state session moment) in
+unfoldable pub line_trace : {S : Type 0} → Meaning S → S → SessionState → ℕ → List (Event S)
+line_trace m state session moment =
+    let acts = deeds_trace (m.line_deeds state session moment) in
     acts ++ file_trace m FILE_LINES moment (state_behind state acts)
 
 -- what a key comes to behind its echo and its log line: whether it takes a moment, what happens, and whether the next
@@ -123,12 +123,12 @@ moment_at m state moments = moment_if (takes_moment (m.mode_of state)) moments
 unfoldable pub turn_outcome : {S : Type 0} → Meaning S → S → SessionState → ℕ → Turn → Outcome S
 turn_outcome m state session moment turn.Confirmed = record {
   takes_moment = takes_moment (m.mode_of state);
-  events = confirmed_trace m state session moment;
+  events = line_trace m state session moment;
   begins = true;
 }
 turn_outcome m state session moment (turn.Refused fault) = record { takes_moment = false; events = []; begins = true }
 turn_outcome m state session moment turn.Abandoned =
-    record { takes_moment = false; events = Act (m.abandoned state) ∷ []; begins = true }
+    record { takes_moment = false; events = Act (m.abandonment state) ∷ []; begins = true }
 turn_outcome m state session moment turn.Edited = record { takes_moment = false; events = []; begins = false }
 turn_outcome m state session moment turn.Failed = record { takes_moment = false; events = []; begins = false }
 
@@ -169,7 +169,7 @@ raw_stroke m at key = record {
   echo = m.raw_echo at.state key;
   log = raw_log key;
   session = at.session;
-  outcome = record { takes_moment = false; events = deeds_trace (m.raw at.state key); begins = true };
+  outcome = record { takes_moment = false; events = deeds_trace (m.raw_deeds at.state key); begins = true };
 }
 
 abbrev pub stroke_by : {S : Type 0} → Meaning S → RunState S → ℕ → Mode → Stroke S
@@ -197,7 +197,7 @@ key_trace m logging at key = stroke_trace m logging at.state (stroke m at key)
 
 -- where the next line begins, if one does
 abbrev pub next_session : Bool → Mode → SessionState → SessionState
-next_session true mode session = opened mode session
+next_session true mode session = line_start mode session
 next_session false mode session = session
 
 -- where an outcome leads, from a session, a state and the moments to come
@@ -233,7 +233,7 @@ keys_trace m logging at (key ∷ keys) =
 
 -- where a run begins: at a line, if the application is to have one
 abbrev pub starting : {S : Type 0} → Meaning S → S → List ℕ → RunState S
-starting m state moments = run_state (opened (m.mode_of state) (at_start 0 Main None)) state moments
+starting m state moments = run_state (line_start (m.mode_of state) (at_start 0 Main None)) state moments
 
 -- the trace of a run
 unfoldable pub run_trace : {S : Type 0} → Meaning S → Bool → S → List ℕ → List ℕ → List (Event S)

@@ -40,7 +40,7 @@ pub trait Application {
 
     /// Does what a confirmed line commands, at this moment, and shows the replies. Where it is Ended or Raw by then,
     /// the application has become that before it puts its reply.
-    fn confirm<S: Sink>(
+    fn obey_line<S: Sink>(
         &mut self,
         session: &Session<Self::Rules>,
         grammar: &Grammar,
@@ -52,13 +52,13 @@ pub trait Application {
         requires parse { IsParse (setting_of means self.old) session.now.node (text_of session.now)
             session.now.fields ending.Done }
         ensures obeys { Obeys (stage (S.told screen.old) self.old) (stage (S.told screen.new) self.new)
-            (means.confirmed self.old session.now moment) result }
+            (means.line_deeds self.old session.now moment) result }
         ensures later { S.faults screen.old ≤ S.faults screen.new }
         ensures cause { ObeyCause (S.faults screen.old) (S.faults screen.new) result };
 
     /// A line was given up.
     fn abandon(&mut self)
-        ensures { self.new ≡ means.abandoned self.old };
+        ensures { self.new ≡ means.abandonment self.old };
 
     /// Shows what a raw key does, and does nothing yet.
     fn echo_raw<S: Sink>(&self, key: u8, screen: &mut S) -> Put
@@ -67,20 +67,20 @@ pub trait Application {
         ensures cause { PutCause (S.faults screen.old) (S.faults screen.new) result };
 
     /// Takes a raw key.
-    fn take_raw<S: Sink>(&mut self, key: u8, screen: &mut S) -> Result<(), Stop>
+    fn obey_raw<S: Sink>(&mut self, key: u8, screen: &mut S) -> Result<(), Stop>
         ensures obeys { Obeys (stage (S.told screen.old) self.old) (stage (S.told screen.new) self.new)
-            (means.raw self.old key) result }
+            (means.raw_deeds self.old key) result }
         ensures later { S.faults screen.old ≤ S.faults screen.new }
         ensures cause { ObeyCause (S.faults screen.old) (S.faults screen.new) result };
 
     /// The next line of a command file, where one waits.
-    fn waiting(&self) -> Option<&[u8]>
-        ensures value { option_copied result ≡ means.waiting self.now }
+    fn file_line(&self) -> Option<&[u8]>
+        ensures value { option_copied result ≡ means.file_line self.now }
         ensures line { IfSome (option_copied result) IsLine };
 
     /// Does what that line comes to, which was parsed so: what it commands, or where its parse ends in a fault its
     /// refusal. The moment is that of the line that took the file.
-    fn take_line<S: Sink>(
+    fn obey_file_line<S: Sink>(
         &mut self,
         session: &Session<Self::Rules>,
         grammar: &Grammar,
@@ -92,7 +92,7 @@ pub trait Application {
         requires parse { IsParse (setting_of means self.old) session.now.node (text_of session.now)
             session.now.fields session.now.ending }
         ensures obeys { Obeys (stage (S.told screen.old) self.old) (stage (S.told screen.new) self.new)
-            (means.taken self.old session.now moment) result }
+            (means.file_line_deeds self.old session.now moment) result }
         ensures later { S.faults screen.old ≤ S.faults screen.new }
         ensures cause { ObeyCause (S.faults screen.old) (S.faults screen.new) result };
 }

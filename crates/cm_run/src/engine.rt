@@ -1,16 +1,19 @@
 // The run over the keys.
-ghost use Rattle.std.specs.Prelude.{◌≡◌, ◌≢◌, Err, false, length, IsTrue};
+ghost use Rattle.std.specs.Prelude.{◌≡◌, ◌≢◌, ◌++◌, List, ℕ, Err, false, length, IsTrue};
 ghost use Rattle.cm_run.specs.Cause.{KeyCount, RunCause, counts};
 ghost use Rattle.cm_run.specs.Cut.{Traces};
-ghost use Rattle.cm_run.specs.Meaning.{IsSparing};
+ghost use Rattle.cm_run.specs.Meaning.{IsSparing, setting_of};
 ghost use Rattle.cm_run.specs.Observed.{observed};
+ghost use Rattle.cm_run.specs.Progress.{MeetSound};
 ghost use Rattle.cm_run.specs.Ready.{Serves};
-ghost use Rattle.cm_run.specs.Trace.{is_ended, run_trace};
+ghost use Rattle.cm_run.specs.Sound.{IsSound};
+ghost use Rattle.cm_run.specs.Trace.{is_ended, run_trace, starting};
 
 use crate::key::handle_key;
 use crate::line::open_line;
 use crate::{Application, Mode, Stop};
 use cm_blocks::{Grammar, Steps};
+use cm_files::Names;
 use cm_hooks::Hooks;
 use cm_io::{Clock, Got, Sink, Source};
 use cm_state::Session;
@@ -51,6 +54,10 @@ pub fn run<A: Application, K: Source, S: Sink, W: Sink, C: Clock, L: Ledger>(
         (is_ended (A.means.mode_of app.new)) result }
     // Without a log nothing is put on it.
     ensures quiet { logging ≡ false → (W.told log.new ≡ W.told log.old) × (W.faults log.new ≡ W.faults log.old) }
+    // What each key that was taken met is sound.
+    ensures sound { IsTrue K.tells → IsTrue C.tells → (first rest : List ℕ)
+        → (first ++ rest) ++ K.left keys.new ≡ K.left keys.old
+        → MeetSound A.means (starting A.means app.old (C.left clock.old)) first }
     // Where memory may be wanting for no act, it is not.
     ensures spares { IsSparing A.means → result ≢ Err Stop.Memory }
 {
@@ -69,6 +76,7 @@ pub fn run<A: Application, K: Source, S: Sink, W: Sink, C: Clock, L: Ledger>(
             Got::End => return Ok(()),
             Got::Failed => return Err(Stop::Keys),
         };
+        meets_sound(app, grammar);
         match handle_key(
             logging,
             key,
@@ -101,4 +109,15 @@ fn has_ended<A: Application>(app: &A) -> bool
         Mode::Line { .. } => false,
         Mode::Raw => false,
     }
+}
+
+// Hands on to a proof that what a key meets is sound. It does nothing.
+fn meets_sound<A: Application>(app: &A, grammar: &Grammar)
+    requires grammar { grammar.now ≡ A.means.graph }
+    requires rules { A.Rules.meanings ≡ A.means.rules }
+    ensures { IsSound (setting_of A.means app.now) }
+{
+    grammar.has_no_fault();
+    grammar.has_tables();
+    let _ = app.names().directories();
 }

@@ -274,7 +274,7 @@ fn handle_raw_key<A: Application, S: Sink, W: Sink>(
     if let Put::Failed = log_raw(logging, key, log) {
         return Err(Stop::Log);
     }
-    match app.take_raw(key, screen) {
+    match app.obey_raw(key, screen) {
         Ok(()) => open_line(app, session, screen),
         Err(stop) => Err(stop),
     }

@@ -1,6 +1,6 @@
 // Laws of every run, whatever the application.
-ghost use Rattle.std.specs.Prelude.{◌≡◌, ◌≢◌, ◌⊎◌, ◌+◌, ◌<◌, ◌^◌, ◌-◌, ℕ, Bool, false, List, [], ◌∷◌, ◌++◌, Result, Ok, Err};
-ghost use Rattle.cm_io.specs.Told.{AddsPart};
+ghost use Rattle.std.specs.Prelude.{◌≡◌, ◌≢◌, ◌⊎◌, ◌+◌, ◌<◌, ◌^◌, ◌-◌, ℕ, Bool, false, List, [], ◌∷◌, ◌++◌, None, Result, Ok, Err};
+ghost use Rattle.cm_io.specs.Told.{AddsPart, IsPart};
 ghost use Rattle.cm_state.specs.SessionState.{SessionState};
 ghost use Rattle.cm_state.specs.declared.turn.Turn.{Turn};
 ghost use Rattle.cm_state.specs.declared.turn.Turn.TheVariants as turn;
@@ -9,7 +9,8 @@ ghost use Rattle.cm_run.specs.Cut.{Traces};
 ghost use Rattle.cm_run.specs.Event.{Act, Event, Log, Screen, Trials, gets_behind, keys_of, log_bytes, moments_behind, screen_bytes, state_behind, trials_of};
 ghost use Rattle.cm_run.specs.Meaning.{Meaning};
 ghost use Rattle.cm_run.specs.Observed.{Observed};
-ghost use Rattle.cm_run.specs.Trace.{RunState, events_if, key_trace, stroke, turn_outcome};
+ghost use Rattle.cm_run.specs.Progress.{keys_cost, progress, stroke_cost};
+ghost use Rattle.cm_run.specs.Trace.{RunState, events_if, key_trace, run_trace, starting, stroke, turn_outcome};
 ghost use Rattle.cm_run.specs.declared.engine.TheConstants.{FILE_LINES};
 
 use crate::{Application, Stop};
@@ -48,6 +49,30 @@ pub fn what_stands_at_a_cut_is_exact<A: Application>()
         × (keys_of done ++ now.keys ≡ before.keys) × (now.gets ≡ gets_behind before.gets done)
         × (now.moments ≡ moments_behind before.moments done) × (now.trials ≡ before.trials + trials_of done)
         × (now.state ≡ state_behind before.state done) }
+{}
+
+/// A run over more keys shows what the run over the first of them shows, and then more: so the bytes that a run has
+/// shown by a key are those of the run over the keys up to it.
+pub fn a_run_shows_what_its_first_keys_show<A: Application>()
+    ensures { (m : Meaning A) → (logging : Bool) → (state : A) → (moments first more : List ℕ)
+        → IsPart (screen_bytes (run_trace m logging state moments first))
+        (screen_bytes (run_trace m logging state moments (first ++ more))) }
+{}
+
+/// The state that a run leaves is the one to which its keys lead.
+pub fn a_run_leaves_where_its_keys_lead<A: Application>()
+    ensures { (m : Meaning A) → (logging : Bool) → (state : A) → (moments keys : List ℕ)
+        → state_behind state (run_trace m logging state moments keys)
+        ≡ (progress m (starting m state moments) keys).state }
+{}
+
+/// The counter rises by what the keys cost, one after the other, with a log or without: each the trials of its line,
+/// and of the lines of command files that it takes. Where none of those ever waits, it is its line's alone.
+pub fn the_counter_is_the_sum_over_the_keys<A: Application>()
+    ensures sum { (m : Meaning A) → (logging : Bool) → (state : A) → (moments keys : List ℕ)
+        → trials_of (run_trace m logging state moments keys) ≡ keys_cost m (starting m state moments) keys }
+    ensures line { (m : Meaning A) → ((state : A) → m.file_line state ≡ None) → (at : RunState A) → (key : ℕ)
+        → stroke_cost (stroke m at key) ≡ (stroke m at key).cost }
 {}
 
 /// With fewer keys than the limit, and no fault counted, a run goes to its end, but for want of memory.

@@ -12,7 +12,7 @@ ghost use Rattle.cm_run.specs.Cut.{Traces};
 ghost use Rattle.cm_run.specs.Meaning.{IsLineAt, IsSparing, setting_of};
 ghost use Rattle.cm_run.specs.Observed.{observed};
 ghost use Rattle.cm_run.specs.Ready.{IsReadyIn, ServesWell};
-ghost use Rattle.cm_run.specs.Trace.{confirmed_trace, file_session, file_trace, line_trace, next_line, node_of, opened, opening};
+ghost use Rattle.cm_run.specs.Trace.{line_trace, file_session, file_trace, file_line_trace, next_line, node_of, line_start, opening};
 
 use crate::{Application, FILE_LINES, Mode, Stop};
 use cm_blocks::{Grammar, Steps};
@@ -29,7 +29,7 @@ pub(crate) fn open_line<A: Application, S: Sink>(
     screen: &mut S,
 ) -> Result<(), Stop>
     requires faultless { grammar_fault A.means.graph ≡ None }
-    ensures session { session.new ≡ opened (A.means.mode_of app.now) session.old }
+    ensures session { session.new ≡ line_start (A.means.mode_of app.now) session.old }
     ensures ready { IsReadyIn A.means app.now session.new }
     ensures traces { (log : Told) → (keys : List ℕ) → (gets : ℕ) → (moments : List ℕ) → (trials : ℕ) → Traces
         (observed (S.told screen.old) log keys gets moments trials app.now)
@@ -53,7 +53,7 @@ fn has_line<A: Application>(app: &A) -> bool
     ensures { result ≡ is_some (next_line A.means app.now) }
 {
     match app.mode() {
-        Mode::Line { .. } => app.waiting().is_some(),
+        Mode::Line { .. } => app.file_line().is_some(),
         Mode::Raw => false,
         Mode::Ended => false,
     }
@@ -97,7 +97,7 @@ fn take_line<A: Application, S: Sink, L: Ledger>(
     ensures traces { (log : Told) → (keys : List ℕ) → (gets : ℕ) → (moments : List ℕ) → Traces
         (observed (S.told screen.old) log keys gets moments steps.old app.old)
         (observed (S.told screen.new) log keys gets moments steps.new app.new)
-        (line_trace A.means moment app.old (next_line A.means app.old)) result }
+        (file_line_trace A.means moment app.old (next_line A.means app.old)) result }
     ensures later { S.faults screen.old ≤ S.faults screen.new }
     ensures cause { ObeyCause (S.faults screen.old) (S.faults screen.new) result }
     ensures spares { IsSparing A.means → result ≢ Err Stop.Memory }
@@ -105,11 +105,11 @@ fn take_line<A: Application, S: Sink, L: Ledger>(
     let Mode::Line { node, .. } = app.mode() else {
         return Ok(());
     };
-    let Some(line) = app.waiting() else {
+    let Some(line) = app.file_line() else {
         return Ok(());
     };
     let session = parse_line(app, node, line, grammar, hooks, steps);
-    app.take_line(&session, grammar, moment, screen)
+    app.obey_file_line(&session, grammar, moment, screen)
 }
 
 // Takes the lines of command files that wait, one after the other.
@@ -161,12 +161,12 @@ pub(crate) fn confirm_line<A: Application, S: Sink, L: Ledger>(
     ensures traces { (log : Told) → (keys : List ℕ) → (gets : ℕ) → (moments : List ℕ) → Traces
         (observed (S.told screen.old) log keys gets moments steps.old app.old)
         (observed (S.told screen.new) log keys gets moments steps.new app.new)
-        (confirmed_trace A.means app.old session.now moment) result }
+        (line_trace A.means app.old session.now moment) result }
     ensures later { S.faults screen.old ≤ S.faults screen.new }
     ensures cause { ObeyCause (S.faults screen.old) (S.faults screen.new) result }
     ensures spares { IsSparing A.means → result ≢ Err Stop.Memory }
 {
-    match app.confirm(session, grammar, moment, screen) {
+    match app.obey_line(session, grammar, moment, screen) {
         Ok(()) => take_lines(app, grammar, hooks, moment, screen, steps),
         Err(stop) => Err(stop),
     }

@@ -33,24 +33,26 @@ Reopens old reopened =
 abbrev pub AppliesEdit : Setting → SessionState → SessionState → KeyClass → ℕ → Type 0
 AppliesEdit s reopened applied class key =
     applied ≡ record reopened {
-      line = edit class key reopened.line reopened.kept (completion s class reopened.ending reopened.line).bytes;
+      line = edit class key reopened.line reopened.restorable (completion s class reopened.ending reopened.line).bytes;
       is_finished = is_end class;
-      kept = None;
+      restorable = None;
     }
 
 -- the edited line with its parse is what the key leaves
 edited_with_parse : (s : Setting) (old now : SessionState) (key : ℕ)
     → now ≡ record old {
-      line = edit (class_of key) key (met_line old) old.kept (completed s old (class_of key)).bytes;
+      line = edit (class_of key) key (met_line old) old.restorable (completed s old (class_of key)).bytes;
       is_finished = is_end (class_of key);
       fields = now.fields;
       ending = now.ending;
-      kept = if is_end (class_of key) then before_fault (edit (class_of key) key (met_line old) old.kept (completed s old (class_of key)).bytes) now.ending else None;
+      restorable = if is_end (class_of key) then before_fault
+          (edit (class_of key) key (met_line old) old.restorable (completed s old (class_of key)).bytes) now.ending else
+          None;
     }
     → parse_held now ≡ parse_of s now.node (text_of now) → now ≡ edited s old key
 unfolding edited
 edited_with_parse s old now key same parse =
-    let line = edit (class_of key) key (met_line old) old.kept (completed s old (class_of key)).bytes in
+    let line = edit (class_of key) key (met_line old) old.restorable (completed s old (class_of key)).bytes in
     let node : now.node ≡ old.node = ap (λ (h : SessionState). h.node) same in
     let text : text_of now ≡ (if is_end (class_of key) then finished line else line) = ap text_of same in
     let whole : parse_held now ≡ parse_of s old.node (if is_end (class_of key) then finished line else line) = cc in
@@ -65,7 +67,8 @@ pub record Stands (s : Setting) (now : SessionState) : Type 0 where
   pub parse : IsParse s now.node (text_of now) now.fields now.ending
   pub ready : IsReady s now
 
-stands : (s : Setting) (now : SessionState) → now.node < length s.graph.nodes → parse_held now ≡ parse_of s now.node (text_of now)
+stands : (s : Setting) (now : SessionState) → now.node < length s.graph.nodes
+    → parse_held now ≡ parse_of s now.node (text_of now)
     → Stands s now
 stands s now below parse = record {
   parse =
@@ -83,7 +86,8 @@ pub record Trims (s : Setting) (old trimmed : SessionState) : Type 0 where
   pub node : trimmed.node ≡ old.node
   pub fields : trimmed.fields ≡ kept s old.node (met_line old) (text_of trimmed)
 
-pub trims : (s : Setting) (old reopened applied trimmed : SessionState) (class : KeyClass) (key size : ℕ) → grammar_fault s.graph ≡ None
+pub trims : (s : Setting) (old reopened applied trimmed : SessionState) (class : KeyClass) (key size : ℕ)
+    → grammar_fault s.graph ≡ None
     → IsReady s old
     → Reopens old reopened
     → AppliesEdit s reopened applied class key
@@ -96,18 +100,21 @@ trims s old reopened applied trimmed class key size none ready reopen apply fron
     let same : size ≡ common (met_line old) (text_of trimmed) = cc in
     let node : trimmed.node ≡ old.node = cc in
     let met : applied.fields ≡ (parse_of s old.node (met_line old)).fields =
-    ap (λ (h : SessionState). h.fields) apply ∙ ap (λ (h : SessionState). h.fields) reopen ∙ met_fields s old none ready in
+    ap (λ (h : SessionState). h.fields) apply ∙ ap (λ (h : SessionState). h.fields) reopen
+    ∙ met_fields s old none ready in
     let fields : trimmed.fields ≡ needing size applied.fields = ap (λ (h : SessionState). h.fields) keep in
     record { node = node; fields = cc }
 
 -- behind them the parse goes on
-pub trimmed_starts : (s : Setting) (old trimmed : SessionState) → grammar_fault s.graph ≡ None → IsReady s old → Trims s old trimmed
+pub trimmed_starts : (s : Setting) (old trimmed : SessionState) → grammar_fault s.graph ≡ None → IsReady s old
+    → Trims s old trimmed
     → Starts s trimmed.node (text_of trimmed) trimmed.fields
 trimmed_starts s old trimmed none ready trim =
     rw (trim.fields, trim.node) (kept_starts s none old.node ready.node (met_line old) (text_of trimmed))
 
 -- what a key puts in is what completes the line that it meets
-pub met_completion : (s : Setting) (old reopened : SessionState) (class : KeyClass) → grammar_fault s.graph ≡ None → IsReady s old
+pub met_completion : (s : Setting) (old reopened : SessionState) (class : KeyClass) → grammar_fault s.graph ≡ None
+    → IsReady s old
     → Reopens old reopened → completion s class reopened.ending reopened.line ≡ completed s old class
 met_completion s old reopened class none ready reopen =
     let line : reopened.line ≡ met_line old = ap (λ (h : SessionState). h.line) reopen in
@@ -117,15 +124,16 @@ met_completion s old reopened class none ready reopen =
     ∙ ap (λ (line : List ℕ). completion s class (parse_of s old.node (met_line old)).ending line) line
 
 -- the line with its parse, over the steps: the line is reopened, edited, and its parse held
-edited_is : (s : Setting) (old reopened applied trimmed now : SessionState) (class : KeyClass) (key size : ℕ) → class ≡ class_of key
+edited_is : (s : Setting) (old reopened applied trimmed now : SessionState) (class : KeyClass) (key size : ℕ)
+    → class ≡ class_of key
     → completion s class reopened.ending reopened.line ≡ completed s old class
     → Reopens old reopened
     → AppliesEdit s reopened applied class key
     → trimmed ≡ record applied { fields = needing size applied.fields }
-    → now.kept ≡ (if trimmed.is_finished then before_fault trimmed.line now.ending else None)
-    → now ≡ record trimmed { fields = now.fields; ending = now.ending; kept = now.kept }
+    → now.restorable ≡ (if trimmed.is_finished then before_fault trimmed.line now.ending else None)
+    → now ≡ record trimmed { fields = now.fields; ending = now.ending; restorable = now.restorable }
     → parse_held now ≡ parse_of s now.node (text_of now) → now ≡ edited s old key
-edited_is s old reopened applied trimmed now class key size is met reopen apply keep kept same parse =
+edited_is s old reopened applied trimmed now class key size is met reopen apply keep restorable same parse =
     edited_with_parse s old now key (cc) parse
 
 -- what the key leaves, and what it costs
@@ -135,19 +143,21 @@ pub record EditsAndParses (s : Setting) (old now : SessionState) (key spent : �
   pub keeps : BeginsWith (kept s old.node (met_line old) (text_of now)) now.fields
   pub cost : spent ≡ cost s old.node (met_line old) (text_of now)
 
-pub edits_and_parses : (s : Setting) (old reopened applied trimmed now : SessionState) (class : KeyClass) (key size spent : ℕ)
+pub edits_and_parses : (s : Setting) (old reopened applied trimmed now : SessionState) (class : KeyClass)
+    (key size spent : ℕ)
     → grammar_fault s.graph ≡ None → IsReady s old → class ≡ class_of key
     → Reopens old reopened
     → AppliesEdit s reopened applied class key
     → trimmed ≡ record applied { fields = needing size applied.fields }
     → Trims s old trimmed
-    → now.kept ≡ (if trimmed.is_finished then before_fault trimmed.line now.ending else None)
-    → now ≡ record trimmed { fields = now.fields; ending = now.ending; kept = now.kept }
+    → now.restorable ≡ (if trimmed.is_finished then before_fault trimmed.line now.ending else None)
+    → now ≡ record trimmed { fields = now.fields; ending = now.ending; restorable = now.restorable }
     → parse_held now ≡ parse_of s trimmed.node (text_of trimmed)
     → spent ≡ cost_behind s trimmed.node (text_of trimmed) trimmed.fields
     → EditsAndParses s old now key spent
 unfolding cost
-edits_and_parses s old reopened applied trimmed now class key size spent none ready is reopen apply keep trim rest same held costs =
+edits_and_parses s old reopened applied trimmed now class key size spent none ready is reopen apply keep trim rest same
+    held costs =
     let node : now.node ≡ trimmed.node = ap (λ (h : SessionState). h.node) same in
     let text : text_of now ≡ text_of trimmed = ap text_of same in
     let parse : parse_held now ≡ parse_of s now.node (text_of now) = rw (node, text) held in
@@ -156,7 +166,8 @@ edits_and_parses s old reopened applied trimmed now class key size spent none re
     ap (λ (parse : Parse). parse.fields) (parse ∙ ap (λ (node : ℕ). parse_of s node (text_of now)) start) in
     record {
       edited =
-          edited_is s old reopened applied trimmed now class key size is (met_completion s old reopened class none ready reopen)
+          edited_is s old reopened applied trimmed now class key size is
+          (met_completion s old reopened class none ready reopen)
           reopen apply keep rest same parse;
       stands = stands s now (rw start ready.node) parse;
       keeps =
@@ -180,25 +191,30 @@ end_key = refl
 -- the line in place of the empty one of a start
 abbrev Fills : SessionState → SessionState → ℕ → Prompt → Option (List ℕ) → List ℕ → Type 0
 Fills started entered node prompt bytes line =
-    (started ≡ at_start node prompt bytes) × (entered ≡ record started { line = line; is_finished = true; kept = None })
+    (started ≡ at_start node prompt bytes) × (entered ≡ record started
+    { line = line; is_finished = true; restorable = None })
 
 filled : (started entered : SessionState) (node : ℕ) (prompt : Prompt) (bytes : Option (List ℕ)) (line : List ℕ)
     → Fills started entered node prompt bytes line
     → entered ≡ record (at_start node prompt None) { line = line; is_finished = true }
 filled started entered node prompt bytes line fills =
-    fills.1 ∙ ap (λ (h : SessionState). let filled : SessionState = record h { line = line; is_finished = true; kept = None } in filled) fills.0
+    fills.1 ∙ ap (λ (h : SessionState). let filled : SessionState =
+    record h { line = line; is_finished = true; restorable = None } in filled) fills.0
 
-pub whole_starts : (s : Setting) (started entered : SessionState) (node : ℕ) (prompt : Prompt) (bytes : Option (List ℕ)) (line : List ℕ)
+pub whole_starts : (s : Setting) (started entered : SessionState) (node : ℕ) (prompt : Prompt)
+    (bytes : Option (List ℕ)) (line : List ℕ)
     → grammar_fault s.graph ≡ None → node < length s.graph.nodes → Fills started entered node prompt bytes line
     → Starts s entered.node (text_of entered) entered.fields
 whole_starts s started entered node prompt bytes line none below fills =
     let is = filled started entered node prompt bytes line fills in
-    subst (λ (h : SessionState). Starts s h.node (text_of h) h.fields) (sym is) (none_starts s none node below (finished line))
+    subst (λ (h : SessionState). Starts s h.node (text_of h) h.fields) (sym is)
+    (none_starts s none node below (finished line))
 
-pub finishes : (s : Setting) (started entered now : SessionState) (node : ℕ) (prompt : Prompt) (bytes : Option (List ℕ)) (line : List ℕ) (spent : ℕ)
+pub finishes : (s : Setting) (started entered now : SessionState) (node : ℕ) (prompt : Prompt)
+    (bytes : Option (List ℕ)) (line : List ℕ) (spent : ℕ)
     → grammar_fault s.graph ≡ None → node < length s.graph.nodes → Fills started entered node prompt bytes line
-    → now.kept ≡ (if entered.is_finished then before_fault entered.line now.ending else None)
-    → now ≡ record entered { fields = now.fields; ending = now.ending; kept = now.kept }
+    → now.restorable ≡ (if entered.is_finished then before_fault entered.line now.ending else None)
+    → now ≡ record entered { fields = now.fields; ending = now.ending; restorable = now.restorable }
     → parse_held now ≡ parse_of s entered.node (text_of entered)
     → spent ≡ cost_behind s entered.node (text_of entered) entered.fields
     → Finishes s (record (at_start node prompt bytes) { line = line }) now line spent

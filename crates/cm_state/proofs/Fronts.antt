@@ -30,13 +30,14 @@ common_prefix : (size : ℕ) (line : List ℕ) → common line (take size line) 
 common_prefix zero [] = refl
 common_prefix zero (byte ∷ line) = refl
 common_prefix (suc size) [] = refl
-common_prefix (suc size) (byte ∷ line) = rw (same_byte byte) (let later = common_prefix size line in omega (arith, later))
+common_prefix (suc size) (byte ∷ line) = rw (same_byte byte)
+    (let later = common_prefix size line in omega (arith, later))
 
 -- the front that stays: what a key leaves of the line
 abbrev Stays : KeyClass → ℕ → List ℕ → Option (List ℕ) → List ℕ → Type 0
-Stays class key line kept inserted =
-    let now : List ℕ = edit class key line kept inserted in
-    min (front class line kept) (length now) ≡ common line (if is_end class then finished now else now)
+Stays class key line restorable inserted =
+    let now : List ℕ = edit class key line restorable inserted in
+    min (front class line restorable) (length now) ≡ common line (if is_end class then finished now else now)
 
 prefix_stays : (size : ℕ) (line : List ℕ) → min (length line) (length (take size line)) ≡ common line (take size line)
 prefix_stays size line =
@@ -58,19 +59,19 @@ none_stays (byte ∷ line) = omega arith
 pub longer_stays : (line more : List ℕ) → min (length line) (length (line ++ more)) ≡ common line (line ++ more)
 longer_stays line more = omega (arith, common_longer line more, length-append line more)
 
-pub front_stays : (class : KeyClass) (key : ℕ) (line : List ℕ) (kept : Option (List ℕ)) (inserted : List ℕ)
-    → Stays class key line kept inserted
-front_stays Text key line kept inserted = text_stays (nat_lt (length line) LINE_LIMIT) key line
-front_stays End key line kept inserted = omega (arith, common_longer line (13 ∷ []))
-front_stays Rub key line kept inserted = prefix_stays (length line - 1) line
-front_stays Word key line kept inserted = prefix_stays (word_start line) line
-front_stays Erase key line kept inserted = none_stays line
-front_stays Stop key line kept inserted = none_stays line
+pub front_stays : (class : KeyClass) (key : ℕ) (line : List ℕ) (restorable : Option (List ℕ)) (inserted : List ℕ)
+    → Stays class key line restorable inserted
+front_stays Text key line restorable inserted = text_stays (nat_lt (length line) LINE_LIMIT) key line
+front_stays End key line restorable inserted = omega (arith, common_longer line (13 ∷ []))
+front_stays Rub key line restorable inserted = prefix_stays (length line - 1) line
+front_stays Word key line restorable inserted = prefix_stays (word_start line) line
+front_stays Erase key line restorable inserted = none_stays line
+front_stays Stop key line restorable inserted = none_stays line
 front_stays Back key line None inserted = line_stays line
 front_stays Back key line (Some bytes) inserted =
     let most = common_prefix_len-le (λ byte other. byte == other) line bytes in omega (arith, most.1)
-front_stays Show key line kept inserted = line_stays line
-front_stays Escape key line kept inserted = longer_stays line inserted
-front_stays Part key line kept inserted = longer_stays line inserted
-front_stays Help key line kept inserted = line_stays line
-front_stays Other key line kept inserted = line_stays line
+front_stays Show key line restorable inserted = line_stays line
+front_stays Escape key line restorable inserted = longer_stays line inserted
+front_stays Part key line restorable inserted = longer_stays line inserted
+front_stays Help key line restorable inserted = line_stays line
+front_stays Other key line restorable inserted = line_stays line

@@ -46,18 +46,25 @@ prefix_is_line : (size : ℕ) (line : List ℕ) → IsLine line → IsLine (take
 prefix_is_line size line is =
     record { short = omega (arith, length-take size line); plain = prefix_is_plain size line is.plain }
 
-pushed_is_line : (line : List ℕ) (byte : ℕ) (fits : Bool) → fits ≡ nat_lt (length line) LINE_LIMIT → is_text byte ≡ true → IsLine line
+pushed_is_line : (line : List ℕ) (byte : ℕ) (fits : Bool) → fits ≡ nat_lt (length line) LINE_LIMIT
+    → is_text byte ≡ true → IsLine line
     → IsLine (if fits then line ++ byte ∷ [] else line)
 pushed_is_line line byte true fits text is =
-    record { short = grind (arith, nat_tests, length-append line (byte ∷ [])); plain = longer_is_plain line byte is.plain text }
+    record {
+      short = grind (arith, nat_tests, length-append line (byte ∷ []));
+      plain =
+          longer_is_plain line byte is.plain text;
+    }
 pushed_is_line line byte false fits text is = is
 
-kept_is_line : (line : List ℕ) (kept : Option (List ℕ)) → IsLine line → IfSome kept IsLine → IsLine (unwrap_or kept line)
-kept_is_line line None is kept_is = is
-kept_is_line line (Some bytes) is kept_is = kept_is
+restorable_is_line : (line : List ℕ) (restorable : Option (List ℕ)) → IsLine line → IfSome restorable IsLine
+    → IsLine (unwrap_or restorable line)
+restorable_is_line line None is restorable_is = is
+restorable_is_line line (Some bytes) is restorable_is = restorable_is
 
 -- a choice between two other classes is no text
-other_class : (b : Bool) (class otherwise : KeyClass) → class ≢ Text → otherwise ≢ Text → (if b then class else otherwise) ≢ Text
+other_class : (b : Bool) (class otherwise : KeyClass) → class ≢ Text → otherwise ≢ Text
+    → (if b then class else otherwise) ≢ Text
 other_class true class otherwise first later = first
 other_class false class otherwise first later = later
 
@@ -97,26 +104,34 @@ text_key_is_text key e = by (is_text key) e
     by true e = refl
     by false e = absurd (rest_is_other e)
 
-edit_by_class : (class : KeyClass) (key : ℕ) (line : List ℕ) (kept : Option (List ℕ)) (inserted : List ℕ)
-    → (class ≡ Text → is_text key ≡ true) → IsLine line → IfSome kept IsLine → IsLine (line ++ inserted)
-    → IsLine (edit class key line kept inserted)
-edit_by_class Text key line kept inserted text is kept_is longer_is = pushed_is_line line key (nat_lt (length line) LINE_LIMIT) refl (text refl) is
-edit_by_class Rub key line kept inserted text is kept_is longer_is = prefix_is_line (length line - 1) line is
-edit_by_class Word key line kept inserted text is kept_is longer_is = prefix_is_line (word_start line) line is
-edit_by_class Erase key line kept inserted text is kept_is longer_is = record { short = omega arith; plain = tt }
-edit_by_class Stop key line kept inserted text is kept_is longer_is = record { short = omega arith; plain = tt }
-edit_by_class Back key line kept inserted text is kept_is longer_is = kept_is_line line kept is kept_is
-edit_by_class End key line kept inserted text is kept_is longer_is = is
-edit_by_class Show key line kept inserted text is kept_is longer_is = is
-edit_by_class Escape key line kept inserted text is kept_is longer_is = longer_is
-edit_by_class Part key line kept inserted text is kept_is longer_is = longer_is
-edit_by_class Help key line kept inserted text is kept_is longer_is = is
-edit_by_class Other key line kept inserted text is kept_is longer_is = is
+edit_by_class : (class : KeyClass) (key : ℕ) (line : List ℕ) (restorable : Option (List ℕ)) (inserted : List ℕ)
+    → (class ≡ Text → is_text key ≡ true) → IsLine line → IfSome restorable IsLine → IsLine (line ++ inserted)
+    → IsLine (edit class key line restorable inserted)
+edit_by_class Text key line restorable inserted text is restorable_is longer_is =
+    pushed_is_line line key (nat_lt (length line) LINE_LIMIT) refl (text refl) is
+edit_by_class Rub key line restorable inserted text is restorable_is longer_is =
+    prefix_is_line (length line - 1) line is
+edit_by_class Word key line restorable inserted text is restorable_is longer_is =
+    prefix_is_line (word_start line) line is
+edit_by_class Erase key line restorable inserted text is restorable_is longer_is =
+    record { short = omega arith; plain = tt }
+edit_by_class Stop key line restorable inserted text is restorable_is longer_is =
+    record { short = omega arith; plain = tt }
+edit_by_class Back key line restorable inserted text is restorable_is longer_is =
+    restorable_is_line line restorable is restorable_is
+edit_by_class End key line restorable inserted text is restorable_is longer_is = is
+edit_by_class Show key line restorable inserted text is restorable_is longer_is = is
+edit_by_class Escape key line restorable inserted text is restorable_is longer_is = longer_is
+edit_by_class Part key line restorable inserted text is restorable_is longer_is = longer_is
+edit_by_class Help key line restorable inserted text is restorable_is longer_is = is
+edit_by_class Other key line restorable inserted text is restorable_is longer_is = is
 
-pub edit_is_line : (held : SessionState) (key : ℕ) (inserted : List ℕ) → IsLine (met_line held) → IfSome held.kept IsLine
-    → IsLine (met_line held ++ inserted) → IsLine (edit (class_of key) key (met_line held) held.kept inserted)
-edit_is_line held key inserted is kept longer =
-    edit_by_class (class_of key) key (met_line held) held.kept inserted (text_key_is_text key) is kept longer
+pub edit_is_line : (held : SessionState) (key : ℕ) (inserted : List ℕ) → IsLine (met_line held)
+    → IfSome held.restorable IsLine
+    → IsLine (met_line held ++ inserted) → IsLine (edit (class_of key) key (met_line held) held.restorable inserted)
+edit_is_line held key inserted is restorable longer =
+    edit_by_class (class_of key) key (met_line held) held.restorable inserted (text_key_is_text key) is restorable
+    longer
 
 -- with what a key puts in that completes it, it is a line
 completed_is_line : (s : Setting) → grammar_fault s.graph ≡ None → IsCatalogue s.catalogue → AreTables s.graph.tables
@@ -138,12 +153,13 @@ completed_is_line s none named tables lawful Help ends line is = subst IsLine (s
 completed_is_line s none named tables lawful Other ends line is = subst IsLine (sym (append-nil line)) is
 
 pub edited_is_line : (s : Setting) → grammar_fault s.graph ≡ None → IsCatalogue s.catalogue → AreTables s.graph.tables
-    → IsLawful s.meanings → (held : SessionState) (key : ℕ) → IsLine (met_line held) → IfSome held.kept IsLine
+    → IsLawful s.meanings → (held : SessionState) (key : ℕ) → IsLine (met_line held) → IfSome held.restorable IsLine
     → IsLine (edited s held key).line
 unfolding edited
-edited_is_line s none named tables lawful held key is kept =
-    edit_is_line held key (completed s held (class_of key)).bytes is kept
-    (completed_is_line s none named tables lawful (class_of key) (parse_of s held.node (met_line held)).ending (met_line held) is)
+edited_is_line s none named tables lawful held key is restorable =
+    edit_is_line held key (completed s held (class_of key)).bytes is restorable
+    (completed_is_line s none named tables lawful (class_of key) (parse_of s held.node (met_line held)).ending
+    (met_line held) is)
 
 -- the bytes before a fault are a line
 before_is_line : (line : List ℕ) (ends : Ending) → IsLine line → IfSome (before_fault line ends) IsLine
@@ -151,26 +167,28 @@ before_is_line line (ending.Open place) is = tt
 before_is_line line ending.Done is = tt
 before_is_line line (ending.Fault fault) is = prefix_is_line fault.at line is
 
-pub edited_keeps_a_line : (s : Setting) → grammar_fault s.graph ≡ None → IsCatalogue s.catalogue
+pub edited_restorable_is_line : (s : Setting) → grammar_fault s.graph ≡ None → IsCatalogue s.catalogue
     → AreTables s.graph.tables → IsLawful s.meanings → (held : SessionState) (key : ℕ) → IsLine (met_line held)
-    → IfSome held.kept IsLine → IfSome (edited s held key).kept IsLine
+    → IfSome held.restorable IsLine → IfSome (edited s held key).restorable IsLine
 unfolding edited
-edited_keeps_a_line s none named tables lawful held key is kept =
-    of_choice (λ (kept : Option (List ℕ)). IfSome kept IsLine) (is_end (class_of key)) _ None
-    (before_is_line (edited s held key).line _ (edited_is_line s none named tables lawful held key is kept)) tt
+edited_restorable_is_line s none named tables lawful held key is restorable =
+    of_choice (λ (restorable : Option (List ℕ)). IfSome restorable IsLine) (is_end (class_of key)) _ None
+    (before_is_line (edited s held key).line _ (edited_is_line s none named tables lawful held key is restorable)) tt
 
--- bytes are kept behind a finished line alone, so that the next key meets an empty one
-pub edited_keeps_behind_an_end : (s : Setting) (held : SessionState) (key : ℕ)
-    → IfSome (edited s held key).kept (λ (bytes : List ℕ). met_line (edited s held key) ≡ [])
+-- control-H has a line to bring back behind a finished one alone, so that the next key meets an empty one
+pub edited_restorable_behind_an_end : (s : Setting) (held : SessionState) (key : ℕ)
+    → IfSome (edited s held key).restorable (λ (bytes : List ℕ). met_line (edited s held key) ≡ [])
 unfolding edited
-edited_keeps_behind_an_end s held key = by (is_end (class_of key)) _ _ _
+edited_restorable_behind_an_end s held key = by (is_end (class_of key)) _ _ _
   where
-    of_end : (line : List ℕ) (ends : Ending) → IfSome (before_fault line ends) (λ (bytes : List ℕ). ◌≡◌ {A = List ℕ} [] [])
+    of_end : (line : List ℕ) (ends : Ending) → IfSome (before_fault line ends)
+        (λ (bytes : List ℕ). ◌≡◌ {A = List ℕ} [] [])
     of_end line (ending.Open place) = tt
     of_end line ending.Done = tt
     of_end line (ending.Fault fault) = refl
 
     by : (finished : Bool) (line : List ℕ) (ends : Ending) (now : List ℕ)
-        → IfSome (if finished then before_fault line ends else None) (λ (bytes : List ℕ). (if finished then [] else now) ≡ [])
+        → IfSome (if finished then before_fault line ends else None)
+        (λ (bytes : List ℕ). (if finished then [] else now) ≡ [])
     by true line ends now = of_end line ends
     by false line ends now = tt

@@ -14,16 +14,18 @@ abbrev parsed : Ending → List FieldView → Parse
 parsed ends fields = record { fields = fields; ending = ends }
 
 -- behind these fields stands one more, and the parse goes on behind it
-pub record Turns (s : Setting) (text : List ℕ) (fields : List FieldView) (node at : ℕ) (field : FieldView) : Type 0 where
-  pub parse : with_fields fields (parse_from s text (FIELD_LIMIT - length fields) node at)
-      ≡ with_fields (fields ++ field ∷ [])
-      (parse_from s text (FIELD_LIMIT - length (fields ++ field ∷ [])) field.next field.end)
-  pub cost : cost_from s text (FIELD_LIMIT - length fields) node at
-      ≡ (chain_at s node text at).spent
-      + cost_from s text (FIELD_LIMIT - length (fields ++ field ∷ [])) field.next field.end
+pub record Turns (s : Setting) (text : List ℕ) (fields : List FieldView) (node at : ℕ) (field : FieldView) : Type 0
+  where
+    pub parse : with_fields fields (parse_from s text (FIELD_LIMIT - length fields) node at)
+        ≡ with_fields (fields ++ field ∷ [])
+        (parse_from s text (FIELD_LIMIT - length (fields ++ field ∷ [])) field.next field.end)
+    pub cost : cost_from s text (FIELD_LIMIT - length fields) node at
+        ≡ (chain_at s node text at).spent
+        + cost_from s text (FIELD_LIMIT - length (fields ++ field ∷ [])) field.next field.end
 
 pub turns : (s : Setting) (text : List ℕ) (fields : List FieldView) (node at : ℕ) (field : FieldView)
-    → (chain_at s node text at).chain ≡ chain.Field field → length fields < FIELD_LIMIT → Turns s text fields node at field
+    → (chain_at s node text at).chain ≡ chain.Field field → length fields < FIELD_LIMIT
+    → Turns s text fields node at field
 turns s text fields node at field is few =
     let left = FIELD_LIMIT - length (fields ++ field ∷ []) in
     let room : FIELD_LIMIT - length fields ≡ suc left = omega (arith, length-append fields (field ∷ [])) in
@@ -31,17 +33,20 @@ turns s text fields node at field is few =
     record {
       parse =
           ap (λ (room : ℕ). with_fields fields (parse_from s text room node at)) room
-          ∙ ap (λ (answer : Chain). with_fields fields (after_chain (λ (field : FieldView). parse_from s text left field.next field.end) answer)) is
+          ∙ ap (λ (answer : Chain). with_fields fields
+          (after_chain (λ (field : FieldView). parse_from s text left field.next field.end) answer)) is
           ∙ ap (parsed later.ending) (sym (append_assoc fields (field ∷ []) later.fields));
       cost =
           ap (λ (room : ℕ). cost_from s text room node at) room
-          ∙ ap (λ (answer : Chain). (chain_at s node text at).spent + cost_after (λ (field : FieldView). cost_from s text left field.next field.end) answer) is;
+          ∙ ap (λ (answer : Chain). (chain_at s node text at).spent + cost_after
+          (λ (field : FieldView). cost_from s text left field.next field.end) answer) is;
     }
 
 -- behind these fields the parse ends so
-pub record Ends (s : Setting) (text : List ℕ) (fields : List FieldView) (room node at : ℕ) (ends : Ending) : Type 0 where
-  pub parse : with_fields fields (parse_from s text room node at) ≡ parsed ends fields
-  pub cost : cost_from s text room node at ≡ (chain_at s node text at).spent
+pub record Ends (s : Setting) (text : List ℕ) (fields : List FieldView) (room node at : ℕ) (ends : Ending) : Type 0
+  where
+    pub parse : with_fields fields (parse_from s text room node at) ≡ parsed ends fields
+    pub cost : cost_from s text room node at ≡ (chain_at s node text at).spent
 
 ends_so : (s : Setting) (text : List ℕ) (fields : List FieldView) (room node at : ℕ) (answer : Chain)
     → (chain_at s node text at).chain ≡ answer
@@ -59,7 +64,8 @@ ends_so s text fields (suc room) node at answer is stop free =
     let nothing : cost_after later (chain_at s node text at).chain ≡ 0 = ap (cost_after later) is ∙ free later in
     record {
       parse =
-          ap (λ (answer : Chain). with_fields fields (after_chain behind answer)) is ∙ ap (with_fields fields) (stop behind)
+          ap (λ (answer : Chain). with_fields fields (after_chain behind answer)) is
+          ∙ ap (with_fields fields) (stop behind)
           ∙ ap (parsed (ending_of answer)) (append-nil fields);
       cost = omega (arith, nothing);
     }

@@ -15,14 +15,17 @@ from_field fields number field is =
     ∙ ap (λ (first : FieldView). first ∷ drop (number + 1) fields) (get_or_from_slice_get fields number field field is)
 
 -- it is the first, or those behind it are searched
-pub found : (wanted : Role) (fields : List FieldView) (number : ℕ) (field : FieldView) (role : Role) → slice_get fields number ≡ Some field
+pub found : (wanted : Role) (fields : List FieldView) (number : ℕ) (field : FieldView) (role : Role)
+    → slice_get fields number ≡ Some field
     → role ≡ field.role → is_role wanted role ≡ true → field_of wanted (drop number fields) ≡ Some field
 found wanted fields number field role is has same =
     let wants : is_role wanted field.role ≡ true = sym (ap (λ (it : Role). is_role wanted it) has) ∙ same in
     ap (λ (rest : List FieldView). field_of wanted rest) (from_field fields number field is) ∙ rw wants refl
 
-pub passed : (wanted : Role) (fields : List FieldView) (number : ℕ) (field : FieldView) (role : Role) → slice_get fields number ≡ Some field
-    → role ≡ field.role → is_role wanted role ≡ false → field_of wanted (drop number fields) ≡ field_of wanted (drop (number + 1) fields)
+pub passed : (wanted : Role) (fields : List FieldView) (number : ℕ) (field : FieldView) (role : Role)
+    → slice_get fields number ≡ Some field
+    → role ≡ field.role → is_role wanted role ≡ false
+    → field_of wanted (drop number fields) ≡ field_of wanted (drop (number + 1) fields)
 passed wanted fields number field role is has other =
     let passes : is_role wanted field.role ≡ false = sym (ap (λ (it : Role). is_role wanted it) has) ∙ other in
     ap (λ (rest : List FieldView). field_of wanted rest) (from_field fields number field is) ∙ rw passes refl

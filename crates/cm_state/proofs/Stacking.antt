@@ -20,7 +20,8 @@ pub record Pushed (new : List (Option FieldView)) (fields : List FieldView) (fie
   pub few : length (somes new) ≤ FIELD_LIMIT
   pub more : somes new ≡ fields ++ field ∷ []
 
-pub pushed : (old new : List (Option FieldView)) (fields : List FieldView) (field : FieldView) → old ≡ map (λ field. Some field) (somes old)
+pub pushed : (old new : List (Option FieldView)) (fields : List FieldView) (field : FieldView)
+    → old ≡ map (λ field. Some field) (somes old)
     → somes old ≡ fields → length fields < FIELD_LIMIT → new ≡ old ++ Some field ∷ [] → Pushed new fields field
 pushed old new fields field all is few push =
     let whole : new ≡ map (λ field. Some field) (fields ++ field ∷ []) =
@@ -40,8 +41,10 @@ some_at [] number d within = absurd (omega arith)
 some_at (field ∷ fields) zero d within = refl
 some_at (field ∷ fields) (suc number) d within = some_at fields number d (omega arith)
 
-pub item_at : (items slice : List (Option FieldView)) (fields : List FieldView) (number index : ℕ) (item : Option FieldView)
-    → items ≡ map (λ field. Some field) (somes items) → somes items ≡ fields → slice ≡ items → index ≡ number → number < length fields
+pub item_at : (items slice : List (Option FieldView)) (fields : List FieldView) (number index : ℕ)
+    (item : Option FieldView)
+    → items ≡ map (λ field. Some field) (somes items) → somes items ≡ fields → slice ≡ items → index ≡ number
+    → number < length fields
     → item ≡ get_or slice index item → slice_get fields number ≡ item
 item_at items slice fields number index item all is same at within get =
     some_at fields number item within
@@ -59,19 +62,22 @@ first_needing_is : (size number : ℕ) (fields : List FieldView)
 first_needing_is size number [] = omega arith
 first_needing_is size number (field ∷ fields) = by (nat_le field.need size) (first_needing_is size (number + 1) fields)
   where
-    by : (test : Bool) → first_needing size (number + 1) (map (λ field. Some field) fields) ≡ number + 1 + length (needing size fields)
+    by : (test : Bool) → first_needing size (number + 1) (map (λ field. Some field) fields) ≡ number + 1 + length
+        (needing size fields)
         → (if test then first_needing size (number + 1) (map (λ field. Some field) fields) else number)
         ≡ number + length (if test then field ∷ needing size fields else [])
     by true later = omega (arith, later)
     by false later = omega arith
 
 take_needing : (size : ℕ) (fields : List FieldView)
-    → take (length (needing size fields)) (map (λ field. Some field) fields) ≡ map (λ field. Some field) (needing size fields)
+    → take (length (needing size fields)) (map (λ field. Some field) fields) ≡ map (λ field. Some field)
+    (needing size fields)
 take_needing size [] = refl
 take_needing size (field ∷ fields) = by (nat_le field.need size) (take_needing size fields)
   where
     by : (test : Bool)
-        → take (length (needing size fields)) (map (λ field. Some field) fields) ≡ map (λ field. Some field) (needing size fields)
+        → take (length (needing size fields)) (map (λ field. Some field) fields) ≡ map (λ field. Some field)
+        (needing size fields)
         → take (length (if test then field ∷ needing size fields else [])) (map (λ field. Some field) (field ∷ fields))
         ≡ map (λ field. Some field) (if test then field ∷ needing size fields else [])
     by true later = ap (λ rest. some field ∷ rest) later
@@ -99,7 +105,8 @@ cut size count old slice new all same first truncate =
     first ∙ ap (first_needing size 0) (same ∙ all) ∙ first_needing_is size 0 (somes old) in
     let at : count ≡ length (needing size (somes old)) = omega (arith, place) in
     let whole : new ≡ map (λ field. Some field) (needing size (somes old)) =
-    truncate ∙ ap (λ count. take count old) at ∙ ap (take (length (needing size (somes old)))) all ∙ take_needing size (somes old) in
+    truncate ∙ ap (λ count. take count old) at ∙ ap (take (length (needing size (somes old)))) all
+    ∙ take_needing size (somes old) in
     let fields : somes new ≡ needing size (somes old) = ap somes whole ∙ somes_map (needing size (somes old)) in
     record {
       all = whole ∙ ap (map (λ field. Some field)) (sym fields);
@@ -126,13 +133,15 @@ last_place at (first ∷ second ∷ fields) zero field last is = absurd (omega a
 last_place at (first ∷ second ∷ fields) (suc number) field last is =
     last_place first.end (second ∷ fields) number field (omega arith) is
 
-pub node_of_last : (start : ℕ) (fields : List FieldView) (field : FieldView) → slice_get fields (length fields - 1) ≡ Some field
+pub node_of_last : (start : ℕ) (fields : List FieldView) (field : FieldView)
+    → slice_get fields (length fields - 1) ≡ Some field
     → node_behind start fields ≡ field.next
 node_of_last start [] field is = cc
 node_of_last start (first ∷ rest) field is =
     last_node start (first ∷ rest) (length (first ∷ rest) - 1) field (omega arith) is
 
-pub place_of_last : (at : ℕ) (fields : List FieldView) (field : FieldView) → slice_get fields (length fields - 1) ≡ Some field
+pub place_of_last : (at : ℕ) (fields : List FieldView) (field : FieldView)
+    → slice_get fields (length fields - 1) ≡ Some field
     → place_behind at fields ≡ field.end
 place_of_last at [] field is = cc
 place_of_last at (first ∷ rest) field is =

@@ -21,31 +21,35 @@ use Rattle.cm_state.specs.declared.prompt.Prompt.{Prompt}
 pub start_parses : (s : Setting) → grammar_fault s.graph ≡ None → (node : ℕ) → node < length s.graph.nodes
     → IsParse s node [] [] (open_at node 0)
 start_parses s none node below =
-    subst (λ (parse : Parse). IsParse s node [] parse.fields parse.ending) (start_is_open s none node below) (parse_of_parses s node [])
+    subst (λ (parse : Parse). IsParse s node [] parse.fields parse.ending) (start_is_open s none node below)
+    (parse_of_parses s node [])
 
 pub start_is_ready : (s : Setting) → grammar_fault s.graph ≡ None → (node : ℕ) → node < length s.graph.nodes
-    → (prompt : Prompt) → (kept : Option (List ℕ)) → IsReady s (at_start node prompt kept)
-start_is_ready s none node below prompt kept =
+    → (prompt : Prompt) → (restorable : Option (List ℕ)) → IsReady s (at_start node prompt restorable)
+start_is_ready s none node below prompt restorable =
     record { node = below; parse = λ unfinished. sym (start_is_open s none node below) }
 
 -- a grammar has a node
 some_node : (graph : Graph) → grammar_fault graph ≡ None → 0 < length graph.nodes
 some_node graph none =
-    let all = and_parts (nat_lt 0 (length graph.nodes) && nat_le (length graph.nodes) NODE_LIMIT) (nat_le (length graph.tables) TABLE_LIMIT) (sizes graph none) in
+    let all = and_parts (nat_lt 0 (length graph.nodes) && nat_le (length graph.nodes) NODE_LIMIT)
+    (nat_le (length graph.tables) TABLE_LIMIT) (sizes graph none) in
     let first = and_parts (nat_lt 0 (length graph.nodes)) (nat_le (length graph.nodes) NODE_LIMIT) all.0 in
     let test = first.0 in
     grind (arith, nat_tests)
 
 -- so is what holds no more than a start
 pub started_is_ready : (s : Setting) → grammar_fault s.graph ≡ None → (node : ℕ) → node < length s.graph.nodes
-    → (prompt : Prompt) → (kept : Option (List ℕ)) → (held : SessionState) → held ≡ at_start node prompt kept → IsReady s held
-started_is_ready s none node below prompt kept held is =
-    subst (IsReady s) (sym is) (start_is_ready s none node below prompt kept)
+    → (prompt : Prompt) → (restorable : Option (List ℕ)) → (held : SessionState)
+    → held ≡ at_start node prompt restorable → IsReady s held
+started_is_ready s none node below prompt restorable held is =
+    subst (IsReady s) (sym is) (start_is_ready s none node below prompt restorable)
 
-pub new_is_ready : (s : Setting) → grammar_fault s.graph ≡ None → (prompt : Prompt) → (kept : Option (List ℕ)) → (held : SessionState)
-    → held ≡ at_start 0 prompt kept → IsReady s held
-new_is_ready s none prompt kept held is =
-    started_is_ready s none 0 (some_node s.graph none) prompt kept held is
+pub new_is_ready : (s : Setting) → grammar_fault s.graph ≡ None → (prompt : Prompt) → (restorable : Option (List ℕ))
+    → (held : SessionState)
+    → held ≡ at_start 0 prompt restorable → IsReady s held
+new_is_ready s none prompt restorable held is =
+    started_is_ready s none 0 (some_node s.graph none) prompt restorable held is
 
 -- the fields that a key finds are those of the line that it meets
 pub met_fields : (s : Setting) (held : SessionState) → grammar_fault s.graph ≡ None → IsReady s held
@@ -69,7 +73,8 @@ met_ending s held none ready = by held.is_finished refl
     by false is = ap (λ (parse : Parse). parse.ending) (ready.parse is)
 
 -- the parse of a text begins with what is kept of another
-pub kept_starts : (s : Setting) → grammar_fault s.graph ≡ None → (node : ℕ) → node < length s.graph.nodes → (old new : List ℕ)
+pub kept_starts : (s : Setting) → grammar_fault s.graph ≡ None → (node : ℕ) → node < length s.graph.nodes
+    → (old new : List ℕ)
     → Starts s node new (kept s node old new)
 unfolding parse_of
 kept_starts s none node below old new =
@@ -84,12 +89,14 @@ unfolding kept
 none_kept s none node below new =
     ap (λ (parse : Parse). needing 0 parse.fields) (start_is_open s none node below)
 
-pub none_starts : (s : Setting) → grammar_fault s.graph ≡ None → (node : ℕ) → node < length s.graph.nodes → (new : List ℕ)
+pub none_starts : (s : Setting) → grammar_fault s.graph ≡ None → (node : ℕ) → node < length s.graph.nodes
+    → (new : List ℕ)
     → Starts s node new []
 none_starts s none node below new =
     subst (Starts s node new) (none_kept s none node below new) (kept_starts s none node below [] new)
 
-pub none_costs : (s : Setting) → grammar_fault s.graph ≡ None → (node : ℕ) → node < length s.graph.nodes → (new : List ℕ)
+pub none_costs : (s : Setting) → grammar_fault s.graph ≡ None → (node : ℕ) → node < length s.graph.nodes
+    → (new : List ℕ)
     → cost s node [] new ≡ cost_behind s node new []
 unfolding cost
 none_costs s none node below new =

@@ -48,24 +48,25 @@ unfoldable pub ring : Bool → List ℕ
 ring true = bell
 ring false = []
 
--- the echo of a key on a line of this size, with or without kept bytes, that left the session so; a key that completes
--- shows the bytes that came to the line, and rings or not
+-- the echo of a key on a line of this size, which control-H had a line to bring back to or not, that left the session
+-- so; a key that completes shows the bytes that came to the line, and rings or not
 abbrev pub echo_of : Setting → KeyClass → ℕ → ℕ → Bool → Bool → SessionState → List ℕ
-echo_of s Text key size kept rings now = if nat_lt size LINE_LIMIT then screen_byte key ∷ [] else bell
-echo_of s Rub key size kept rings now = taken_away size (length now.line)
-echo_of s Word key size kept rings now = taken_away size (length now.line)
-echo_of s Erase key size kept rings now = taken_away size (length now.line)
-echo_of s Show key size kept rings now = again now.prompt now.line
-echo_of s Help key size kept rings now = question ++ help_text s now.ending now.line ++ again now.prompt now.line
-echo_of s Back key size kept rings now = if kept then screen_line now.line else bell
-echo_of s Stop key size kept rings now = control_c ++ end_of_line
-echo_of s Escape key size kept rings now = drop size now.line ++ ring rings
-echo_of s Part key size kept rings now = drop size now.line ++ ring rings
-echo_of s End key size kept rings now = end_of_line ++ complaint now.ending
-echo_of s class key size kept rings now = bell
+echo_of s Text key size restores rings now = if nat_lt size LINE_LIMIT then screen_byte key ∷ [] else bell
+echo_of s Rub key size restores rings now = taken_away size (length now.line)
+echo_of s Word key size restores rings now = taken_away size (length now.line)
+echo_of s Erase key size restores rings now = taken_away size (length now.line)
+echo_of s Show key size restores rings now = again now.prompt now.line
+echo_of s Help key size restores rings now = question ++ help_text s now.ending now.line ++ again now.prompt now.line
+echo_of s Back key size restores rings now = if restores then screen_line now.line else bell
+echo_of s Stop key size restores rings now = control_c ++ end_of_line
+echo_of s Escape key size restores rings now = drop size now.line ++ ring rings
+echo_of s Part key size restores rings now = drop size now.line ++ ring rings
+echo_of s End key size restores rings now = end_of_line ++ complaint now.ending
+echo_of s class key size restores rings now = bell
 
 -- the bytes that a key shows
 unfoldable pub echo : Setting → SessionState → ℕ → List ℕ
 echo s held key =
     let class = class_of key in
-    echo_of s class key (length (met_line held)) (is_some held.kept) (completed s held class).bell (edited s held key)
+    echo_of s class key (length (met_line held)) (is_some held.restorable) (completed s held class).bell
+    (edited s held key)

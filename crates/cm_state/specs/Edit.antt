@@ -23,18 +23,18 @@ completion s class ends line = record { bytes = []; bell = false }
 
 -- the line after a key, CR left out, where a key that completes puts these bytes in
 abbrev pub edit : KeyClass → ℕ → List ℕ → Option (List ℕ) → List ℕ → List ℕ
-edit Text key line kept inserted = if nat_lt (length line) LINE_LIMIT then line ++ key ∷ [] else line
-edit Rub key line kept inserted = take (length line - 1) line
-edit Word key line kept inserted = take (word_start line) line
-edit Erase key line kept inserted = []
-edit Stop key line kept inserted = []
-edit Back key line kept inserted = unwrap_or kept line
-edit Escape key line kept inserted = line ++ inserted
-edit Part key line kept inserted = line ++ inserted
-edit End key line kept inserted = line
-edit Show key line kept inserted = line
-edit Help key line kept inserted = line
-edit Other key line kept inserted = line
+edit Text key line restorable inserted = if nat_lt (length line) LINE_LIMIT then line ++ key ∷ [] else line
+edit Rub key line restorable inserted = take (length line - 1) line
+edit Word key line restorable inserted = take (word_start line) line
+edit Erase key line restorable inserted = []
+edit Stop key line restorable inserted = []
+edit Back key line restorable inserted = unwrap_or restorable line
+edit Escape key line restorable inserted = line ++ inserted
+edit Part key line restorable inserted = line ++ inserted
+edit End key line restorable inserted = line
+edit Show key line restorable inserted = line
+edit Help key line restorable inserted = line
+edit Other key line restorable inserted = line
 
 -- the key finishes the line
 abbrev pub is_end : KeyClass → Bool
@@ -55,12 +55,12 @@ completed s held class = completion s class (parse_of s held.node (met_line held
 unfoldable pub edited : Setting → SessionState → ℕ → SessionState
 edited s held key =
     let class = class_of key in
-    let line = edit class key (met_line held) held.kept (completed s held class).bytes in
+    let line = edit class key (met_line held) held.restorable (completed s held class).bytes in
     let parse = parse_of s held.node (if is_end class then finished line else line) in
     record held {
       line = line;
       is_finished = is_end class;
       fields = parse.fields;
       ending = parse.ending;
-      kept = if is_end class then before_fault line parse.ending else None;
+      restorable = if is_end class then before_fault line parse.ending else None;
     }

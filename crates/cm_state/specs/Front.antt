@@ -7,5 +7,5 @@ use Rattle.cm_blocks.specs.Kept.{common}
 -- the most bytes at the front of a line that a key of this class leaves: those that the bytes brought back begin
 -- with too, or else all
 abbrev pub front : KeyClass → List ℕ → Option (List ℕ) → ℕ
-front Back line (Some kept) = common line kept
-front class line kept = length line
+front Back line (Some restorable) = common line restorable
+front class line restorable = length line

@@ -7,7 +7,7 @@ use Rattle.cm_blocks.specs.Setting.{Setting}
 use Rattle.cm_blocks.specs.FieldView.{FieldView}
 use Rattle.cm_state.specs.declared.prompt.Prompt.{Prompt}
 
--- the line, whether it is finished, its parse from a node on, and the bytes kept for control-H
+-- the line, whether it is finished, its parse from a node on, and the line that control-H brings back
 pub record SessionState : Type 0 where
   pub node : ℕ
   pub prompt : Prompt
@@ -15,7 +15,7 @@ pub record SessionState : Type 0 where
   pub is_finished : Bool
   pub fields : List FieldView
   pub ending : Ending
-  pub kept : Option (List ℕ)
+  pub restorable : Option (List ℕ)
 
 -- the whole text: the line, or the line and the CR that finished it
 abbrev pub text_of : SessionState → List ℕ
@@ -31,14 +31,14 @@ parse_held held = record { fields = held.fields; ending = held.ending }
 
 -- an empty line that nothing is known of yet
 abbrev pub at_start : ℕ → Prompt → Option (List ℕ) → SessionState
-at_start node prompt kept = record {
+at_start node prompt restorable = record {
   node = node;
   prompt = prompt;
   line = [];
   is_finished = false;
   fields = [];
   ending = open_at node 0;
-  kept = kept;
+  restorable = restorable;
 }
 
 -- ready for a key under a grammar, a catalogue and the meanings of hooks: the start node is one of the grammar,

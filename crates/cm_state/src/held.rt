@@ -1,10 +1,11 @@
 // What a session holds of lines and texts.
-ghost use Rattle.std.specs.Prelude.{◌≡◌, ◌≤◌, None, length, take, if◌then◌else◌};
+ghost use Rattle.std.specs.Prelude.{◌≡◌, ◌≤◌, None, length, if◌then◌else◌};
 ghost use Rattle.std.specs.Str.{IsAscii};
 ghost use Rattle.cm_text.specs.Text.{IsLine, finished};
 ghost use Rattle.cm_blocks.specs.Parse.{open_at};
 ghost use Rattle.cm_state.specs.Edit.{before_fault};
 
+use crate::restorable::Restorable;
 use cm_blocks::{Ending, Open};
 use cm_line::Line;
 use cm_text::TEXT_LIMIT;
@@ -21,24 +22,19 @@ pub(crate) fn text_of(line: &Line, is_finished: bool) -> &[u8]
     if is_finished { line.finished() } else { bytes }
 }
 
-// Of a refused line, the bytes before its faulty field.
-pub(crate) fn before_fault(is_finished: bool, line: &Line, ending: Ending) -> Option<Line>
-    ensures { result ≡ (if is_finished then before_fault line.now ending else None) }
+// Holds of a refused line the bytes before its faulty field, and of any other nothing.
+pub(crate) fn hold_before_fault(
+    is_finished: bool,
+    line: &Line,
+    ending: Ending,
+    restorable: &mut Restorable,
+)
+    ensures { restorable.new ≡ (if is_finished then before_fault line.now ending else None) }
 {
     match ending {
-        Ending::Fault(fault) if is_finished => Some(prefix(line, usize::from(fault.at))),
-        _ => None,
+        Ending::Fault(fault) if is_finished => restorable.hold(line, usize::from(fault.at)),
+        _ => restorable.forget(),
     }
-}
-
-// The first bytes of a line.
-pub(crate) fn prefix(line: &Line, size: usize) -> Line
-    ensures { result ≡ take size line.now }
-{
-    let bytes = line.bytes();
-    let mut prefix = Line::new();
-    prefix.append(&bytes[..size.min(bytes.len())]);
-    prefix
 }
 
 // The start of a parse at a node.

@@ -23,14 +23,15 @@ pub fn a_start_is_a_parse()
 /// Such a session is ready for a key under every grammar that has the node.
 pub fn a_start_is_ready()
     ensures { (s : Setting) → grammar_fault s.graph ≡ None → (node : ℕ) → node < length s.graph.nodes
-        → (prompt : Prompt) → (kept : Option (List ℕ)) → IsReady s (at_start node prompt kept) }
+        → (prompt : Prompt) → (restorable : Option (List ℕ)) → IsReady s (at_start node prompt restorable) }
 {}
 
-/// What a key makes of a line is a line, where the bytes kept for control-H are one, and the line is one with what a
+/// What a key makes of a line is a line, where what control-H brings back is one, and the line is one with what a
 /// key puts in that completes it.
 pub fn the_edit_is_a_line()
-    ensures { (held : SessionState) → (key : ℕ) → (inserted : List ℕ) → IsLine (met_line held) → IfSome held.kept IsLine
-        → IsLine (met_line held ++ inserted) → IsLine (edit (class_of key) key (met_line held) held.kept inserted) }
+    ensures { (held : SessionState) → (key : ℕ) → (inserted : List ℕ) → IsLine (met_line held)
+        → IfSome held.restorable IsLine → IsLine (met_line held ++ inserted)
+        → IsLine (edit (class_of key) key (met_line held) held.restorable inserted) }
 {}
 
 /// A key leaves a line, and a line is what it leaves for control-H, where the key met such: under an accepted grammar,
@@ -38,13 +39,15 @@ pub fn the_edit_is_a_line()
 /// meets an empty one.
 pub fn a_key_leaves_a_line()
     ensures line { (s : Setting) → grammar_fault s.graph ≡ None → IsCatalogue s.catalogue → AreTables s.graph.tables
-        → IsLawful s.meanings → (held : SessionState) → (key : ℕ) → IsLine (met_line held) → IfSome held.kept IsLine
+        → IsLawful s.meanings → (held : SessionState) → (key : ℕ) → IsLine (met_line held)
+        → IfSome held.restorable IsLine
         → IsLine (edited s held key).line }
-    ensures kept { (s : Setting) → grammar_fault s.graph ≡ None → IsCatalogue s.catalogue → AreTables s.graph.tables
-        → IsLawful s.meanings → (held : SessionState) → (key : ℕ) → IsLine (met_line held) → IfSome held.kept IsLine
-        → IfSome (edited s held key).kept IsLine }
+    ensures restorable { (s : Setting) → grammar_fault s.graph ≡ None → IsCatalogue s.catalogue
+        → AreTables s.graph.tables → IsLawful s.meanings → (held : SessionState) → (key : ℕ) → IsLine (met_line held)
+        → IfSome held.restorable IsLine
+        → IfSome (edited s held key).restorable IsLine }
     ensures empty { (s : Setting) → (held : SessionState) → (key : ℕ)
-        → IfSome (edited s held key).kept (λ bytes. met_line (edited s held key) ≡ []) }
+        → IfSome (edited s held key).restorable (λ bytes. met_line (edited s held key) ≡ []) }
 {}
 
 /// The fields that are kept of an old text are the first fields of the new one.

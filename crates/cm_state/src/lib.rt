@@ -7,6 +7,7 @@ pub mod laws;
 mod log;
 mod parse;
 mod prompt;
+mod restorable;
 mod session;
 mod stack;
 mod turn;

@@ -26,15 +26,16 @@ ghost use Rattle.cm_state.specs.Turn.{put_of, turn_of};
 use crate::echo::{
     put_again, put_end, put_help_and_line, put_inserted, put_screen_line, put_taken,
 };
-use crate::held::{before_fault, open_at, text_of};
-use crate::log::{put_ending, put_fields, put_marked};
+use crate::held::{hold_before_fault, open_at, text_of};
+use crate::log::{push_head, put_fields};
 use crate::parse::parse_rest;
+use crate::restorable::Restorable;
 use crate::stack::Stack;
 use crate::{Prompt, Turn};
 use cm_blocks::{Ending, Field, Grammar, Role, Steps};
 use cm_files::Names;
 use cm_hooks::{Hooks, Rules};
-use cm_io::{Put, Sink, Writer};
+use cm_io::{Page, Put, Sink, Writer};
 use cm_line::{KeyClass, Line};
 use cm_text::{LINE_LIMIT, bell, control_c, screen_byte};
 use std::marker::{Model, PhantomData};
@@ -42,14 +43,14 @@ use std::sync::ledger::Ledger;
 
 mod editing;
 
-// A key and the line that it met: of which size, and whether bytes were kept for control-H. A key that completed the
-// line rings or not.
+// A key and the line that it met: of which size, and whether control-H had a line to bring back. A key that completed
+// the line rings or not.
 #[derive(Drop)]
 struct Keystroke {
     class: KeyClass,
     key: u8,
     size: usize,
-    kept: bool,
+    restores: bool,
     rings: bool,
 }
 
@@ -63,7 +64,7 @@ pub struct Session<R: Rules> {
     is_finished: bool,
     fields: Stack,
     ending: Ending,
-    kept: Option<Line>,
+    restorable: Restorable,
     rules: PhantomData<R>,
 }
 
@@ -80,12 +81,12 @@ impl<R: Rules> Model for Session<R> {
       is_finished = s.is_finished;
       fields = s.fields;
       ending = s.ending;
-      kept = s.kept;
+      restorable = s.restorable;
     } };
 }
 
 impl<R: Rules> Session<R> {
-    /// A session at its start: an empty line from node 0 on, and nothing kept.
+    /// A session at its start: an empty line from node 0 on, and nothing that control-H would bring back.
     pub fn new() -> Session<R>
         ensures session { result ≡ at_start 0 Prompt.Main None }
         // It is ready for a key under every grammar.
@@ -95,9 +96,9 @@ impl<R: Rules> Session<R> {
     }
 
     /// Begins a line: shows the prompt, and puts the session at the start of the node, also where the sink
-    /// fails. What is kept for control-H stays.
+    /// fails. What control-H brings back stays.
     pub fn begin<S: Sink>(&mut self, node: u16, prompt: Prompt, sink: &mut S) -> Put
-        ensures session { self.new ≡ at_start node prompt self.old.kept }
+        ensures session { self.new ≡ at_start node prompt self.old.restorable }
         // It is ready for a key under every grammar that has the node.
         ensures ready { (s : Setting) → grammar_fault s.graph ≡ None → node < length s.graph.nodes
             → IsReady s self.new }
@@ -128,7 +129,7 @@ impl<R: Rules> Session<R> {
         requires ready { IsReady (setting grammar.now (N.catalogue names.now) R.meanings) self.old }
         requires ties { Ties R.meanings hooks.now }
         requires hooks { hook_count grammar.now ≤ count hooks.now }
-        // The line, what is kept, and the parse after the key.
+        // The line, what control-H brings back, and the parse after the key.
         ensures edited { self.new ≡ edited (setting grammar.now (N.catalogue names.now) R.meanings) self.old key }
         // What is held is the parse of the whole text.
         ensures parse { IsParse (setting grammar.now (N.catalogue names.now) R.meanings)
@@ -151,13 +152,13 @@ impl<R: Rules> Session<R> {
     {
         let class = KeyClass::of(key);
         let size = self.met_size();
-        let kept = self.kept.is_some();
+        let restores = self.restorable.is_some();
         let rings = self.edit_and_parse(class, key, grammar, names, hooks, steps);
         let stroke = Keystroke {
             class,
             key,
             size,
-            kept,
+            restores,
             rings,
         };
         let mut out = Writer::new(sink);
@@ -187,7 +188,7 @@ impl<R: Rules> Session<R> {
         requires hooks { hook_count grammar.now ≤ count hooks.now }
         // It is as behind CR on that line.
         ensures edited { self.new ≡ edited (setting grammar.now (N.catalogue names.now) R.meanings)
-            (record (at_start node self.old.prompt self.old.kept) { line = line.now }) 13 }
+            (record (at_start node self.old.prompt self.old.restorable) { line = line.now }) 13 }
         ensures parse { IsParse (setting grammar.now (N.catalogue names.now) R.meanings)
             node (finished line.now) self.new.fields self.new.ending }
         ensures ready { IsReady (setting grammar.now (N.catalogue names.now) R.meanings) self.new }
@@ -271,14 +272,14 @@ impl<R: Rules> Session<R> {
             is_finished: false,
             fields: Stack::new(),
             ending: open_at(0),
-            kept: None,
+            restorable: Restorable::new(),
             rules: PhantomData,
         }
     }
 
     // Puts the session at the start of a node.
     fn start(&mut self, node: u16, prompt: Prompt)
-        ensures { self.new ≡ at_start node prompt self.old.kept }
+        ensures { self.new ≡ at_start node prompt self.old.restorable }
     {
         self.node = node;
         self.prompt = prompt;
@@ -292,11 +293,11 @@ impl<R: Rules> Session<R> {
     fn finish(&mut self, line: &[u8])
         requires line { IsLine line.now }
         requires empty { self.old.line ≡ [] }
-        ensures { self.new ≡ record self.old { line = line.now; is_finished = true; kept = None } }
+        ensures { self.new ≡ record self.old { line = line.now; is_finished = true; restorable = None } }
     {
         self.line.append(line);
         self.is_finished = true;
-        self.kept = None;
+        self.restorable.forget();
     }
 
     // The size of the line that a key meets.
@@ -341,20 +342,20 @@ impl<R: Rules> Session<R> {
         grammar.has_no_fault();
         self.reopen();
         let change = self.apply_edit(class, key, grammar, names, hooks);
-        self.keep(change.front);
+        self.truncate(change.front);
         self.reparse(grammar, names, hooks, steps);
         change.rings
     }
 
     // Keeps the fields before the first that needs more than so many bytes.
-    fn keep(&mut self, size: usize)
+    fn truncate(&mut self, size: usize)
         ensures { self.new ≡ record self.old { fields = needing size self.old.fields } }
     {
-        self.fields.keep(size);
+        self.fields.truncate(size);
     }
 
-    // Holds the parse of the text, which begins with the fields that are held. A refused line keeps the bytes before
-    // its faulty field.
+    // Holds the parse of the text, which begins with the fields that are held. Behind a refused line control-H brings
+    // back the bytes before its faulty field.
     fn reparse<N: Names, L: Ledger>(
         &mut self,
         grammar: &Grammar,
@@ -368,10 +369,10 @@ impl<R: Rules> Session<R> {
         requires hooks { hook_count grammar.now ≤ count hooks.now }
         ensures parse { parse_held self.new
             ≡ parse_of (setting grammar.now (N.catalogue names.now) R.meanings) self.old.node (text_of self.old) }
-        ensures kept { self.new.kept
+        ensures restorable { self.new.restorable
             ≡ (if self.old.is_finished then before_fault self.old.line self.new.ending else None) }
         ensures same { self.new
-            ≡ record self.old { fields = self.new.fields; ending = self.new.ending; kept = self.new.kept } }
+            ≡ record self.old { fields = self.new.fields; ending = self.new.ending; restorable = self.new.restorable } }
         ensures steps { steps.new ≡ steps.old + cost_behind (setting grammar.now (N.catalogue names.now) R.meanings)
             self.old.node (text_of self.old) self.old.fields }
     {
@@ -385,7 +386,12 @@ impl<R: Rules> Session<R> {
             &mut self.fields,
             steps,
         );
-        self.kept = before_fault(self.is_finished, &self.line, self.ending);
+        hold_before_fault(
+            self.is_finished,
+            &self.line,
+            self.ending,
+            &mut self.restorable,
+        );
     }
 
     // Shows the echo of a key.
@@ -401,7 +407,7 @@ impl<R: Rules> Session<R> {
         requires ties { Ties R.meanings hooks.now }
         requires hooks { hook_count grammar.now ≤ count hooks.now }
         ensures { Writes S.Sink out.old out.new (echo_of (setting grammar.now (N.catalogue names.now) R.meanings)
-            stroke.class stroke.key stroke.size stroke.kept stroke.rings self.now) }
+            stroke.class stroke.key stroke.size stroke.restores stroke.rings self.now) }
     {
         let line = self.line.bytes();
         let behind = &line[stroke.size.min(line.len())..];
@@ -414,7 +420,7 @@ impl<R: Rules> Session<R> {
             KeyClass::Help => {
                 put_help_and_line(grammar, self.ending, self.prompt, line, names, hooks, out)
             }
-            KeyClass::Back if stroke.kept => put_screen_line(line, out),
+            KeyClass::Back if stroke.restores => put_screen_line(line, out),
             KeyClass::Escape => put_inserted(behind, stroke.rings, out),
             KeyClass::Part => put_inserted(behind, stroke.rings, out),
             KeyClass::Stop => out.put_line(control_c()),
@@ -424,15 +430,15 @@ impl<R: Rules> Session<R> {
     }
 
     // Puts the line of the log.
-    #[tactic(auto, using(cm_io::proofs::Texts::texts), unfolding(crate::specs::Log::log_line))]
+    #[tactic(auto, using(crate::proofs::Logging::line_put))]
     fn put_log<S: Sink>(&self, key: u8, out: &mut Writer<'_, S>)
         ensures { Writes S.Sink out.old out.new (log_line key self.now) }
     {
-        out.put_hex(key);
-        put_marked(b" ", self.line.bytes().len() as u64, out);
-        put_ending(self.ending, out);
-        put_fields(&self.fields, out);
-        out.put(b"\n");
+        let mut page = Page::new();
+        push_head(key, self.line.bytes().len(), self.ending, &mut page);
+        put_fields(&self.fields, &mut page, out);
+        page.put(b"\n");
+        out.put(page.as_slice());
     }
 
     // What a key of this class has come to.

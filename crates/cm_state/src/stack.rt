@@ -67,7 +67,7 @@ impl Stack {
     }
 
     // Keeps those before the first that needs more than so many bytes.
-    pub(crate) fn keep(&mut self, size: usize)
+    pub(crate) fn truncate(&mut self, size: usize)
         ensures { self.new ≡ needing size self.old }
     {
         self.fields.truncate(first_needing(&self.fields, size));

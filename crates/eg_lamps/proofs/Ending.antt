@@ -21,9 +21,9 @@ same_screen same = ap (λ (it : Counts). it.screen) same
 -- memory may be wanting for no act of the lamps
 lamps_spare : IsSparing lamp_meaning
 lamps_spare = record {
-  confirmed = λ at session moment. refl;
-  raw = λ at key. refl;
-  taken = λ at session moment. refl;
+  line_deeds = λ at session moment. refl;
+  raw_deeds = λ at key. refl;
+  file_line_deeds = λ at session moment. refl;
 }
 
 -- the status of a run by the counts, of which that of the log cannot rise

@@ -2,3 +2,4 @@ pub mod Changing
 pub mod Ending
 pub mod Faultless
 pub mod Parts
+pub mod Replying

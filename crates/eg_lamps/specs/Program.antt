@@ -51,12 +51,12 @@ lamp_meaning = record {
   rules = room_meanings;
   catalogue_of = λ at. at.names;
   mode_of = λ at. if at.has_quit then mode.Ended else mode.Line COMMANDS Main false;
-  confirmed = λ at session moment. deed_of at (command_of session) ∷ [];
-  abandoned = λ at. at;
+  line_deeds = λ at session moment. deed_of at (command_of session) ∷ [];
+  abandonment = λ at. at;
   raw_echo = λ at key. [];
-  raw = λ at key. [];
-  waiting = λ at. None;
-  taken = λ at session moment. [];
+  raw_deeds = λ at key. [];
+  file_line = λ at. None;
+  file_line_deeds = λ at session moment. [];
 }
 
 -- the status of a run that went so

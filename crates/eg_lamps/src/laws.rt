@@ -1,9 +1,17 @@
-// The numbers of the program.
+// Laws of the lamps, and the numbers of the program.
 ghost use Rattle.std.specs.Prelude.{◌≡◌, ◌^◌, ◌-◌};
+ghost use Rattle.tt_laws.specs.Keeping.{IsLineKeeping};
+ghost use Rattle.eg_lamps.specs.Program.{lamp_meaning};
 ghost use Rattle.eg_lamps.specs.declared.command.TheConstants.{NO_ROOM, STEP};
 ghost use Rattle.eg_lamps.specs.declared.grammar.TheConstants.{COMMANDS, DIM, LINE_END, LIST, NAME, QUIT, SET};
 ghost use Rattle.eg_lamps.specs.declared.lamps.TheConstants.{BRIGHTEST};
 ghost use Rattle.eg_lamps.specs.declared.program.TheConstants.{KEY_LIMIT};
+
+/// Each reply of the lamps is nothing, or ends with a line feed, and their prompt is printed bytes: so the screen shows
+/// prompt and line between keys.
+pub fn the_lamps_keep_their_lines()
+    ensures { IsLineKeeping lamp_meaning }
+{}
 
 /// The numbers of the lamps: how bright one may be, by how much DIM goes where the line does not say, the most keys
 /// that a run takes, the number that no room has, the codes of the commands, and the nodes where a line begins and

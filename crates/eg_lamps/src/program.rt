@@ -1,10 +1,11 @@
 // The program: the lamps as an application of the engine.
-ghost use Rattle.std.specs.Prelude.{◌≡◌, ◌<◌, [], IsTrue};
+ghost use Rattle.std.specs.Prelude.{◌≡◌, ◌<◌, ◌++◌, ℕ, List, [], IsTrue};
 ghost use Rattle.cm_hooks.specs.Ties.{Ties, count};
 ghost use Rattle.cm_io.specs.Told.{Number};
 ghost use Rattle.cm_run.specs.Observed.{observed};
+ghost use Rattle.tt_laws.specs.Keeping.{KeepsLine};
 ghost use Rattle.eg_lamps.specs.Graph.{lamp_graph};
-ghost use Rattle.eg_lamps.specs.Program.{EndCause, Ends, lamp_start, number_of, status_of};
+ghost use Rattle.eg_lamps.specs.Program.{EndCause, Ends, lamp_meaning, lamp_start, number_of, status_of};
 ghost use Rattle.eg_lamps.specs.Rooms.{room_meanings};
 
 use crate::grammar::COMMANDS;
@@ -92,6 +93,9 @@ impl Program {
             (observed (S.told screen.old) (Number 0) (K.left keys.old) (K.gets keys.old) [] steps.old self.old)
             (observed (S.told screen.new) (Number 0) (K.left keys.new) (K.gets keys.new) [] steps.new self.new)
             result }
+        // Behind each beginning of the keys taken the screen shows the prompt and the line, until QUIT.
+        ensures screen { IsTrue K.tells → (taken rest : List ℕ)
+            → (taken ++ rest) ++ K.left keys.new ≡ K.left keys.old → KeepsLine lamp_meaning self.old [] taken }
         // When each status comes.
         ensures cause { EndCause (K.faults keys.old) (K.faults keys.new)
             (S.faults screen.old) (S.faults screen.new) result }
@@ -146,7 +150,7 @@ impl Application for Program {
     }
 
     #[tactic(auto, using(cm_run::proofs::Obeying::obeys_done, cm_run::proofs::Obeying::obeys_cut), unfolding(cm_run::specs::Cause::ObeyCause))]
-    fn confirm<S: Sink>(
+    fn obey_line<S: Sink>(
         &mut self,
         session: &Session<RoomRules>,
         _grammar: &Grammar,
@@ -169,16 +173,16 @@ impl Application for Program {
     }
 
     #[tactic(auto, using(cm_run::proofs::Obeying::obeys_nothing), unfolding(cm_run::specs::Cause::ObeyCause))]
-    fn take_raw<S: Sink>(&mut self, _key: u8, _screen: &mut S) -> Result<(), Stop> {
+    fn obey_raw<S: Sink>(&mut self, _key: u8, _screen: &mut S) -> Result<(), Stop> {
         Ok(())
     }
 
-    fn waiting(&self) -> Option<&[u8]> {
+    fn file_line(&self) -> Option<&[u8]> {
         None
     }
 
     #[tactic(auto, using(cm_run::proofs::Obeying::obeys_nothing), unfolding(cm_run::specs::Cause::ObeyCause))]
-    fn take_line<S: Sink>(
+    fn obey_file_line<S: Sink>(
         &mut self,
         _session: &Session<RoomRules>,
         _grammar: &Grammar,

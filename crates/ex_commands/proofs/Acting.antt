@@ -1,7 +1,7 @@
 -- Acts that are refused, as the answers to them say.
 use Rattle.std.proofs.Common.{◌≡◌, ℕ, Bool, true, false, cond, List, [], ◌∷◌, length, Result, Ok, Err, refl, ap, sym, subst, ◌∙◌}
 use Rattle.cm_fields.specs.declared.code.Code.{Code}
-use Rattle.cm_fields.specs.declared.code.Code.TheVariants.{NameNeeded, NoDefinition, NoMatch}
+use Rattle.cm_fields.specs.declared.code.Code.TheVariants.{CopyRange, NameNeeded, NoDefinition, NoMatch}
 use Rattle.cm_io.specs.declared.sink.Sink.{Ghosts}
 use Rattle.cm_io.specs.declared.writer.Writer.{Writer}
 use Rattle.ex_store.specs.declared.directory.Definition.{Definition}
@@ -11,7 +11,10 @@ use Rattle.ex_store.specs.Copying.{lacks_name}
 use Rattle.ex_store.specs.State.{State, defined, undefined}
 use Rattle.ex_store.proofs.StateLaws.{nothing_undefined}
 use Rattle.ex_commands.specs.declared.acted.Acted.{Acted}
-use Rattle.ex_commands.specs.Act.{Act, begins, does, lists, refuses, undefines}
+use Rattle.ex_commands.specs.Commands.Copy.{begins}
+use Rattle.ex_commands.specs.Commands.Define.{undefines}
+use Rattle.ex_commands.specs.Commands.Directory.{lists_rows}
+use Rattle.ex_commands.specs.Effect.{Act, does, refuses}
 use Rattle.ex_commands.specs.Outcome.{Outcome}
 
 -- the one of two acts that a test chooses
@@ -46,8 +49,15 @@ refused_to_undefine s before now name state left result code answer is by_test l
         (subst (λ left. Outcome s before now (refuses code state) false state left answer) (sym stays) refused)
 
 -- a listing of no file
-pub refused_to_list : {T : Type 0} (s : Ghosts T) (before now : Writer T) (files : Place) (rows : List Row) (state : State)
+pub refused_to_list : {T : Type 0} (s : Ghosts T) (before now : Writer T) (directory : List ℕ) (rows : List Row) (state : State)
     (answer : Acted) → 0 ≡ length rows → Outcome s before now (refuses NoMatch state) false state state answer
-    → Outcome s before now (lists files rows state) false state state answer
-refused_to_list s before now files [] state answer none refused = refused
-refused_to_list s before now files (row ∷ rows) state answer none refused = absurd (cc)
+    → Outcome s before now (lists_rows directory rows state) false state state answer
+refused_to_list s before now directory [] state answer none refused = refused
+refused_to_list s before now directory (row ∷ rows) state answer none refused = absurd (cc)
+
+-- copies that may not be asked for
+pub refused_to_print : {T : Type 0} (s : Ghosts T) (before now : Writer T) (test : Bool) (one : Act) (state : State) (answer : Acted)
+    → test ≡ false → Outcome s before now (refuses CopyRange state) true state state answer
+    → Outcome s before now (cond test one (refuses CopyRange state)) true state state answer
+refused_to_print s before now true one state answer lacks refused = absurd (cc)
+refused_to_print s before now false one state answer lacks refused = refused

@@ -1,7 +1,8 @@
 -- What a line commands can be done.
-use Rattle.std.proofs.Common.{◌≡◌, ℕ, ◌||◌, ◌==◌, Bool, true, false, if◌then◌else◌, List, drop, Option, Some, None, option_and_then, slice_get, refl, ap, sym, ◌∙◌}
+use Rattle.std.proofs.Common.{◌≡◌, ℕ, ◌||◌, ◌==◌, Bool, true, false, if◌then◌else◌, List, drop, Option, Some, None, option_and_then, unwrap_or, slice_get, refl, ap, sym, ◌∙◌}
 use Rattle.std.specs.Option.{option_map_or}
 use Rattle.cm_fields.proofs.Holding.{holds_of_choice}
+use Rattle.std.specs.List.{list_all}
 use Rattle.cm_files.specs.Catalogue.{IsCatalogue, is_directory_name}
 use Rattle.cm_blocks.specs.declared.field.Ending.{Ending}
 use Rattle.cm_blocks.specs.declared.function.Role.TheVariants as roles
@@ -13,16 +14,24 @@ use Rattle.cm_blocks.specs.FieldView.{FieldView}
 use Rattle.cm_state.specs.Roles.{field_of}
 use Rattle.ex_grammar.specs.ExecRules.{exec_meanings}
 use Rattle.ex_grammar.specs.Graph.{exec_graph}
-use Rattle.ex_grammar.specs.declared.code.TheConstants.{APPEND, BUILD, CONNECT, COPY, DEFINE, DELETE, DIRECTORY, EXPUNGE, INFORMATION, LOGOUT, REMARK, RENAME, TYPE, UNDELETE}
+use Rattle.ex_grammar.specs.declared.code.TheConstants.{APPEND, BUILD, CONNECT, COPY, DEFINE, DELETE, DIRECTORY, EXPUNGE, INFORMATION, LOGOUT, PRINT, REMARK, RENAME, TYPE, UNDELETE}
 use Rattle.ex_grammar.specs.declared.node.TheConstants.{COMMANDS}
 use Rattle.ex_store.specs.declared.place.Place.{Place}
 use Rattle.ex_store.specs.Plan.{IsOneFile, IsSource, IsTarget}
 use Rattle.ex_store.specs.State.{State, catalogue_of, has_directory}
 use Rattle.ex_commands.specs.declared.command.Command.{Command}
 use Rattle.ex_commands.specs.declared.command.Command.TheVariants as commands
-use Rattle.ex_commands.specs.Answer.{IsThere, MayAct}
-use Rattle.ex_commands.specs.Command.{Line, between, command_of, copies, directory_in, flags_of, is_token, keyword_code, named, on, place_in}
-use Rattle.ex_commands.proofs.Fitting.{files_names, files_read, reads_files, reads_source, source_names, source_read}
+use Rattle.ex_commands.specs.Answer.{IsThere, MayAct, MayAsk}
+use Rattle.ex_commands.specs.Command.{command_of, named}
+use Rattle.ex_commands.specs.Commands.Copy.{copies, is_token}
+use Rattle.ex_commands.specs.Commands.Define.{define_of, logical_in}
+use Rattle.ex_commands.specs.Commands.Print.{after_in, copies_in, form_in, job_in, note_in, print_of}
+use Rattle.ex_commands.specs.Commands.Directory.{everything}
+use Rattle.ex_commands.specs.Line.{Line, between, directory_in, flags_of, has_subs, keyword_code, on, place_in}
+use Rattle.ex_commands.proofs.Fitting.{files_names, files_read, reads_files, reads_source, source_names, source_read, value_read}
+use Rattle.ex_commands.proofs.Asking.{is_finished}
+use Rattle.ex_commands.proofs.Printable.{logical_named, may_ask}
+use Rattle.ex_commands.proofs.Resolving.{state_has}
 use Rattle.ex_commands.proofs.Targets.{directory_formed, directory_there, field_meant, field_one, field_target, place_there, trial_old}
 use Rattle.ex_commands.proofs.Trying.{IsTried}
 use Rattle.ex_commands.proofs.Verbs.{grown_target, made_target, names_grown, names_made, names_old, not_true, old_directory}
@@ -36,6 +45,7 @@ record IsTyped (state : State) (text : List ℕ) (fields : List FieldView) : Typ
   lawful : IsCatalogue (catalogue_of state)
   ends : Ending
   parse : IsParse (setting exec_graph (catalogue_of state) exec_meanings) COMMANDS text fields ends
+  asks : MayAsk (form_in fields) (after_in fields) (job_in (line_over state text fields)) (note_in (line_over state text fields))
 
 -- a command on what may be said
 on_may : {A : Type 0} (state : State) (command : A → Command) (said : Option A)
@@ -96,6 +106,16 @@ build_may state text fields typed name is =
     let it = of_field (field_of roles.Files fields) _ name is in
     let read = files_read (catalogue_of state) text fields typed.ends typed.parse it.0 it.1 in
     directory_formed state typed.lawful _ it.0.value name (field_meant (catalogue_of state) typed.lawful text it.0 reads_files files_names read) it.2
+
+-- or all files of the connected directory, which is there
+all_there : (state : State) (text : List ℕ) (fields : List FieldView) → IsTyped state text fields
+    → IsSource (unwrap_or (place_in (line_over state text fields) (field_of roles.Files fields)) (everything (catalogue_of state))) state
+all_there state text fields typed = by (place_in (line_over state text fields) (field_of roles.Files fields)) refl
+  where
+    by : (said : Option Place) → place_in (line_over state text fields) (field_of roles.Files fields) ≡ said
+        → IsSource (unwrap_or said (everything (catalogue_of state))) state
+    by None said = state_has state (catalogue_of state).connected typed.lawful.connected_within
+    by (Some place) said = files_there state text fields typed place said
 
 -- a field is of one block
 same_block : (s : Setting) (text : List ℕ) (field : FieldView) (first second : IsTried s text field) → first.block ≡ second.block
@@ -190,38 +210,69 @@ there_may : (state : State) (said : Option (List ℕ)) → ((name : List ℕ) �
 there_may state None may = tt
 there_may state (Some name) may = may name refl
 
+-- DEFINE
+defines_may : (state : State) (text : List ℕ) (fields : List FieldView) → IsTyped state text fields → (verb : FieldView)
+    → field_of roles.Verb fields ≡ Some verb → (keyword_code verb.value == DEFINE) ≡ true
+    → MayAct (define_of (line_over state text fields)) state
+defines_may state text fields typed verb verb_is named =
+    on_may state (λ name. commands.Define name (directory_in (line_over state text fields) (field_of roles.Files fields))) _
+    (λ name name_is. by (directory_in (line_over state text fields) (field_of roles.Files fields)) refl name name_is)
+  where
+    by : (directory : Option (List ℕ)) → directory_in (line_over state text fields) (field_of roles.Files fields) ≡ directory
+        → (name : List ℕ) → logical_in (line_over state text fields) (field_of roles.Value fields) ≡ Some name
+        → MayAct (commands.Define name directory) state
+    by None is name name_is = tt
+    by (Some directory) is name name_is =
+        let it = of_field (field_of roles.Value fields) _ name name_is in (
+          logical_named (catalogue_of state) text it.0 (value_read (catalogue_of state) text fields typed.ends typed.parse it.0 it.1) name it.2,
+          old_may state text fields typed verb verb_is (second_named _ _ named) directory is,
+        )
+
+-- PRINT
+prints_may : (state : State) (text : List ℕ) (fields : List FieldView) → IsTyped state text fields
+    → MayAct (print_of (line_over state text fields)) state
+prints_may state text fields typed =
+    on_may state (λ files. commands.Print files (copies_in fields) (form_in fields) (after_in fields) (job_in (line_over state text fields))
+    (note_in (line_over state text fields))) _
+    (λ files is. (files_there state text fields typed files is, typed.asks))
+
 -- the command of a keyword
 named_may : (state : State) (text : List ℕ) (fields : List FieldView) → IsTyped state text fields → (verb : FieldView)
     → field_of roles.Verb fields ≡ Some verb → MayAct (named (line_over state text fields) (keyword_code verb.value)) state
 named_may state text fields typed verb verb_is =
     choose APPEND _ _ (λ is. appends_may state text fields typed verb verb_is is)
-    (choose BUILD _ _ (λ is. on_may state commands.Build _ (build_may state text fields typed))
+    (choose BUILD _ _ (λ is. on_may state (λ directory. commands.Build directory None (has_subs (line_over state text fields))) _
+    (λ name is. (build_may state text fields typed name is, tt)))
     (choose CONNECT _ _ (λ is. on_may state commands.Connect _
-    (old_may state text fields typed verb verb_is (first_named _ _ is)))
+    (old_may state text fields typed verb verb_is (first_named _ _ (first_named _ _ is))))
     (choose COPY _ _ (λ is. copies_may state text fields typed verb verb_is (first_named _ _ is))
-    (choose DEFINE _ _ (λ is. on_may state commands.Define _ (λ it found. tt))
+    (choose DEFINE _ _ (λ is. defines_may state text fields typed verb verb_is is)
     (choose DELETE _ _ (λ is. on_may state commands.Delete _ (files_there state text fields typed))
-    (choose DIRECTORY _ _ (λ is. on_may state commands.Directory _ (files_there state text fields typed))
-    (choose EXPUNGE _ _ (λ is. there_may state _ (old_may state text fields typed verb verb_is (second_named _ _ is)))
+    (choose DIRECTORY _ _ (λ is. all_there state text fields typed)
+    (choose EXPUNGE _ _ (λ is. there_may state _ (old_may state text fields typed verb verb_is (first_named _ _ (second_named _ _ is))))
     (choose INFORMATION _ _ (λ is. tt)
     (choose LOGOUT _ _ (λ is. tt)
+    (choose PRINT _ _ (λ is. prints_may state text fields typed)
     (choose REMARK _ _ (λ is. tt)
     (choose RENAME _ _ (λ is. renames_may state text fields typed verb verb_is (second_named _ _ is))
     (choose TYPE _ _ (λ is. on_may state commands.TypeOut _ (files_there state text fields typed))
-    (choose UNDELETE _ _ (λ is. on_may state commands.Undelete _ (files_there state text fields typed)) tt)))))))))))))
+    (choose UNDELETE _ _ (λ is. on_may state commands.Undelete _ (files_there state text fields typed)) tt))))))))))))))
   where
     choose : (wanted : ℕ) (first later : Command) → ((keyword_code verb.value == wanted) ≡ true → MayAct first state) → MayAct later state
         → MayAct (if keyword_code verb.value == wanted then first else later) state
     choose wanted first later may rest =
         holds_of_choice (λ (command : Command). MayAct command state) (keyword_code verb.value == wanted) first later may (λ other. rest)
 
-pub line_may_act : (state : State) (text : List ℕ) (fields : List FieldView) (ends : Ending) → IsCatalogue (catalogue_of state)
+pub line_may_act : (state : State) (text : List ℕ) (fields : List FieldView) (ends : Ending) → list_all is_finished text ≡ true
+    → IsCatalogue (catalogue_of state)
     → IsParse (setting exec_graph (catalogue_of state) exec_meanings) COMMANDS text fields ends
     → MayAct (command_of (line_over state text fields)) state
 unfolding command_of
-line_may_act state text fields ends lawful parse = by (field_of roles.Verb fields) refl
+line_may_act state text fields ends plain lawful parse = by (field_of roles.Verb fields) refl
   where
     by : (verb : Option FieldView) → field_of roles.Verb fields ≡ verb
         → MayAct (option_map_or (λ (verb : FieldView). named (line_over state text fields) (keyword_code verb.value)) verb commands.Empty) state
     by None is = tt
-    by (Some verb) is = named_may state text fields (record { lawful = lawful; ends = ends; parse = parse }) verb is
+    by (Some verb) is =
+        named_may state text fields
+        (record { lawful = lawful; ends = ends; parse = parse; asks = may_ask (catalogue_of state) text fields ends plain parse }) verb is

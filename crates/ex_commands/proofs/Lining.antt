@@ -1,5 +1,5 @@
 -- Lines that are put for one element of a list after the other.
-use Rattle.std.proofs.Common.{◌≡◌, ℕ, ◌+◌, ◌<◌, ◌≤◌, List, ◌++◌, length, drop, slice_get, Some, ap, ◌∙◌, subst, sym}
+use Rattle.std.proofs.Common.{◌≡◌, ℕ, ◌+◌, ◌<◌, ◌≤◌, List, ◌∷◌, ◌++◌, length, drop, slice_get, Some, ap, ◌∙◌, subst, sym}
 use Rattle.std.specs.List.{flat_map}
 use Rattle.std.proofs.lemmas.List.{drop_more}
 use Rattle.std.proofs.lemmas.Option.{get_or_from_slice_get, slice_get_within}
@@ -22,6 +22,7 @@ lines_more line xs i x there =
 pub record IsRead (line : Row → List ℕ) (files : Place) (state : State) (from at : ℕ) (row : Row) : Type 0 where
   pub moment : row.file.moment ≤ MOMENT_LIMIT
   pub short : length row.file.bytes ≤ FILE_LIMIT
+  pub rest : files_from files state from ≡ row ∷ files_from files state (at + 1)
   pub lines : flat_map line (files_from files state from) ≡ line row ++ flat_map line (files_from files state (at + 1))
 
 pub is_read : (line : Row → List ℕ) (files : Place) (state : State) (from at : ℕ) (row : Row) (name : List ℕ) → IsNext files state from at
@@ -34,6 +35,7 @@ is_read line files state from at row name next same there =
     record {
       moment = subst (λ (each : Row). each.file.moment ≤ MOMENT_LIMIT) (sym here) next.moment;
       short = subst (λ (each : Row). length each.file.bytes ≤ FILE_LIMIT) (sym here) next.short;
+      rest = next.rest ∙ ap (λ (each : Row). each ∷ files_from files state (at + 1)) (sym here);
       lines = ap (flat_map line) next.rest
           ∙ ap (λ (each : Row). line each ++ flat_map line (files_from files state (at + 1))) (sym here);
     }

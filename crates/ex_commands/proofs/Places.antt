@@ -14,11 +14,11 @@ use Rattle.cm_files.proofs.Fronts.{part_more}
 use Rattle.cm_files.proofs.Typed.{read_of}
 use Rattle.cm_blocks.specs.Setting.{Setting}
 use Rattle.cm_blocks.specs.FieldView.{FieldView}
-use Rattle.ex_commands.specs.Command.{said_of}
+use Rattle.ex_commands.specs.Line.{said_of}
 use Rattle.ex_commands.proofs.Trying.{IsTried, StandsIn}
 
 -- a run has bytes of its class alone
-run_all : (p : ℕ → Bool) (text : List ℕ) → list_all p (take (prefix_len p text) text) ≡ true
+pub run_all : (p : ℕ → Bool) (text : List ℕ) → list_all p (take (prefix_len p text) text) ≡ true
 run_all p [] = refl
 run_all p (byte ∷ text) = by (p byte) refl (run_all p text)
   where

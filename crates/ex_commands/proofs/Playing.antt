@@ -13,7 +13,7 @@ use Rattle.ex_store.specs.State.{State}
 use Rattle.ex_commands.specs.declared.acted.Acted.{Acted}
 use Rattle.ex_commands.specs.declared.acted.Acted.TheVariants as answers
 use Rattle.ex_commands.specs.declared.pairs.Origin.{Origin}
-use Rattle.ex_commands.specs.Act.{plays, refuses}
+use Rattle.ex_commands.specs.Effect.{plays, refuses}
 use Rattle.ex_commands.specs.Outcome.{Outcome}
 use Rattle.ex_commands.specs.Replies.{origin_line}
 

@@ -20,7 +20,7 @@ use Rattle.cm_files.specs.Spec.{part}
 use Rattle.ex_store.specs.declared.directory.Directory.{Directory}
 use Rattle.ex_store.specs.State.{State, catalogue_of, has_directory}
 use Rattle.ex_store.specs.State as states
-use Rattle.ex_commands.specs.Command.{directory_name}
+use Rattle.ex_commands.specs.Line.{directory_name}
 use Rattle.ex_commands.proofs.Saying.{passed, then_parts}
 
 -- where the first is that passes

@@ -267,6 +267,9 @@ directory_said new c at run value is =
     by spec meant short (values.NewDirectory place) says = moved_short says.0 place spec.directory short says.1 says.2
     by spec meant short (values.Directory directory) says = tt
     by spec meant short (values.File kind of directory) says = absurd says
+    by spec meant short (values.Hook id number) says = absurd says
+    by spec meant short (values.Word place) says = absurd says
+    by spec meant short (values.Date day) says = absurd says
     by spec meant short value says = tt
 
 -- a user

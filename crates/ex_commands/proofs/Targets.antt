@@ -36,7 +36,7 @@ use Rattle.ex_store.specs.Copying.{is_star}
 use Rattle.ex_store.specs.Plan.{IsOneFile, IsTarget, has_plain_kind, has_plain_name, may_be, may_grow, may_number}
 use Rattle.ex_store.specs.State.{State, catalogue_of, has_directory}
 use Rattle.ex_store.specs.WellFormed.{is_file_name, is_file_type}
-use Rattle.ex_commands.specs.Command.{directory_by, directory_name, place_by, said_of, upper}
+use Rattle.ex_commands.specs.Line.{directory_by, directory_name, place_by, said_of, upper}
 use Rattle.ex_commands.proofs.Capitals.{plain_names, plain_paths, star_stays, up, upper_directory, upper_name}
 use Rattle.ex_commands.proofs.Fitting.{IsRead, reads_made, reads_one, reads_places}
 use Rattle.ex_commands.proofs.Places.{said_part, spec_directory, spec_kind, spec_name}

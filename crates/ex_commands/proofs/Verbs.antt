@@ -27,12 +27,12 @@ use Rattle.cm_blocks.specs.FieldView.{FieldView}
 use Rattle.cm_blocks.specs.Trial.{entry_next, keyword_next, next_of, table_of, trial}
 use Rattle.cm_state.specs.Roles.{field_of, is_role}
 use Rattle.ex_grammar.specs.ExecRules.{exec_meanings}
-use Rattle.ex_grammar.specs.Graph.{append_blocks, build_blocks, define_blocks, delete_blocks, exec_graph, exec_nodes, first_nodes, information_blocks, print_blocks, source_nodes, subcommand_blocks, target_blocks, type_blocks}
-use Rattle.ex_grammar.specs.Tables.{command_entries, exec_tables, topic_entries}
+use Rattle.ex_grammar.specs.Graph.{append_blocks, build_blocks, define_blocks, delete_blocks, directory_nodes, exec_graph, exec_nodes, first_nodes, last_nodes, listing_nodes, print_blocks, retention_nodes, source_nodes, switch_blocks, target_blocks, type_blocks}
+use Rattle.ex_grammar.specs.Tables.{build_entries, command_entries, directory_entries, exec_tables, switch_entries, topic_entries}
 use Rattle.ex_grammar.specs.Words.{confirm, either, keyword}
-use Rattle.ex_grammar.specs.declared.code.TheConstants.{APPEND, CONNECT, COPY, EXPUNGE, RENAME}
+use Rattle.ex_grammar.specs.declared.code.TheConstants.{APPEND, CONNECT, COPY, DEFINE, EXPUNGE, RENAME}
 use Rattle.ex_grammar.specs.declared.node.TheConstants.{COMMANDS}
-use Rattle.ex_commands.specs.Command.{keyword_code}
+use Rattle.ex_commands.specs.Line.{keyword_code}
 use Rattle.ex_commands.proofs.Fitting.{all_pass_at, reads_made, reads_one}
 use Rattle.ex_commands.proofs.Saying.{run_of}
 use Rattle.ex_commands.proofs.Trying.{IsTried, chain_number, chain_tried}
@@ -274,9 +274,9 @@ behind_verb branch is_branch c text (first ∷ fields) ends verb field parse ver
         ∙ entry_leads branch is_branch.none (table_of exec_graph command_table) said.1.0 is_branch.commands code)
         (ap (is_role branch.role) is_verb ∙ is_branch.other)
 
--- CONNECT and EXPUNGE: a directory that is there
+-- CONNECT, EXPUNGE and DEFINE: a directory that is there
 abbrev pub names_old : ℕ → Bool
-names_old code = code == CONNECT || code == EXPUNGE
+names_old code = code == CONNECT || code == EXPUNGE || code == DEFINE
 
 abbrev pub is_old : Block → Bool
 is_old block = not block.flags.new
@@ -284,13 +284,15 @@ is_old block = not block.flags.new
 abbrev old_branch : Branch
 old_branch = record {
   names = names_old;
-  inside = λ (node : ℕ). node == 5 || node == 17 || node == 18 || node == 35 || node == 36;
+  inside = λ (node : ℕ).
+      node == 5 || node == 17 || node == 18 || node == 28 || node == 29 || node == 30 || node == 31 || node == 32 || node == 35
+      || node == 36;
   role = roles.Files;
   reads = is_old;
 }
 
 old_is : IsBranch old_branch
-unfolding exec_graph exec_nodes first_nodes source_nodes target_blocks append_blocks delete_blocks type_blocks information_blocks define_blocks build_blocks print_blocks subcommand_blocks exec_tables command_entries topic_entries
+unfolding exec_graph exec_nodes first_nodes source_nodes target_blocks append_blocks delete_blocks type_blocks listing_nodes define_blocks build_blocks last_nodes print_blocks switch_blocks directory_nodes retention_nodes exec_tables command_entries topic_entries directory_entries build_entries switch_entries
 old_is = record { none = refl; ends = refl; nodes = refl; commands = refl; some = refl; other = refl }
 
 pub old_directory : (c : Catalogue) (text : List ℕ) (fields : List FieldView) (ends : Ending) (verb field : FieldView)
@@ -315,7 +317,7 @@ made_branch = record {
 }
 
 made_is : IsBranch made_branch
-unfolding exec_graph exec_nodes first_nodes source_nodes target_blocks append_blocks delete_blocks type_blocks information_blocks define_blocks build_blocks print_blocks subcommand_blocks exec_tables command_entries topic_entries
+unfolding exec_graph exec_nodes first_nodes source_nodes target_blocks append_blocks delete_blocks type_blocks listing_nodes define_blocks build_blocks last_nodes print_blocks switch_blocks directory_nodes retention_nodes exec_tables command_entries topic_entries directory_entries build_entries switch_entries
 made_is = record { none = refl; ends = refl; nodes = refl; commands = refl; some = refl; other = refl }
 
 pub made_target : (c : Catalogue) (text : List ℕ) (fields : List FieldView) (ends : Ending) (verb field : FieldView)
@@ -340,7 +342,7 @@ grown_branch = record {
 }
 
 grown_is : IsBranch grown_branch
-unfolding exec_graph exec_nodes first_nodes source_nodes target_blocks append_blocks delete_blocks type_blocks information_blocks define_blocks build_blocks print_blocks subcommand_blocks exec_tables command_entries topic_entries
+unfolding exec_graph exec_nodes first_nodes source_nodes target_blocks append_blocks delete_blocks type_blocks listing_nodes define_blocks build_blocks last_nodes print_blocks switch_blocks directory_nodes retention_nodes exec_tables command_entries topic_entries directory_entries build_entries switch_entries
 grown_is = record { none = refl; ends = refl; nodes = refl; commands = refl; some = refl; other = refl }
 
 pub grown_target : (c : Catalogue) (text : List ℕ) (fields : List FieldView) (ends : Ending) (verb field : FieldView)

@@ -1,7 +1,10 @@
 pub mod Act
 pub mod Answer
 pub mod Command
+pub mod Commands
+pub mod Effect
 pub mod Files
+pub mod Line
 pub mod Outcome
 pub mod Replies
 pub mod Said

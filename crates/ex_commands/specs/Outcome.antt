@@ -6,7 +6,7 @@ use Rattle.cm_io.specs.Writer.{Writes}
 use Rattle.ex_store.specs.State.{State}
 use Rattle.ex_commands.specs.declared.acted.Acted.{Acted}
 use Rattle.ex_commands.specs.declared.acted.Acted.TheVariants as answers
-use Rattle.ex_commands.specs.Act.{Act}
+use Rattle.ex_commands.specs.Effect.{Act}
 
 -- it is done: this is its answer, its whole reply is written, and it leaves its state
 pub record Replies {T : Type 0} (s : Ghosts T) (before now : Writer T) (act : Act) (left : State) (answer : Acted)
@@ -27,5 +27,6 @@ Outcome s before now act lacks state left answers.NoMemory = IsWanting before no
 Outcome s before now act lacks state left answers.Failed = ⊥
 Outcome s before now act lacks state left answers.Ok = Replies s before now act left answers.Ok
 Outcome s before now act lacks state left (answers.Refused code) = Replies s before now act left (answers.Refused code)
+Outcome s before now act lacks state left answers.Pending = Replies s before now act left answers.Pending
 Outcome s before now act lacks state left answers.Data = Replies s before now act left answers.Data
 Outcome s before now act lacks state left answers.Logout = Replies s before now act left answers.Logout

@@ -23,6 +23,10 @@ arrow = codes " => "
 unfoldable pub from_terminal : List ℕ
 from_terminal = codes " TTY: => "
 
+-- before a file that is queued
+unfoldable pub queued : List ℕ
+queued = codes " Queued "
+
 -- that it is done
 unfoldable pub done_mark : List ℕ
 done_mark = codes " [OK]"
@@ -44,6 +48,40 @@ pages_freed = codes " [Pages freed: "
 
 unfoldable pub right_bracket : List ℕ
 right_bracket = codes "]"
+
+-- what stands before the directory that INFORMATION tells about, its count of generations, and its pages
+unfoldable pub of_structure : List ℕ
+of_structure = codes " PS:"
+
+unfoldable pub kept : List ℕ
+kept = codes " Generations to keep: "
+
+unfoldable pub pages_had : List ℕ
+pages_had = codes " Pages: "
+
+-- between a logical name and its directory
+unfoldable pub stands_for : List ℕ
+stands_for = codes ": => PS:"
+
+-- before the parts of an entry of the print queue
+unfoldable pub copies_mark : List ℕ
+copies_mark = codes " /COPIES:"
+
+unfoldable pub forms_mark : List ℕ
+forms_mark = codes " /FORMS:"
+
+unfoldable pub job_mark : List ℕ
+job_mark = codes " /JOBNAME:"
+
+unfoldable pub after_mark : List ℕ
+after_mark = codes " /AFTER:"
+
+unfoldable pub note_mark : List ℕ
+note_mark = codes " /NOTE:\""
+
+-- behind a note
+unfoldable pub quote : List ℕ
+quote = codes "\""
 
 -- the program and its version
 unfoldable pub version : List ℕ

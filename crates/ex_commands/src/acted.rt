@@ -12,6 +12,8 @@ pub enum Acted {
     Ok,
     /// It is refused: the reason is shown, and nothing changed.
     Refused(Code),
+    /// It waits for its subcommands: nothing is shown, and nothing changed.
+    Pending,
     /// A file is to be typed in: data mode begins.
     Data,
     /// The run is over.

@@ -2,39 +2,87 @@
 use cm_text::Name;
 use ex_store::Place;
 
-/// What a confirmed line commands.
+/// What a confirmed line commands. Behind a line that ends in a comma, subcommands follow (`sub`).
 #[derive(Debug, Drop)]
 pub enum Command {
     /// Nothing: the line has no field.
     Empty,
     /// APPEND: to put the bytes of files behind those of one file.
-    Append { from: Place, to: Place },
-    /// BUILD: to make a directory, which keeps one generation of each file.
-    Build { directory: Name },
+    Append {
+        from: Place,
+        to: Place,
+    },
+    /// BUILD: to make a directory, which keeps so many generations of each file: one where none is said and it is new,
+    /// all with 0, and at most 63.
+    Build {
+        directory: Name,
+        retention: Option<u8>,
+        sub: bool,
+    },
     /// CONNECT: to connect to a directory.
-    Connect { directory: Name },
+    Connect {
+        directory: Name,
+    },
     /// COPY: to copy files.
-    Copy { from: Place, to: Place },
+    Copy {
+        from: Place,
+        to: Place,
+    },
     /// COPY TTY:, to type a file in.
-    CopyTty { to: Place },
-    /// DEFINE: to take a logical name away.
-    Define { name: Name },
+    CopyTty {
+        to: Place,
+    },
+    /// DEFINE: to let a logical name stand for a directory, or to take it away where none is said.
+    Define {
+        name: Name,
+        directory: Option<Name>,
+    },
     /// DELETE: to mark files as deleted.
-    Delete { files: Place },
-    /// DIRECTORY: to list files.
-    Directory { files: Place },
+    Delete {
+        files: Place,
+    },
+    /// DIRECTORY: to list files, those that are marked deleted or those that are not, and only those that were written
+    /// on the day `since` or later, and earlier than on the day `before`. A day is its number, 0 for 1-JAN-1970.
+    Directory {
+        files: Place,
+        since: Option<i32>,
+        before: Option<i32>,
+        deleted: bool,
+        sub: bool,
+    },
     /// EXPUNGE: to remove the files of a directory that are marked as deleted; of the connected one where none is said.
-    Expunge { directory: Option<Name> },
+    Expunge {
+        directory: Option<Name>,
+    },
     /// INFORMATION: to tell about the topic with this code.
-    Information { what: u16 },
+    Information {
+        what: u16,
+    },
     /// LOGOUT, or KJOB: to end the run.
     Logout,
+    /// PRINT: to queue files for printing: so many copies, on the form with this number, not before a day, as a job of
+    /// this name, or of each file's own, and with this note.
+    Print {
+        files: Place,
+        copies: u64,
+        form: u8,
+        after: Option<i32>,
+        job: Option<Name>,
+        note: Name,
+    },
     /// REMARK: nothing.
     Remark,
     /// RENAME: to give files other names.
-    Rename { from: Place, to: Place },
+    Rename {
+        from: Place,
+        to: Place,
+    },
     /// TYPE: to show what files hold.
-    TypeOut { files: Place },
+    TypeOut {
+        files: Place,
+    },
     /// UNDELETE: to take the mark of files away.
-    Undelete { files: Place },
+    Undelete {
+        files: Place,
+    },
 }

@@ -5,12 +5,15 @@
 mod acted;
 mod acts;
 mod command;
+mod commands;
 mod data;
+mod fields;
 pub mod laws;
 mod line;
 mod lines;
 mod names;
 mod pairs;
+mod pending;
 mod place;
 mod plans;
 mod replies;

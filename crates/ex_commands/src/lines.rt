@@ -1,14 +1,15 @@
 // Lines for each of some files are put.
 #![tactic(auto, using(cm_io::proofs::Texts::texts))]
 
-ghost use Rattle.std.specs.Prelude.{◌≡◌, ◌≤◌, length};
+ghost use Rattle.std.specs.Prelude.{◌≡◌, ◌≤◌, [], ◌∷◌, filter, length};
 ghost use Rattle.std.specs.List.{flat_map};
 ghost use Rattle.cm_io.specs.Writer.{Writes};
 ghost use Rattle.ex_generations.specs.declared.file.TheConstants.{FILE_LIMIT};
 ghost use Rattle.ex_store.specs.declared.limits.TheConstants.{MOMENT_LIMIT};
+ghost use Rattle.ex_store.specs.Lent.{row_of_view};
 ghost use Rattle.ex_store.specs.Plan.{IsSource, sources};
 ghost use Rattle.ex_commands.specs.Files.{IsNumber};
-ghost use Rattle.ex_commands.specs.Replies.{day_of, ends_line, heading, held_text, line_of, listed_line, listing, marked_line, measures_text, total_line};
+ghost use Rattle.ex_commands.specs.Replies.{day_number, day_of, ends_line, heading, held_text, is_within, line_of, listed_line, marked_line, measures_text, total_line};
 
 use crate::names::{full_of, put_directory, put_file, put_full};
 use crate::replies::put_done;
@@ -17,18 +18,25 @@ use cm_dates::day_text;
 use cm_io::{Sink, Writer};
 use cm_text::end_of_line;
 use ex_generations::File;
-use ex_store::{Place, Row, Store, page_count};
+use ex_store::{Place, RowView, Store, page_count};
 
 // The seconds of a day.
 pub(crate) const DAY_SECONDS: u64 = 86_400;
+
+/// The days that files are of: of the day `since` or later, and earlier than the day `before`, where they are said.
+#[derive(Clone, Copy)]
+pub struct Days {
+    pub since: Option<i32>,
+    pub before: Option<i32>,
+}
 
 /// What the line of a file tells.
 #[derive(Clone, Copy)]
 pub enum Lines {
     /// That it is marked, or no more.
     Marked,
-    /// How large it is, and of which day.
-    Listed,
+    /// How large it is, and of which day, where it is of these days.
+    Listed(Days),
     /// What it holds.
     Held,
 }
@@ -44,16 +52,43 @@ fn next_file(store: &Store, files: &Place, from: u32) -> Option<u32>
     store.select(files, files.flags.deleted, from)
 }
 
-/// How many files a place means.
+// The day of a moment.
+fn day_number(moment: u64) -> i32
+    requires { moment ≤ MOMENT_LIMIT }
+    ensures { result ≡ day_number moment }
+{
+    (moment / DAY_SECONDS) as i32
+}
+
+// Whether a file is of these days.
+fn is_within(days: Days, row: RowView<'_>) -> bool
+    requires { (row_of_view row).file.moment ≤ MOMENT_LIMIT }
+    ensures { result ≡ is_within days (row_of_view row.entry) }
+{
+    let day = day_number(row.file.moment);
+    days.since.map_or(true, |since| since <= day) && days.before.map_or(true, |before| day < before)
+}
+
+// One where a file is of these days, and else none.
+fn count_within(days: Days, row: RowView<'_>) -> u32
+    requires { (row_of_view row).file.moment ≤ MOMENT_LIMIT }
+    ensures count { result ≡ length (filter (is_within days) (row_of_view row.entry ∷ [])) }
+    ensures few { result ≤ 1 }
+{
+    if is_within(days, row) { 1 } else { 0 }
+}
+
+/// How many files of these days a place means.
 #[tactic(auto)]
-pub(crate) fn count_files(store: &Store, files: &Place) -> u32
+pub(crate) fn count_files(store: &Store, files: &Place, days: Days) -> u32
     requires { IsSource files.now store.now.state }
-    ensures { result ≡ length (sources files.now store.now.state) }
+    ensures { result ≡ length (filter (is_within days) (sources files.now store.now.state)) }
 {
     let mut count = 0;
     let mut from = 0;
     while let Some(at) = next_file(store, files, from) {
-        count += 1;
+        let row = store.row_in(files.directory.as_str(), at);
+        count += count_within(days, row);
         from = at + 1;
     }
     count
@@ -64,8 +99,7 @@ fn put_day<S: Sink>(moment: u64, out: &mut Writer<'_, S>)
     requires { moment ≤ MOMENT_LIMIT }
     ensures { Writes S.Sink out.old out.new (day_of moment) }
 {
-    let day = (moment / DAY_SECONDS) as i32;
-    out.put(day_text(day).as_str().as_bytes());
+    out.put(day_text(day_number(moment)).as_str().as_bytes());
 }
 
 // Puts how many pages and bytes a file has, and the day of its moment.
@@ -84,22 +118,22 @@ fn put_measures<S: Sink>(file: &File, out: &mut Writer<'_, S>)
 
 // Puts the line of a file in a listing.
 #[tactic(auto, using(cm_io::proofs::Texts::texts), unfolding(crate::specs::Replies::listed_line))]
-fn put_listed<S: Sink>(row: &Row, out: &mut Writer<'_, S>)
-    requires moment { row.now.file.moment ≤ MOMENT_LIMIT }
-    requires short { length row.now.file.bytes ≤ FILE_LIMIT }
-    ensures { Writes S.Sink out.old out.new (listed_line row.now) }
+fn put_listed<S: Sink>(row: RowView<'_>, out: &mut Writer<'_, S>)
+    requires moment { (row_of_view row).file.moment ≤ MOMENT_LIMIT }
+    requires short { length (row_of_view row).file.bytes ≤ FILE_LIMIT }
+    ensures { Writes S.Sink out.old out.new (listed_line (row_of_view row.entry)) }
 {
     out.put(space());
     put_file(full_of(row), out);
     out.put(space());
-    put_measures(&row.file, out);
+    put_measures(row.file, out);
     out.put(end_of_line());
 }
 
 // Puts the line of a file that is marked, or no more.
 #[tactic(auto, using(cm_io::proofs::Texts::texts), unfolding(crate::specs::Replies::marked_line))]
-fn put_marked<S: Sink>(row: &Row, out: &mut Writer<'_, S>)
-    ensures { Writes S.Sink out.old out.new (marked_line row.now) }
+fn put_marked<S: Sink>(row: RowView<'_>, out: &mut Writer<'_, S>)
+    ensures { Writes S.Sink out.old out.new (marked_line (row_of_view row.entry)) }
 {
     out.put(space());
     put_full(full_of(row), out);
@@ -118,23 +152,35 @@ fn ends_line(bytes: &[u8]) -> bool
 
 // Puts what a file holds, and the end of its last line where that is begun.
 #[tactic(auto, using(cm_io::proofs::Texts::texts), unfolding(crate::specs::Replies::held_text))]
-fn put_held<S: Sink>(row: &Row, out: &mut Writer<'_, S>)
-    ensures { Writes S.Sink out.old out.new (held_text row.now) }
+fn put_held<S: Sink>(row: RowView<'_>, out: &mut Writer<'_, S>)
+    ensures { Writes S.Sink out.old out.new (held_text (row_of_view row.entry)) }
 {
     let bytes = row.file.bytes.as_slice();
     out.put(bytes);
     out.put(if ends_line(bytes) { b"" } else { end_of_line() });
 }
 
+// Puts the line of a file in a listing, where it is of these days.
+#[tactic(auto, using(cm_io::proofs::Texts::each))]
+fn put_listed_within<S: Sink>(days: Days, row: RowView<'_>, out: &mut Writer<'_, S>)
+    requires moment { (row_of_view row).file.moment ≤ MOMENT_LIMIT }
+    requires short { length (row_of_view row).file.bytes ≤ FILE_LIMIT }
+    ensures { Writes S.Sink out.old out.new (line_of (Lines.Listed days) (row_of_view row.entry)) }
+{
+    if is_within(days, row) {
+        put_listed(row, out);
+    }
+}
+
 // Puts what is to be put for a file.
-fn put_row<S: Sink>(lines: Lines, row: &Row, out: &mut Writer<'_, S>)
-    requires moment { row.now.file.moment ≤ MOMENT_LIMIT }
-    requires short { length row.now.file.bytes ≤ FILE_LIMIT }
-    ensures { Writes S.Sink out.old out.new (line_of lines row.now) }
+fn put_row<S: Sink>(lines: Lines, row: RowView<'_>, out: &mut Writer<'_, S>)
+    requires moment { (row_of_view row).file.moment ≤ MOMENT_LIMIT }
+    requires short { length (row_of_view row).file.bytes ≤ FILE_LIMIT }
+    ensures { Writes S.Sink out.old out.new (line_of lines (row_of_view row.entry)) }
 {
     match lines {
         Lines::Marked => put_marked(row, out),
-        Lines::Listed => put_listed(row, out),
+        Lines::Listed(days) => put_listed_within(days, row, out),
         Lines::Held => put_held(row, out),
     }
 }
@@ -158,9 +204,9 @@ pub(crate) fn put_lines<S: Sink>(
     }
 }
 
-// Puts the head of a listing.
+/// Puts the head of a listing.
 #[tactic(auto, using(cm_io::proofs::Texts::texts), unfolding(crate::specs::Replies::heading))]
-fn put_heading<S: Sink>(directory: &str, out: &mut Writer<'_, S>)
+pub(crate) fn put_heading<S: Sink>(directory: &str, out: &mut Writer<'_, S>)
     ensures { Writes S.Sink out.old out.new (heading directory.now) }
 {
     out.put(structure());
@@ -168,30 +214,13 @@ fn put_heading<S: Sink>(directory: &str, out: &mut Writer<'_, S>)
     out.put(end_of_line());
 }
 
-// Puts how many files stand in a listing.
+/// Puts how many files stand in a listing.
 #[tactic(auto, using(cm_io::proofs::Texts::texts), unfolding(crate::specs::Replies::total_line))]
-fn put_total<S: Sink>(count: u32, out: &mut Writer<'_, S>)
+pub(crate) fn put_total<S: Sink>(count: u32, out: &mut Writer<'_, S>)
     ensures { Writes S.Sink out.old out.new (total_line count) }
 {
     out.put(total_of());
     out.put_decimal(u64::from(count));
     out.put(files_counted());
     out.put(end_of_line());
-}
-
-/// Puts the listing of the files that a place means, of which there are so many.
-#[tactic(auto, using(cm_io::proofs::Texts::texts), unfolding(crate::specs::Replies::listing))]
-pub(crate) fn put_listing<S: Sink>(
-    store: &Store,
-    files: &Place,
-    count: u32,
-    out: &mut Writer<'_, S>,
-)
-    requires there { IsSource files.now store.now.state }
-    requires count { count ≡ length (sources files.now store.now.state) }
-    ensures { Writes S.Sink out.old out.new (listing files.now.directory (sources files.now store.now.state)) }
-{
-    put_heading(files.directory.as_str(), out);
-    put_lines(store, files, Lines::Listed, out);
-    put_total(count, out);
 }

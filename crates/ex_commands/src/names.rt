@@ -3,22 +3,22 @@
 
 ghost use Rattle.std.specs.Prelude.{◌≡◌};
 ghost use Rattle.cm_io.specs.Writer.{Writes};
-ghost use Rattle.ex_store.specs.Lent.{full_name};
+ghost use Rattle.ex_store.specs.Lent.{full_name, row_of_view};
 ghost use Rattle.ex_store.specs.Rows.{full_of};
 ghost use Rattle.ex_commands.specs.Replies.{directory_text, file_text, full_text};
 
 use crate::texts::{dot, left_angle, right_angle};
 use cm_io::{Sink, Writer};
-use ex_store::{Full, Row};
+use ex_store::{Full, RowView};
 
 /// The full name of a file that a store has.
-pub(crate) fn full_of(row: &Row) -> Full<'_>
-    ensures { full_name result ≡ full_of row.now }
+pub(crate) fn full_of(row: RowView<'_>) -> Full<'_>
+    ensures { full_name result ≡ full_of (row_of_view row.entry) }
 {
     Full {
-        directory: row.key.directory.as_str(),
-        name: row.key.name.as_str(),
-        kind: row.key.kind.as_str(),
+        directory: row.directory.as_str(),
+        name: row.name.as_str(),
+        kind: row.kind.as_str(),
         generation: row.file.generation,
     }
 }

@@ -4,12 +4,13 @@
 ghost use Rattle.std.specs.List.{flat_map};
 ghost use Rattle.cm_io.specs.Writer.{Writes};
 ghost use Rattle.ex_store.specs.Lent.{full_name, name_pair};
-ghost use Rattle.ex_commands.specs.Replies.{origin_line, pair_line, typed_line};
+ghost use Rattle.ex_commands.specs.Replies.{origin_line, pair_line, queued_line, typed_line};
 
 use crate::names::put_full;
 use crate::replies::put_done;
-use crate::texts::{arrow, from_terminal, space};
+use crate::texts::{arrow, from_terminal, queued, space};
 use cm_io::{Sink, Writer};
+use cm_text::end_of_line;
 use ex_store::{Full, Pair, Ready};
 
 /// Where what a plan makes comes from.
@@ -19,6 +20,8 @@ pub enum Origin {
     Files,
     /// From the terminal.
     Terminal,
+    /// From files, into the print queue.
+    Queue,
 }
 
 // Puts the line of a pair of files, from one to the other.
@@ -43,6 +46,16 @@ fn put_from_terminal<S: Sink>(pair: Pair<'_>, out: &mut Writer<'_, S>)
     put_done(out);
 }
 
+// Puts the line of a file that is queued.
+#[tactic(auto, using(cm_io::proofs::Texts::texts), unfolding(crate::specs::Replies::queued_line))]
+fn put_queued<S: Sink>(pair: Pair<'_>, out: &mut Writer<'_, S>)
+    ensures { Writes S.Sink out.old out.new (queued_line (name_pair pair.entry)) }
+{
+    out.put(queued());
+    put_full(pair.source, out);
+    out.put(end_of_line());
+}
+
 // Puts the line of a pair of files.
 fn put_pair<S: Sink>(origin: Origin, pair: Pair<'_>, out: &mut Writer<'_, S>)
     ensures { Writes S.Sink out.old out.new (origin_line origin (name_pair pair.entry)) }
@@ -50,6 +63,7 @@ fn put_pair<S: Sink>(origin: Origin, pair: Pair<'_>, out: &mut Writer<'_, S>)
     match origin {
         Origin::Files => put_from_file(pair, out),
         Origin::Terminal => put_from_terminal(pair, out),
+        Origin::Queue => put_queued(pair, out),
     }
 }
 

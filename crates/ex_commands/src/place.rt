@@ -5,7 +5,7 @@ ghost use Rattle.std.specs.Str.{IsAscii};
 ghost use Rattle.cm_text.specs.declared.name.TheConstants.{NAME_LIMIT};
 ghost use Rattle.cm_files.specs.Spec.{part};
 ghost use Rattle.cm_state.specs.SessionState.{text_of};
-ghost use Rattle.ex_commands.specs.Command.{block_of, default_of, directory_by, directory_name, flags_of, node_of, place_by, said_of, upper};
+ghost use Rattle.ex_commands.specs.Line.{block_of, default_of, directory_by, directory_name, flags_of, node_of, place_by, said_of, upper};
 ghost use Rattle.ex_commands.specs.Said.{IsSaid, IsShort};
 
 use cm_blocks::{Block, Field, Grammar, Node};
@@ -78,8 +78,8 @@ pub(crate) fn said_in<'a>(
     }
 }
 
-// A part of a text.
-fn part(text: &[u8], place: Span) -> &[u8]
+/// A part of a text.
+pub(crate) fn part(text: &[u8], place: Span) -> &[u8]
     requires { IsAscii text.now }
     ensures value { result.now ≡ part text.now place }
     ensures ascii { IsAscii result.now }
@@ -114,8 +114,8 @@ fn upper_or_none(text: &[u8], place: Option<Span>) -> Option<Name>
     }
 }
 
-// The name of the directory with this number.
-fn directory_name<N: Names>(names: &N, number: u16) -> Name
+/// The name of the directory with this number.
+pub(crate) fn directory_name<N: Names>(names: &N, number: u16) -> Name
     ensures { result ≡ directory_name (N.catalogue names.now) number }
 {
     if number < names.directories() {

@@ -1,10 +1,9 @@
-// Plans are done, with a line for each pair of files.
-ghost use Rattle.std.specs.Prelude.{◌≡◌, ◌≤◌, true};
-ghost use Rattle.cm_files.specs.Catalogue.{is_directory_name};
-ghost use Rattle.ex_store.specs.Plan.{IsOneFile, IsSource, IsTarget, MayPlan, planned};
-ghost use Rattle.ex_commands.specs.declared.command.Command.TheVariants as commands;
-ghost use Rattle.ex_commands.specs.Act.{act_of, plays, writes};
+// Plans are done, with a line for each pair of files, and what was typed in is written.
+ghost use Rattle.std.specs.Prelude.{◌≤◌, true};
+ghost use Rattle.ex_store.specs.Plan.{IsTarget, MayPlan, planned};
 ghost use Rattle.ex_commands.specs.Answer.{ActCause, Answers};
+ghost use Rattle.ex_commands.specs.Commands.Copy.{writes};
+ghost use Rattle.ex_commands.specs.Effect.{plays};
 ghost use Rattle.ex_commands.specs.Outcome.{Outcome};
 
 use crate::acted::answer_by;
@@ -12,13 +11,12 @@ use crate::acts::refuse;
 use crate::pairs::{Origin, put_pairs};
 use crate::{Acted, Data};
 use cm_io::{Sink, Writer};
-use cm_text::Name;
 use ex_generations::Bytes;
 use ex_store::{Place, Plan, Refusal, Store};
 
-// Does all of a plan, or nothing where it is refused. Its lines are put before it is done, and then it is done
-// whether or not the sink took them.
-fn play<S: Sink>(
+/// Does all of a plan, or nothing where it is refused. Its lines are put before it is done, and then it is done
+/// whether or not the sink took them.
+pub(crate) fn play<S: Sink>(
     store: &mut Store,
     plan: Plan,
     origin: Origin,
@@ -41,91 +39,8 @@ fn play<S: Sink>(
     }
 }
 
-/// Makes a directory.
-#[tactic(auto, unfolding(crate::specs::Act::act_of))]
-pub(crate) fn build<S: Sink>(
-    store: &mut Store,
-    directory: &Name,
-    moment: u64,
-    out: &mut Writer<'_, S>,
-) -> Acted
-    requires { is_directory_name directory.now ≡ true }
-    ensures { Outcome S.Sink out.old out.new
-        (act_of (commands.Build directory.now) moment store.old.state) true store.old.state store.new.state result }
-{
-    let directory = Name::new(directory.as_str());
-    let plan = Plan::Build {
-        directory,
-        keep: None,
-    };
-    play(store, plan, Origin::Files, moment, out)
-}
-
-/// Copies files.
-#[tactic(auto, unfolding(crate::specs::Act::act_of))]
-pub(crate) fn copy<S: Sink>(
-    store: &mut Store,
-    from: &Place,
-    to: &Place,
-    moment: u64,
-    out: &mut Writer<'_, S>,
-) -> Acted
-    requires from { IsSource from.now store.old.state }
-    requires to { IsTarget to.now store.old.state.directories }
-    ensures { Outcome S.Sink out.old out.new
-        (act_of (commands.Copy from.now to.now) moment store.old.state) true store.old.state store.new.state result }
-{
-    let plan = Plan::Copy {
-        from: from.copy(),
-        to: to.copy(),
-    };
-    play(store, plan, Origin::Files, moment, out)
-}
-
-/// Gives files other names.
-#[tactic(auto, unfolding(crate::specs::Act::act_of))]
-pub(crate) fn rename<S: Sink>(
-    store: &mut Store,
-    from: &Place,
-    to: &Place,
-    moment: u64,
-    out: &mut Writer<'_, S>,
-) -> Acted
-    requires from { IsSource from.now store.old.state }
-    requires to { IsTarget to.now store.old.state.directories }
-    ensures { Outcome S.Sink out.old out.new
-        (act_of (commands.Rename from.now to.now) moment store.old.state) true store.old.state store.new.state result }
-{
-    let plan = Plan::Rename {
-        from: from.copy(),
-        to: to.copy(),
-    };
-    play(store, plan, Origin::Files, moment, out)
-}
-
-/// Puts the bytes of files behind those of one file.
-#[tactic(auto, unfolding(crate::specs::Act::act_of))]
-pub(crate) fn append<S: Sink>(
-    store: &mut Store,
-    from: &Place,
-    to: &Place,
-    moment: u64,
-    out: &mut Writer<'_, S>,
-) -> Acted
-    requires from { IsSource from.now store.old.state }
-    requires to { IsOneFile to.now store.old.state.directories }
-    ensures { Outcome S.Sink out.old out.new
-        (act_of (commands.Append from.now to.now) moment store.old.state) true store.old.state store.new.state result }
-{
-    let plan = Plan::Append {
-        from: from.copy(),
-        to: to.copy(),
-    };
-    play(store, plan, Origin::Files, moment, out)
-}
-
 // Writes what was typed in as a file.
-#[tactic(auto, unfolding(crate::specs::Act::writes))]
+#[tactic(auto, unfolding(crate::specs::Commands::Copy::writes))]
 fn write<S: Sink>(
     store: &mut Store,
     to: &Place,

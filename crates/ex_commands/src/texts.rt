@@ -1,6 +1,6 @@
 // The fixed texts of what commands show.
 ghost use Rattle.std.specs.Prelude.{◌≡◌};
-ghost use Rattle.ex_commands.specs.Texts.{arrow, done_mark, dot, farewell, files_counted, from_terminal, left_angle, pages_freed, right_angle, right_bracket, space, structure, total_of, version};
+ghost use Rattle.ex_commands.specs.Texts.{after_mark, arrow, copies_mark, done_mark, dot, farewell, files_counted, forms_mark, from_terminal, job_mark, kept, left_angle, note_mark, of_structure, pages_freed, pages_had, queued, quote, right_angle, right_bracket, space, stands_for, structure, total_of, version};
 
 /// Between two parts of a line.
 #[tactic(auto, unfolding(crate::specs::Texts::space))]
@@ -112,4 +112,92 @@ pub(crate) fn farewell() -> &'static [u8]
     ensures { result.now ≡ farewell }
 {
     b"Logged out"
+}
+
+/// Before a file that is queued.
+#[tactic(auto, unfolding(crate::specs::Texts::queued))]
+pub(crate) fn queued() -> &'static [u8]
+    ensures { result.now ≡ queued }
+{
+    b" Queued "
+}
+
+/// Before the directory that INFORMATION tells about.
+#[tactic(auto, unfolding(crate::specs::Texts::of_structure))]
+pub(crate) fn of_structure() -> &'static [u8]
+    ensures { result.now ≡ of_structure }
+{
+    b" PS:"
+}
+
+/// Before its count of generations.
+#[tactic(auto, unfolding(crate::specs::Texts::kept))]
+pub(crate) fn kept() -> &'static [u8]
+    ensures { result.now ≡ kept }
+{
+    b" Generations to keep: "
+}
+
+/// Before its pages.
+#[tactic(auto, unfolding(crate::specs::Texts::pages_had))]
+pub(crate) fn pages_had() -> &'static [u8]
+    ensures { result.now ≡ pages_had }
+{
+    b" Pages: "
+}
+
+/// Between a logical name and its directory.
+#[tactic(auto, unfolding(crate::specs::Texts::stands_for))]
+pub(crate) fn stands_for() -> &'static [u8]
+    ensures { result.now ≡ stands_for }
+{
+    b": => PS:"
+}
+
+/// Before the copies of an entry of the print queue.
+#[tactic(auto, unfolding(crate::specs::Texts::copies_mark))]
+pub(crate) fn copies_mark() -> &'static [u8]
+    ensures { result.now ≡ copies_mark }
+{
+    b" /COPIES:"
+}
+
+/// Before its form.
+#[tactic(auto, unfolding(crate::specs::Texts::forms_mark))]
+pub(crate) fn forms_mark() -> &'static [u8]
+    ensures { result.now ≡ forms_mark }
+{
+    b" /FORMS:"
+}
+
+/// Before its job.
+#[tactic(auto, unfolding(crate::specs::Texts::job_mark))]
+pub(crate) fn job_mark() -> &'static [u8]
+    ensures { result.now ≡ job_mark }
+{
+    b" /JOBNAME:"
+}
+
+/// Before its day.
+#[tactic(auto, unfolding(crate::specs::Texts::after_mark))]
+pub(crate) fn after_mark() -> &'static [u8]
+    ensures { result.now ≡ after_mark }
+{
+    b" /AFTER:"
+}
+
+/// Before its note.
+#[tactic(auto, unfolding(crate::specs::Texts::note_mark))]
+pub(crate) fn note_mark() -> &'static [u8]
+    ensures { result.now ≡ note_mark }
+{
+    b" /NOTE:\""
+}
+
+/// Behind its note.
+#[tactic(auto, unfolding(crate::specs::Texts::quote))]
+pub(crate) fn quote() -> &'static [u8]
+    ensures { result.now ≡ quote }
+{
+    b"\""
 }

@@ -191,6 +191,105 @@ fn pages_and_days_are_listed(rt: HostRuntime) {
     );
 }
 
+// Days: 0 is 1-JAN-1970. A file is of the day of its moment, up to the last second of it.
+#[test]
+fn files_of_some_days_are_listed(rt: HostRuntime) {
+    run(
+        &rt,
+        "86399:WRITE A.TXT
+        86400:WRITE B.TXT
+        172799:WRITE C.TXT
+        172800:WRITE D.TXT
+        DIRECTORY *.* SINCE=1 BEFORE=2|Ok|   PS:<OPERATOR>^M^J B.TXT.1 0 0 2-JAN-1970^M^J C.TXT.1 0 0 2-JAN-1970^M^J Total of 2 files^M^J
+        DIRECTORY *.* SINCE=2|Ok|   PS:<OPERATOR>^M^J D.TXT.1 0 0 3-JAN-1970^M^J Total of 1 files^M^J
+        DIRECTORY *.* BEFORE=1|Ok|   PS:<OPERATOR>^M^J A.TXT.1 0 0 1-JAN-1970^M^J Total of 1 files^M^J
+        DIRECTORY *.* SINCE=3|Refused(NoMatch)|?No files match^M^J
+        DIRECTORY *.* BEFORE=0|Refused(NoMatch)|?No files match^M^J
+        DIRECTORY *.* SINCE=1 BEFORE=1|Refused(NoMatch)|?No files match^M^J",
+    );
+}
+
+#[test]
+fn marked_files_are_listed(rt: HostRuntime) {
+    run(
+        &rt,
+        "WRITE A.TXT
+        WRITE B.TXT
+        DIRECTORY *.* DELETED|Refused(NoMatch)|?No files match^M^J
+        DELETE A.TXT|Ok| <OPERATOR>A.TXT.1 [OK]^M^J
+        DIRECTORY *.* DELETED|Ok|   PS:<OPERATOR>^M^J A.TXT.1 0 0 1-JAN-1970^M^J Total of 1 files^M^J
+        DIRECTORY *.* DELETED SINCE=1|Refused(NoMatch)|?No files match^M^J",
+    );
+}
+
+#[test]
+fn what_waits_changes_nothing(rt: HostRuntime) {
+    run(
+        &rt,
+        "WRITE A.TXT
+        DIRECTORY *.* ,|Pending
+        DIRECTORY X.* ,|Pending
+        BUILD SMITH ,|Pending
+        CONNECTED|OPERATOR 1",
+    );
+}
+
+#[test]
+fn a_directory_keeps_generations(rt: HostRuntime) {
+    run(
+        &rt,
+        "BUILD SMITH 2|Ok
+        CONNECT SMITH|Ok
+        WRITE <SMITH>A.TXT HI
+        WRITE <SMITH>A.TXT HI
+        WRITE <SMITH>A.TXT HI
+        FILES|<SMITH>A.TXT.1-<SMITH>A.TXT.2<SMITH>A.TXT.3
+        INFORMATION 1|Ok| PS:<SMITH>^M^J Generations to keep: 2^M^J Pages: 3^M^J
+        BUILD SMITH 1|Ok
+        FILES|<SMITH>A.TXT.1-<SMITH>A.TXT.2<SMITH>A.TXT.3
+        BUILD SMITH 0|Ok
+        INFORMATION 1|Ok| PS:<SMITH>^M^J Generations to keep: 0^M^J Pages: 3^M^J
+        CONNECT OPERATOR|Ok
+        INFORMATION 1|Ok| PS:<OPERATOR>^M^J Generations to keep: 1^M^J Pages: 0^M^J",
+    );
+}
+
+#[test]
+fn logical_names_stand_for_directories(rt: HostRuntime) {
+    run(
+        &rt,
+        "BUILD SMITH|Ok
+        DEFINE SYS SMITH|Ok
+        DEFINE A OPERATOR|Ok
+        INFORMATION 2|Ok| A: => PS:<OPERATOR>^M^J SYS: => PS:<SMITH>^M^J
+        DEFINE SYS OPERATOR|Ok
+        INFORMATION 2|Ok| A: => PS:<OPERATOR>^M^J SYS: => PS:<OPERATOR>^M^J
+        DEFINE A|Ok
+        DEFINE A|Refused(NoDefinition)|?Logical name is not defined^M^J
+        INFORMATION 2|Ok| SYS: => PS:<OPERATOR>^M^J",
+    );
+}
+
+#[test]
+fn files_are_queued(rt: HostRuntime) {
+    run(
+        &rt,
+        "WRITE A.
+        WRITE B.TXT
+        PRINT *.* 0 1|Refused(CopyRange)|?Copies must be 1 to 63^M^J
+        PRINT *.* 64 1|Refused(CopyRange)|?Copies must be 1 to 63^M^J
+        PRINT *.* 34359738367 1|Refused(CopyRange)|?Copies must be 1 to 63^M^J
+        INFORMATION 3|Ok
+        PRINT *.* 1 1|Ok| Queued <OPERATOR>A..1^M^J Queued <OPERATOR>B.TXT.1^M^J
+        PRINT B.TXT 63 2 say \"hi\"|Ok| Queued <OPERATOR>B.TXT.1^M^J
+        PRINT A. 2 0 AFTER=4 x|Ok| Queued <OPERATOR>A..1^M^J
+        INFORMATION 3|Ok| <OPERATOR>A..1 /COPIES:1 /FORMS:NORMAL /JOBNAME:A^M^J \
+<OPERATOR>B.TXT.1 /COPIES:1 /FORMS:NORMAL /JOBNAME:B^M^J \
+<OPERATOR>B.TXT.1 /COPIES:63 /FORMS:WIDE /JOBNAME:B /NOTE:\"say \"\"hi\"\"\"^M^J \
+<OPERATOR>A..1 /COPIES:2 /FORMS:NARROW /JOBNAME:A /AFTER:5-JAN-1970 /NOTE:\"AFTER=4 x\"^M^J",
+    );
+}
+
 #[test]
 fn a_marked_file_is_not_listed(rt: HostRuntime) {
     run(
@@ -236,6 +335,8 @@ fn what_changes_nothing(rt: HostRuntime) {
         "WRITE A.TXT.1 text
         EMPTY|Ok
         REMARK|Ok
+        INFORMATION 2|Ok
+        INFORMATION 3|Ok
         INFORMATION 4|Ok| EXEC20 1^M^J
         INFORMATION 5|Ok
         INFORMATION 0|Ok

@@ -10,8 +10,13 @@ use std::test::Fail;
 fn put_function(text: &mut String, function: &Function) -> Result<(), AllocError> {
     match function {
         Function::Key(table) => write!(text, "Key({table})"),
+        Function::Switch(table) => write!(text, "Switch({table})"),
         Function::Noise(word) => write!(text, "Noise({})", word.as_str()),
         Function::Token(sign) => write!(text, "Token({})", sign.as_str()),
+        Function::Number => text.push_str("Number"),
+        Function::Word => text.push_str("Word"),
+        Function::Quoted => text.push_str("Quoted"),
+        Function::Date => text.push_str("Date"),
         Function::User => text.push_str("User"),
         Function::Directory => text.push_str("Directory"),
         Function::InFile => text.push_str("InFile"),
@@ -19,8 +24,8 @@ fn put_function(text: &mut String, function: &Function) -> Result<(), AllocError
         Function::AnyFile => text.push_str("AnyFile"),
         Function::Text => text.push_str("Text"),
         Function::Confirm => text.push_str("Confirm"),
+        Function::Comma => text.push_str("Comma"),
         Function::Hook(id) => write!(text, "Hook({id})"),
-        _ => text.push_str("another"),
     }
 }
 
@@ -54,11 +59,11 @@ fn nodes(alloc: Global, grammar: &Grammar) -> Result<String, AllocError> {
     Ok(text)
 }
 
-// The nodes of commands that are not built yet take the end of the line alone.
+// The nodes of TAKE, which is not built yet, take the end of the line alone.
 #[test]
 fn each_node_has_its_blocks(rt: HostRuntime) -> Result<(), Fail> {
     let grammar = grammar(rt.alloc())?;
-    assert_eq!(rt; grammar.hooks(), 1);
+    assert_eq!(rt; grammar.hooks(), 3);
     assert_eq!(rt;
         nodes(rt.alloc(), &grammar)?.as_str(),
         "
@@ -86,33 +91,33 @@ fn each_node_has_its_blocks(rt: HostRuntime) -> Result<(), Fail> {
 21 Confirm None 5;
 22 Confirm None 5;
 23 Noise(OF FILES) None 24;
-24 AnyFile wae Files 25; default *.*.*
-25 Confirm None 5;
+24 Comma Sub 5; AnyFile wae Files 25; default *.*.*
+25 Comma Sub 5; Confirm None 5;
 26 Noise(ABOUT) None 27;
 27 Key(1) What 5;
 28 Noise(LOGICAL NAME) None 29;
 29 Hook(0) Value 30;
 30 Token(:) None 31;
 31 Noise(AS) None 32;
-32 Confirm None 5;
+32 Confirm None 5; Directory Files 5;
 33 Noise(DIRECTORY) None 34;
 34 Directory n Files 25;
 35 Noise(DELETED FILES) None 36;
 36 Confirm None 5; Directory Files 5;
-37 Confirm None 5;
-38 Confirm None 5;
-39 Confirm None 5;
-40 Confirm None 5;
-41 Confirm None 5;
-42 Confirm None 5;
-43 Confirm None 5;
-44 Confirm None 5;
+37 Noise(FILES) None 38;
+38 InFile w Files 39;
+39 Switch(4) Value 5; Confirm None 5;
+40 Date Value 39;
+41 Number Value 39;
+42 Hook(1) Value 39;
+43 Word Value 39;
+44 Quoted Value 39;
 45 Text None 5; raw
-46 Confirm None 5;
-47 Confirm None 5;
-48 Confirm None 5;
-49 Confirm None 5;
-50 Confirm None 5;"
+46 Confirm None 5; Key(2) Verb 5;
+47 Date Value 5;
+48 Confirm None 5; Key(3) Verb 5;
+49 Noise(TO KEEP) None 50;
+50 Hook(2) Value 5;"
     );
     Ok(())
 }
@@ -151,15 +156,47 @@ KJOB Invisible 10 5
 L NoRecognise 0 5
 LO NoRecognise 0 5
 LOGOUT Plain 10 5
+PRINT Plain 11 37
 REMARK Plain 12 45
 RENAME Plain 13 10
-T Short(16) 0 5
+T Short(17) 0 5
 TYPE Plain 15 19
 UNDELETE Plain 16 15"
     );
+    Ok(())
+}
+
+#[test]
+#[tactic(auto, unfolding(ex_grammar::specs::Graph::exec_graph, ex_grammar::specs::Tables::exec_tables))]
+fn each_part_has_its_code(rt: HostRuntime) -> Result<(), Fail> {
+    let grammar = grammar(rt.alloc())?;
     assert_eq!(rt;
         entries(rt.alloc(), grammar.table(1))?.as_str(),
-        "\nVERSION Plain 4 5"
+        "
+DIRECTORY Plain 1 5
+LOGICAL-NAMES Plain 2 5
+OUTPUT-REQUESTS Plain 3 5
+VERSION Plain 4 5"
+    );
+    assert_eq!(rt;
+        entries(rt.alloc(), grammar.table(2))?.as_str(),
+        "
+BEFORE Plain 1 47
+DELETED Plain 2 5
+SINCE Plain 3 47"
+    );
+    assert_eq!(rt;
+        entries(rt.alloc(), grammar.table(3))?.as_str(),
+        "\nGENERATIONS Plain 1 49"
+    );
+    assert_eq!(rt;
+        entries(rt.alloc(), grammar.table(4))?.as_str(),
+        "
+AFTER: Plain 1 40
+COPIES: Plain 2 41
+FORMS: Plain 3 42
+JOBNAME: Plain 4 43
+NOTE: Plain 5 44"
     );
     Ok(())
 }

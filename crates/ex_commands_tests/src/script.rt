@@ -8,7 +8,7 @@ use cm_io::MemSink;
 use cm_text::{NAME_LIMIT, Name};
 use ex_commands::{Acted, Command, Data, act, write_data};
 use ex_generations::Bytes;
-use ex_store::{Place, Plan, Row, Store};
+use ex_store::{Parts, Place, Plan, RETENTION_LIMIT, RowView, Store};
 use std::alloc::{AllocError, Global};
 use std::process::Abort;
 
@@ -73,7 +73,28 @@ fn name_or_none(text: &str) -> Option<Name> {
     }
 }
 
-// A command: its verb, and the files or the name that it is for.
+// The day behind a sign, as a number, where it stands in the text.
+fn day(text: &str, sign: &str) -> Option<i32> {
+    let (_, rest) = text.split_once(sign)?;
+    word(rest).0.parse().ok()
+}
+
+// PRINT of files, behind which stand the copies, the form and the note, each behind a space.
+fn print(files: &str, text: &str) -> Command {
+    let (copies, text) = word(text);
+    let (form, note) = word(text);
+    Command::Print {
+        files: place(files),
+        copies: number(copies),
+        form: u8::try_from(number(form)).unwrap_or(0),
+        after: day(text, "AFTER="),
+        job: None,
+        note: name(note),
+    }
+}
+
+// A command: its verb, and the files or the name that it is for. Behind the files of DIRECTORY stand the days, as
+// SINCE=1 BEFORE=2, and DELETED and a comma.
 fn command(text: &str) -> Command {
     let (verb, rest) = word(text);
     let (first, second) = word(rest);
@@ -90,12 +111,19 @@ fn command(text: &str) -> Command {
             to: place(second),
         },
         "COPYTTY" => Command::CopyTty { to: place(first) },
-        "DEFINE" => Command::Define { name: name(first) },
+        "DEFINE" => Command::Define {
+            name: name(first),
+            directory: name_or_none(second),
+        },
         "DELETE" => Command::Delete {
             files: place(first),
         },
         "DIRECTORY" => Command::Directory {
             files: place(first),
+            since: day(second, "SINCE="),
+            before: day(second, "BEFORE="),
+            deleted: second.contains("DELETED"),
+            sub: second.contains(','),
         },
         "EXPUNGE" => Command::Expunge {
             directory: name_or_none(first),
@@ -104,6 +132,7 @@ fn command(text: &str) -> Command {
             what: u16::try_from(number(first)).unwrap_or(0),
         },
         "LOGOUT" => Command::Logout,
+        "PRINT" => print(first, second),
         "REMARK" => Command::Remark,
         "RENAME" => Command::Rename {
             from: place(first),
@@ -142,11 +171,19 @@ fn does(
     is_answered(rt, answer, &sink, wanted);
 }
 
-// BUILD SMITH.
+// BUILD SMITH, behind which stand how many generations are kept, and a comma.
 #[tactic(auto, unfolding(cm_text::specs::Bytes::is_name, cm_text::specs::Bytes::is_word))]
-fn build(rt: &(impl Abort + AllocGlobal), store: &mut Store, wanted: &str) {
+fn build(rt: &(impl Abort + AllocGlobal), store: &mut Store, text: &str, wanted: &str) {
+    let (_, text) = word(text);
+    let retention = text.parse::<u8>().ok();
+    assert!(rt;
+        retention.is_none_or(|count| count <= RETENTION_LIMIT),
+        "too many generations"
+    );
     let command = Command::Build {
         directory: Name::new("SMITH"),
+        retention,
+        sub: text.contains(','),
     };
     let mut sink = MemSink::new(rt.alloc(), 1_000).expect(rt, "memory");
     let answer = act(store, &command, 0, &mut sink);
@@ -194,46 +231,44 @@ fn write(rt: &(impl Abort + AllocGlobal), store: &mut Store, text: &str, moment:
 }
 
 // A file's name, with a minus where it is marked as deleted.
-fn put_row(list: &mut String, row: &Row) -> Result<(), AllocError> {
-    let directory = row.key.directory.as_str();
-    let name = row.key.name.as_str();
-    let kind = row.key.kind.as_str();
+fn put_row(list: &mut String, row: RowView<'_>) -> Result<(), AllocError> {
+    let directory = row.directory.as_str();
+    let name = row.name.as_str();
+    let kind = row.kind.as_str();
     let generation = row.file.generation;
     let mark = if row.file.deleted { "-" } else { "" };
     write!(list, "<{directory}>{name}.{kind}.{generation}{mark}")
 }
 
-fn names(alloc: Global, rows: &[Row]) -> Result<String, AllocError> {
+fn names(alloc: Global, parts: &Parts<'_>) -> Result<String, AllocError> {
     let mut list = String::new(alloc);
-    for row in rows {
-        put_row(&mut list, row)?;
+    for i in 0..parts.rows() {
+        put_row(&mut list, parts.row(i))?;
     }
     Ok(list)
 }
 
 // These are the files of a store.
 fn has_files(rt: &(impl Abort + AllocGlobal), store: &Store, wanted: &str) {
-    let found = names(rt.alloc(), store.parts().rows).expect(rt, "memory");
+    let found = names(rt.alloc(), &store.parts()).expect(rt, "memory");
     assert_eq!(rt; found.as_str(), wanted);
 }
 
 // The first file of a store: its moment and its bytes.
 fn holds(rt: &(impl Abort + AllocGlobal), store: &Store, wanted: &str) {
     let (moment, bytes) = word(wanted);
-    match store.parts().rows.first() {
-        Some(row) => {
-            assert_eq!(rt; row.file.moment, number(moment));
-            are_bytes(rt, row.file.bytes.as_slice(), bytes);
-        }
-        None => assert!(rt; false, "there is no file"),
-    }
+    let parts = store.parts();
+    assert!(rt; parts.rows() > 0, "there is no file");
+    let row = parts.row(0);
+    assert_eq!(rt; row.file.moment, number(moment));
+    are_bytes(rt, row.file.bytes.as_slice(), bytes);
 }
 
 // The connected directory, and how many directories there are.
 fn is_connected(rt: &(impl Abort + AllocGlobal), store: &Store, wanted: &str) {
     let parts = store.parts();
-    let connected = parts.connected.as_str();
-    let count = parts.directories.len();
+    let connected = parts.connected().as_str();
+    let count = parts.directories();
     let found = format!(in rt.alloc(); "{connected} {count}").expect(rt, "memory");
     assert_eq!(rt; found.as_str(), wanted);
 }
@@ -255,7 +290,7 @@ fn do_line(rt: &(impl Abort + AllocGlobal), store: &mut Store, line: &str) {
     let (verb, rest) = word(line);
     match verb {
         "WRITE" => write(rt, store, rest, moment),
-        "BUILD" => build(rt, store, wanted),
+        "BUILD" => build(rt, store, rest, wanted),
         "TYPE-IN" => type_in(rt, store, rest, moment, wanted),
         "FILES" => has_files(rt, store, wanted),
         "HOLDS" => holds(rt, store, wanted),

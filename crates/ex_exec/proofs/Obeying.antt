@@ -1,11 +1,11 @@
--- One act that is done, cut, or for which memory is wanting.
-use Rattle.std.proofs.Common.{◌≡◌, ℕ, Bool, true, List, [], ◌∷◌, ◌++◌, Option, Result, Ok, Err, refl, sym, ap, ◌∙◌, subst}
-use Rattle.std.proofs.lemmas.List.{append-nil}
-use Rattle.cm_io.specs.Told.{Told, add, AddsPart}
+-- What a command answers, as the engine is told it.
+use Rattle.std.proofs.Common.{◌≡◌, ℕ, Bool, true, List, [], ◌∷◌, Option, Result, Ok, Err, refl, sym, ap, ◌∙◌, subst}
+use Rattle.cm_io.specs.Told.{Told}
 use Rattle.cm_io.proofs.Adding.{add_none}
 use Rattle.cm_run.specs.Cause.{ObeyCause}
 use Rattle.cm_run.specs.Meaning.{Deed}
 use Rattle.cm_run.specs.Obey.{Obeys, stage}
+use Rattle.cm_run.proofs.Obeying.{obeys_cut, obeys_done, obeys_wanting}
 use Rattle.cm_run.specs.declared.stop.Stop.{Stop}
 use Rattle.cm_run.specs.declared.stop.Stop.TheVariants as stop
 use Rattle.ex_store.specs.State.{State}
@@ -16,45 +16,12 @@ use Rattle.ex_commands.specs.declared.acted.Acted.TheVariants as answers
 use Rattle.ex_exec.specs.Exec.{silent, written}
 use Rattle.ex_exec.specs.Outcome.{outcome_of}
 use Rattle.ex_exec.specs.ExecState.{ExecState}
+use Rattle.ex_exec.specs.declared.pending.Pending.{Pending}
 use Rattle.ex_exec.specs.declared.typing.Typing.{Typing}
-
-module _ (deed : Deed ExecState) (told now : Told) (before next : ExecState) where
-  -- its reply is put, and it leaves its state
-  pub obeys_done : now ≡ add told deed.reply → next ≡ deed.state → Obeys (stage told before) (stage now next) (deed ∷ []) (Ok tt)
-  unfolding Obeys
-  obeys_done put left =
-      ap (λ (it : Told). stage it next) (put ∙ ap (λ bytes. add told bytes) (sym (append-nil deed.reply)))
-      ∙ ap (λ (it : ExecState). stage (add told (deed.reply ++ [])) it) left
-
-  -- its reply is cut, and it leaves its state all the same
-  pub obeys_cut : AddsPart told now deed.reply → next ≡ deed.state
-      → Obeys (stage told before) (stage now next) (deed ∷ []) (Err stop.Screen)
-  unfolding Obeys
-  obeys_cut adds left = record {
-    at = record { done = []; deed = deed; rest = []; split = refl };
-    screen = subst (λ (it : Told). AddsPart it now deed.reply) (sym (add_none told)) adds;
-    state = left;
-  }
-
-  -- memory is wanting for it, and it is not done
-  pub obeys_wanting : deed.may_allocate ≡ true → now ≡ told → next ≡ before
-      → Obeys (stage told before) (stage now next) (deed ∷ []) (Err stop.Memory)
-  unfolding Obeys
-  obeys_wanting may_allocate put left = record {
-    at = record { done = []; deed = deed; rest = []; split = refl };
-    may_allocate = may_allocate;
-    stands = ap (λ (it : Told). stage it next) (put ∙ sym (add_none told)) ∙ ap (λ (it : ExecState). stage (add told []) it) left;
-  }
 
 -- a silent act alone
 pub obeys_silent : (told : Told) (before next : ExecState) → Obeys (stage told before) (stage told next) (silent next ∷ []) (Ok tt)
-unfolding Obeys
-obeys_silent told before next = ap (λ (it : Told). stage it next) (sym (add_none told))
-
--- no act
-pub obeys_nothing : (told : Told) (before : ExecState) → Obeys (stage told before) (stage told before) [] (Ok tt)
-unfolding Obeys
-obeys_nothing told before = ap (λ (it : Told). stage it before) (sym (add_none told))
+obeys_silent told before next = obeys_done (silent next) told told before next (sym (add_none told)) refl
 
 -- acts behind a silent one
 pub obeys_behind : (told now : Told) (before middle next : ExecState) (deeds : List (Deed ExecState)) (result : Result Unit Stop)
@@ -98,6 +65,7 @@ module _ (exec becoming next : ExecState) (allocates : Bool) (act : Act) (lacks 
       → Obeys (stage told exec) (stage now next) (deed ∷ []) (outcome_of answer)
   answer_obeys answers.Ok done = obeys_done deed told now exec next done.told (leaves_act done.state)
   answer_obeys (answers.Refused code) done = obeys_done deed told now exec next done.told (leaves_act done.state)
+  answer_obeys answers.Pending done = obeys_done deed told now exec next done.told (leaves_act done.state)
   answer_obeys answers.Data done = obeys_done deed told now exec next done.told (leaves_act done.state)
   answer_obeys answers.Logout done = obeys_done deed told now exec next done.told (leaves_act done.state)
   answer_obeys answers.Failed cut = obeys_cut deed told now exec next cut.told (leaves_act cut.state)
@@ -110,21 +78,22 @@ pub answer_cause : (f g : ℕ) (answer : Acted) → ActCause f g answer → Obey
 unfolding ObeyCause
 answer_cause f g answers.Ok cause = cause
 answer_cause f g (answers.Refused code) cause = cause
+answer_cause f g answers.Pending cause = cause
 answer_cause f g answers.Data cause = cause
 answer_cause f g answers.Logout cause = cause
 answer_cause f g answers.NoMemory cause = cause
 answer_cause f g answers.Failed cause = cause
 
 -- what was typed in is written
-pub write_obeys : (state : State) (held : Option Typing) (ended : Bool) (now : ExecState) (typing : Typing) (told then : Told) (left : State)
-    (answer : Acted) (result : Result Unit Stop) → record { state = state; typing = held; ended = ended } ≡ now → result ≡ outcome_of answer
+pub write_obeys : (state : State) (held : Option Typing) (ended : Bool) (waits : Option Pending) (now : ExecState) (typing : Typing) (told then : Told) (left : State)
+    (answer : Acted) (result : Result Unit Stop) → record { state = state; typing = held; ended = ended; pending = waits } ≡ now → result ≡ outcome_of answer
     → Answers told then (writes typing.to typing.typed typing.moment state) true state left answer
-    → Obeys (stage told now) (stage then (record { state = left; typing = held; ended = ended })) (written now typing ∷ []) result
-write_obeys state held ended now typing told then left answer result view is acts =
-    subst (λ (it : Result Unit Stop). Obeys (stage told now) (stage then (record { state = left; typing = held; ended = ended })) (written now typing ∷ []) it)
+    → Obeys (stage told now) (stage then (record { state = left; typing = held; ended = ended; pending = waits })) (written now typing ∷ []) result
+write_obeys state held ended waits now typing told then left answer result view is acts =
+    subst (λ (it : Result Unit Stop). Obeys (stage told now) (stage then (record { state = left; typing = held; ended = ended; pending = waits })) (written now typing ∷ []) it)
     (sym is)
-    (subst (λ (it : ExecState). Obeys (stage told it) (stage then (record { state = left; typing = held; ended = ended })) (written it typing ∷ []) (outcome_of answer))
+    (subst (λ (it : ExecState). Obeys (stage told it) (stage then (record { state = left; typing = held; ended = ended; pending = waits })) (written it typing ∷ []) (outcome_of answer))
     view
-    (answer_obeys (record { state = state; typing = held; ended = ended }) (record { state = state; typing = held; ended = ended })
-    (record { state = left; typing = held; ended = ended }) true (writes typing.to typing.typed typing.moment state) true told then left
+    (answer_obeys (record { state = state; typing = held; ended = ended; pending = waits }) (record { state = state; typing = held; ended = ended; pending = waits })
+    (record { state = left; typing = held; ended = ended; pending = waits }) true (writes typing.to typing.typed typing.moment state) true told then left
     refl (λ lacks. refl) (λ lacks. refl) answer acts))

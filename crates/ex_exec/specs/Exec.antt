@@ -1,7 +1,8 @@
--- What the EXEC means: what its confirmed lines do, and the keys of a file that is typed in.
-use Rattle.std.specs.Prelude.{ℕ, Bool, true, false, List, [], ◌∷◌, Option, None, Some, option_map}
+-- What the EXEC means: what its confirmed lines do, main lines and those of subcommands, and the keys of a file that is
+-- typed in.
+use Rattle.std.specs.Prelude.{ℕ, Bool, true, false, if◌then◌else◌, List, [], ◌∷◌, Option, None, Some, option_map}
 use Rattle.cm_state.specs.SessionState.{SessionState, text_of}
-use Rattle.cm_state.specs.declared.prompt.Prompt.TheVariants.{Main}
+use Rattle.cm_state.specs.declared.prompt.Prompt.TheVariants.{Main, Sub}
 use Rattle.cm_run.specs.Meaning.{Deed, Meaning}
 use Rattle.cm_run.specs.declared.mode.Mode.{Mode}
 use Rattle.cm_run.specs.declared.mode.Mode.TheVariants as mode
@@ -12,7 +13,7 @@ use Rattle.ex_store.specs.State.{catalogue_of}
 use Rattle.ex_store.specs.declared.place.Place.{Place}
 use Rattle.ex_commands.specs.Act.{Act, act_of, writes}
 use Rattle.ex_commands.specs.Answer.{may_allocate}
-use Rattle.ex_commands.specs.Command.{command_of}
+use Rattle.ex_commands.specs.Command.{added, command_of, is_pending, subcommand_node}
 use Rattle.ex_commands.specs.Typed.{bytes_behind, echo_of, echo_text, turn_of}
 use Rattle.ex_commands.specs.declared.acted.Acted.{Acted}
 use Rattle.ex_commands.specs.declared.acted.Acted.TheVariants as answers
@@ -21,16 +22,22 @@ use Rattle.ex_commands.specs.declared.command.Command.TheVariants as commands
 use Rattle.ex_commands.specs.declared.data.DataTurn.{DataTurn}
 use Rattle.ex_commands.specs.declared.data.DataTurn.TheVariants as turns
 use Rattle.ex_exec.specs.ExecState.{ExecState}
+use Rattle.ex_exec.specs.declared.pending.Pending.{Pending}
 use Rattle.ex_exec.specs.declared.typing.Typing.{Typing}
 
--- behind LOGOUT there are no more keys; those of a file that is typed in are raw; each other is for a line
-abbrev pub mode_by : Bool → Option Typing → Mode
-mode_by true typing = mode.Ended
-mode_by false (Some typing) = mode.Raw
-mode_by false None = mode.Line COMMANDS Main true
+-- behind LOGOUT there are no more keys; those of a file that is typed in are raw; each other is for a line, of
+-- subcommands where a command waits for them
+abbrev pub line_mode : Option Pending → Mode
+line_mode (Some pending) = mode.Line (subcommand_node pending.command) Sub false
+line_mode None = mode.Line COMMANDS Main true
+
+abbrev pub mode_by : Bool → Option Typing → Option Pending → Mode
+mode_by true typing pending = mode.Ended
+mode_by false (Some typing) pending = mode.Raw
+mode_by false None pending = line_mode pending
 
 abbrev pub mode_of : ExecState → Mode
-mode_of exec = mode_by exec.ended exec.typing
+mode_of exec = mode_by exec.ended exec.typing exec.pending
 
 -- the command of a line that is confirmed
 abbrev pub command_at : ExecState → SessionState → Command
@@ -51,9 +58,12 @@ target_of command = None
 abbrev pub typing_to : ℕ → Place → Typing
 typing_to moment to = record { to = to; moment = moment; typed = [] }
 
--- what the EXEC becomes by this answer: behind COPY TTY: a file is typed in, and LOGOUT ends the run
+-- what the EXEC becomes by this answer: behind COPY TTY: a file is typed in, a command with subcommands waits for them,
+-- and LOGOUT ends the run
 unfoldable pub becomes : ExecState → ℕ → Command → Acted → ExecState
 becomes exec moment command answers.Data = record exec { typing = option_map (typing_to moment) (target_of command) }
+becomes exec moment command answers.Pending =
+    record exec { pending = Some (record { command = command; moment = moment }) }
 becomes exec moment command answers.Logout = record exec { ended = true }
 becomes exec moment command answers.Ok = exec
 becomes exec moment command (answers.Refused code) = exec
@@ -80,6 +90,24 @@ deed_of exec moment command = deed_by exec moment command (act_of command moment
 abbrev pub silent : ExecState → Deed ExecState
 silent exec = record { may_allocate = false; state = exec; reply = [] }
 
+-- behind its last subcommand a command acts, at the moment of its main line
+abbrev pub completion : ExecState → Pending → List (Deed ExecState)
+completion exec pending =
+    if is_pending pending.command then []
+    else deed_of (record exec { pending = None }) pending.moment pending.command ∷ []
+
+-- a line of subcommands adds to the command that waits; an empty one ends them
+abbrev pub pending_with : SessionState → Pending → Pending
+pending_with session pending = record pending { command = added session.fields pending.command }
+
+abbrev pub subcommand_deeds : ExecState → Pending → List (Deed ExecState)
+subcommand_deeds exec pending = silent (record exec { pending = Some pending }) ∷ completion exec pending
+
+-- a line is of subcommands where a command waits for them, and else commands itself
+abbrev pub line_by : ExecState → SessionState → ℕ → Option Pending → List (Deed ExecState)
+line_by exec session moment None = deed_of exec moment (command_at exec session) ∷ []
+line_by exec session moment (Some pending) = subcommand_deeds exec (pending_with session pending)
+
 -- what was typed in is written, at the moment of its line
 abbrev pub written_by : ExecState → Act → Deed ExecState
 written_by exec act = record { may_allocate = true; state = record exec { state = act.state }; reply = act.reply }
@@ -105,17 +133,18 @@ abbrev pub echo_by : ℕ → Option Typing → List ℕ
 echo_by key None = []
 echo_by key (Some typing) = echo_text (echo_of typing.typed key)
 
--- a confirmed line does what it commands; a line that is given up does nothing; there are no command files
+-- a confirmed line does what it commands; a line that is given up drops the command that waits; there are no command
+-- files
 abbrev pub exec_meaning : Meaning ExecState
 exec_meaning = record {
   graph = exec_graph;
   rules = exec_meanings;
   catalogue_of = λ exec. catalogue_of exec.state;
   mode_of = mode_of;
-  confirmed = λ exec session moment. deed_of exec moment (command_at exec session) ∷ [];
-  abandoned = λ exec. exec;
+  line_deeds = λ exec session moment. line_by exec session moment exec.pending;
+  abandonment = λ exec. record exec { pending = None };
   raw_echo = λ exec key. echo_by key exec.typing;
-  raw = λ exec key. raw_by exec key exec.typing;
-  waiting = λ exec. None;
-  taken = λ exec session moment. [];
+  raw_deeds = λ exec key. raw_by exec key exec.typing;
+  file_line = λ exec. None;
+  file_line_deeds = λ exec session moment. [];
 }

@@ -1,3 +1,4 @@
+pub mod Ending
 pub mod Exec
 pub mod ExecState
 pub mod Outcome

@@ -1,5 +1,5 @@
 -- How the engine is told what came of a command.
-use Rattle.std.specs.Prelude.{Result, Ok, Err}
+use Rattle.std.specs.Prelude.{Bool, true, false, Result, Ok, Err}
 use Rattle.cm_run.specs.declared.stop.Stop.{Stop}
 use Rattle.cm_run.specs.declared.stop.Stop.TheVariants as stop
 use Rattle.ex_commands.specs.declared.acted.Acted.{Acted}
@@ -8,7 +8,17 @@ use Rattle.ex_commands.specs.declared.acted.Acted.TheVariants as answers
 abbrev pub outcome_of : Acted → Result Unit Stop
 outcome_of answers.Ok = Ok tt
 outcome_of (answers.Refused code) = Ok tt
+outcome_of answers.Pending = Ok tt
 outcome_of answers.Data = Ok tt
 outcome_of answers.Logout = Ok tt
 outcome_of answers.NoMemory = Err stop.Memory
 outcome_of answers.Failed = Err stop.Screen
+
+-- memory was wanting
+abbrev pub lacks_memory : Result Unit Stop → Bool
+lacks_memory (Ok value) = false
+lacks_memory (Err stop.Memory) = true
+lacks_memory (Err stop.Screen) = false
+lacks_memory (Err stop.Log) = false
+lacks_memory (Err stop.Keys) = false
+lacks_memory (Err stop.Limit) = false

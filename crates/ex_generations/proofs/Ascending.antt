@@ -59,10 +59,10 @@ IsAscending-head : (b : Bool) (file : File) (more changed : List File) (low : �
 IsAscending-head true file more changed low a b = (a.0, a.1, a.2, b)
 IsAscending-head false file more changed low a b = (a.0, a.1, a.2, b)
 
-pub IsAscending-kept : (keep : ℕ) (files : List File) (low : ℕ) → IsAscending low files → IsAscending low (kept_newest keep files)
-IsAscending-kept keep [] low a = tt
-IsAscending-kept keep (file ∷ more) low a =
-    IsAscending-head _ file more (kept_newest keep more) low a (IsAscending-kept keep more file.generation a.3)
+pub IsAscending-kept : (retention : ℕ) (files : List File) (low : ℕ) → IsAscending low files → IsAscending low (kept_newest retention files)
+IsAscending-kept retention [] low a = tt
+IsAscending-kept retention (file ∷ more) low a =
+    IsAscending-head _ file more (kept_newest retention more) low a (IsAscending-kept retention more file.generation a.3)
 
 pub IsAscending-without : (generation : ℕ) (files : List File) → IsAscending 0 files → IsAscending 0 (without generation files)
 IsAscending-without generation files a = IsAscending-filter (λ file. not (is_generation generation file)) files 0 a

@@ -9,14 +9,14 @@ live files = length (unmarked files)
 
 -- each file with at least so many unmarked ones above it is marked
 abbrev pub kept_newest : ℕ → List File → List File
-kept_newest keep [] = []
-kept_newest keep (file ∷ more) =
-    (if nat_le keep (live more) then marked_as true file else file) ∷ kept_newest keep more
+kept_newest retention [] = []
+kept_newest retention (file ∷ more) =
+    (if nat_le retention (live more) then marked_as true file else file) ∷ kept_newest retention more
 
 -- so many unmarked files are kept, and with 0 all are
 abbrev pub retained : ℕ → List File → List File
-retained keep files = if keep == 0 then files else kept_newest keep files
+retained retention files = if retention == 0 then files else kept_newest retention files
 
 -- the file at its place, and then all unmarked files but so many of the highest are marked
 abbrev pub added : ℕ → File → List File → List File
-added keep file files = retained keep (inserted file files)
+added retention file files = retained retention (inserted file files)

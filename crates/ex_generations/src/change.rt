@@ -36,9 +36,9 @@ pub(crate) fn insert(files: &mut Vec<File>, file: File)
 }
 
 // Marks each file with at least so many unmarked ones above it.
-pub(crate) fn keep_newest(files: &mut [File], keep: usize)
+pub(crate) fn keep_newest(files: &mut [File], retention: usize)
     requires { IsAscending 0 files.old }
-    ensures kept { files.new ≡ kept_newest keep files.old }
+    ensures kept { files.new ≡ kept_newest retention files.old }
     ensures ascending { IsAscending 0 files.new }
 {
     let mut above = live(files);
@@ -46,20 +46,20 @@ pub(crate) fn keep_newest(files: &mut [File], keep: usize)
         if !file.deleted {
             above -= 1;
         }
-        if above >= keep {
+        if above >= retention {
             file.deleted = true;
         }
     }
 }
 
 // Keeps so many unmarked files, or all where the number is 0.
-pub(crate) fn retain(files: &mut [File], keep: u8)
+pub(crate) fn retain(files: &mut [File], retention: u8)
     requires { IsAscending 0 files.old }
-    ensures retained { files.new ≡ retained keep files.old }
+    ensures retained { files.new ≡ retained retention files.old }
     ensures ascending { IsAscending 0 files.new }
 {
-    if keep > 0 {
-        keep_newest(files, usize::from(keep));
+    if retention > 0 {
+        keep_newest(files, usize::from(retention));
     }
 }
 

@@ -95,26 +95,26 @@ impl Gens {
         Ok(())
     }
 
-    /// Adds a file at its place in the order. Where `keep` is not 0, all unmarked files but so many of the highest
+    /// Adds a file at its place in the order. Where `retention` is not 0, all unmarked files but so many of the highest
     /// are then marked as deleted.
-    pub fn add(&mut self, file: File, keep: u8)
+    pub fn add(&mut self, file: File, retention: u8)
         requires room { length self.old.files < self.old.room }
         requires unmarked { file.deleted ≡ false }
         requires short { length file.bytes ≤ FILE_LIMIT }
         requires from_one { 0 < file.generation }
         requires to_limit { file.generation ≤ GENERATION_LIMIT }
         requires absent { has file.generation self.old.files ≡ false }
-        ensures { self.new ≡ record self.old { files = added keep file self.old.files } }
+        ensures { self.new ≡ record self.old { files = added retention file self.old.files } }
     {
         change::insert(&mut self.files, file);
-        change::retain(&mut self.files, keep);
+        change::retain(&mut self.files, retention);
     }
 
     /// Marks all unmarked files as deleted but so many of the highest; with 0 none.
-    pub fn retain_newest(&mut self, keep: u8)
-        ensures { self.new ≡ record self.old { files = retained keep self.old.files } }
+    pub fn retain_newest(&mut self, retention: u8)
+        ensures { self.new ≡ record self.old { files = retained retention self.old.files } }
     {
-        change::retain(&mut self.files, keep);
+        change::retain(&mut self.files, retention);
     }
 
     /// Marks the file of a generation as deleted. NoGen where there is none, and then nothing changes.

@@ -5,22 +5,22 @@ ghost use Rattle.ex_generations.specs.declared.file.TheConstants.{FILE_LIMIT, GE
 ghost use Rattle.ex_generations.specs.Generations.{IsAscending, has, inserted, is_generation, marked_as, next_generation, unmarked, without};
 ghost use Rattle.ex_generations.specs.Retention.{added, live, retained};
 
-/// Retention keeps the highest: of the files that were unmarked, the last `keep` stay so, and no other.
+/// Retention keeps the highest: of the files that were unmarked, the last `retention` stay so, and no other.
 pub fn the_highest_stay_unmarked()
-    ensures { (keep : ℕ) → 0 < keep → (files : List File)
-        → unmarked (retained keep files) ≡ drop (live files - keep) (unmarked files) }
+    ensures { (retention : ℕ) → 0 < retention → (files : List File)
+        → unmarked (retained retention files) ≡ drop (live files - retention) (unmarked files) }
 {}
 
-/// Retention leaves `keep` files unmarked, and fewer only where there were fewer.
+/// Retention leaves `retention` files unmarked, and fewer only where there were fewer.
 pub fn at_most_so_many_stay_unmarked()
-    ensures { (keep : ℕ) → 0 < keep → (files : List File)
-        → live (retained keep files) ≡ min keep (live files) }
+    ensures { (retention : ℕ) → 0 < retention → (files : List File)
+        → live (retained retention files) ≡ min retention (live files) }
 {}
 
 /// Retention changes nothing of a file but its mark.
 pub fn retention_changes_marks_alone()
-    ensures { (keep : ℕ) → (files : List File)
-        → map (marked_as true) (retained keep files) ≡ map (marked_as true) files }
+    ensures { (retention : ℕ) → (files : List File)
+        → map (marked_as true) (retained retention files) ≡ map (marked_as true) files }
 {}
 
 /// A file of the next generation goes behind all others.
@@ -38,9 +38,9 @@ pub fn an_added_file_leaves_the_others()
 
 /// With a file added the generations still ascend.
 pub fn adding_keeps_the_order()
-    ensures { (keep : ℕ) → (file : File) → (files : List File) → IsAscending 0 files
+    ensures { (retention : ℕ) → (file : File) → (files : List File) → IsAscending 0 files
         → 0 < file.generation → file.generation ≤ GENERATION_LIMIT → length file.bytes ≤ FILE_LIMIT
-        → has file.generation files ≡ false → IsAscending 0 (added keep file files) }
+        → has file.generation files ≡ false → IsAscending 0 (added retention file files) }
 {}
 
 /// What expunging keeps are the files that are not marked.

@@ -8,8 +8,9 @@ ghost use Rattle.ex_generations.specs.Retention.{live};
 
 use crate::{Bytes, FILE_LIMIT, File, GENERATION_LIMIT, GenFull, PAGE_BYTES};
 
-// How many elements a test passes, where those that it passes come first.
-fn seek<T, F: FnMut(&T) -> bool>(items: &[T], is_before: F) -> usize
+/// How many elements a test passes, where those that it passes come first. It is asked of about as many as the number
+/// of elements has binary digits.
+pub fn seek<T, F: FnMut(&T) -> bool>(items: &[T], is_before: F) -> usize
     requires { F.IsAlwaysCallable is_before }
     ensures bound { result ≤ length items.now }
     ensures parted { (test : T → Bool) → ComputesKey F.FnMut test is_before → IsPartitionedBy test items.now

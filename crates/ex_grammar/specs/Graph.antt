@@ -1,14 +1,15 @@
--- The grammar of the EXEC: 51 nodes, each on a line of its own, and two keyword tables.
+-- The grammar of the EXEC: 51 nodes, each on a line of its own, and five keyword tables.
 use Rattle.std.specs.Prelude.{List, [], ◌∷◌, ◌++◌, codes, map}
+use Rattle.cm_blocks.specs.declared.function.Function.TheVariants.{Date, Number, Word, Quoted}
 use Rattle.cm_blocks.specs.declared.function.Role.TheVariants.{Verb, What, Source, Target, Files}
 use Rattle.cm_blocks.specs.declared.node.Block.{Block}
 use Rattle.cm_blocks.specs.declared.node.Node.{Node}
 use Rattle.cm_blocks.specs.Grammar.{Graph}
 use Rattle.cm_blocks.specs.Words.{no_flags}
-use Rattle.ex_grammar.specs.declared.node.TheConstants.{LINE_END}
-use Rattle.ex_grammar.specs.declared.tables.TheConstants.{COMMAND_TABLE, TOPIC_TABLE}
+use Rattle.ex_grammar.specs.declared.node.TheConstants.{LINE_END, SWITCHES}
+use Rattle.ex_grammar.specs.declared.tables.TheConstants.{BUILD_TABLE, COMMAND_TABLE, DIRECTORY_TABLE, SWITCH_TABLE, TOPIC_TABLE}
 use Rattle.ex_grammar.specs.Tables.{exec_tables}
-use Rattle.ex_grammar.specs.Words.{any_file, confirm, directory, either, either_or, guide, hook, in_file, keyword, later, new_directory, only, only_or, out_file, remark, source_token, token, user, wild, wild_all, wild_deleted, wild_from_source, wild_generations}
+use Rattle.ex_grammar.specs.Words.{any_file, comma, confirm, directory, either, either_or, guide, hook, in_file, keyword, later, new_directory, only, out_file, remark, source_token, switch, token, user, value, wild, wild_all, wild_deleted, wild_from_source, wild_generations}
 
 -- nodes 0 to 2: where a command begins, and what COPY reads
 unfoldable pub source_nodes : List Node
@@ -58,22 +59,22 @@ type_blocks =
     ∷ guide (codes "OF FILES") 24
     ∷ []
 
--- 25 to 27: where DIRECTORY and BUILD end, and INFORMATION
-unfoldable pub information_blocks : List Block
-information_blocks =
-    confirm
-    ∷ guide (codes "ABOUT") 27
-    ∷ keyword TOPIC_TABLE What
+-- 24 and 25: the files to list, and where DIRECTORY and BUILD end; a comma at either stands before subcommands
+unfoldable pub listing_nodes : List Node
+listing_nodes =
+    either_or comma (any_file wild_all Files 25) (codes "*.*.*")
+    ∷ either comma confirm
     ∷ []
 
--- 28 to 32: DEFINE
+-- 26 to 31: INFORMATION, and the logical name that DEFINE is for
 unfoldable pub define_blocks : List Block
 define_blocks =
-    guide (codes "LOGICAL NAME") 29
+    guide (codes "ABOUT") 27
+    ∷ keyword TOPIC_TABLE What
+    ∷ guide (codes "LOGICAL NAME") 29
     ∷ hook 0 30
     ∷ token (codes ":") 31
     ∷ guide (codes "AS") 32
-    ∷ confirm
     ∷ []
 
 -- 33 to 35: BUILD, and the guide word of EXPUNGE
@@ -84,27 +85,36 @@ build_blocks =
     ∷ guide (codes "DELETED FILES") 36
     ∷ []
 
--- 37 to 44: PRINT and its switches
+-- 37 and 38: PRINT
 unfoldable pub print_blocks : List Block
 print_blocks =
-    later
-    ∷ later
-    ∷ later
-    ∷ later
-    ∷ later
-    ∷ later
-    ∷ later
-    ∷ later
+    guide (codes "FILES") 38
+    ∷ in_file wild Files SWITCHES
     ∷ []
 
--- 46 to 50: the subcommands of DIRECTORY and BUILD
-unfoldable pub subcommand_blocks : List Block
-subcommand_blocks =
-    later
-    ∷ later
-    ∷ later
-    ∷ later
-    ∷ later
+-- 40 to 44: the values of its switches, by their codes
+unfoldable pub switch_blocks : List Block
+switch_blocks =
+    value Date SWITCHES
+    ∷ value Number SWITCHES
+    ∷ hook 1 SWITCHES
+    ∷ value Word SWITCHES
+    ∷ value Quoted SWITCHES
+    ∷ []
+
+-- 46 and 47: the subcommands of DIRECTORY, and their day
+unfoldable pub directory_nodes : List Node
+directory_nodes =
+    either confirm (keyword DIRECTORY_TABLE Verb)
+    ∷ only (value Date LINE_END)
+    ∷ []
+
+-- 48 to 50: the subcommand of BUILD, and its number
+unfoldable pub retention_nodes : List Node
+retention_nodes =
+    either confirm (keyword BUILD_TABLE Verb)
+    ∷ only (guide (codes "TO KEEP") 50)
+    ∷ only (hook 2 LINE_END)
     ∷ []
 
 -- nodes 0 to 18: up to the directory to connect to
@@ -116,20 +126,27 @@ first_nodes =
     ++ map only delete_blocks
     ++ either_or user directory (codes "<OPERATOR>") ∷ []
 
--- the nodes, from 0: the files to list at 24, the directory to expunge at 36, the text of a remark at 45, and each
--- other behind the first ones with its one block
+-- nodes 37 to 50: PRINT, the text of a remark at 45, and the subcommands
+unfoldable pub last_nodes : List Node
+last_nodes =
+    map only print_blocks
+    ++ either (switch SWITCH_TABLE) confirm ∷ []
+    ++ map only switch_blocks
+    ++ remark ∷ []
+    ++ directory_nodes
+    ++ retention_nodes
+
+-- the nodes, from 0: the directory of a logical name at 32, the one to expunge at 36
 unfoldable pub exec_nodes : List Node
 exec_nodes =
     first_nodes
     ++ map only type_blocks
-    ++ only_or (any_file wild_all Files 25) (codes "*.*.*") ∷ []
-    ++ map only information_blocks
+    ++ listing_nodes
     ++ map only define_blocks
+    ++ either confirm directory ∷ []
     ++ map only build_blocks
     ++ either confirm directory ∷ []
-    ++ map only print_blocks
-    ++ remark ∷ []
-    ++ map only subcommand_blocks
+    ++ last_nodes
 
 unfoldable pub exec_graph : Graph
 exec_graph = record { nodes = exec_nodes; tables = exec_tables }

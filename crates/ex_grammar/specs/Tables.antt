@@ -1,12 +1,13 @@
--- The keyword tables of the EXEC: the commands that are built, and what INFORMATION tells about.
+-- The keyword tables of the EXEC: the commands that are built, what INFORMATION tells about, and the subcommands and
+-- switches of commands.
 use Rattle.std.specs.Prelude.{List, [], ◌∷◌, codes}
 use Rattle.cm_tables.specs.declared.entry.Entry.{Entry}
 use Rattle.cm_tables.specs.declared.entry.Flag.{Flag}
 use Rattle.cm_tables.specs.declared.entry.Flag.TheVariants.{Invisible, NoRecognise, Short}
-use Rattle.cm_tables.specs.Words.{entry}
+use Rattle.cm_tables.specs.Words.{entry, value_entry}
 use Rattle.ex_grammar.specs.declared.node.TheConstants.{LINE_END}
 use Rattle.ex_grammar.specs.declared.tables.TheConstants.{TYPE_POSITION}
-use Rattle.ex_grammar.specs.declared.code.TheConstants.{APPEND, BUILD, CONNECT, COPY, DEFINE, DELETE, DIRECTORY, EXPUNGE, INFORMATION, LOGOUT, NO_KEYWORD, REMARK, RENAME, TYPE, UNDELETE, VERSION}
+use Rattle.ex_grammar.specs.declared.code.TheConstants.{AFTER, APPEND, BEFORE, BUILD, CONNECT, COPIES, COPY, DEFINE, DELETE, DELETED, DIRECTORY, DIRECTORY_TOPIC, EXPUNGE, FORMS, GENERATIONS, INFORMATION, JOBNAME, LOGICAL_NAMES, LOGOUT, NO_KEYWORD, NOTE, OUTPUT_REQUESTS, PRINT, REMARK, RENAME, SINCE, TYPE, UNDELETE, VERSION}
 
 -- the same keyword, which takes part in the look-up in this way
 abbrev pub flagged : Entry → Flag → Entry
@@ -27,6 +28,7 @@ command_entries =
     ∷ flagged (entry (codes "L") NO_KEYWORD LINE_END) NoRecognise
     ∷ flagged (entry (codes "LO") NO_KEYWORD LINE_END) NoRecognise
     ∷ entry (codes "LOGOUT") LOGOUT LINE_END
+    ∷ entry (codes "PRINT") PRINT 37
     ∷ entry (codes "REMARK") REMARK 45
     ∷ entry (codes "RENAME") RENAME 10
     ∷ flagged (entry (codes "T") NO_KEYWORD LINE_END) (Short TYPE_POSITION)
@@ -36,8 +38,35 @@ command_entries =
 
 -- what INFORMATION tells about
 unfoldable pub topic_entries : List Entry
-topic_entries = entry (codes "VERSION") VERSION LINE_END ∷ []
+topic_entries =
+    entry (codes "DIRECTORY") DIRECTORY_TOPIC LINE_END
+    ∷ entry (codes "LOGICAL-NAMES") LOGICAL_NAMES LINE_END
+    ∷ entry (codes "OUTPUT-REQUESTS") OUTPUT_REQUESTS LINE_END
+    ∷ entry (codes "VERSION") VERSION LINE_END
+    ∷ []
+
+-- the subcommands of DIRECTORY
+unfoldable pub directory_entries : List Entry
+directory_entries =
+    entry (codes "BEFORE") BEFORE 47
+    ∷ entry (codes "DELETED") DELETED LINE_END
+    ∷ entry (codes "SINCE") SINCE 47
+    ∷ []
+
+-- the subcommand of BUILD
+unfoldable pub build_entries : List Entry
+build_entries = entry (codes "GENERATIONS") GENERATIONS 49 ∷ []
+
+-- the switches of PRINT, each with a value
+unfoldable pub switch_entries : List Entry
+switch_entries =
+    value_entry (codes "AFTER") AFTER 40
+    ∷ value_entry (codes "COPIES") COPIES 41
+    ∷ value_entry (codes "FORMS") FORMS 42
+    ∷ value_entry (codes "JOBNAME") JOBNAME 43
+    ∷ value_entry (codes "NOTE") NOTE 44
+    ∷ []
 
 -- the tables, each at its number
 unfoldable pub exec_tables : List (List Entry)
-exec_tables = command_entries ∷ topic_entries ∷ []
+exec_tables = command_entries ∷ topic_entries ∷ directory_entries ∷ build_entries ∷ switch_entries ∷ []

@@ -1,7 +1,8 @@
 -- The small words in which nodes are written.
 use Rattle.std.specs.Prelude.{ℕ, true, List, [], ◌∷◌, Some}
 use Rattle.cm_files.specs.declared.flags.Flags.{Flags}
-use Rattle.cm_blocks.specs.declared.function.Function.TheVariants.{Key, Noise, Token, User, Directory, InFile, OutFile, AnyFile, Text, Confirm, Hook}
+use Rattle.cm_blocks.specs.declared.function.Function.{Function}
+use Rattle.cm_blocks.specs.declared.function.Function.TheVariants.{Key, Switch, Noise, Token, User, Directory, InFile, OutFile, AnyFile, Text, Comma, Confirm, Hook}
 use Rattle.cm_blocks.specs.declared.function.Role.{Role}
 use Rattle.cm_blocks.specs.declared.function.Role.TheVariants as roles
 use Rattle.cm_blocks.specs.declared.node.Block.{Block}
@@ -32,9 +33,21 @@ token sign next = block (Token sign) roles.None next
 abbrev pub source_token : List ℕ → ℕ → Block
 source_token sign next = block (Token sign) roles.Source next
 
+-- a comma, behind which subcommands follow
+abbrev pub comma : Block
+comma = block Comma roles.Sub LINE_END
+
+-- a switch of this table
+abbrev pub switch : ℕ → Block
+switch table = block (Switch table) roles.Value LINE_END
+
+-- a value of this kind
+abbrev pub value : Function → ℕ → Block
+value function next = block function roles.Value next
+
 -- what the rule of this id takes
 abbrev pub hook : ℕ → ℕ → Block
-hook id next = block (Hook id) roles.Value next
+hook id next = value (Hook id) next
 
 -- a user that a command works on
 abbrev pub user : Block
@@ -86,10 +99,6 @@ rest_of_line = block Text roles.None LINE_END
 -- a node of one block
 abbrev pub only : Block → Node
 only it = node (it ∷ [])
-
--- a node of one block, for which this text stands where the line ends
-abbrev pub only_or : Block → List ℕ → Node
-only_or it text = record (only it) { default = Some text }
 
 -- a node of two blocks, tried in this order
 abbrev pub either : Block → Block → Node

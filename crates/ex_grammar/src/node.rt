@@ -1,6 +1,6 @@
 // The small words in which nodes are written, and the nodes that are named.
 ghost use Rattle.std.specs.Prelude.{◌≡◌, ◌≤◌, IfOk, length};
-ghost use Rattle.ex_grammar.specs.Words.{any_file, confirm, directory, either, either_or, guide, hook, in_file, keyword, later, new_directory, only, only_or, out_file, remark, rest_of_line, source_token, token, user, wild, wild_all, wild_deleted, wild_from_source, wild_generations};
+ghost use Rattle.ex_grammar.specs.Words.{any_file, comma, confirm, directory, either, either_or, guide, hook, in_file, keyword, later, new_directory, only, out_file, remark, rest_of_line, source_token, switch, token, user, value, wild, wild_all, wild_deleted, wild_from_source, wild_generations};
 
 use cm_blocks::{Block, Function, Node, Role};
 use cm_files::Flags;
@@ -11,8 +11,17 @@ use std::alloc::Global;
 /// The node where a command begins.
 pub const COMMANDS: u16 = 0;
 
+/// The node where a subcommand of DIRECTORY begins.
+pub const DIRECTORY_SUBCOMMANDS: u16 = 46;
+
+/// The node where a subcommand of BUILD begins.
+pub const BUILD_SUBCOMMANDS: u16 = 48;
+
 // The node where only the end of the line may stand.
 pub(crate) const LINE_END: u16 = 5;
+
+// The node where the switches of PRINT stand.
+pub(crate) const SWITCHES: u16 = 39;
 
 // The end of the line.
 pub(crate) fn confirm() -> Block
@@ -57,11 +66,32 @@ pub(crate) fn source_token(sign: &str, next: u16) -> Block
     Block::new(Function::Token(Name::new(sign)), Role::Source, next)
 }
 
+// A comma, behind which subcommands follow.
+pub(crate) fn comma() -> Block
+    ensures { result ≡ comma }
+{
+    Block::new(Function::Comma, Role::Sub, LINE_END)
+}
+
+// A switch of this table.
+pub(crate) fn switch(table: u16) -> Block
+    ensures { result ≡ switch table }
+{
+    Block::new(Function::Switch(table), Role::Value, LINE_END)
+}
+
+// A value of this kind.
+pub(crate) fn value(function: Function, next: u16) -> Block
+    ensures { result ≡ value function next }
+{
+    Block::new(function, Role::Value, next)
+}
+
 // What the rule of this id takes.
 pub(crate) fn hook(id: u8, next: u16) -> Block
     ensures { result ≡ hook id next }
 {
-    Block::new(Function::Hook(id), Role::Value, next)
+    value(Function::Hook(id), next)
 }
 
 // A user that a command works on.
@@ -183,18 +213,6 @@ pub(crate) fn only(alloc: Global, block: Block) -> Result<Node, NoMemory>
     ensures { IfOk result (λ node. node ≡ only block) }
 {
     Ok(Node::new(vec![in alloc; block]?))
-}
-
-// A node of one block, for which this text stands where the line ends.
-pub(crate) fn only_or(alloc: Global, block: Block, text: &str) -> Result<Node, NoMemory>
-    requires { length text.now ≤ NAME_LIMIT }
-    ensures { IfOk result (λ node. node ≡ only_or block text.now) }
-{
-    let node = only(alloc, block)?;
-    Ok(Node {
-        default: Some(Name::new(text)),
-        ..node
-    })
 }
 
 // A node of two blocks, tried in this order.

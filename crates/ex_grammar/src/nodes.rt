@@ -1,15 +1,15 @@
 // The nodes of the EXEC's grammar, by the numbers that the log gives.
 ghost use Rattle.std.specs.Prelude.{◌≡◌, ◌++◌, IfOk, map};
-ghost use Rattle.ex_grammar.specs.Graph.{append_blocks, build_blocks, define_blocks, delete_blocks, information_blocks, print_blocks, subcommand_blocks, target_blocks, type_blocks, exec_nodes, first_nodes, source_nodes};
+ghost use Rattle.ex_grammar.specs.Graph.{append_blocks, build_blocks, define_blocks, delete_blocks, directory_nodes, exec_nodes, first_nodes, last_nodes, listing_nodes, print_blocks, retention_nodes, source_nodes, switch_blocks, target_blocks, type_blocks};
 ghost use Rattle.ex_grammar.specs.Words.{only};
 
 use crate::node::{
-    LINE_END, any_file, confirm, directory, either, either_or, guide, hook, in_file, keyword,
-    later, new_directory, only, only_or, out_file, remark, source_token, token, user, wild,
-    wild_all, wild_deleted, wild_from_source, wild_generations,
+    LINE_END, SWITCHES, any_file, comma, confirm, directory, either, either_or, guide, hook,
+    in_file, keyword, later, new_directory, only, out_file, remark, source_token, switch, token,
+    user, value, wild, wild_all, wild_deleted, wild_from_source, wild_generations,
 };
-use crate::tables::{COMMAND_TABLE, TOPIC_TABLE};
-use cm_blocks::{Block, Node, Role};
+use crate::tables::{BUILD_TABLE, COMMAND_TABLE, DIRECTORY_TABLE, SWITCH_TABLE, TOPIC_TABLE};
+use cm_blocks::{Block, Function, Node, Role};
 use cm_files::Flags;
 use cm_io::NoMemory;
 use std::alloc::Global;
@@ -20,14 +20,27 @@ pub(crate) fn nodes(alloc: Global) -> Result<Vec<Node>, NoMemory>
 {
     let mut nodes = first_nodes(alloc)?;
     push_each(&mut nodes, alloc, type_blocks(alloc)?)?;
-    nodes.push(only_or(alloc, any_file(wild_all(), Role::Files, 25), "*.*.*")?)?;
-    push_each(&mut nodes, alloc, information_blocks(alloc)?)?;
+    push_all(&mut nodes, listing_nodes(alloc)?)?;
     push_each(&mut nodes, alloc, define_blocks(alloc)?)?;
+    nodes.push(either(alloc, confirm(), directory())?)?;
     push_each(&mut nodes, alloc, build_blocks(alloc)?)?;
     nodes.push(either(alloc, confirm(), directory())?)?;
+    push_all(&mut nodes, last_nodes(alloc)?)?;
+    Ok(nodes)
+}
+
+// Nodes 37 to 50: PRINT, the text of a remark, and the subcommands.
+#[tactic(auto, unfolding(crate::specs::Graph::last_nodes))]
+fn last_nodes(alloc: Global) -> Result<Vec<Node>, NoMemory>
+    ensures { IfOk result (λ nodes. nodes.items ≡ last_nodes) }
+{
+    let mut nodes = Vec::new(alloc);
     push_each(&mut nodes, alloc, print_blocks(alloc)?)?;
+    nodes.push(either(alloc, switch(SWITCH_TABLE), confirm())?)?;
+    push_each(&mut nodes, alloc, switch_blocks(alloc)?)?;
     nodes.push(remark(alloc)?)?;
-    push_each(&mut nodes, alloc, subcommand_blocks(alloc)?)?;
+    push_all(&mut nodes, directory_nodes(alloc)?)?;
+    push_all(&mut nodes, retention_nodes(alloc)?)?;
     Ok(nodes)
 }
 
@@ -64,6 +77,16 @@ fn push_each(nodes: &mut Vec<Node>, alloc: Global, blocks: Vec<Block>) -> Result
 {
     for block in blocks {
         nodes.push(only(alloc, block)?)?;
+    }
+    Ok(())
+}
+
+// Puts nodes behind others.
+fn push_all(nodes: &mut Vec<Node>, more: Vec<Node>) -> Result<(), NoMemory>
+    ensures { IfOk result (λ _. nodes.new.items ≡ nodes.old.items ++ more.items) }
+{
+    for node in more {
+        nodes.push(node)?;
     }
     Ok(())
 }
@@ -124,29 +147,30 @@ fn type_blocks(alloc: Global) -> Result<Vec<Block>, NoMemory>
     ]?)
 }
 
-// 25 to 27: where DIRECTORY and BUILD end, and INFORMATION.
-#[tactic(auto, unfolding(crate::specs::Graph::information_blocks))]
-fn information_blocks(alloc: Global) -> Result<Vec<Block>, NoMemory>
-    ensures { IfOk result (λ blocks. blocks.items ≡ information_blocks) }
+// 24 and 25: the files to list, and where DIRECTORY and BUILD end.
+#[tactic(auto, unfolding(crate::specs::Graph::listing_nodes))]
+fn listing_nodes(alloc: Global) -> Result<Vec<Node>, NoMemory>
+    ensures { IfOk result (λ nodes. nodes.items ≡ listing_nodes) }
 {
-    Ok(vec![in alloc;
-        confirm(),
-        guide("ABOUT", 27),
-        keyword(TOPIC_TABLE, Role::What),
-    ]?)
+    let files = any_file(wild_all(), Role::Files, 25);
+    let mut nodes = Vec::new(alloc);
+    nodes.push(either_or(alloc, comma(), files, "*.*.*")?)?;
+    nodes.push(either(alloc, comma(), confirm())?)?;
+    Ok(nodes)
 }
 
-// 28 to 32: DEFINE.
+// 26 to 31: INFORMATION, and the logical name that DEFINE is for.
 #[tactic(auto, unfolding(crate::specs::Graph::define_blocks))]
 fn define_blocks(alloc: Global) -> Result<Vec<Block>, NoMemory>
     ensures { IfOk result (λ blocks. blocks.items ≡ define_blocks) }
 {
     Ok(vec![in alloc;
+        guide("ABOUT", 27),
+        keyword(TOPIC_TABLE, Role::What),
         guide("LOGICAL NAME", 29),
         hook(0, 30),
         token(":", 31),
         guide("AS", 32),
-        confirm(),
     ]?)
 }
 
@@ -162,27 +186,47 @@ fn build_blocks(alloc: Global) -> Result<Vec<Block>, NoMemory>
     ]?)
 }
 
-// 37 to 44: PRINT and its switches.
+// 37 and 38: PRINT.
 #[tactic(auto, unfolding(crate::specs::Graph::print_blocks))]
 fn print_blocks(alloc: Global) -> Result<Vec<Block>, NoMemory>
     ensures { IfOk result (λ blocks. blocks.items ≡ print_blocks) }
 {
+    Ok(vec![in alloc; guide("FILES", 38), in_file(wild(), Role::Files, SWITCHES)]?)
+}
+
+// 40 to 44: the values of its switches, by their codes.
+#[tactic(auto, unfolding(crate::specs::Graph::switch_blocks))]
+fn switch_blocks(alloc: Global) -> Result<Vec<Block>, NoMemory>
+    ensures { IfOk result (λ blocks. blocks.items ≡ switch_blocks) }
+{
     Ok(vec![in alloc;
-        later(),
-        later(),
-        later(),
-        later(),
-        later(),
-        later(),
-        later(),
-        later(),
+        value(Function::Date, SWITCHES),
+        value(Function::Number, SWITCHES),
+        hook(1, SWITCHES),
+        value(Function::Word, SWITCHES),
+        value(Function::Quoted, SWITCHES),
     ]?)
 }
 
-// 46 to 50: the subcommands of DIRECTORY and BUILD.
-#[tactic(auto, unfolding(crate::specs::Graph::subcommand_blocks))]
-fn subcommand_blocks(alloc: Global) -> Result<Vec<Block>, NoMemory>
-    ensures { IfOk result (λ blocks. blocks.items ≡ subcommand_blocks) }
+// 46 and 47: the subcommands of DIRECTORY, and their day.
+#[tactic(auto, unfolding(crate::specs::Graph::directory_nodes))]
+fn directory_nodes(alloc: Global) -> Result<Vec<Node>, NoMemory>
+    ensures { IfOk result (λ nodes. nodes.items ≡ directory_nodes) }
 {
-    Ok(vec![in alloc; later(), later(), later(), later(), later()]?)
+    let mut nodes = Vec::new(alloc);
+    nodes.push(either(alloc, confirm(), keyword(DIRECTORY_TABLE, Role::Verb))?)?;
+    nodes.push(only(alloc, value(Function::Date, LINE_END))?)?;
+    Ok(nodes)
+}
+
+// 48 to 50: the subcommand of BUILD, and its number.
+#[tactic(auto, unfolding(crate::specs::Graph::retention_nodes))]
+fn retention_nodes(alloc: Global) -> Result<Vec<Node>, NoMemory>
+    ensures { IfOk result (λ nodes. nodes.items ≡ retention_nodes) }
+{
+    let mut nodes = Vec::new(alloc);
+    nodes.push(either(alloc, confirm(), keyword(BUILD_TABLE, Role::Verb))?)?;
+    nodes.push(only(alloc, guide("TO KEEP", 50))?)?;
+    nodes.push(only(alloc, hook(2, LINE_END))?)?;
+    Ok(nodes)
 }

@@ -8,7 +8,7 @@ use cm_hooks::{Answer, Rules, Tail, completion_among, verdict_among};
 use cm_text::{LINE_LIMIT, Name};
 
 // The names of forms, in the order of their numbers.
-const FORMS: [&str; 3] = ["NARROW", "NORMAL", "WIDE"];
+const FORM_NAMES: [&str; 3] = ["NARROW", "NORMAL", "WIDE"];
 
 /// What the EXEC's hooks mean: 0 is a logical name, 1 the name of a form, 2 a retention count.
 pub struct ExecRules;
@@ -43,7 +43,7 @@ pub fn rule_verdict(id: u8, atom: &[u8]) -> Answer
 {
     match id {
         0 => logical_verdict(atom),
-        1 => verdict_among(&FORMS, atom),
+        1 => verdict_among(&FORM_NAMES, atom),
         _ => retention_verdict(atom),
     }
 }
@@ -57,7 +57,7 @@ pub fn rule_completion(id: u8, atom: &[u8]) -> Tail
     ensures { result ≡ rule_completion id atom.now }
 {
     match id {
-        1 => completion_among(&FORMS, atom),
+        1 => completion_among(&FORM_NAMES, atom),
         _ => Tail::None,
     }
 }

@@ -1,10 +1,11 @@
 // The keyword tables of the EXEC.
 ghost use Rattle.std.specs.Prelude.{◌≡◌, IfOk};
-ghost use Rattle.ex_grammar.specs.Tables.{command_entries, exec_tables, flagged, topic_entries};
+ghost use Rattle.ex_grammar.specs.Tables.{build_entries, command_entries, directory_entries, exec_tables, flagged, switch_entries, topic_entries};
 
 use crate::code::{
-    APPEND, BUILD, CONNECT, COPY, DEFINE, DELETE, DIRECTORY, EXPUNGE, INFORMATION, LOGOUT,
-    NO_KEYWORD, REMARK, RENAME, TYPE, UNDELETE, VERSION,
+    AFTER, APPEND, BEFORE, BUILD, CONNECT, COPIES, COPY, DEFINE, DELETE, DELETED, DIRECTORY,
+    DIRECTORY_TOPIC, EXPUNGE, FORMS, GENERATIONS, INFORMATION, JOBNAME, LOGICAL_NAMES, LOGOUT,
+    NO_KEYWORD, NOTE, OUTPUT_REQUESTS, PRINT, REMARK, RENAME, SINCE, TYPE, UNDELETE, VERSION,
 };
 use crate::node::LINE_END;
 use cm_io::NoMemory;
@@ -15,16 +16,30 @@ use std::alloc::Global;
 pub(crate) const COMMAND_TABLE: u16 = 0;
 
 // Where TYPE stands in the table of the commands.
-pub(crate) const TYPE_POSITION: u16 = 16;
+pub(crate) const TYPE_POSITION: u16 = 17;
 
 // The table of what INFORMATION tells about.
 pub(crate) const TOPIC_TABLE: u16 = 1;
+
+// The table of the subcommands of DIRECTORY.
+pub(crate) const DIRECTORY_TABLE: u16 = 2;
+
+// The table of the subcommands of BUILD.
+pub(crate) const BUILD_TABLE: u16 = 3;
+
+// The table of the switches of PRINT.
+pub(crate) const SWITCH_TABLE: u16 = 4;
 
 #[tactic(auto, unfolding(crate::specs::Tables::exec_tables))]
 pub(crate) fn tables(alloc: Global) -> Result<Vec<Table>, NoMemory>
     ensures { IfOk result (λ tables. tables.items ≡ exec_tables) }
 {
-    Ok(vec![in alloc; commands(alloc)?, topics(alloc)?]?)
+    let mut tables = vec![in alloc; commands(alloc)?]?;
+    tables.push(topics(alloc)?)?;
+    tables.push(directory_subcommands(alloc)?)?;
+    tables.push(build_subcommands(alloc)?)?;
+    tables.push(switches(alloc)?)?;
+    Ok(tables)
 }
 
 #[tactic(auto, using(crate::proofs::Faultless::commands_have_no_fault))]
@@ -39,6 +54,27 @@ fn topics(alloc: Global) -> Result<Table, NoMemory>
     ensures { IfOk result (λ table. table ≡ topic_entries) }
 {
     Ok(Table::of(topic_entries(alloc)?))
+}
+
+#[tactic(auto, using(crate::proofs::Faultless::directory_subcommands_have_no_fault))]
+fn directory_subcommands(alloc: Global) -> Result<Table, NoMemory>
+    ensures { IfOk result (λ table. table ≡ directory_entries) }
+{
+    Ok(Table::of(directory_entries(alloc)?))
+}
+
+#[tactic(auto, using(crate::proofs::Faultless::build_subcommands_have_no_fault))]
+fn build_subcommands(alloc: Global) -> Result<Table, NoMemory>
+    ensures { IfOk result (λ table. table ≡ build_entries) }
+{
+    Ok(Table::of(build_entries(alloc)?))
+}
+
+#[tactic(auto, using(crate::proofs::Faultless::switches_have_no_fault))]
+fn switches(alloc: Global) -> Result<Table, NoMemory>
+    ensures { IfOk result (λ table. table ≡ switch_entries) }
+{
+    Ok(Table::of(switch_entries(alloc)?))
 }
 
 #[tactic(auto, unfolding(crate::specs::Tables::command_entries))]
@@ -59,6 +95,7 @@ fn command_entries(alloc: Global) -> Result<Vec<Entry>, NoMemory>
         flagged(Entry::new("L", NO_KEYWORD, LINE_END), Flag::NoRecognise),
         flagged(Entry::new("LO", NO_KEYWORD, LINE_END), Flag::NoRecognise),
         Entry::new("LOGOUT", LOGOUT, LINE_END),
+        Entry::new("PRINT", PRINT, 37),
         Entry::new("REMARK", REMARK, 45),
         Entry::new("RENAME", RENAME, 10),
         flagged(
@@ -74,7 +111,43 @@ fn command_entries(alloc: Global) -> Result<Vec<Entry>, NoMemory>
 fn topic_entries(alloc: Global) -> Result<Vec<Entry>, NoMemory>
     ensures { IfOk result (λ entries. entries.items ≡ topic_entries) }
 {
-    Ok(vec![in alloc; Entry::new("VERSION", VERSION, LINE_END)]?)
+    Ok(vec![in alloc;
+        Entry::new("DIRECTORY", DIRECTORY_TOPIC, LINE_END),
+        Entry::new("LOGICAL-NAMES", LOGICAL_NAMES, LINE_END),
+        Entry::new("OUTPUT-REQUESTS", OUTPUT_REQUESTS, LINE_END),
+        Entry::new("VERSION", VERSION, LINE_END),
+    ]?)
+}
+
+#[tactic(auto, unfolding(crate::specs::Tables::directory_entries))]
+fn directory_entries(alloc: Global) -> Result<Vec<Entry>, NoMemory>
+    ensures { IfOk result (λ entries. entries.items ≡ directory_entries) }
+{
+    Ok(vec![in alloc;
+        Entry::new("BEFORE", BEFORE, 47),
+        Entry::new("DELETED", DELETED, LINE_END),
+        Entry::new("SINCE", SINCE, 47),
+    ]?)
+}
+
+#[tactic(auto, unfolding(crate::specs::Tables::build_entries))]
+fn build_entries(alloc: Global) -> Result<Vec<Entry>, NoMemory>
+    ensures { IfOk result (λ entries. entries.items ≡ build_entries) }
+{
+    Ok(vec![in alloc; Entry::new("GENERATIONS", GENERATIONS, 49)]?)
+}
+
+#[tactic(auto, unfolding(crate::specs::Tables::switch_entries))]
+fn switch_entries(alloc: Global) -> Result<Vec<Entry>, NoMemory>
+    ensures { IfOk result (λ entries. entries.items ≡ switch_entries) }
+{
+    Ok(vec![in alloc;
+        Entry::with_value("AFTER", AFTER, 40),
+        Entry::with_value("COPIES", COPIES, 41),
+        Entry::with_value("FORMS", FORMS, 42),
+        Entry::with_value("JOBNAME", JOBNAME, 43),
+        Entry::with_value("NOTE", NOTE, 44),
+    ]?)
 }
 
 // The same keyword, which takes part in the look-up in this way.

@@ -52,10 +52,10 @@ empty_draft = record {
   few_entries = omega arith;
 }
 
-directory_more : (state : State) (name : List ℕ) (keep : ℕ) → IsDraft state
-    → (state.logical ≡ []) × (state.rows ≡ []) × (state.queue ≡ []) → is_shaped (Directory name keep) ≡ true
-    → IsFaultless state (Directory name keep) → IsDraft (and_directory (record { name = name; keep = keep }) state)
-directory_more state name keep draft none shape good =
+directory_more : (state : State) (name : List ℕ) (retention : ℕ) → IsDraft state
+    → (state.logical ≡ []) × (state.rows ≡ []) × (state.queue ≡ []) → is_shaped (Directory name retention) ≡ true
+    → IsFaultless state (Directory name retention) → IsDraft (and_directory (record { name = name; retention = retention }) state)
+directory_more state name retention draft none shape good =
     let named = (and_parts (is_directory_name name) _ shape).0 in
     record {
       directories_ascend = ascends_more _ state.directories _ draft.directories_ascend good.above;
@@ -198,9 +198,9 @@ pub draft_more : (reading : Reading) (entry : Entry) (bytes : List ℕ) → IsDr
     → Stands reading.last reading.state → MayStand reading (entry, bytes)
     → IsDraft (with_entry reading.state entry bytes)
 draft_more reading Head bytes draft stands may = draft
-draft_more reading (Directory name keep) bytes draft stands may =
-    directory_more reading.state name keep draft (only_directories reading.last reading.state stands may.place)
-    may.shape (faultless_of reading.state (Directory name keep) may.faultless)
+draft_more reading (Directory name retention) bytes draft stands may =
+    directory_more reading.state name retention draft (only_directories reading.last reading.state stands may.place)
+    may.shape (faultless_of reading.state (Directory name retention) may.faultless)
 draft_more reading (Connected name) bytes draft stands may = connected_more reading.state name draft
 draft_more reading (Logical name directory) bytes draft stands may =
     logical_more reading.state name directory draft may.shape

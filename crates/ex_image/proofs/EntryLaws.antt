@@ -50,8 +50,8 @@ entry_takes line entry is =
 entry_again : (entry : Entry) → is_shaped entry ≡ true → entry_of (line_text entry) ≡ Ok entry
 unfolding entry_of lettered
 entry_again Head shape = refl
-entry_again (Directory name keep) shape =
-    rw (cut_again 32 Form (codes "D") (name ++ 32 ∷ decimal keep) refl) (directory_again name keep shape)
+entry_again (Directory name retention) shape =
+    rw (cut_again 32 Form (codes "D") (name ++ 32 ∷ decimal retention) refl) (directory_again name retention shape)
 entry_again (Connected name) shape = rw (cut_again 32 Form (codes "C") name refl) (connected_again name shape)
 entry_again (Logical name directory) shape =
     rw (cut_again 32 Form (codes "L") (name ++ 32 ∷ directory) refl) (logical_again name directory shape)
@@ -77,10 +77,10 @@ field_more letter rest one two = all_joined is_inside letter 32 rest one refl tw
 
 entry_only : (entry : Entry) → is_shaped entry ≡ true → list_all is_inside (line_text entry) ≡ true
 entry_only Head shape = refl
-entry_only (Directory name keep) shape =
-    let both = and_parts (is_directory_name name) (is_short keep) shape in
-    field_more (codes "D") (name ++ 32 ∷ decimal keep) refl
-    (field_more name (decimal keep) (within directory_spelling name both.0) (within number_spelling keep both.1))
+entry_only (Directory name retention) shape =
+    let both = and_parts (is_directory_name name) (is_short retention) shape in
+    field_more (codes "D") (name ++ 32 ∷ decimal retention) refl
+    (field_more name (decimal retention) (within directory_spelling name both.0) (within number_spelling retention both.1))
 entry_only (Connected name) shape = within directory_spelling name shape
 entry_only (Logical name directory) shape =
     let both = and_parts (is_logical name) (is_directory_name directory) shape in

@@ -3,8 +3,7 @@ use Rattle.std.proofs.Common.{◌≡◌, ℕ, List, [], ◌∷◌, ◌++◌, map
 use Rattle.std.proofs.lemmas.Grind.{flat_map-append}
 use Rattle.std.proofs.lemmas.List.{append-nil}
 use Rattle.std.specs.List.{flat_map}
-use Rattle.ex_store.specs.declared.parts.Parts.{Parts}
-use Rattle.ex_store.specs.Lent.{state_of}
+use Rattle.ex_store.specs.State.{State}
 use Rattle.ex_image.specs.Image.{directory_record, file_record, image_text, logical_record, request_record}
 use Rattle.ex_image.specs.Record.{Head, Connected, End, record_text}
 
@@ -15,14 +14,14 @@ parts_joined : {X : Type 0} (text : X → List ℕ) (head connected last : X) (d
     ≡ flat_map text ((head ∷ directories) ++ (connected ∷ logical) ++ files ++ queue ++ last ∷ [])
 parts_joined text head connected last directories logical files queue = simp (flat_map-append, append_assoc, append-nil)
 
--- the texts of a store's parts make its image
-pub image_joined : (parts : Parts)
-    → ((record_text (Head, []) ++ flat_map record_text (map directory_record parts.directories.now))
-    ++ (record_text (Connected parts.connected.now, []) ++ flat_map record_text (map logical_record parts.logical.now)))
-    ++ ((flat_map record_text (map file_record parts.rows.now) ++ flat_map record_text (map request_record parts.queue.now))
+-- the texts of a state's parts make its image
+pub image_joined : (state : State)
+    → ((record_text (Head, []) ++ flat_map record_text (map directory_record state.directories))
+    ++ (record_text (Connected state.connected, []) ++ flat_map record_text (map logical_record state.logical)))
+    ++ ((flat_map record_text (map file_record state.rows) ++ flat_map record_text (map request_record state.queue))
     ++ record_text (End, []))
-    ≡ image_text (state_of parts)
-image_joined parts =
-    parts_joined record_text (Head, []) (Connected parts.connected.now, []) (End, [])
-    (map directory_record parts.directories.now) (map logical_record parts.logical.now)
-    (map file_record parts.rows.now) (map request_record parts.queue.now)
+    ≡ image_text state
+image_joined state =
+    parts_joined record_text (Head, []) (Connected state.connected, []) (End, [])
+    (map directory_record state.directories) (map logical_record state.logical)
+    (map file_record state.rows) (map request_record state.queue)

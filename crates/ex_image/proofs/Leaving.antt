@@ -1,6 +1,7 @@
 -- Records that are appended one by one: of the whole some bytes are appended, and the rest is left.
-use Rattle.std.proofs.Common.{◌≡◌, ◌+◌, ◌<◌, ℕ, Bool, List, [], ◌∷◌, ◌++◌, IsTrue, length, drop, map, get_or, refl, sym, ap, subst, ◌∙◌, append_assoc}
+use Rattle.std.proofs.Common.{◌≡◌, ◌+◌, ℕ, Bool, List, [], ◌∷◌, ◌++◌, IsTrue, drop, slice_get, Some, refl, sym, ap, subst, ◌∙◌, append_assoc}
 use Rattle.std.proofs.lemmas.List.{append-nil, drop_more}
+use Rattle.std.proofs.lemmas.Option.{get_or_from_slice_get, slice_get_within}
 use Rattle.std.specs.List.{flat_map}
 use Rattle.cm_io.specs.declared.sink.Put.TheVariants.{Done, Failed}
 use Rattle.ex_image.specs.Record.{Entry, record_text}
@@ -47,15 +48,13 @@ leaves_part tells before now later rest piece more whole left splits put =
     (appends_early tells before later (left.written ++ piece) more
     (appends_both tells before now later left.written piece Failed left.appended put))
 
--- the records of these parts, from one on, begin with its own
-pub record_here : {A : Type 0} (entry : A → Entry × List ℕ) (parts : List A) (i : ℕ) (part : A)
-    → i < length parts → part ≡ get_or parts i part
-    → flat_map record_text (map entry (drop i parts))
-    ≡ record_text (entry part) ++ flat_map record_text (map entry (drop (i + 1) parts))
-record_here {A} entry parts i part within is =
-    subst (λ (first : A). flat_map record_text (map entry (drop i parts))
-    ≡ record_text (entry first) ++ flat_map record_text (map entry (drop (i + 1) parts))) (sym is)
-    (ap (λ (rest : List A). flat_map record_text (map entry rest)) (drop_more parts i part within))
+-- the texts of these records, from one on, begin with its own
+pub record_here : (records : List (Entry × List ℕ)) (i : ℕ) (here : Entry × List ℕ) → slice_get records i ≡ Some here
+    → flat_map record_text (drop i records) ≡ record_text here ++ flat_map record_text (drop (i + 1) records)
+record_here records i here is =
+    ap (flat_map record_text)
+    (drop_more records i here (slice_get_within records i here is)
+    ∙ ap (λ first. first ∷ drop (i + 1) records) (get_or_from_slice_get records i here here is))
 
 -- behind its line, the bytes of a file and a line feed
 pub file_joined : (line text held bytes : List ℕ) → line ≡ text ++ 10 ∷ [] → held ≡ bytes

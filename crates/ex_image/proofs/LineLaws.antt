@@ -29,17 +29,17 @@ pub directory_takes : (bytes : List ℕ) (entry : Entry) → directory_line byte
 unfolding directory_line
 directory_takes bytes entry is =
     by_part _ _ _ _ directory_spelling 32 Form bytes _ entry _ is λ name rest one named is.
-    by_rest _ _ _ _ number_spelling rest _ entry _ is λ keep two short is.
-    line_end (codes "D") bytes (Directory name keep) entry is (rw (one, two) refl, and_from _ _ named short)
+    by_rest _ _ _ _ number_spelling rest _ entry _ is λ retention two short is.
+    line_end (codes "D") bytes (Directory name retention) entry is (rw (one, two) refl, and_from _ _ named short)
 
-pub directory_again : (name : List ℕ) (keep : ℕ) → is_shaped (Directory name keep) ≡ true
-    → directory_line (name ++ 32 ∷ decimal keep) ≡ Ok (Directory name keep)
+pub directory_again : (name : List ℕ) (retention : ℕ) → is_shaped (Directory name retention) ≡ true
+    → directory_line (name ++ 32 ∷ decimal retention) ≡ Ok (Directory name retention)
 unfolding directory_line
-directory_again name keep shape =
-    let both = and_parts (is_directory_name name) (is_short keep) shape in
+directory_again name retention shape =
+    let both = and_parts (is_directory_name name) (is_short retention) shape in
     rw (
-      part_again _ _ _ _ directory_spelling 32 Form refl name (decimal keep) both.0,
-      number_spelling.again keep both.1,
+      part_again _ _ _ _ directory_spelling 32 Form refl name (decimal retention) both.0,
+      number_spelling.again retention both.1,
     ) refl
 
 pub connected_takes : (bytes : List ℕ) (entry : Entry) → connected_line bytes ≡ Ok entry

@@ -92,11 +92,11 @@ record_size line content most short few = omega (arith, length-append line (10 �
 
 line_size : (entry : Entry) → is_shaped entry ≡ true → length (line_text entry) ≤ 398
 line_size Head shape = omega arith
-line_size (Directory name keep) shape =
-    let both = and_parts (is_directory_name name) (is_short keep) shape in
+line_size (Directory name retention) shape =
+    let both = and_parts (is_directory_name name) (is_short retention) shape in
     let one = directory_size name both.0 in
-    let two = number_size keep both.1 in
-    let joined = joined_size 32 (codes "D" ∷ name ∷ decimal keep ∷ []) in
+    let two = number_size retention both.1 in
+    let joined = joined_size 32 (codes "D" ∷ name ∷ decimal retention ∷ []) in
     omega arith
 line_size (Connected name) shape =
     let one = directory_size name shape in
@@ -137,7 +137,7 @@ line_size End shape = omega arith
 content_size : (entry : Entry) (bytes : List ℕ) → length (content_text entry bytes) ≤ length bytes + 1
 content_size (File row size) bytes = omega (arith, length-append bytes (10 ∷ []))
 content_size Head bytes = omega arith
-content_size (Directory name keep) bytes = omega arith
+content_size (Directory name retention) bytes = omega arith
 content_size (Connected name) bytes = omega arith
 content_size (Logical name directory) bytes = omega arith
 content_size (Request entry) bytes = omega arith

@@ -5,15 +5,8 @@ use Rattle.std.specs.List.{list_all}
 use Rattle.ex_store.specs.declared.directory.Directory.{Directory}
 use Rattle.ex_store.specs.declared.limits.TheConstants.{FORMS}
 use Rattle.ex_store.specs.declared.queue.QueueEntry.{QueueEntry}
-use Rattle.ex_store.specs.declared.parts.Parts.{Parts}
-use Rattle.ex_store.specs.Lent.{state_of}
 use Rattle.ex_store.specs.State.{State}
 use Rattle.ex_store.specs.WellFormed.{IsWellFormed, is_entry_among}
-
--- a test that holds of any holds of all
-pub all_hold : {A : Type 0} (parts : List A) → list_all (λ part. true) parts ≡ true
-all_hold [] = refl
-all_hold (part ∷ more) = all_hold more
 
 first_holds : (first second : Bool) → (first && second) ≡ true → first ≡ true
 first_holds first second both = (and_parts first second both).0
@@ -32,9 +25,9 @@ forms_there directories [] within = refl
 forms_there directories (entry ∷ more) within =
     and_from _ _ (form_of directories entry (first_holds _ _ within)) (forms_there directories more (second_holds _ _ within))
 
--- and so are those of a store
-pub forms_of_parts : (parts : Parts) (state : State) → state_of parts ≡ state → IsWellFormed state
-    → list_all (λ entry. nat_lt entry.form FORMS) parts.queue.now ≡ true
-forms_of_parts parts state is formed =
+-- and so are those of a state
+pub forms_of_state : (parts state : State) → parts ≡ state → IsWellFormed state
+    → list_all (λ entry. nat_lt entry.form FORMS) parts.queue ≡ true
+forms_of_state parts state is formed =
     subst (λ (state : State). list_all (λ entry. nat_lt entry.form FORMS) state.queue ≡ true) (sym is)
     (forms_there state.directories state.queue formed.draft.queue_within)

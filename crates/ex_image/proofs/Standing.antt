@@ -58,8 +58,8 @@ pub stands_more : (last : Tag) (state : State) (entry : Entry) (bytes : List ℕ
     → may_follow last (tag_of entry) ≡ true → is_there state entry ≡ true
     → Stands (tag_of entry) (with_entry state entry bytes)
 stands_more tags.Start state Head bytes stands place there = stands
-stands_more tags.Head state (Directory name keep) bytes stands place there = (stands.1, stands.2, stands.3)
-stands_more tags.Directory state (Directory name keep) bytes stands place there = stands
+stands_more tags.Head state (Directory name retention) bytes stands place there = (stands.1, stands.2, stands.3)
+stands_more tags.Directory state (Directory name retention) bytes stands place there = stands
 stands_more tags.Directory state (Connected name) bytes stands place there = (stands.0, stands.1, stands.2, there)
 stands_more tags.Connected state (Logical name directory) bytes stands place there = (stands.1, stands.2, stands.3)
 stands_more tags.Connected state (File row size) bytes stands place there = (stands.2, stands.3)

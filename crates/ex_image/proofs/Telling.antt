@@ -57,7 +57,7 @@ named_there name (directory ∷ all) there within =
     by true means there later =
         let first = (and_parts (is_directory directory) (list_all is_directory all) within).0 in
         subst (λ name. is_directory_name name ≡ true) (means refl)
-        (and_parts (is_directory_name directory.name) (nat_le directory.keep RETENTION_LIMIT) first).0
+        (and_parts (is_directory_name directory.name) (nat_le directory.retention RETENTION_LIMIT) first).0
     by false means there later = later there
 
 -- the directories
@@ -69,10 +69,10 @@ directory_stands : (state : State) → IsDraft state → (last : Tag) (before : 
     → state.directories ≡ before ++ directory ∷ more → may_follow last tags.Directory ≡ true
     → MayStand (at_directories last before) (directory_record directory)
 directory_stands state draft last before directory more same place =
-    let is = and_parts (is_directory_name directory.name) (nat_le directory.keep RETENTION_LIMIT)
+    let is = and_parts (is_directory_name directory.name) (nat_le directory.retention RETENTION_LIMIT)
     (all_there is_directory state.directories before directory more same draft.directories_within) in
     record {
-      shape = and_from _ _ is.0 (short_of directory.keep RETENTION_LIMIT is.1 (omega arith));
+      shape = and_from _ _ is.0 (short_of directory.retention RETENTION_LIMIT is.1 (omega arith));
       place = place;
       content = refl;
       faultless = faultless_is (record empty_state { directories = before }) (directory_record directory).0 (record {

@@ -62,11 +62,11 @@ head_written : (state : State) (bytes : List ℕ) → state.directories ≡ [] �
     → front state ≡ (Head, bytes) ∷ []
 head_written state bytes none content = rw (none, content) refl
 
-directory_written : (state : State) (name : List ℕ) (keep : ℕ) (bytes : List ℕ) → bytes ≡ []
-    → front (with_entry state (Directory name keep) bytes) ≡ front state ++ (Directory name keep, bytes) ∷ []
-directory_written state name keep bytes content =
+directory_written : (state : State) (name : List ℕ) (retention : ℕ) (bytes : List ℕ) → bytes ≡ []
+    → front (with_entry state (Directory name retention) bytes) ≡ front state ++ (Directory name retention, bytes) ∷ []
+directory_written state name retention bytes content =
     rw content
-    (ap (λ xs. (Head, []) ∷ xs) (map_more directory_record state.directories (record { name = name; keep = keep })))
+    (ap (λ xs. (Head, []) ∷ xs) (map_more directory_record state.directories (record { name = name; retention = retention })))
 
 connected_written : (state : State) (name bytes : List ℕ) → state.logical ≡ [] → state.rows ≡ [] → state.queue ≡ []
     → bytes ≡ [] → body (record state { connected = name }) ≡ front state ++ (Connected name, bytes) ∷ []
@@ -112,10 +112,10 @@ written_more : (last : Tag) (state : State) (entry : Entry) (bytes : List ℕ) �
     → may_follow last (tag_of entry) ≡ true → is_shaped entry ≡ true → HasContent entry bytes
     → written (tag_of entry) (with_entry state entry bytes) ≡ written last state ++ (entry, bytes) ∷ []
 written_more tags.Start state Head bytes stands place shape content = head_written state bytes stands.0 content
-written_more tags.Head state (Directory name keep) bytes stands place shape content =
-    directory_written state name keep bytes content
-written_more tags.Directory state (Directory name keep) bytes stands place shape content =
-    directory_written state name keep bytes content
+written_more tags.Head state (Directory name retention) bytes stands place shape content =
+    directory_written state name retention bytes content
+written_more tags.Directory state (Directory name retention) bytes stands place shape content =
+    directory_written state name retention bytes content
 written_more tags.Directory state (Connected name) bytes stands place shape content =
     connected_written state name bytes stands.0 stands.1 stands.2 content
 written_more tags.Connected state (Logical name directory) bytes stands place shape content =

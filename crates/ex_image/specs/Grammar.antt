@@ -22,7 +22,7 @@ is_short_day (Some day) = int_le (pos 0) day && int_lt day (pos (10 ^ 10))
 -- the names, numbers and words are of their forms
 abbrev pub is_shaped : Entry → Bool
 is_shaped Head = true
-is_shaped (Directory name keep) = is_directory_name name && is_short keep
+is_shaped (Directory name retention) = is_directory_name name && is_short retention
 is_shaped (Connected name) = is_directory_name name
 is_shaped (Logical name directory) = is_logical name && is_directory_name directory
 is_shaped (File row size) =
@@ -37,7 +37,7 @@ is_shaped End = true
 -- only a file has bytes behind its line: as many as the line says
 abbrev pub HasContent : Entry → List ℕ → Type 0
 HasContent Head bytes = bytes ≡ []
-HasContent (Directory name keep) bytes = bytes ≡ []
+HasContent (Directory name retention) bytes = bytes ≡ []
 HasContent (Connected name) bytes = bytes ≡ []
 HasContent (Logical name directory) bytes = bytes ≡ []
 HasContent (File row size) bytes = length bytes ≡ size

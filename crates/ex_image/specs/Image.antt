@@ -14,7 +14,7 @@ use Rattle.ex_image.specs.Record.{Entry, Head, Directory, Connected, Logical, Fi
 
 -- a record and the bytes behind its line
 abbrev pub directory_record : directories.Directory → Entry × List ℕ
-directory_record directory = (Directory directory.name directory.keep, [])
+directory_record directory = (Directory directory.name directory.retention, [])
 
 abbrev pub logical_record : Definition → Entry × List ℕ
 logical_record entry = (Logical entry.name entry.directory, [])

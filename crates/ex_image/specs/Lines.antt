@@ -10,8 +10,8 @@ use Rattle.ex_image.specs.Record.{Entry, Head, Directory, Connected, Logical, Fi
 unfoldable pub directory_line : List ℕ → Result Entry Kind
 directory_line bytes = do
   name ← field_at directory_of bytes
-  keep ← number_of name.1
-  Ok (Directory name.0 keep)
+  retention ← number_of name.1
+  Ok (Directory name.0 retention)
 
 -- the connected directory
 unfoldable pub connected_line : List ℕ → Result Entry Kind

@@ -29,7 +29,7 @@ start = record { last = tags.Start; state = empty_state }
 
 abbrev pub tag_of : Entry → Tag
 tag_of Head = tags.Head
-tag_of (Directory name keep) = tags.Directory
+tag_of (Directory name retention) = tags.Directory
 tag_of (Connected name) = tags.Connected
 tag_of (Logical name directory) = tags.Logical
 tag_of (File row size) = tags.File
@@ -61,7 +61,7 @@ may_follow last next = false
 -- the numbers are in their ranges
 abbrev pub is_in_range : Entry → Bool
 is_in_range Head = true
-is_in_range (Directory name keep) = nat_le keep RETENTION_LIMIT
+is_in_range (Directory name retention) = nat_le retention RETENTION_LIMIT
 is_in_range (Connected name) = true
 is_in_range (Logical name directory) = true
 is_in_range (File row size) =
@@ -74,7 +74,7 @@ is_in_range End = true
 -- the directory that is named is there
 abbrev pub is_there : State → Entry → Bool
 is_there state Head = true
-is_there state (Directory name keep) = true
+is_there state (Directory name retention) = true
 is_there state (Connected name) = has_directory name state.directories
 is_there state (Logical name directory) = has_directory directory state.directories
 is_there state (File row size) = has_directory row.key.directory state.directories
@@ -90,8 +90,9 @@ stands_above compare (y ∷ z ∷ more) x = stands_above compare (z ∷ more) x
 -- it stands above the one of its kind before it
 abbrev pub is_above : State → Entry → Bool
 is_above state Head = true
-is_above state (Directory name keep) =
-    stands_above (on (λ directory. directory.name) by_bytes) state.directories (record { name = name; keep = keep })
+is_above state (Directory name retention) =
+    stands_above (on (λ directory. directory.name) by_bytes) state.directories
+    (record { name = name; retention = retention })
 is_above state (Connected name) = true
 is_above state (Logical name directory) =
     stands_above (on (λ entry. entry.name) by_bytes) state.logical (record { name = name; directory = directory })
@@ -102,7 +103,7 @@ is_above state End = true
 -- there is room for one more of its kind, and for the bytes of a file
 abbrev pub has_room : State → Entry → Bool
 has_room state Head = true
-has_room state (Directory name keep) = nat_lt (length state.directories) DIRECTORY_LIMIT
+has_room state (Directory name retention) = nat_lt (length state.directories) DIRECTORY_LIMIT
 has_room state (Connected name) = true
 has_room state (Logical name directory) = nat_lt (length state.logical) LOGICAL_LIMIT
 has_room state (File row size) = nat_lt (length state.rows) ROW_LIMIT && nat_le (total state.rows + size) STORE_LIMIT
@@ -120,7 +121,7 @@ fault_of state entry =
 -- the state with what a record says, and the bytes behind its line
 abbrev pub with_entry : State → Entry → List ℕ → State
 with_entry state Head bytes = state
-with_entry state (Directory name keep) bytes = and_directory (record { name = name; keep = keep }) state
+with_entry state (Directory name retention) bytes = and_directory (record { name = name; retention = retention }) state
 with_entry state (Connected name) bytes = record state { connected = name }
 with_entry state (Logical name directory) bytes = and_logical (record { name = name; directory = directory }) state
 with_entry state (File row size) bytes = and_row (record row { file = record row.file { bytes = bytes } }) state
@@ -148,7 +149,7 @@ standing last line = entry_of line >>= λ entry. formed (λ entry. may_follow la
 -- the bytes behind a line, and what follows
 abbrev pub behind : Entry → List ℕ → Result (List ℕ × List ℕ) Kind
 behind Head bytes = Ok ([], bytes)
-behind (Directory name keep) bytes = Ok ([], bytes)
+behind (Directory name retention) bytes = Ok ([], bytes)
 behind (Connected name) bytes = Ok ([], bytes)
 behind (Logical name directory) bytes = Ok ([], bytes)
 behind (File row size) bytes = content_at size bytes

@@ -40,7 +40,7 @@ after_text (Some day) = signed_decimal day
 -- the line of a record, without the line feed that ends it
 abbrev pub line_text : Entry → List ℕ
 line_text Head = codes "EXEC20 1"
-line_text (Directory name keep) = fields (codes "D" ∷ name ∷ decimal keep ∷ [])
+line_text (Directory name retention) = fields (codes "D" ∷ name ∷ decimal retention ∷ [])
 line_text (Connected name) = fields (codes "C" ∷ name ∷ [])
 line_text (Logical name directory) = fields (codes "L" ∷ name ∷ directory ∷ [])
 line_text (File row size) =

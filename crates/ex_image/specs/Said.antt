@@ -39,7 +39,7 @@ request_said it =
 
 abbrev pub entry_said : entries.Entry → Entry
 entry_said entry.Head = Head
-entry_said (entry.Directory name keep) = Directory name.now keep
+entry_said (entry.Directory name retention) = Directory name.now retention
 entry_said (entry.Connected name) = Connected name.now
 entry_said (entry.Logical name directory) = Logical name.now directory.now
 entry_said (entry.File it) = File (row_said it) it.size

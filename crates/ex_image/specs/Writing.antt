@@ -13,8 +13,8 @@ pub record Outside : Type 0 where
   pub creates : ℕ
   pub faults : ℕ
 
--- the file stays open, the bytes are appended to it, or a prefix of them where that fails, all other files are as before,
--- and nothing is loaded or created; what files hold is said of a host that tells it
+-- the file stays open, the bytes are appended to it, or a prefix of them where that fails, all other files are as
+-- before, and nothing is loaded or created; what files hold is said of a host that tells it
 pub record Appends (tells : Bool) (before now : Outside) (bytes : List ℕ) (result : Put) : Type 0 where
   pub stays_open : IsTrue now.is_open
   pub target : IsTrue tells → now.target ≡ before.target

@@ -78,7 +78,7 @@ pub(crate) fn add(
 {
     match entry {
         Entry::Head => Ok(()),
-        Entry::Directory { name, keep } => draft.directory(name, *keep as u8),
+        Entry::Directory { name, retention } => draft.directory(name, *retention as u8),
         Entry::Connected { name } => {
             draft.connect(name);
             Ok(())

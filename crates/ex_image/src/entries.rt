@@ -42,8 +42,8 @@ fn directory_line(bytes: &[u8]) -> Result<Entry<'_>, Kind>
 {
     let (name, rest) = field(bytes)?;
     let name = directory_of(name)?;
-    let keep = number_of(rest)?;
-    Ok(Entry::Directory { name, keep })
+    let retention = number_of(rest)?;
+    Ok(Entry::Directory { name, retention })
 }
 
 #[tactic(auto, unfolding(crate::specs::Lines::connected_line))]

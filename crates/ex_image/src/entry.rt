@@ -41,7 +41,7 @@ pub(crate) enum Entry<'a> {
     /// An image begins.
     Head,
     /// A directory, and how many generations it keeps.
-    Directory { name: &'a str, keep: u64 },
+    Directory { name: &'a str, retention: u64 },
     /// The connected directory.
     Connected { name: &'a str },
     /// A logical name and its directory.

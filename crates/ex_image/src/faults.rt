@@ -4,17 +4,16 @@ ghost use Rattle.std.specs.Ordering.{is_lt, on};
 ghost use Rattle.cm_files.specs.Catalogue.{by_bytes};
 ghost use Rattle.ex_image.specs.Reading.{fault_of, has_room, is_above, is_in_range, is_there, stands_above};
 ghost use Rattle.ex_image.specs.Said.{entry_said, row_said};
-ghost use Rattle.ex_store.specs.Lent.{state_of};
+ghost use Rattle.ex_store.specs.Lent.{row_of_view};
 ghost use Rattle.ex_store.specs.Rows.{by_row, total};
-ghost use Rattle.ex_store.specs.State.{has_directory};
 ghost use Rattle.ex_store.specs.WellFormed.{is_day, is_numbered};
 
 use crate::Kind;
 use crate::entry::{Entry, FileEntry, RequestEntry};
 use ex_generations::{FILE_LIMIT, GENERATION_LIMIT};
 use ex_store::{
-    AFTER_LIMIT, COPIES_LIMIT, DIRECTORY_LIMIT, Definition, Directory, LOGICAL_LIMIT, MOMENT_LIMIT,
-    Parts, QUEUE_LIMIT, RETENTION_LIMIT, ROW_LIMIT, Row, STORE_LIMIT,
+    AFTER_LIMIT, COPIES_LIMIT, DIRECTORY_LIMIT, LOGICAL_LIMIT, MOMENT_LIMIT, Parts, QUEUE_LIMIT,
+    RETENTION_LIMIT, ROW_LIMIT, RowView, STORE_LIMIT,
 };
 
 fn is_numbered(generation: u64) -> bool
@@ -53,7 +52,7 @@ fn is_in_range(entry: &Entry<'_>) -> bool
 {
     match entry {
         Entry::Head => true,
-        Entry::Directory { keep, .. } => *keep <= u64::from(RETENTION_LIMIT),
+        Entry::Directory { retention, .. } => *retention <= u64::from(RETENTION_LIMIT),
         Entry::Connected { .. } => true,
         Entry::Logical { .. } => true,
         Entry::File(it) => is_file_in_range(it),
@@ -62,87 +61,81 @@ fn is_in_range(entry: &Entry<'_>) -> bool
     }
 }
 
-// Whether there is a directory of this name.
-fn has_directory(directories: &[Directory], name: &str) -> bool
-    ensures { result ≡ has_directory name.now directories.now }
-{
-    directories
-        .iter()
-        .any(|directory| directory.name.as_bytes() == name.as_bytes())
-}
-
 // Whether the directory that is named is there.
 fn is_there(parts: &Parts<'_>, entry: &Entry<'_>) -> bool
-    ensures { result ≡ is_there (state_of parts.now) (entry_said entry.now) }
+    ensures { result ≡ is_there parts.now (entry_said entry.now) }
 {
     match entry {
         Entry::Head => true,
         Entry::Directory { .. } => true,
-        Entry::Connected { name } => has_directory(parts.directories, name),
-        Entry::Logical { directory, .. } => has_directory(parts.directories, directory),
-        Entry::File(it) => has_directory(parts.directories, it.file.directory),
-        Entry::Request(it) => has_directory(parts.directories, it.file.directory),
+        Entry::Connected { name } => parts.has_directory(name),
+        Entry::Logical { directory, .. } => parts.has_directory(directory),
+        Entry::File(it) => parts.has_directory(it.file.directory),
+        Entry::Request(it) => parts.has_directory(it.file.directory),
         Entry::End => true,
     }
 }
 
 // Whether a name stands above the last directory.
-fn is_directory_above(directories: &[Directory], name: &str) -> bool
-    ensures { (keep : ℕ) → result ≡ stands_above (on (λ directory. directory.name) by_bytes) directories.now
-        (record { name = name.now; keep = keep }) }
+fn is_directory_above(parts: &Parts<'_>, name: &str) -> bool
+    ensures { (retention : ℕ)
+        → result ≡ stands_above (on (λ directory. directory.name) by_bytes) parts.now.directories
+        (record { name = name.now; retention = retention }) }
 {
-    match directories {
-        [.., last] => last.name.as_bytes().cmp(name.as_bytes()).is_lt(),
-        [] => true,
+    match parts.directories().checked_sub(1) {
+        Some(last) => {
+            let last = parts.directory(last);
+            last.name.as_bytes().cmp(name.as_bytes()).is_lt()
+        }
+        None => true,
     }
 }
 
 // Whether a name stands above the last logical name.
-fn is_logical_above(logical: &[Definition], name: &str) -> bool
-    ensures { (directory : List ℕ) → result ≡ stands_above (on (λ entry. entry.name) by_bytes) logical.now
+fn is_logical_above(parts: &Parts<'_>, name: &str) -> bool
+    ensures { (directory : List ℕ) → result ≡ stands_above (on (λ entry. entry.name) by_bytes) parts.now.logical
         (record { name = name.now; directory = directory }) }
 {
-    match logical {
-        [.., last] => last.name.as_bytes().cmp(name.as_bytes()).is_lt(),
-        [] => true,
+    match parts.logicals().checked_sub(1) {
+        Some(last) => {
+            let last = parts.logical(last);
+            last.name.as_bytes().cmp(name.as_bytes()).is_lt()
+        }
+        None => true,
     }
 }
 
 // Whether a row stands below a file.
-fn is_below(row: &Row, it: &FileEntry<'_>) -> bool
-    ensures { result ≡ is_lt (by_row row.now (row_said it.now)) }
+fn is_below(row: RowView<'_>, it: &FileEntry<'_>) -> bool
+    ensures { result ≡ is_lt (by_row (row_of_view row.entry) (row_said it.now)) }
 {
-    let directory = row
-        .key
-        .directory
-        .as_bytes()
-        .cmp(it.file.directory.as_bytes());
-    let name = row.key.name.as_bytes().cmp(it.file.name.as_bytes());
-    let kind = row.key.kind.as_bytes().cmp(it.file.kind.as_bytes());
+    let directory = row.directory.as_bytes().cmp(it.file.directory.as_bytes());
+    let name = row.name.as_bytes().cmp(it.file.name.as_bytes());
+    let kind = row.kind.as_bytes().cmp(it.file.kind.as_bytes());
     let generation = u64::from(row.file.generation).cmp(&it.file.generation);
     directory.then(name.then(kind)).then(generation).is_lt()
 }
 
 // Whether a file stands above the last one.
-fn is_file_above(rows: &[Row], it: &FileEntry<'_>) -> bool
-    ensures { result ≡ stands_above by_row rows.now (row_said it.now) }
+fn is_file_above(parts: &Parts<'_>, it: &FileEntry<'_>) -> bool
+    ensures { result ≡ stands_above by_row parts.now.rows (row_said it.now) }
 {
-    match rows {
-        [.., last] => is_below(last, it),
-        [] => true,
+    match parts.rows().checked_sub(1) {
+        Some(last) => is_below(parts.row(last), it),
+        None => true,
     }
 }
 
 // Whether it stands above the one of its kind before it.
 fn is_above(parts: &Parts<'_>, entry: &Entry<'_>) -> bool
-    ensures { result ≡ is_above (state_of parts.now) (entry_said entry.now) }
+    ensures { result ≡ is_above parts.now (entry_said entry.now) }
 {
     match entry {
         Entry::Head => true,
-        Entry::Directory { name, .. } => is_directory_above(parts.directories, name),
+        Entry::Directory { name, .. } => is_directory_above(parts, name),
         Entry::Connected { .. } => true,
-        Entry::Logical { name, .. } => is_logical_above(parts.logical, name),
-        Entry::File(it) => is_file_above(parts.rows, it),
+        Entry::Logical { name, .. } => is_logical_above(parts, name),
+        Entry::File(it) => is_file_above(parts, it),
         Entry::Request(_) => true,
         Entry::End => true,
     }
@@ -150,19 +143,17 @@ fn is_above(parts: &Parts<'_>, entry: &Entry<'_>) -> bool
 
 // Whether there is room for one more of its kind, beside files of so many bytes.
 fn has_room(parts: &Parts<'_>, bytes: usize, entry: &Entry<'_>) -> bool
-    requires counted { bytes ≡ total parts.now.rows.now }
+    requires counted { bytes ≡ total parts.now.rows }
     requires within { bytes ≤ STORE_LIMIT }
-    ensures { result ≡ has_room (state_of parts.now) (entry_said entry.now) }
+    ensures { result ≡ has_room parts.now (entry_said entry.now) }
 {
     match entry {
         Entry::Head => true,
-        Entry::Directory { .. } => parts.directories.len() < DIRECTORY_LIMIT,
+        Entry::Directory { .. } => parts.directories() < DIRECTORY_LIMIT,
         Entry::Connected { .. } => true,
-        Entry::Logical { .. } => parts.logical.len() < LOGICAL_LIMIT,
-        Entry::File(it) => {
-            parts.rows.len() < ROW_LIMIT && it.size <= (STORE_LIMIT - bytes) as u64
-        }
-        Entry::Request(_) => parts.queue.len() < QUEUE_LIMIT,
+        Entry::Logical { .. } => parts.logicals() < LOGICAL_LIMIT,
+        Entry::File(it) => { parts.rows() < ROW_LIMIT && it.size <= (STORE_LIMIT - bytes) as u64 }
+        Entry::Request(_) => parts.queue().len() < QUEUE_LIMIT,
         Entry::End => true,
     }
 }
@@ -171,9 +162,9 @@ fn has_room(parts: &Parts<'_>, bytes: usize, entry: &Entry<'_>) -> bool
 /// so many bytes.
 #[tactic(auto, unfolding(crate::specs::Reading::fault_of))]
 pub(crate) fn fault_of(parts: &Parts<'_>, bytes: usize, entry: &Entry<'_>) -> Option<Kind>
-    requires counted { bytes ≡ total parts.now.rows.now }
+    requires counted { bytes ≡ total parts.now.rows }
     requires within { bytes ≤ STORE_LIMIT }
-    ensures { result ≡ fault_of (state_of parts.now) (entry_said entry.now) }
+    ensures { result ≡ fault_of parts.now (entry_said entry.now) }
 {
     if !is_in_range(entry) {
         return Some(Kind::Range);

@@ -1,11 +1,11 @@
 // A line of an image under way.
 ghost use Rattle.std.specs.Prelude.{◌≡◌, ◌+◌, ◌<◌, ◌≤◌, ℕ, List, [], ◌∷◌, ◌++◌, length};
 ghost use Rattle.std.specs.Fmt.{decimal, signed_decimal};
-ghost use Rattle.ex_image.specs.Record.{after_text, file_text};
+ghost use Rattle.std.specs.List.{join_with_byte};
+ghost use Rattle.ex_image.specs.Record.{after_text};
 
 use arrayvec::ArrayString;
-use cm_text::{DIGIT_LIMIT, NAME_LIMIT, decimal_digits};
-use ex_store::Key;
+use cm_text::{DIGIT_LIMIT, NAME_LIMIT, Name, decimal_digits};
 use std::marker::Model;
 
 // Room for the longest line, that of an entry of the print queue, with each of its fields as long as any may be.
@@ -108,14 +108,15 @@ impl Line {
     }
 
     /// Puts a space and the name, type and generation of a file behind the line.
-    pub(crate) fn file(&mut self, key: &Key, generation: u32)
+    pub(crate) fn file(&mut self, name: &Name, kind: &Name, generation: u32)
         requires { length self.old + FILE_FIELD_LIMIT ≤ LINE_ROOM }
-        ensures bytes { self.new ≡ self.old ++ 32 ∷ file_text (record { key = key.now; generation = generation }) }
+        ensures bytes { self.new
+            ≡ self.old ++ 32 ∷ join_with_byte 46 (name.now ∷ kind.now ∷ decimal generation ∷ []) }
         ensures len { length self.new ≤ length self.old + FILE_FIELD_LIMIT }
     {
-        self.field(key.name.as_str());
+        self.field(name.as_str());
         self.text.push('.');
-        self.push(key.kind.as_str());
+        self.push(kind.as_str());
         self.text.push('.');
         self.push_number(u64::from(generation));
     }

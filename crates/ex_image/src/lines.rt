@@ -3,6 +3,7 @@ ghost use Rattle.std.specs.Prelude.{◌≡◌, ◌+◌, ◌*◌, ◌<◌, ◌≤
 ghost use Rattle.std.specs.Fmt.{decimal};
 ghost use Rattle.ex_store.specs.declared.limits.TheConstants.{FORMS};
 ghost use Rattle.ex_store.specs.Forms.{form_text};
+ghost use Rattle.ex_store.specs.Lent.{definition_of_view, directory_of_view, row_of_view};
 ghost use Rattle.ex_image.specs.declared.line.TheConstants.{FIELD_LIMIT};
 ghost use Rattle.ex_image.specs.Image.{directory_record, file_record, logical_record, request_record};
 ghost use Rattle.ex_image.specs.Record.{fields, file_text, line_text, mark_text};
@@ -10,15 +11,15 @@ ghost use Rattle.ex_image.specs.Record as records;
 
 use crate::line::Line;
 use cm_text::Name;
-use ex_store::{Definition, Directory, QueueEntry, Row, form_text};
+use ex_store::{DefinitionView, DirectoryView, QueueEntry, RowView, form_text};
 
 /// The line of a directory.
-pub(crate) fn directory_line(directory: &Directory) -> Line
-    ensures { result ≡ line_text (directory_record directory.now).0 ++ 10 ∷ [] }
+pub(crate) fn directory_line(directory: DirectoryView<'_>) -> Line
+    ensures { result ≡ line_text (directory_record (directory_of_view directory.entry)).0 ++ 10 ∷ [] }
 {
     let mut line = Line::new("D");
     line.field(directory.name.as_str());
-    line.number(u64::from(directory.keep));
+    line.number(u64::from(directory.retention));
     line.end();
     line
 }
@@ -34,8 +35,8 @@ pub(crate) fn connected_line(name: &Name) -> Line
 }
 
 /// The line of a logical name.
-pub(crate) fn logical_line(entry: &Definition) -> Line
-    ensures { result ≡ line_text (logical_record entry.now).0 ++ 10 ∷ [] }
+pub(crate) fn logical_line(entry: DefinitionView<'_>) -> Line
+    ensures { result ≡ line_text (logical_record (definition_of_view entry.entry)).0 ++ 10 ∷ [] }
 {
     let mut line = Line::new("L");
     line.field(entry.name.as_str());
@@ -51,12 +52,12 @@ fn mark_text(deleted: bool) -> &'static str
 }
 
 /// The line of a file.
-pub(crate) fn file_line(row: &Row) -> Line
-    ensures { result ≡ line_text (file_record row.now).0 ++ 10 ∷ [] }
+pub(crate) fn file_line(row: RowView<'_>) -> Line
+    ensures { result ≡ line_text (file_record (row_of_view row.entry)).0 ++ 10 ∷ [] }
 {
     let mut line = Line::new("F");
-    line.field(row.key.directory.as_str());
-    line.file(&row.key, row.file.generation);
+    line.field(row.directory.as_str());
+    line.file(row.name, row.kind, row.file.generation);
     line.field(mark_text(row.file.deleted));
     line.number(row.file.moment);
     line.number(row.file.bytes.len() as u64);
@@ -73,7 +74,11 @@ fn printed_line(entry: &QueueEntry) -> Line
 {
     let mut line = Line::new("Q");
     line.field(entry.file.key.directory.as_str());
-    line.file(&entry.file.key, entry.file.generation);
+    line.file(
+        &entry.file.key.name,
+        &entry.file.key.kind,
+        entry.file.generation,
+    );
     line.number(u64::from(entry.copies));
     line.field(form_text(entry.form));
     line

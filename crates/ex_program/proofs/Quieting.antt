@@ -80,7 +80,7 @@ none_of (x ∷ xs) none = absurd (omega (arith, none))
 
 -- the EXEC has not ended where its mode is none of the end
 goes : (exec : ExecState) → is_ended (mode_of exec) ≡ false → exec.ended ≡ false
-goes exec going = sym (ended_by exec.ended exec.typing) ∙ going
+goes exec going = sym (ended_by exec.ended exec.typing exec.pending) ∙ going
 
 -- a run that went to its end, at as many keys as it takes, ended over them
 module _ (logging : Bool) (start : State) (moments taken rest : List ℕ) (left : ExecState) where
@@ -131,7 +131,8 @@ not_over : (logging : Bool) (start : State) (moments taken rest all more : List 
 not_over logging start moments taken rest all more left joined limit going keys leads count =
     not_over_by logging start moments taken rest left more limit
     (runs_on exec_meaning logging (exec_start start) moments taken rest
-    (ended_by (exec_left logging start moments taken).ended (exec_left logging start moments taken).typing ∙ going))
+    (ended_by (exec_left logging start moments taken).ended (exec_left logging start moments taken).typing
+    (exec_left logging start moments taken).pending ∙ going))
     (subst (λ (it : List ℕ). keys_of (exec_trace logging start moments it) ++ more ≡ it) (sym joined) keys)
     (subst (λ (it : List ℕ). left ≡ state_behind (exec_start start) (exec_trace logging start moments it)) (sym joined) leads)
     left.ended refl

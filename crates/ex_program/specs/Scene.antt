@@ -8,8 +8,8 @@ use Rattle.cm_run.specs.Cause.{Counts, counts}
 use Rattle.cm_run.specs.Observed.{Observed, observed}
 use Rattle.ex_exec.specs.ExecState.{ExecState}
 
--- the screen and the log; the keys that are left, and how often they were asked for; the moments to come; the counter; and
--- how often each has failed
+-- the screen and the log; the keys that are left, and how often they were asked for; the moments to come; the counter;
+-- and how often each has failed
 pub record Scene : Type 0 where
   pub screen : Told
   pub log : Told
@@ -19,7 +19,8 @@ pub record Scene : Type 0 where
   pub trials : ℕ
   pub faults : Counts
 
-abbrev pub scene : {S W K C : Type 0} → Sink.Ghosts S → S → Sink.Ghosts W → W → Source.Ghosts K → K → Clock.Ghosts C → C → ℕ → Scene
+abbrev pub scene : {S W K C : Type 0} → Sink.Ghosts S → S → Sink.Ghosts W → W → Source.Ghosts K → K
+    → Clock.Ghosts C → C → ℕ → Scene
 scene s screen w log k keys c clock trials = record {
   screen = s.told screen;
   log = w.told log;

@@ -29,10 +29,12 @@ pub record Refused (a b : Scene) (result : Status) : Type 0 where
 
 -- past it the run stopped so, and what was observed then is its trace, or a cut of it, as far as keys and clock tell;
 -- behind that nothing but the screen is touched, which shows how the run is closed
-pub record Ran (told : Type 0) (form : Form) (start : State) (left : ExecState) (a b : Scene) (result : Status) : Type 0 where
+pub record Ran (told : Type 0) (form : Form) (start : State) (left : ExecState) (a b : Scene) (result : Status)
+    : Type 0 where
   pub stop : Result Unit Stop
   pub at : Scene
-  pub traces : told → Traces (seen a (exec_start start)) (seen at left) (exec_trace form.logs start a.moments a.keys) stop
+  pub traces : told
+      → Traces (seen a (exec_start start)) (seen at left) (exec_trace form.logs start a.moments a.keys) stop
   pub count : told → KeyCount KEY_LIMIT (length a.keys) (length at.keys) left.ended stop
   pub cause : RunCause a.faults at.faults stop
   pub closes : Closes stop left.ended at.screen b.screen at.faults.screen b.faults.screen result

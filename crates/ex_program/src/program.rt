@@ -2,13 +2,14 @@
 ghost use Rattle.std.specs.Prelude.{◌≡◌, ◌⊎◌, ◌≤◌, ◌<◌, ◌↔◌, ◌+◌, ℕ, false, List, ◌++◌, length, None, Some, IsTrue};
 ghost use Rattle.cm_io.specs.Told.{add};
 ghost use Rattle.cm_hooks.specs.Ties.{Ties, count};
-ghost use Rattle.cm_blocks.specs.Grammar.{hook_count};
 ghost use Rattle.cm_run.specs.Cause.{counts};
 ghost use Rattle.cm_run.specs.Event.{log_bytes, trials_of};
+ghost use Rattle.cm_run.specs.Ready.{Serves};
+ghost use Rattle.tt_laws.specs.Keeping.{KeepsLine};
 ghost use Rattle.ex_grammar.specs.ExecRules.{exec_meanings};
-ghost use Rattle.ex_grammar.specs.Graph.{exec_graph};
 ghost use Rattle.ex_image.specs.Image.{image_text};
 ghost use Rattle.ex_store.specs.State.{State};
+ghost use Rattle.ex_exec.specs.Exec.{exec_meaning};
 ghost use Rattle.ex_exec.specs.ExecState.{exec_start};
 ghost use Rattle.ex_system.specs.Cause.{IsQuiet, StatusCause};
 ghost use Rattle.ex_system.specs.Disk.{disk_of};
@@ -47,9 +48,7 @@ fn run_exec<H: Host, K: Source, S: Sink, W: Sink, C: Clock, L: Ledger>(
     clock: &mut C,
     steps: &mut Steps<L>,
 ) -> Status
-    requires grammar { grammar.now ≡ exec_graph }
-    requires ties { Ties exec_meanings hooks.now }
-    requires hooks { hook_count grammar.now ≤ count hooks.now }
+    requires serves { Serves exec_meaning grammar.now exec_meanings hooks.now }
     requires start { exec.old ≡ exec_start exec.old.state }
     ensures ran { Ran (IsTrue K.tells × IsTrue C.tells) (form_view form.now) exec.old.state exec.new
         (scene S.Sink screen.old W.Sink log.old K.Source keys.old C.Clock clock.old steps.old)
@@ -61,6 +60,9 @@ fn run_exec<H: Host, K: Source, S: Sink, W: Sink, C: Clock, L: Ledger>(
     ensures unlogged { form.now.logs ≡ false
         → (W.told log.new ≡ W.told log.old) × (W.faults log.new ≡ W.faults log.old) }
     ensures past_the_prompt { IsRun result }
+    ensures on_screen { IsTrue K.tells → IsTrue C.tells → (taken rest : List ℕ)
+        → (taken ++ rest) ++ K.left keys.new ≡ K.left keys.old
+        → KeepsLine exec_meaning (exec_start exec.old.state) (C.left clock.old) taken }
 {
     let stop = run(
         KEY_LIMIT, form.logs, exec, grammar, hooks, keys, screen, log, clock, steps,
@@ -79,7 +81,7 @@ fn run_exec<H: Host, K: Source, S: Sink, W: Sink, C: Clock, L: Ledger>(
 ///
 /// `hooks` answer the EXEC's rules. `steps` counts the trials: a key costs those of its line behind the
 /// fields that the unchanged front of the line decides.
-#[tactic(auto, using(crate::proofs::Hooking::enough_hooks))]
+#[tactic(auto, using(crate::proofs::Hooking::serves_exec))]
 pub fn exec20<H: Host, K: Source, S: Sink, W: Sink, C: Clock, L: Ledger>(
     alloc: Global,
     words: &Words,
@@ -114,6 +116,13 @@ pub fn exec20<H: Host, K: Source, S: Sink, W: Sink, C: Clock, L: Ledger>(
         → (form : Form) → (start : State) → Asks (form_of words.now) (disk_of H.Host host.old) form start
         → H.files host.new form.out
         ≡ Some (image_text (exec_left form.logs start (C.left clock.old) (K.left keys.old)).state) }
+
+    // Behind each beginning of the keys taken the screen shows the prompt and the line as they then are, where the next
+    // key is for a line: all that the run over them shows leaves both on any screen whose last row was blank.
+    ensures on_screen { IsTrue K.tells → IsTrue C.tells → (form : Form) → (start : State)
+        → Asks (form_of words.now) (disk_of H.Host host.old) form start
+        → (taken rest : List ℕ) → (taken ++ rest) ++ K.left keys.new ≡ K.left keys.old
+        → KeepsLine exec_meaning (exec_start start) (C.left clock.old) taken }
 
     // What stands, whatever the status: before the first prompt the message alone is shown, IN is loaded once, if there
     // is one, and OUT is not created. Past it the trace of the run stands, or a cut of it, and then how it was closed;

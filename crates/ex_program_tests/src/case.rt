@@ -4,7 +4,8 @@
 // joined. The run is given `keys`, and `words` with commas between them. IN has the bytes `in`, or is not there where
 // these are `none`. The get with the number `get` fails, and the call of the host with the number `call`; screen, log
 // and file have so much room as `room`, `log-room` and `file-room` say. At the end `screen`, `log` and `out` are what
-// was put there, with `..` before what is but the end of it; `out` is `none` where no file was made, and `elsewhere`
+// was put there, with `..` before what is but the end of it, and behind it too where it is but a piece; `out` is
+// `none` where no file was made, and `elsewhere`
 // where its name is not OUT. `left` is what is left of the keys, `status` the status, and `acts` how many moments were
 // taken, where the `clock` does not stand.
 use crate::given::{Given, Outcome, outcome_of};
@@ -149,12 +150,25 @@ fn compare(alloc: Global, case: &str, name: &str, is: &[u8]) -> Result<(), Fail>
     Err(Fail::new(format_args!("{name} {:?} in the case {case}", is.as_str())))
 }
 
-// Whether bytes are those that are said, or end with what is said behind `..`.
+// Whether bytes are those that are said, or end with what is said behind `..`, or have it in them where `..` stands
+// behind it too.
 fn fits(bytes: &[u8], said: &str) -> bool {
     match said.strip_prefix("..") {
-        Some(end) => bytes.ends_with(end.as_bytes()),
+        Some(rest) => match rest.strip_suffix("..") {
+            Some(piece) => has_piece(bytes, piece.as_bytes()),
+            None => bytes.ends_with(rest.as_bytes()),
+        },
         None => bytes == said.as_bytes(),
     }
+}
+
+fn has_piece(bytes: &[u8], piece: &[u8]) -> bool {
+    for at in 0..bytes.len() {
+        if bytes[at..].starts_with(piece) {
+            return true;
+        }
+    }
+    false
 }
 
 fn input_of(outcome: &Outcome) -> &[u8] {

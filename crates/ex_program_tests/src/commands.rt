@@ -28,7 +28,7 @@ log ..{LF}3f 5 O 0.1k4@0-4{LF}
 
 keys DIR{ESC}{ESC}
 screen @DIRECTORY (OF FILES) *.*.* {EOL}
-log ..{LF}1b 27 O 0.1k7@0-9 23.0n1@10-20 24.0f@21-26{LF}";
+log ..{LF}1b 27 O 0.1k7@0-9 23.0n1@10-20 24.1f@21-26{LF}";
 
 #[test]
 fn parses_each_line_as_it_stands(rt: HostRuntime) -> Result<(), Fail> {

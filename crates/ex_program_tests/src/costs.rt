@@ -11,14 +11,15 @@ ghost use Rattle.ex_program.specs.Run.{exec_trace};
 
 // The counter takes no bytes, so that no run can show it. Whatever the files are:
 //
-// - A byte more of a file costs its own trial alone, 3 for two bytes that want more; keyword and guide word are kept.
+// - A byte more of a file costs its own trial alone, 5 for two bytes that want more and for the comma that may stand
+//   in their place; keyword and guide word are kept.
 // - The same afresh: besides, 2 for the end of the line, 5 for the keyword and 2 for the guide word.
 // - `DIR`, a blank and DEL: 4, 5 and 6 for the letters, 8 for the blank, which ends the keyword, and 6 for DEL, which
 //   opens it again.
 fn lines_cost_their_trials()
     ensures { (state : State)
-        → (cost (setting_of exec_meaning (exec_start state)) COMMANDS (codes "DIR A") (codes "DIR AB") ≡ 3)
-        × (cost (setting_of exec_meaning (exec_start state)) COMMANDS [] (codes "DIR AB") ≡ 12)
+        → (cost (setting_of exec_meaning (exec_start state)) COMMANDS (codes "DIR A") (codes "DIR AB") ≡ 5)
+        × (cost (setting_of exec_meaning (exec_start state)) COMMANDS [] (codes "DIR AB") ≡ 14)
         × (trials_of (exec_trace false state [] (codes "DIR " ++ 127 ∷ [])) ≡ 29) }
 {}
 

@@ -22,6 +22,10 @@ mod limit;
 #[cfg(test)]
 mod notation;
 #[cfg(test)]
+mod printing;
+#[cfg(test)]
+mod subcommands;
+#[cfg(test)]
 mod whole;
 #[cfg(test)]
 mod words;

@@ -1,5 +1,5 @@
-// Bytes as a case writes them: `{CR}` and the like are bytes by their names, `{5*A}` is a byte five times over, and
-// all else is itself.
+// Bytes as a case writes them: `{CR}` and the like are bytes by their names, `{5*A}` is a text five times over, and
+// `{5*~}` a rubout, and all else is itself.
 use std::alloc::AllocError;
 
 const NAMES: [(&str, &str); 17] = [
@@ -45,7 +45,7 @@ fn push_part(part: &str, said: &mut String) -> Result<(), AllocError> {
 
 fn push_times(count: u32, byte: &str, said: &mut String) -> Result<(), AllocError> {
     for _time in 0..count {
-        said.push_str(byte)?;
+        said.push_str(if byte == "~" { "\x08 \x08" } else { byte })?;
     }
     Ok(())
 }

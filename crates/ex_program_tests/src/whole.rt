@@ -241,7 +241,9 @@ screen @X ? Unrecognized keyword{EOL}@X {EOL}
 log ..{LF}3f 2 F1.0@0{LF}
 
 keys INF ?
-screen @INF ? guide word (ABOUT){EOL} or one of the following:{EOL}  VERSION{EOL}@INF {EOL}
+screen @INF ? guide word (ABOUT){EOL} or one of the following:{EOL}  DIRECTORY{EOL}  LOGICAL-NAMES{EOL}
+screen   OUTPUT-REQUESTS{EOL}
+screen   VERSION{EOL}@INF {EOL}
 log ..{LF}3f 4 O 0.1k9@0-3{LF}
 
 keys INF V?ER{CR}

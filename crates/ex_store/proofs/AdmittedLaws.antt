@@ -115,6 +115,10 @@ pub and_then_ok : {A B : Type 0} (next : A → Result B Code) (first : Result A 
 and_then_ok next (Ok made) value is = (made, refl, is)
 and_then_ok next (Err code) value is = absurd (cc)
 
+-- what comes of a plan is one thing
+pub ok_same : {A : Type 0} (plan : Result A Code) (made after : A) → plan ≡ Ok made → plan ≡ Ok after → made ≡ after
+ok_same plan made after first second = cc
+
 -- what is known of a number under which a row is admitted
 pub record IsAdmitted (key : Key) (size : ℕ) (rows : List Row) (number : ℕ) : Type 0 where
   pub free : IsFree (files_of key rows) number
@@ -131,13 +135,13 @@ admitted_is key generation size rows number counted is =
     }
 
 -- the rows with one that is admitted
-pub rows_added : (directories : List Directory) (keep : ℕ) (row : Row) (rows : List Row) → AreRows directories rows
+pub rows_added : (directories : List Directory) (retention : ℕ) (row : Row) (rows : List Row) → AreRows directories rows
     → IsAdmitted row.key (length row.file.bytes) rows row.file.generation → is_row_among directories row ≡ true
-    → AreRows directories (added keep row rows)
-rows_added directories keep row rows are is form =
+    → AreRows directories (added retention row rows)
+rows_added directories retention row rows are is form =
     record {
-      ascend = ascends_added keep row rows (absent_has row.key row.file.generation rows is.free.absent) are.ascend;
-      within = all_added (is_row_among directories) (λ other. refl) keep row rows form are.within;
-      few = rw (length_added keep row rows) is.roomy.few;
-      small = rw (total_added keep row rows) (let room = is.roomy.small in omega (arith, room));
+      ascend = ascends_added retention row rows (absent_has row.key row.file.generation rows is.free.absent) are.ascend;
+      within = all_added (is_row_among directories) (λ other. refl) retention row rows form are.within;
+      few = rw (length_added retention row rows) is.roomy.few;
+      small = rw (total_added retention row rows) (let room = is.roomy.small in omega (arith, room));
     }

@@ -1,11 +1,13 @@
 -- Files are copied one after the other: where the walk over the sources stands.
-use Rattle.std.proofs.Common.{◌≡◌, ◌||◌, ℕ, suc, ◌+◌, nat_le, Bool, true, false, cond, List, [], ◌∷◌, ◌++◌, length, map, Result, Ok, Err, Option, Some, None, refl, ap, arith, ◌∙◌, sym}
+use Rattle.std.proofs.Common.{◌≡◌, ◌||◌, ℕ, suc, ◌+◌, nat_le, Bool, true, false, not, cond, List, [], ◌∷◌, ◌++◌, length, map, Result, Ok, Err, Option, Some, None, refl, ap, arith, ◌∙◌, sym}
 use Rattle.std.proofs.lemmas.Bool.{and_from, and_parts}
 use Rattle.std.proofs.lemmas.Bool.Decides.{nat_tests}
 use Rattle.std.proofs.lemmas.List.Sums.{fold-append}
 use Rattle.cm_fields.specs.declared.code.Code.{Code}
 use Rattle.cm_fields.specs.declared.value.Gen.{Gen}
+use Rattle.cm_files.specs.Catalogue.{ascends}
 use Rattle.ex_generations.specs.declared.file.TheConstants.{FILE_LIMIT}
+use Rattle.ex_generations.specs.Generations.{has}
 use Rattle.ex_store.specs.declared.directory.Directory.{Directory}
 use Rattle.ex_store.specs.declared.key.Key.{Key}
 use Rattle.ex_store.specs.declared.key.NamePair.{NamePair}
@@ -17,39 +19,42 @@ use Rattle.ex_store.specs.declared.row.Row.{Row}
 use Rattle.ex_store.specs.Adding.{Outcome, admitted, and_then, each_in_turn, limited, new_row, numbered}
 use Rattle.ex_store.specs.Copying.{copied, is_star, key_from, moment_of, part_from}
 use Rattle.ex_store.specs.Plan.{IsTarget, may_be}
-use Rattle.ex_store.specs.Ready.{rows_after_all, rows_after}
-use Rattle.ex_store.specs.Rows.{added, blank, files_of, full_of, total}
+use Rattle.ex_store.specs.Ready.{are_doable, rows_after_all, rows_after}
+use Rattle.ex_store.specs.Rows.{added, blank, by_row, files_of, full_of, total}
 use Rattle.ex_store.specs.State.{has_directory}
 use Rattle.ex_store.specs.WellFormed.{AreRows, is_file_name, is_file_type, is_numbered, is_row_among}
-use Rattle.ex_store.proofs.AdmittedLaws.{admitted_is, counted_target, rows_added}
+use Rattle.ex_store.proofs.AdmittedLaws.{admitted_is, and_then_ok, counted_target, is_counted, limited_roomy, numbered_free, rows_added}
+use Rattle.ex_store.proofs.AscendsLaws.{ascends_map}
 use Rattle.ex_store.proofs.BlankLaws.{added_blank, numbered_blank}
+use Rattle.ex_store.proofs.DoableLaws.{doable_more}
 use Rattle.ex_store.proofs.TotalLaws.{total_added}
 
 -- what a plan has come to
 abbrev pub outcome_at : ℕ → List Row → List RowChange → List NamePair → Outcome
-outcome_at keep rows done pairs = record { rows = rows_after_all keep rows done; pairs = pairs }
+outcome_at retention rows done pairs = record { rows = rows_after_all retention rows done; pairs = pairs }
 
 -- a change more
-pub rows_after_more : (keep : ℕ) (rows : List Row) (done : List RowChange) (change : RowChange)
-    → rows_after_all keep rows (done ++ change ∷ []) ≡ rows_after keep (rows_after_all keep rows done) change
-rows_after_more keep rows done change = fold-append (rows_after keep) rows done (change ∷ [])
+pub rows_after_more : (retention : ℕ) (rows : List Row) (done : List RowChange) (change : RowChange)
+    → rows_after_all retention rows (done ++ change ∷ []) ≡ rows_after retention (rows_after_all retention rows done) change
+rows_after_more retention rows done change = fold-append (rows_after retention) rows done (change ∷ [])
 
 pub length_blank : (rows : List Row) → length (map blank rows) ≡ length rows
 length_blank [] = refl
 length_blank (row ∷ rows) = ap (λ n. suc n) (length_blank rows)
 
 -- the walk goes on from here as it goes from the start, and what has come of it are rows of a store
-pub record IsUnderWay (step : Row → Outcome → Result Outcome Code) (directories : List Directory) (keep : ℕ) (rows whole left : List Row)
+pub record IsUnderWay (step : Row → Outcome → Result Outcome Code) (directories : List Directory) (retention : ℕ) (rows whole left : List Row)
     (done : List RowChange) (pairs : List NamePair) (simulated : List Row) : Type 0 where
-  pub walk : each_in_turn step left (outcome_at keep rows done pairs)
+  pub walk : each_in_turn step left (outcome_at retention rows done pairs)
       ≡ each_in_turn step whole (record { rows = rows; pairs = [] })
-  pub sound : AreRows directories (rows_after_all keep rows done)
-  pub simulated_are : simulated ≡ map blank (rows_after_all keep rows done)
+  pub sound : AreRows directories (rows_after_all retention rows done)
+  pub doable : are_doable retention rows done ≡ true
+  pub simulated_are : simulated ≡ map blank (rows_after_all retention rows done)
 
-pub way_start : (step : Row → Outcome → Result Outcome Code) (directories : List Directory) (keep : ℕ) (rows whole : List Row)
+pub way_start : (step : Row → Outcome → Result Outcome Code) (directories : List Directory) (retention : ℕ) (rows whole : List Row)
     → AreRows directories rows
-    → IsUnderWay step directories keep rows whole whole [] [] (map blank rows)
-way_start step directories keep rows whole are = record { walk = refl; sound = are; simulated_are = refl }
+    → IsUnderWay step directories retention rows whole whole [] [] (map blank rows)
+way_start step directories retention rows whole are = record { walk = refl; sound = are; doable = refl; simulated_are = refl }
 
 -- the form of a name that a target gives
 name_from : (test : List ℕ → Bool) (part : Option (List ℕ)) (own : List ℕ) → may_be test part ≡ true → test own ≡ true
@@ -105,6 +110,20 @@ from_formed directories to source moment generation target is within number =
       short = parts.short;
     })
 
+-- rows without their bytes ascend as the rows do
+pub ascends_blank : (rows simulated : List Row) → simulated ≡ map blank rows → ascends by_row rows ≡ true
+    → ascends by_row simulated ≡ true
+ascends_blank rows simulated is ascend = rw is (ascends_map by_row by_row blank (λ row other. refl) rows ∙ ascend)
+
+-- a number that is admitted is one that none has
+pub admitted_new : (key : Key) (generation : Gen) (size bytes : ℕ) (rows : List Row) (number : ℕ) → is_counted generation ≡ true
+    → and_then (limited (length rows) bytes size) (numbered generation (files_of key rows)) ≡ Ok number
+    → has number (files_of key rows) ≡ false
+admitted_new key generation size bytes rows number counted is =
+    let parts = and_then_ok (limited (length rows) bytes size) (numbered generation (files_of key rows)) number is in
+    let room = limited_roomy (length rows) bytes size parts.0 number parts.2 in
+    (numbered_free generation (files_of key rows) number counted (parts.1 ∙ ap (λ n. Ok n) room.1)).absent
+
 -- what the code asks of the rows without their bytes is what is asked of the rows
 pub simulated_admitted : (key : Key) (generation : Gen) (size bytes : ℕ) (rows simulated : List Row) → simulated ≡ map blank rows
     → bytes ≡ total rows
@@ -113,51 +132,52 @@ simulated_admitted key generation size bytes rows simulated is all =
     rw (is, all, length_blank rows, numbered_blank generation key rows)
 
 -- the walk over the sources of a copy
-pub record IsCopying (directories : List Directory) (keep moment : ℕ) (to : Place) (rows whole left : List Row)
+pub record IsCopying (directories : List Directory) (retention moment : ℕ) (to : Place) (rows whole left : List Row)
     (done : List RowChange) (pairs : List NamePair) (simulated : List Row) (bytes : ℕ) : Type 0 where
-  pub on : IsUnderWay (copied keep moment to) directories keep rows whole left done pairs simulated
-  pub bytes_are : bytes ≡ total (rows_after_all keep rows done)
+  pub on : IsUnderWay (copied retention moment to) directories retention rows whole left done pairs simulated
+  pub bytes_are : bytes ≡ total (rows_after_all retention rows done)
 
-pub copies_refused : (directories : List Directory) (keep moment : ℕ) (to : Place) (rows whole more : List Row) (source : Row)
+pub copies_refused : (directories : List Directory) (retention moment : ℕ) (to : Place) (rows whole more : List Row) (source : Row)
     (done : List RowChange) (pairs : List NamePair) (simulated : List Row) (bytes : ℕ) (code : Code)
-    → IsCopying directories keep moment to rows whole (source ∷ more) done pairs simulated bytes
+    → IsCopying directories retention moment to rows whole (source ∷ more) done pairs simulated bytes
     → and_then (limited (length simulated) bytes (length source.file.bytes)) (numbered to.generation (files_of (key_from to source.key) simulated)) ≡ Err code
-    → each_in_turn (copied keep moment to) whole (record { rows = rows; pairs = [] }) ≡ Err code
-copies_refused directories keep moment to rows whole more source done pairs simulated bytes code is refused =
-    let asked = sym (simulated_admitted (key_from to source.key) to.generation (length source.file.bytes) bytes (rows_after_all keep rows done) simulated is.on.simulated_are is.bytes_are) ∙ refused in
+    → each_in_turn (copied retention moment to) whole (record { rows = rows; pairs = [] }) ≡ Err code
+copies_refused directories retention moment to rows whole more source done pairs simulated bytes code is refused =
+    let asked = sym (simulated_admitted (key_from to source.key) to.generation (length source.file.bytes) bytes (rows_after_all retention rows done) simulated is.on.simulated_are is.bytes_are) ∙ refused in
     sym is.on.walk ∙ rw asked refl
 
-pub copies_more : (directories : List Directory) (keep moment : ℕ) (to : Place) (rows whole more : List Row) (source : Row)
+pub copies_more : (directories : List Directory) (retention moment : ℕ) (to : Place) (rows whole more : List Row) (source : Row)
     (done : List RowChange) (pairs : List NamePair) (simulated : List Row) (bytes generation : ℕ)
     → IsTarget to directories → is_row_among directories source ≡ true
-    → IsCopying directories keep moment to rows whole (source ∷ more) done pairs simulated bytes
+    → IsCopying directories retention moment to rows whole (source ∷ more) done pairs simulated bytes
     → and_then (limited (length simulated) bytes (length source.file.bytes)) (numbered to.generation (files_of (key_from to source.key) simulated)) ≡ Ok generation
     → (let row = new_row (key_from to source.key) (moment_of moment) source.file.bytes generation in
-    IsCopying directories keep moment to rows whole more (done ++ changes.Add row ∷ [])
-    (pairs ++ (record { source = full_of source; target = full_of row }) ∷ []) (added keep (blank row) simulated)
+    IsCopying directories retention moment to rows whole more (done ++ changes.Add row ∷ [])
+    (pairs ++ (record { source = full_of source; target = full_of row }) ∷ []) (added retention (blank row) simulated)
     (bytes + length source.file.bytes))
-copies_more directories keep moment to rows whole more source done pairs simulated bytes generation target form is admits =
-    let so_far = rows_after_all keep rows done in
+copies_more directories retention moment to rows whole more source done pairs simulated bytes generation target form is admits =
+    let so_far = rows_after_all retention rows done in
     let key = key_from to source.key in
     let row = new_row key (moment_of moment) source.file.bytes generation in
     let asked : admitted key to.generation (length source.file.bytes) so_far ≡ Ok generation =
     sym (simulated_admitted key to.generation (length source.file.bytes) bytes so_far simulated is.on.simulated_are is.bytes_are) ∙ admits in
     let known = admitted_is key to.generation (length source.file.bytes) so_far generation (counted_target to.generation target.generation) asked in
-    let next : rows_after_all keep rows (done ++ changes.Add row ∷ []) ≡ added keep row so_far = rows_after_more keep rows done (changes.Add row) in
+    let next : rows_after_all retention rows (done ++ changes.Add row ∷ []) ≡ added retention row so_far = rows_after_more retention rows done (changes.Add row) in
     let shape = from_formed directories to source (moment_of moment) generation target form (moment_within moment) known.free.within in
     record {
       on = record {
         walk = rw next (step_on asked is.on.walk);
-        sound = rw next (rows_added directories keep row so_far is.on.sound known shape);
-        simulated_are = rw (next, is.on.simulated_are) (added_blank keep row so_far);
+        sound = rw next (rows_added directories retention row so_far is.on.sound known shape);
+        doable = doable_more retention rows done (changes.Add row) is.on.doable (ap not known.free.absent);
+        simulated_are = rw (next, is.on.simulated_are) (added_blank retention row so_far);
       };
-      bytes_are = rw (next, is.bytes_are) (sym (total_added keep row so_far ∙ omega arith));
+      bytes_are = rw (next, is.bytes_are) (sym (total_added retention row so_far ∙ omega arith));
     }
   where
-    step_on : admitted (key_from to source.key) to.generation (length source.file.bytes) (rows_after_all keep rows done) ≡ Ok generation
-        → each_in_turn (copied keep moment to) (source ∷ more) (outcome_at keep rows done pairs) ≡ each_in_turn (copied keep moment to) whole (record { rows = rows; pairs = [] })
-        → each_in_turn (copied keep moment to) more (record {
-          rows = added keep (new_row (key_from to source.key) (moment_of moment) source.file.bytes generation) (rows_after_all keep rows done);
+    step_on : admitted (key_from to source.key) to.generation (length source.file.bytes) (rows_after_all retention rows done) ≡ Ok generation
+        → each_in_turn (copied retention moment to) (source ∷ more) (outcome_at retention rows done pairs) ≡ each_in_turn (copied retention moment to) whole (record { rows = rows; pairs = [] })
+        → each_in_turn (copied retention moment to) more (record {
+          rows = added retention (new_row (key_from to source.key) (moment_of moment) source.file.bytes generation) (rows_after_all retention rows done);
           pairs = pairs ++ (record { source = full_of source; target = record { key = key_from to source.key; generation = generation } }) ∷ [];
-        }) ≡ each_in_turn (copied keep moment to) whole (record { rows = rows; pairs = [] })
+        }) ≡ each_in_turn (copied retention moment to) whole (record { rows = rows; pairs = [] })
     step_on asked walk = rw asked at walk

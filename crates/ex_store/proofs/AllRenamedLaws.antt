@@ -145,32 +145,32 @@ here_inserted full new (row ∷ rows) differs = by (is_lt (by_row row new)) (her
     by true rest = ap (λ (more : Option Row). cond (is_full full row) (Some row) more) rest
     by false rest = rw differs refl
 
-here_kept : (full : FullName) (keep : ℕ) (key : Key) (rows : List Row)
-    → option_map plain (row_at full (kept_newest keep key rows)) ≡ option_map plain (row_at full rows)
-here_kept full keep key [] = refl
-here_kept full keep key (row ∷ rows) =
-    by (is_of key row && nat_le keep (live (files_of key rows))) (is_full full row) refl (here_kept full keep key rows)
+here_kept : (full : FullName) (retention : ℕ) (key : Key) (rows : List Row)
+    → option_map plain (row_at full (kept_newest retention key rows)) ≡ option_map plain (row_at full rows)
+here_kept full retention key [] = refl
+here_kept full retention key (row ∷ rows) =
+    by (is_of key row && nat_le retention (live (files_of key rows))) (is_full full row) refl (here_kept full retention key rows)
   where
     by : (b found : Bool) → is_full full row ≡ found
-        → option_map plain (row_at full (kept_newest keep key rows)) ≡ option_map plain (row_at full rows)
-        → option_map plain (row_at full (cond b (with_mark true row) row ∷ kept_newest keep key rows))
+        → option_map plain (row_at full (kept_newest retention key rows)) ≡ option_map plain (row_at full rows)
+        → option_map plain (row_at full (cond b (with_mark true row) row ∷ kept_newest retention key rows))
         ≡ option_map plain (cond found (Some row) (row_at full rows))
     by true true is rest = rw is refl
     by true false is rest = rw is rest
     by false true is rest = rw is refl
     by false false is rest = rw is rest
 
-here_added : (full : FullName) (keep : ℕ) (new : Row) (rows : List Row) → is_full full new ≡ false
-    → option_map plain (row_at full (added keep new rows)) ≡ option_map plain (row_at full rows)
-here_added full keep new rows differs = by (keep == 0)
+here_added : (full : FullName) (retention : ℕ) (new : Row) (rows : List Row) → is_full full new ≡ false
+    → option_map plain (row_at full (added retention new rows)) ≡ option_map plain (row_at full rows)
+here_added full retention new rows differs = by (retention == 0)
   where
     inserted_there : option_map plain (row_at full (inserted new rows)) ≡ option_map plain (row_at full rows)
     inserted_there = ap (option_map plain) (here_inserted full new rows differs)
 
-    by : (b : Bool) → option_map plain (row_at full (cond b (inserted new rows) (kept_newest keep new.key (inserted new rows))))
+    by : (b : Bool) → option_map plain (row_at full (cond b (inserted new rows) (kept_newest retention new.key (inserted new rows))))
         ≡ option_map plain (row_at full rows)
     by true = inserted_there
-    by false = here_kept full keep new.key (inserted new rows) ∙ inserted_there
+    by false = here_kept full retention new.key (inserted new rows) ∙ inserted_there
 
 -- a name that no row has is none of one that is there
 fresh : (full : FullName) (new : Row) (rows : List Row) (row : Row) → is_absent (full_of new) rows ≡ true
@@ -198,18 +198,18 @@ some_of None row is = absurd (cc)
 some_of (Some found) row is = (found, refl, cc)
 
 -- where a row was taken out and added under a free name, the others are there still
-pub there_moved : (keep : ℕ) (source new : Row) (rows others : List Row) → is_absent (full_of new) (without (full_of source) rows) ≡ true
+pub there_moved : (retention : ℕ) (source new : Row) (rows others : List Row) → is_absent (full_of new) (without (full_of source) rows) ≡ true
     → list_all (λ other. not (is_full (full_of source) other)) others ≡ true → AreThere rows others
-    → AreThere (added keep new (without (full_of source) rows)) others
-there_moved keep source new rows [] absent distinct there = tt
-there_moved keep source new rows (other ∷ others) absent distinct there =
+    → AreThere (added retention new (without (full_of source) rows)) others
+there_moved retention source new rows [] absent distinct there = tt
+there_moved retention source new rows (other ∷ others) absent distinct there =
     let parts = and_parts _ _ distinct in
     let stays = here_without (full_of source) other rows (not-true _ parts.0) in
     let here : IsHere (without (full_of source) rows) other = ap (option_map plain) stays ∙ there.0 in
     let found = some_of _ other here in
     let differs = fresh (full_of other) new (without (full_of source) rows) found.0 absent found.1 in (
-      here_added (full_of other) keep new (without (full_of source) rows) differs ∙ here,
-      there_moved keep source new rows others absent parts.1 there.1,
+      here_added (full_of other) retention new (without (full_of source) rows) differs ∙ here,
+      there_moved retention source new rows others absent parts.1 there.1,
     )
 
 pub length_without : (full : FullName) (rows : List Row) (row : Row) → row_at full rows ≡ Some row
@@ -258,6 +258,10 @@ sorted_without full (row ∷ rows) sorted = by (is_full full row) (sorted_withou
     by true rest = (and_parts _ _ sorted).1
     by false rest = and_from _ _ (all_without _ full rows (and_parts _ _ sorted).0) rest
 
+pub ascends_without : (full : FullName) (rows : List Row) → ascends by_row rows ≡ true → ascends by_row (without full rows) ≡ true
+ascends_without full rows ascend =
+    ascends_sorted by_row (without full rows) (sorted_without full rows (sorted_ascends by_row by_row_total rows ascend))
+
 -- the rows without one of them are those of a store
 pub rows_without : (directories : List Directory) (full : FullName) (rows : List Row) (row : Row) → AreRows directories rows
     → row_at full rows ≡ Some row → AreRows directories (without full rows)
@@ -267,7 +271,7 @@ rows_without directories full rows row are is =
     let few = are.few in
     let small = are.small in
     record {
-      ascend = ascends_sorted by_row (without full rows) (sorted_without full rows (sorted_ascends by_row by_row_total rows are.ascend));
+      ascend = ascends_without full rows are.ascend;
       within = all_without (is_row_among directories) full rows are.within;
       few = omega (arith, count, few);
       small = omega (arith, bytes, small);

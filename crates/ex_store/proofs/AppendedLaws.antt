@@ -1,12 +1,13 @@
 -- Bytes are put behind those of a file: the rows stay those of a store, and what the plan comes to.
-use Rattle.std.proofs.Common.{◌≡◌, ◌≤◌, ◌+◌, ◌&&◌, nat_le, ℕ, suc, Bool, true, false, cond, List, [], ◌∷◌, ◌++◌, length, slice_get, unwrap_or, Ok, Option, Some, None, refl, ap, arith, ◌∙◌, subst}
+use Rattle.std.proofs.Common.{◌≡◌, ◌≤◌, ◌+◌, ◌&&◌, nat_le, ℕ, suc, Bool, true, false, not, cond, List, [], ◌∷◌, length, unwrap_or, Ok, Option, Some, None, refl, ap, arith, ◌∙◌, subst}
 use Rattle.std.specs.List.{list_all}
-use Rattle.std.specs.Option.{option_map_or, option_to_list}
+use Rattle.std.specs.Option.{option_map_or}
 use Rattle.std.specs.Ordering.{is_lt}
 use Rattle.std.proofs.lemmas.Bool.{and_from, and_parts, le-leb, leb-true, not-true}
 use Rattle.std.proofs.lemmas.List.{length-map}
 use Rattle.ex_generations.specs.declared.file.TheConstants.{FILE_LIMIT}
-use Rattle.ex_generations.specs.Generations.{rewritten}
+use Rattle.cm_files.specs.Catalogue.{ascends}
+use Rattle.ex_generations.specs.Generations.{has, rewritten}
 use Rattle.ex_store.specs.declared.append.Opening.{Opening}
 use Rattle.ex_store.specs.declared.directory.Directory.{Directory}
 use Rattle.ex_store.specs.declared.key.FullName.{FullName}
@@ -20,12 +21,13 @@ use Rattle.ex_store.specs.Appending.{appended, bytes_at, found, opened, opening_
 use Rattle.ex_store.specs.Copying.{moment_of, own_key}
 use Rattle.ex_store.specs.Plan.{IsOneFile, has_plain_kind, has_plain_name}
 use Rattle.ex_store.specs.Positions.{elements_at}
-use Rattle.ex_store.specs.Ready.{rows_after_all}
+use Rattle.ex_store.specs.Ready.{are_doable, rows_after_all}
 use Rattle.ex_store.specs.Rows.{added, by_row, files_of, filled, full_of, is_full, row_at, total}
 use Rattle.ex_store.specs.WellFormed.{AreRows, is_file_name, is_file_type, is_row_among}
 use Rattle.ex_store.proofs.AdmittedLaws.{admitted_is, and_then_ok, counted_file, rows_added}
 use Rattle.ex_store.proofs.AscendsLaws.{all_above, ascends_sorted, is_sorted, sorted_ascends}
 use Rattle.ex_store.proofs.AllCopiedLaws.{formed, formed_is, moment_within}
+use Rattle.ex_store.proofs.ElementsLaws.{length_elements}
 use Rattle.ex_store.proofs.PouredLaws.{poured_within}
 use Rattle.ex_store.proofs.TotalLaws.{total_added, total_cons}
 use Rattle.ex_store.proofs.AreRowsLaws.{absent_has, by_row_total, is_absent}
@@ -58,6 +60,12 @@ sorted_filled full moment bytes (row ∷ rows) = by (is_full full row) (sorted_f
         ≡ (all_above by_row row rows && is_sorted by_row rows)
     by true rest = refl
     by false rest = rw (above, rest) refl
+
+pub ascends_filled : (full : FullName) (moment : ℕ) (bytes : List ℕ) (rows : List Row) → ascends by_row rows ≡ true
+    → ascends by_row (filled full moment bytes rows) ≡ true
+ascends_filled full moment bytes rows ascend =
+    ascends_sorted by_row (filled full moment bytes rows)
+    (sorted_filled full moment bytes rows ∙ sorted_ascends by_row by_row_total rows ascend)
 
 -- what a row keeps with other bytes, all keep
 all_filled : (test : Row → Bool) (full : FullName) (moment : ℕ) (bytes : List ℕ)
@@ -124,8 +132,7 @@ rows_filled : (directories : List Directory) (full : FullName) (moment : ℕ) (b
     → nat_le moment MOMENT_LIMIT ≡ true → length bytes ≤ FILE_LIMIT → total (filled full moment bytes rows) ≤ STORE_LIMIT
     → AreRows directories (filled full moment bytes rows)
 rows_filled directories full moment bytes rows are within short small = record {
-  ascend = ascends_sorted by_row (filled full moment bytes rows)
-      (sorted_filled full moment bytes rows ∙ sorted_ascends by_row by_row_total rows are.ascend);
+  ascend = ascends_filled full moment bytes rows are.ascend;
   within = all_filled (is_row_among directories) full moment bytes form rows are.within;
   few = omega (arith, length_filled full moment bytes rows, are.few);
   small = small;
@@ -143,11 +150,17 @@ rows_filled directories full moment bytes rows are within short small = record {
           short = le-leb (length bytes) FILE_LIMIT short;
         })
 
+-- no file that is added has a full name that is there
+abbrev is_new : List Row → Option Row → Bool
+is_new rows None = true
+is_new rows (Some row) = not (has row.file.generation (files_of row.key rows))
+
 -- the rows with the file that is put behind, and how many bytes they have
-record IsOpened (directories : List Directory) (keep : ℕ) (rows : List Row) (there : Opening) : Type 0 where
-  are : AreRows directories (with_opened keep rows there.new)
-  room : total (with_opened keep rows there.new) + length (bytes_at there.target rows)
-      ≤ total rows + length (bytes_at there.target (with_opened keep rows there.new))
+record IsOpened (directories : List Directory) (retention : ℕ) (rows : List Row) (there : Opening) : Type 0 where
+  are : AreRows directories (with_opened retention rows there.new)
+  new : is_new rows there.new ≡ true
+  room : total (with_opened retention rows there.new) + length (bytes_at there.target rows)
+      ≤ total rows + length (bytes_at there.target (with_opened retention rows there.new))
 
 plain_name : (name : Option (List ℕ)) → has_plain_name name ≡ true → is_file_name (unwrap_or name []) ≡ true
 plain_name None has = absurd (cc)
@@ -157,11 +170,11 @@ plain_kind : (kind : Option (List ℕ)) → has_plain_kind kind ≡ true → is_
 plain_kind None has = refl
 plain_kind (Some kind) has = has
 
-new_opened : (directories : List Directory) (keep moment : ℕ) (to : Place) (rows : List Row) (number : ℕ) → AreRows directories rows
+new_opened : (directories : List Directory) (retention moment : ℕ) (to : Place) (rows : List Row) (number : ℕ) → AreRows directories rows
     → IsOneFile to directories → admitted (own_key to) to.generation 0 rows ≡ Ok number
     → (let row = new_row (own_key to) (moment_of moment) [] number in
-    IsOpened directories keep rows (record { target = full_of row; new = Some row }))
-new_opened directories keep moment to rows number are one admits =
+    IsOpened directories retention rows (record { target = full_of row; new = Some row }))
+new_opened directories retention moment to rows number are one admits =
     let row = new_row (own_key to) (moment_of moment) [] number in
     let known = admitted_is (own_key to) to.generation 0 rows number (counted_file to.generation one.generation) admits in
     let form : is_row_among directories row ≡ true =
@@ -174,75 +187,81 @@ new_opened directories keep moment to rows number are one admits =
       short = refl;
     }) in
     let none : length (bytes_at (full_of row) rows) ≡ 0 = ap length (absent_bytes (full_of row) rows (absent_has (own_key to) number rows known.free.absent)) in
-    let same : total (added keep row rows) ≡ 0 + total rows = total_added keep row rows in
+    let same : total (added retention row rows) ≡ 0 + total rows = total_added retention row rows in
     record {
-      are = rows_added directories keep row rows are known form;
+      are = rows_added directories retention row rows are known form;
+      new = ap not known.free.absent;
       room = omega (arith, none, same);
     }
 
-opening_is : (directories : List Directory) (keep moment : ℕ) (to : Place) (rows : List Row) (number : Option ℕ) (there : Opening)
+opening_is : (directories : List Directory) (retention moment : ℕ) (to : Place) (rows : List Row) (number : Option ℕ) (there : Opening)
     → AreRows directories rows → IsOneFile to directories → opening_of moment (own_key to) number to.generation rows ≡ Ok there
-    → IsOpened directories keep rows there
-opening_is directories keep moment to rows (Some number) there are one is =
+    → IsOpened directories retention rows there
+opening_is directories retention moment to rows (Some number) there are one is =
     let same : record { target = record { key = own_key to; generation = number }; new = None } ≡ there = cc in
-    subst (IsOpened directories keep rows) same (record { are = are; room = omega arith })
-opening_is directories keep moment to rows None there are one is =
+    subst (IsOpened directories retention rows) same (record { are = are; new = refl; room = omega arith })
+opening_is directories retention moment to rows None there are one is =
     let parts = and_then_ok (λ number.
     let row = new_row (own_key to) (moment_of moment) [] number in
     Ok (record { target = full_of row; new = Some row })) (admitted (own_key to) to.generation 0 rows) there is in
     let row = new_row (own_key to) (moment_of moment) [] parts.0 in
     let told : Ok (record { target = full_of row; new = Some row }) ≡ Ok there = parts.2 in
     let same : record { target = full_of row; new = Some row } ≡ there = cc in
-    subst (IsOpened directories keep rows) same (new_opened directories keep moment to rows parts.0 are one parts.1)
+    subst (IsOpened directories retention rows) same (new_opened directories retention moment to rows parts.0 are one parts.1)
 
-opened_is : (directories : List Directory) (keep moment : ℕ) (to : Place) (rows : List Row) (there : Opening)
+opened_is : (directories : List Directory) (retention moment : ℕ) (to : Place) (rows : List Row) (there : Opening)
     → AreRows directories rows → IsOneFile to directories → opened moment (own_key to) to.generation rows ≡ Ok there
-    → IsOpened directories keep rows there
-opened_is directories keep moment to rows there are one is =
+    → IsOpened directories retention rows there
+opened_is directories retention moment to rows there are one is =
     let parts = and_then_ok (λ number. opening_of moment (own_key to) number to.generation rows) (found to.generation (files_of (own_key to) rows)) there is in
-    opening_is directories keep moment to rows parts.0 there are one parts.2
+    opening_is directories retention moment to rows parts.0 there are one parts.2
 
 -- the empty row is added, and the bytes are filled in
-changes_opened : (keep : ℕ) (rows : List Row) (target : FullName) (new : Option Row) (moment : ℕ) (bytes : List ℕ)
-    → rows_after_all keep rows (row_changes_of (record { target = target; new = new }) moment bytes) ≡ filled target moment bytes (with_opened keep rows new)
-changes_opened keep rows target None moment bytes = refl
-changes_opened keep rows target (Some row) moment bytes = refl
+changes_opened : (retention : ℕ) (rows : List Row) (target : FullName) (new : Option Row) (moment : ℕ) (bytes : List ℕ)
+    → rows_after_all retention rows (row_changes_of (record { target = target; new = new }) moment bytes) ≡ filled target moment bytes (with_opened retention rows new)
+changes_opened retention rows target None moment bytes = refl
+changes_opened retention rows target (Some row) moment bytes = refl
+
+doable_opened : (retention : ℕ) (rows : List Row) (target : FullName) (new : Option Row) (moment : ℕ) (bytes : List ℕ)
+    → is_new rows new ≡ true
+    → are_doable retention rows (row_changes_of (record { target = target; new = new }) moment bytes) ≡ true
+doable_opened retention rows target None moment bytes is = refl
+doable_opened retention rows target (Some row) moment bytes is = and_from _ _ is refl
+
+-- and the changes can be done
+pub append_doable : (directories : List Directory) (retention moment : ℕ) (to : Place) (rows : List Row) (there : Opening) (bytes : List ℕ) (done : List RowChange)
+    → AreRows directories rows → IsOneFile to directories → opened moment (own_key to) to.generation rows ≡ Ok there
+    → done ≡ row_changes_of there (moment_of moment) bytes → are_doable retention rows done ≡ true
+append_doable directories retention moment to rows there bytes done are one opens is =
+    let known = opened_is directories retention moment to rows there are one opens in
+    rw is (doable_opened retention rows there.target there.new (moment_of moment) bytes known.new)
 
 -- the rows behind the changes are those of a store
-pub append_sound : (directories : List Directory) (keep moment : ℕ) (to : Place) (rows sources : List Row) (there : Opening) (bytes : List ℕ) (done : List RowChange)
+pub append_sound : (directories : List Directory) (retention moment : ℕ) (to : Place) (rows sources : List Row) (there : Opening) (bytes : List ℕ) (done : List RowChange)
     → AreRows directories rows → IsOneFile to directories → opened moment (own_key to) to.generation rows ≡ Ok there
     → poured (total rows) (bytes_at there.target rows) sources ≡ Ok bytes → done ≡ row_changes_of there (moment_of moment) bytes
-    → AreRows directories (rows_after_all keep rows done)
-append_sound directories keep moment to rows sources there bytes done are one opens pours is =
-    let known = opened_is directories keep moment to rows there are one opens in
+    → AreRows directories (rows_after_all retention rows done)
+append_sound directories retention moment to rows sources there bytes done are one opens pours is =
+    let known = opened_is directories retention moment to rows there are one opens in
     let limits = poured_within (total rows) (bytes_at there.target rows) sources bytes pours (bytes_short directories there.target rows are.within) are.small in
-    let grows = total_filled there.target (moment_of moment) bytes (with_opened keep rows there.new) in
-    let small : total (filled there.target (moment_of moment) bytes (with_opened keep rows there.new)) ≤ STORE_LIMIT =
+    let grows = total_filled there.target (moment_of moment) bytes (with_opened retention rows there.new) in
+    let small : total (filled there.target (moment_of moment) bytes (with_opened retention rows there.new)) ≤ STORE_LIMIT =
     omega (arith, known.room, limits.1, grows) in
-    rw (is, changes_opened keep rows there.target there.new (moment_of moment) bytes)
-    (rows_filled directories there.target (moment_of moment) bytes (with_opened keep rows there.new) known.are (moment_within moment) limits.0 small)
+    rw (is, changes_opened retention rows there.target there.new (moment_of moment) bytes)
+    (rows_filled directories there.target (moment_of moment) bytes (with_opened retention rows there.new) known.are (moment_within moment) limits.0 small)
 
 -- what the plan comes to
-pub append_ready : (keep moment : ℕ) (to : Place) (rows sources : List Row) (there : Opening) (bytes : List ℕ) (done : List RowChange) (pairs : List NamePair)
+pub append_ready : (retention moment : ℕ) (to : Place) (rows sources : List Row) (there : Opening) (bytes : List ℕ) (done : List RowChange) (pairs : List NamePair)
     → opened moment (own_key to) to.generation rows ≡ Ok there → poured (total rows) (bytes_at there.target rows) sources ≡ Ok bytes
     → done ≡ row_changes_of there (moment_of moment) bytes → pairs ≡ pairs_to there.target sources
-    → appended keep moment to sources rows ≡ Ok (record { rows = rows_after_all keep rows done; pairs = pairs })
-append_ready keep moment to rows sources there bytes done pairs opens pours is told =
-    rw (is, told, changes_opened keep rows there.target there.new (moment_of moment) bytes) (rw (opens, pours) refl)
-
--- there are no more pairs than places
-length_elements : {X : Type 0} (xs : List X) (positions : List ℕ) → length (elements_at xs positions) ≤ length positions
-length_elements xs [] = omega arith
-length_elements {X = X} xs (at ∷ positions) = by (slice_get xs at) (length_elements xs positions)
-  where
-    by : (there : Option X) → length (elements_at xs positions) ≤ length positions
-        → length (option_to_list there ++ elements_at xs positions) ≤ suc (length positions)
-    by None rest = omega arith
-    by (Some x) rest = omega arith
+    → appended retention moment to sources rows ≡ Ok (record { rows = rows_after_all retention rows done; pairs = pairs })
+append_ready retention moment to rows sources there bytes done pairs opens pours is told =
+    rw (is, told, changes_opened retention rows there.target there.new (moment_of moment) bytes) (rw (opens, pours) refl)
 
 abbrev pair_to : FullName → Row → NamePair
 pair_to target source = record { source = full_of source; target = target }
 
+-- there are no more pairs than places
 pub few_pairs : (target : FullName) (rows : List Row) (positions : List ℕ) (limit : ℕ) (pairs : List NamePair)
     → pairs ≡ pairs_to target (elements_at rows positions) → length positions ≤ limit → length pairs ≤ limit
 few_pairs target rows positions limit pairs is few =

@@ -67,47 +67,47 @@ sorted_inserted row (other ∷ rows) absent sorted =
         and_from _ _ (and_from _ _ above (above_chain by_row by_row_total row other rows above behind.0)) sorted
 
 -- a test that does not look at marks
-all_kept : (test : Row → Bool) → ((row : Row) → test (with_mark true row) ≡ test row) → (keep : ℕ) (key : Key) (rows : List Row)
-    → list_all test (kept_newest keep key rows) ≡ list_all test rows
-all_kept test same keep key [] = refl
-all_kept test same keep key (row ∷ rows) =
-    rw (all_kept test same keep key rows) (by (is_of key row && nat_le keep (live (files_of key rows))))
+all_kept : (test : Row → Bool) → ((row : Row) → test (with_mark true row) ≡ test row) → (retention : ℕ) (key : Key) (rows : List Row)
+    → list_all test (kept_newest retention key rows) ≡ list_all test rows
+all_kept test same retention key [] = refl
+all_kept test same retention key (row ∷ rows) =
+    rw (all_kept test same retention key rows) (by (is_of key row && nat_le retention (live (files_of key rows))))
   where
     by : (b : Bool) → (test (cond b (with_mark true row) row) && list_all test rows) ≡ (test row && list_all test rows)
     by true = ap (λ first. first && list_all test rows) (same row)
     by false = refl
 
-sorted_kept : (keep : ℕ) (key : Key) (rows : List Row) → is_sorted by_row (kept_newest keep key rows) ≡ is_sorted by_row rows
-sorted_kept keep key [] = refl
-sorted_kept keep key (row ∷ rows) =
-    rw (sorted_kept keep key rows) (by (is_of key row && nat_le keep (live (files_of key rows))))
+sorted_kept : (retention : ℕ) (key : Key) (rows : List Row) → is_sorted by_row (kept_newest retention key rows) ≡ is_sorted by_row rows
+sorted_kept retention key [] = refl
+sorted_kept retention key (row ∷ rows) =
+    rw (sorted_kept retention key rows) (by (is_of key row && nat_le retention (live (files_of key rows))))
   where
-    above : all_above by_row row (kept_newest keep key rows) ≡ all_above by_row row rows
-    above = all_kept (λ each. is_lt (by_row row each)) (λ each. refl) keep key rows
+    above : all_above by_row row (kept_newest retention key rows) ≡ all_above by_row row rows
+    above = all_kept (λ each. is_lt (by_row row each)) (λ each. refl) retention key rows
 
-    by : (b : Bool) → (all_above by_row (cond b (with_mark true row) row) (kept_newest keep key rows) && is_sorted by_row rows)
+    by : (b : Bool) → (all_above by_row (cond b (with_mark true row) row) (kept_newest retention key rows) && is_sorted by_row rows)
         ≡ (all_above by_row row rows && is_sorted by_row rows)
     by true = ap (λ first. first && is_sorted by_row rows) above
     by false = ap (λ first. first && is_sorted by_row rows) above
 
-pub all_added : (test : Row → Bool) → ((row : Row) → test (with_mark true row) ≡ test row) → (keep : ℕ) (row : Row) (rows : List Row)
-    → test row ≡ true → list_all test rows ≡ true → list_all test (added keep row rows) ≡ true
-all_added test same keep row rows here all = by (keep == 0)
+pub all_added : (test : Row → Bool) → ((row : Row) → test (with_mark true row) ≡ test row) → (retention : ℕ) (row : Row) (rows : List Row)
+    → test row ≡ true → list_all test rows ≡ true → list_all test (added retention row rows) ≡ true
+all_added test same retention row rows here all = by (retention == 0)
   where
-    by : (b : Bool) → list_all test (cond b (inserted row rows) (kept_newest keep row.key (inserted row rows))) ≡ true
+    by : (b : Bool) → list_all test (cond b (inserted row rows) (kept_newest retention row.key (inserted row rows))) ≡ true
     by true = all_inserted test row rows here all
-    by false = all_kept test same keep row.key (inserted row rows) ∙ all_inserted test row rows here all
+    by false = all_kept test same retention row.key (inserted row rows) ∙ all_inserted test row rows here all
 
-pub ascends_added : (keep : ℕ) (row : Row) (rows : List Row) → is_absent (full_of row) rows ≡ true → ascends by_row rows ≡ true
-    → ascends by_row (added keep row rows) ≡ true
-ascends_added keep row rows absent ascend = ascends_sorted by_row (added keep row rows) (by (keep == 0))
+pub ascends_added : (retention : ℕ) (row : Row) (rows : List Row) → is_absent (full_of row) rows ≡ true → ascends by_row rows ≡ true
+    → ascends by_row (added retention row rows) ≡ true
+ascends_added retention row rows absent ascend = ascends_sorted by_row (added retention row rows) (by (retention == 0))
   where
     sorted : is_sorted by_row (inserted row rows) ≡ true
     sorted = sorted_inserted row rows absent (sorted_ascends by_row by_row_total rows ascend)
 
-    by : (b : Bool) → is_sorted by_row (cond b (inserted row rows) (kept_newest keep row.key (inserted row rows))) ≡ true
+    by : (b : Bool) → is_sorted by_row (cond b (inserted row rows) (kept_newest retention row.key (inserted row rows))) ≡ true
     by true = sorted
-    by false = sorted_kept keep row.key (inserted row rows) ∙ sorted
+    by false = sorted_kept retention row.key (inserted row rows) ∙ sorted
 
 same_number : (a b : ℕ) → is_eq (nat_cmp a b) ≡ (a == b)
 same_number a b = grind (arith, nat_tests)
@@ -137,3 +137,10 @@ absent_has key number (row ∷ rows) none =
         let parts = or_parts _ _ none in
         and_from _ _ (not_from_false _ parts.0) (rest parts.1)
     by false rest none = rest none
+
+-- a row is put among rows that ascend, none of which has its full name
+pub ascends_inserted : (row : Row) (rows : List Row) → has row.file.generation (files_of row.key rows) ≡ false
+    → ascends by_row rows ≡ true → ascends by_row (inserted row rows) ≡ true
+ascends_inserted row rows none ascend =
+    ascends_sorted by_row (inserted row rows)
+    (sorted_inserted row rows (absent_has row.key row.file.generation rows none) (sorted_ascends by_row by_row_total rows ascend))

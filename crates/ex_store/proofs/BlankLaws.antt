@@ -75,30 +75,30 @@ inserted_blank row (other ∷ rows) = by (is_lt (by_row other row)) (inserted_bl
 live_of_blank : (key : Key) (rows : List Row) → live (files_of key (map blank rows)) ≡ live (files_of key rows)
 live_of_blank key rows = rw (files_blank key rows) (live_blank (files_of key rows))
 
-kept_blank : (keep : ℕ) (key : Key) (rows : List Row)
-    → kept_newest keep key (map blank rows) ≡ map blank (kept_newest keep key rows)
-kept_blank keep key [] = refl
-kept_blank keep key (row ∷ rows) =
-    rw (live_of_blank key rows, kept_blank keep key rows)
-    (by (is_of key row && nat_le keep (live (files_of key rows))))
+kept_blank : (retention : ℕ) (key : Key) (rows : List Row)
+    → kept_newest retention key (map blank rows) ≡ map blank (kept_newest retention key rows)
+kept_blank retention key [] = refl
+kept_blank retention key (row ∷ rows) =
+    rw (live_of_blank key rows, kept_blank retention key rows)
+    (by (is_of key row && nat_le retention (live (files_of key rows))))
   where
-    by : (b : Bool) → cond b (with_mark true (blank row)) (blank row) ∷ map blank (kept_newest keep key rows)
-        ≡ blank (cond b (with_mark true row) row) ∷ map blank (kept_newest keep key rows)
+    by : (b : Bool) → cond b (with_mark true (blank row)) (blank row) ∷ map blank (kept_newest retention key rows)
+        ≡ blank (cond b (with_mark true row) row) ∷ map blank (kept_newest retention key rows)
     by true = refl
     by false = refl
 
-retained_blank : (keep : ℕ) (key : Key) (rows : List Row)
-    → retained keep key (map blank rows) ≡ map blank (retained keep key rows)
-retained_blank keep key rows = by (keep == 0)
+retained_blank : (retention : ℕ) (key : Key) (rows : List Row)
+    → retained retention key (map blank rows) ≡ map blank (retained retention key rows)
+retained_blank retention key rows = by (retention == 0)
   where
-    by : (b : Bool) → cond b (map blank rows) (kept_newest keep key (map blank rows))
-        ≡ map blank (cond b rows (kept_newest keep key rows))
+    by : (b : Bool) → cond b (map blank rows) (kept_newest retention key (map blank rows))
+        ≡ map blank (cond b rows (kept_newest retention key rows))
     by true = refl
-    by false = kept_blank keep key rows
+    by false = kept_blank retention key rows
 
-pub added_blank : (keep : ℕ) (row : Row) (rows : List Row)
-    → added keep (blank row) (map blank rows) ≡ map blank (added keep row rows)
-added_blank keep row rows = rw (inserted_blank row rows) (retained_blank keep row.key (inserted row rows))
+pub added_blank : (retention : ℕ) (row : Row) (rows : List Row)
+    → added retention (blank row) (map blank rows) ≡ map blank (added retention row rows)
+added_blank retention row rows = rw (inserted_blank row rows) (retained_blank retention row.key (inserted row rows))
 
 pub without_blank : (full : FullName) (rows : List Row) → without full (map blank rows) ≡ map blank (without full rows)
 without_blank full [] = refl
@@ -120,7 +120,7 @@ row_at_blank full (row ∷ rows) = by (is_full full row) (row_at_blank full rows
     by true rest = refl
     by false rest = rest
 
-pub reinserted_blank : (keep : ℕ) (target : FullName) (rows : List Row) (row : Option Row)
-    → reinserted keep target (map blank rows) (option_map blank row) ≡ map blank (reinserted keep target rows row)
-reinserted_blank keep target rows None = refl
-reinserted_blank keep target rows (Some row) = added_blank keep (with_name target row) rows
+pub reinserted_blank : (retention : ℕ) (target : FullName) (rows : List Row) (row : Option Row)
+    → reinserted retention target (map blank rows) (option_map blank row) ≡ map blank (reinserted retention target rows row)
+reinserted_blank retention target rows None = refl
+reinserted_blank retention target rows (Some row) = added_blank retention (with_name target row) rows

@@ -9,7 +9,7 @@ use Rattle.std.specs.Str.{bytes_eq}
 use Rattle.std.specs.declared.cmp.Ordering.{Ordering}
 use Rattle.std.specs.declared.cmp.Ordering.TheVariants.{Less, Equal, Greater}
 use Rattle.std.proofs.lemmas.Bool.{and_from, and_parts, both_ways, le-leb, leb-false, leb-true, or_parts, or_right}
-use Rattle.std.proofs.lemmas.List.{length-map}
+use Rattle.std.proofs.lemmas.List.{append-nil, length-map}
 use Rattle.std.proofs.lemmas.Map.Lookups.{exact_bytes}
 use Rattle.std.proofs.lemmas.Slice.Eq.{bytes_eq-Decides}
 use Rattle.cm_fields.specs.declared.code.Code.{Code}
@@ -17,22 +17,20 @@ use Rattle.cm_fields.specs.declared.code.Code.TheVariants.{DirLimit}
 use Rattle.cm_files.specs.Catalogue.{ascends, by_bytes, is_directory_name}
 use Rattle.ex_store.specs.declared.directory.Definition.{Definition}
 use Rattle.ex_store.specs.declared.directory.Directory.{Directory}
-use Rattle.ex_store.specs.declared.key.NamePair.{NamePair}
 use Rattle.ex_store.specs.declared.limits.TheConstants.{DIRECTORY_LIMIT, RETENTION_LIMIT}
 use Rattle.ex_store.specs.declared.plan.Plan.TheVariants as plans
 use Rattle.ex_store.specs.declared.queue.QueueEntry.{QueueEntry}
-use Rattle.ex_store.specs.declared.ready.RowChange.{RowChange}
 use Rattle.ex_store.specs.declared.row.Row.{Row}
-use Rattle.ex_store.specs.Building.{built, directory_inserted, kept_by, with_directory}
+use Rattle.ex_store.specs.Building.{built, directory_inserted, new_retention, with_directory}
 use Rattle.ex_store.specs.Plan.{planned}
-use Rattle.ex_store.specs.Ready.{Change, applied, done_on}
+use Rattle.ex_store.specs.Ready.{Change, applied, done_on, of_directory}
 use Rattle.ex_store.specs.State.{State, has_directory, is_named}
 use Rattle.ex_store.specs.WellFormed.{IsWellFormed, is_definition_among, is_directory, is_entry_among, is_row_among}
 use Rattle.ex_store.proofs.AscendsLaws.{ascends_map}
 
 -- the directory of a name keeps as many generations
 abbrev pub kept_as : List ℕ → ℕ → Directory → Directory
-kept_as name keep other = cond (is_named name other) (record other { keep = keep }) other
+kept_as name retention other = cond (is_named name other) (record other { retention = retention }) other
 
 -- the place of a new directory
 abbrev pub place_of : Directory → List Directory → ℕ
@@ -91,35 +89,35 @@ inserted_ascends new (other ∷ next ∷ more) ascend absent =
     by false under is rest = and_from _ _ (above new other (or_parts _ _ absent).0 is) ascend
 
 -- the names stay where a directory keeps another number
-kept_name : (name : List ℕ) (keep : ℕ) (other : Directory) → (kept_as name keep other).name ≡ other.name
-kept_name name keep other = by (is_named name other)
+kept_name : (name : List ℕ) (retention : ℕ) (other : Directory) → (kept_as name retention other).name ≡ other.name
+kept_name name retention other = by (is_named name other)
   where
-    by : (named : Bool) → (cond named (record other { keep = keep }) other).name ≡ other.name
+    by : (named : Bool) → (cond named (record other { retention = retention }) other).name ≡ other.name
     by true = refl
     by false = refl
 
-kept_order : (name : List ℕ) (keep : ℕ) (other next : Directory) → by_name (kept_as name keep other) (kept_as name keep next) ≡ by_name other next
-kept_order name keep other next =
-    ap (λ text. by_bytes text (kept_as name keep next).name) (kept_name name keep other)
-    ∙ ap (by_bytes other.name) (kept_name name keep next)
+kept_order : (name : List ℕ) (retention : ℕ) (other next : Directory) → by_name (kept_as name retention other) (kept_as name retention next) ≡ by_name other next
+kept_order name retention other next =
+    ap (λ text. by_bytes text (kept_as name retention next).name) (kept_name name retention other)
+    ∙ ap (by_bytes other.name) (kept_name name retention next)
 
-kept_ascends : (name : List ℕ) (keep : ℕ) (directories : List Directory) → ascends by_name (map (kept_as name keep) directories) ≡ ascends by_name directories
-kept_ascends name keep directories = ascends_map by_name by_name (kept_as name keep) (kept_order name keep) directories
+kept_ascends : (name : List ℕ) (retention : ℕ) (directories : List Directory) → ascends by_name (map (kept_as name retention) directories) ≡ ascends by_name directories
+kept_ascends name retention directories = ascends_map by_name by_name (kept_as name retention) (kept_order name retention) directories
 
-pub kept_has : (x name : List ℕ) (keep : ℕ) (directories : List Directory) → has_directory x (map (kept_as name keep) directories) ≡ has_directory x directories
-kept_has x name keep [] = refl
-kept_has x name keep (other ∷ more) =
-    ap (λ text. bytes_eq text x || has_directory x (map (kept_as name keep) more)) (kept_name name keep other)
-    ∙ ap (λ rest. is_named x other || rest) (kept_has x name keep more)
+pub kept_has : (x name : List ℕ) (retention : ℕ) (directories : List Directory) → has_directory x (map (kept_as name retention) directories) ≡ has_directory x directories
+kept_has x name retention [] = refl
+kept_has x name retention (other ∷ more) =
+    ap (λ text. bytes_eq text x || has_directory x (map (kept_as name retention) more)) (kept_name name retention other)
+    ∙ ap (λ rest. is_named x other || rest) (kept_has x name retention more)
 
-kept_within : (name : List ℕ) (keep : ℕ) (directories : List Directory) → keep ≤ RETENTION_LIMIT → list_all is_directory directories ≡ true
-    → list_all is_directory (map (kept_as name keep) directories) ≡ true
-kept_within name keep [] few within = refl
-kept_within name keep (other ∷ more) few within =
-    and_from _ _ (by (is_named name other)) (kept_within name keep more few (and_parts _ _ within).1)
+kept_within : (name : List ℕ) (retention : ℕ) (directories : List Directory) → retention ≤ RETENTION_LIMIT → list_all is_directory directories ≡ true
+    → list_all is_directory (map (kept_as name retention) directories) ≡ true
+kept_within name retention [] few within = refl
+kept_within name retention (other ∷ more) few within =
+    and_from _ _ (by (is_named name other)) (kept_within name retention more few (and_parts _ _ within).1)
   where
-    by : (named : Bool) → is_directory (cond named (record other { keep = keep }) other) ≡ true
-    by true = and_from _ _ (and_parts _ _ (and_parts _ _ within).0).0 (le-leb keep RETENTION_LIMIT few)
+    by : (named : Bool) → is_directory (cond named (record other { retention = retention }) other) ≡ true
+    by true = and_from _ _ (and_parts _ _ (and_parts _ _ within).0).0 (le-leb retention RETENTION_LIMIT few)
     by false = (and_parts _ _ within).0
 
 pub inserted_has : (x : List ℕ) (new : Directory) (directories : List Directory) → has_directory x directories ≡ true
@@ -154,19 +152,19 @@ inserted_length new (other ∷ more) = by (is_lt (by_name other new)) (inserted_
     by false rest = omega arith
 
 -- how many generations it keeps is within the limit
-found_keep : (name : List ℕ) (directories : List Directory) → list_all is_directory directories ≡ true
-    → unwrap_or (option_map (λ (directory : Directory). directory.keep) (find (is_named name) directories)) 1 ≤ RETENTION_LIMIT
-found_keep name [] within = omega arith
-found_keep name (other ∷ more) within = by (is_named name other) (found_keep name more (and_parts _ _ within).1)
+found_retention : (name : List ℕ) (directories : List Directory) → list_all is_directory directories ≡ true
+    → unwrap_or (option_map (λ (directory : Directory). directory.retention) (find (is_named name) directories)) 1 ≤ RETENTION_LIMIT
+found_retention name [] within = omega arith
+found_retention name (other ∷ more) within = by (is_named name other) (found_retention name more (and_parts _ _ within).1)
   where
-    by : (named : Bool) → unwrap_or (option_map (λ (directory : Directory). directory.keep) (find (is_named name) more)) 1 ≤ RETENTION_LIMIT
-        → unwrap_or (option_map (λ (directory : Directory). directory.keep) (cond named (Some other) (find (is_named name) more))) 1 ≤ RETENTION_LIMIT
-    by true rest = leb-true other.keep RETENTION_LIMIT (and_parts _ _ (and_parts _ _ within).0).1
+    by : (named : Bool) → unwrap_or (option_map (λ (directory : Directory). directory.retention) (find (is_named name) more)) 1 ≤ RETENTION_LIMIT
+        → unwrap_or (option_map (λ (directory : Directory). directory.retention) (cond named (Some other) (find (is_named name) more))) 1 ≤ RETENTION_LIMIT
+    by true rest = leb-true other.retention RETENTION_LIMIT (and_parts _ _ (and_parts _ _ within).0).1
     by false rest = rest
 
-kept_limit : (name : List ℕ) (keep : Option ℕ) (directories : List Directory) → IfSome keep (λ count. count ≤ RETENTION_LIMIT)
-    → list_all is_directory directories ≡ true → kept_by name keep directories ≤ RETENTION_LIMIT
-kept_limit name None directories few within = found_keep name directories within
+kept_limit : (name : List ℕ) (retention : Option ℕ) (directories : List Directory) → IfSome retention (λ count. count ≤ RETENTION_LIMIT)
+    → list_all is_directory directories ≡ true → new_retention name retention directories ≤ RETENTION_LIMIT
+kept_limit name None directories few within = found_retention name directories within
 kept_limit name (Some count) directories few within = few
 
 -- what a list of directories has to be
@@ -185,14 +183,14 @@ with_more : (made : Directory) (directories : List Directory) → AreDirectories
 with_more made directories are is room = by (has_directory made.name directories) refl
   where
     by : (there : Bool) → has_directory made.name directories ≡ there
-        → AreMore directories (cond there (map (kept_as made.name made.keep) directories) (directory_inserted made directories))
+        → AreMore directories (cond there (map (kept_as made.name made.retention) directories) (directory_inserted made directories))
     by true known = record {
       are = record {
-        ascend = kept_ascends made.name made.keep directories ∙ are.ascend;
-        within = kept_within made.name made.keep directories (leb-true made.keep RETENTION_LIMIT (and_parts _ _ is).1) are.within;
-        few = omega (arith, length-map directories (kept_as made.name made.keep), are.few);
+        ascend = kept_ascends made.name made.retention directories ∙ are.ascend;
+        within = kept_within made.name made.retention directories (leb-true made.retention RETENTION_LIMIT (and_parts _ _ is).1) are.within;
+        few = omega (arith, length-map directories (kept_as made.name made.retention), are.few);
       };
-      there = λ x there. kept_has x made.name made.keep directories ∙ there;
+      there = λ x there. kept_has x made.name made.retention directories ∙ there;
     }
     by false new = record {
       are = record {
@@ -203,13 +201,13 @@ with_more made directories are is room = by (has_directory made.name directories
       there = λ x there. inserted_has x made directories there;
     }
 
-built_parts : (name : List ℕ) (keep : Option ℕ) (directories : List Directory) (made : Directory) → built name keep directories ≡ Ok made
-    → (record { name = name; keep = kept_by name keep directories } ≡ made) × (has_directory name directories ≡ false → length directories < DIRECTORY_LIMIT)
-built_parts name keep directories made is = by (has_directory name directories) (nat_le DIRECTORY_LIMIT (length directories)) refl refl is
+built_parts : (name : List ℕ) (retention : Option ℕ) (directories : List Directory) (made : Directory) → built name retention directories ≡ Ok made
+    → (record { name = name; retention = new_retention name retention directories } ≡ made) × (has_directory name directories ≡ false → length directories < DIRECTORY_LIMIT)
+built_parts name retention directories made is = by (has_directory name directories) (nat_le DIRECTORY_LIMIT (length directories)) refl refl is
   where
     by : (there full : Bool) → has_directory name directories ≡ there → nat_le DIRECTORY_LIMIT (length directories) ≡ full
-        → cond there (Ok (record { name = name; keep = kept_by name keep directories })) (cond full (Err DirLimit) (Ok (record { name = name; keep = kept_by name keep directories }))) ≡ Ok made
-        → (record { name = name; keep = kept_by name keep directories } ≡ made) × (has_directory name directories ≡ false → length directories < DIRECTORY_LIMIT)
+        → cond there (Ok (record { name = name; retention = new_retention name retention directories })) (cond full (Err DirLimit) (Ok (record { name = name; retention = new_retention name retention directories }))) ≡ Ok made
+        → (record { name = name; retention = new_retention name retention directories } ≡ made) × (has_directory name directories ≡ false → length directories < DIRECTORY_LIMIT)
     by true full known limit is = (cc, λ absent. absurd (both_ways _ absent known))
     by false true known limit is = absurd (cc)
     by false false known limit is = (cc, λ absent. leb-false DIRECTORY_LIMIT (length directories) limit)
@@ -265,34 +263,40 @@ well_formed_with_more state after well more = record {
 }
 
 -- the state with a directory that is made is well formed
-pub well_formed_built : (state : State) (name : List ℕ) (keep : Option ℕ) (made : Directory) → IsWellFormed state
-    → is_directory_name name ≡ true → IfSome keep (λ count. count ≤ RETENTION_LIMIT) → built name keep state.directories ≡ Ok made
+pub well_formed_built : (state : State) (name : List ℕ) (retention : Option ℕ) (made : Directory) → IsWellFormed state
+    → is_directory_name name ≡ true → IfSome retention (λ count. count ≤ RETENTION_LIMIT) → built name retention state.directories ≡ Ok made
     → IsWellFormed (record state { directories = with_directory made state.directories })
-well_formed_built state name keep made well named few is =
-    let parts = built_parts name keep state.directories made is in
+well_formed_built state name retention made well named few is =
+    let parts = built_parts name retention state.directories made is in
     let are : AreDirectories state.directories = record { ascend = well.draft.directories_ascend; within = well.draft.directories_within; few = well.draft.few_directories } in
-    let limit : kept_by name keep state.directories ≤ RETENTION_LIMIT = kept_limit name keep state.directories few well.draft.directories_within in
-    let form : is_directory (record { name = name; keep = kept_by name keep state.directories }) ≡ true = and_from _ _ named (le-leb _ _ limit) in
+    let limit : new_retention name retention state.directories ≤ RETENTION_LIMIT = kept_limit name retention state.directories few well.draft.directories_within in
+    let form : is_directory (record { name = name; retention = new_retention name retention state.directories }) ≡ true = and_from _ _ named (le-leb _ _ limit) in
     subst (λ (made : Directory). IsWellFormed (record state { directories = with_directory made state.directories })) parts.0
     (well_formed_with_more state _ well (with_more _ state.directories are form parts.1))
 
--- the change that makes a directory
-abbrev change_of : Directory → List RowChange → List NamePair → Change
-change_of made row_changes pairs = record { directory = Some made; keep = 0; row_changes = row_changes; pairs = pairs }
+-- what is done where a directory alone is made
+makes : (state : State) (made : Directory)
+    → applied (of_directory made) state ≡ record state { directories = with_directory made state.directories }
+makes state made =
+    ap (λ (queue : List QueueEntry). record state { directories = with_directory made state.directories; queue = queue })
+    (append-nil state.queue)
 
-pub planned_built : (state : State) (name : List ℕ) (keep : Option ℕ) (made : Directory) (row_changes : List RowChange) (pairs : List NamePair) (moment : ℕ)
-    → built name keep state.directories ≡ Ok made → row_changes ≡ [] → pairs ≡ []
-    → planned (plans.Build name keep) moment state ≡ Ok (done_on state (change_of made row_changes pairs))
+pub planned_built : (state : State) (name : List ℕ) (retention : Option ℕ) (made : Directory) (change : Change) (moment : ℕ)
+    → built name retention state.directories ≡ Ok made → change ≡ of_directory made
+    → planned (plans.Build name retention) moment state ≡ Ok (done_on state change)
 unfolding planned
-planned_built state name keep made row_changes pairs moment is none nobody = rw (is, none, nobody) refl
+planned_built state name retention made change moment is only =
+    rw (is, only) (ap (λ (state : State). Ok (record { state = state; pairs = [] })) (sym (makes state made)))
 
-pub planned_refused : (state : State) (name : List ℕ) (keep : Option ℕ) (code : Code) (moment : ℕ)
-    → built name keep state.directories ≡ Err code → planned (plans.Build name keep) moment state ≡ Err code
+pub planned_refused : (state : State) (name : List ℕ) (retention : Option ℕ) (code : Code) (moment : ℕ)
+    → built name retention state.directories ≡ Err code → planned (plans.Build name retention) moment state ≡ Err code
 unfolding planned
-planned_refused state name keep code moment is = rw is refl
+planned_refused state name retention code moment is = rw is refl
 
-pub sound_built : (state : State) (name : List ℕ) (keep : Option ℕ) (made : Directory) (row_changes : List RowChange) (pairs : List NamePair) → IsWellFormed state
-    → is_directory_name name ≡ true → IfSome keep (λ count. count ≤ RETENTION_LIMIT) → built name keep state.directories ≡ Ok made → row_changes ≡ []
-    → IsWellFormed (applied (change_of made row_changes pairs) state)
-sound_built state name keep made row_changes pairs well named few is none =
-    rw none (well_formed_built state name keep made well named few is)
+pub sound_built : (state : State) (name : List ℕ) (retention : Option ℕ) (made : Directory) (change : Change) → IsWellFormed state
+    → is_directory_name name ≡ true → IfSome retention (λ count. count ≤ RETENTION_LIMIT) → built name retention state.directories ≡ Ok made
+    → change ≡ of_directory made → IsWellFormed (applied change state)
+sound_built state name retention made change well named few is only =
+    subst (λ (next : State). IsWellFormed next)
+    (sym (ap (λ (each : Change). applied each state) only ∙ makes state made))
+    (well_formed_built state name retention made well named few is)

@@ -1,5 +1,5 @@
 -- The elements at some places, one after the other.
-use Rattle.std.proofs.Common.{◌≡◌, ℕ, ◌+◌, ◌<◌, Bool, true, suc, zero, List, [], ◌∷◌, ◌++◌, length, get_or, drop, nat_lt, Some, sym, ap, subst, ◌∙◌, arith}
+use Rattle.std.proofs.Common.{◌≡◌, ℕ, ◌+◌, ◌<◌, ◌≤◌, Bool, true, suc, zero, List, [], ◌∷◌, ◌++◌, length, get_or, drop, nat_lt, Option, Some, None, sym, ap, subst, ◌∙◌, arith}
 use Rattle.std.specs.List.{list_all, slice_get}
 use Rattle.std.specs.Option.{option_to_list}
 use Rattle.std.proofs.lemmas.Bool.{and_parts, ltb-true}
@@ -42,3 +42,13 @@ all_more test positions i lt all =
 pub within_next : (limit : ℕ) (positions : List ℕ) (i at : ℕ) → i < length positions → at ≡ get_or positions i 0 → list_all (λ place. nat_lt place limit) (drop i positions) ≡ true → at < limit
 within_next limit positions i at lt place all =
     subst (λ other. other < limit) (sym place) (ltb-true _ _ ((and_parts (nat_lt (get_or positions i 0) limit) (list_all (λ other. nat_lt other limit) (drop (i + 1) positions)) (sym (at_drop_more (list_all (λ other. nat_lt other limit)) positions i 0 lt) ∙ all)).0))
+
+-- there are no more elements than places
+pub length_elements : {X : Type 0} (xs : List X) (positions : List ℕ) → length (elements_at xs positions) ≤ length positions
+length_elements xs [] = omega arith
+length_elements {X = X} xs (at ∷ positions) = by (slice_get xs at) (length_elements xs positions)
+  where
+    by : (there : Option X) → length (elements_at xs positions) ≤ length positions
+        → length (option_to_list there ++ elements_at xs positions) ≤ suc (length positions)
+    by None rest = omega arith
+    by (Some x) rest = omega arith

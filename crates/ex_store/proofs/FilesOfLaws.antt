@@ -11,7 +11,7 @@ use Rattle.ex_generations.specs.declared.file.File.{File}
 use Rattle.ex_generations.specs.Generations.{has, marked_as}
 use Rattle.ex_generations.specs.Generations as generations
 use Rattle.ex_generations.specs.Retention.{live}
-use Rattle.ex_generations.specs.Retention as retention
+use Rattle.ex_generations.specs.Retention as retaining
 use Rattle.ex_store.specs.declared.key.Key.{Key}
 use Rattle.ex_store.specs.declared.row.Row.{Row}
 use Rattle.ex_store.specs.Rows.{added, by_key, by_row, files_of, full_of, inserted, is_full, is_of, kept_newest, retained, with_mark}
@@ -131,36 +131,36 @@ files_inserted row (other ∷ rows) absent sorted =
         let above : is_lt (by_row row other) ≡ true = turned by_row by_row_total other row less (not-true _ parts.0) in
         files_front row (other ∷ rows) (and_from _ _ above (above_chain by_row by_row_total row other rows above behind.0))
 
-files_kept : (keep : ℕ) (key : Key) (rows : List Row)
-    → files_of key (kept_newest keep key rows) ≡ retention.kept_newest keep (files_of key rows)
-files_kept keep key [] = refl
-files_kept keep key (row ∷ rows) =
-    by (is_of key row) (nat_le keep (live (files_of key rows))) refl refl (files_kept keep key rows)
+files_kept : (retention : ℕ) (key : Key) (rows : List Row)
+    → files_of key (kept_newest retention key rows) ≡ retaining.kept_newest retention (files_of key rows)
+files_kept retention key [] = refl
+files_kept retention key (row ∷ rows) =
+    by (is_of key row) (nat_le retention (live (files_of key rows))) refl refl (files_kept retention key rows)
   where
-    by : (of marks : Bool) → is_of key row ≡ of → nat_le keep (live (files_of key rows)) ≡ marks
-        → files_of key (kept_newest keep key rows) ≡ retention.kept_newest keep (files_of key rows)
-        → files_of key (cond (of && marks) (with_mark true row) row ∷ kept_newest keep key rows)
-        ≡ retention.kept_newest keep (map (λ (each : Row). each.file) (cond of (row ∷ filter (is_of key) rows) (filter (is_of key) rows)))
+    by : (of marks : Bool) → is_of key row ≡ of → nat_le retention (live (files_of key rows)) ≡ marks
+        → files_of key (kept_newest retention key rows) ≡ retaining.kept_newest retention (files_of key rows)
+        → files_of key (cond (of && marks) (with_mark true row) row ∷ kept_newest retention key rows)
+        ≡ retaining.kept_newest retention (map (λ (each : Row). each.file) (cond of (row ∷ filter (is_of key) rows) (filter (is_of key) rows)))
     by true true is le rest = rw (is, le) (ap (λ files. marked_as true row.file ∷ files) rest)
     by true false is le rest = rw (is, le) (ap (λ files. row.file ∷ files) rest)
     by false marks is le rest = rw is rest
 
-files_retained : (keep : ℕ) (key : Key) (rows : List Row)
-    → files_of key (retained keep key rows) ≡ retention.retained keep (files_of key rows)
-files_retained keep key rows = by (keep == 0)
+files_retained : (retention : ℕ) (key : Key) (rows : List Row)
+    → files_of key (retained retention key rows) ≡ retaining.retained retention (files_of key rows)
+files_retained retention key rows = by (retention == 0)
   where
-    by : (b : Bool) → files_of key (cond b rows (kept_newest keep key rows))
-        ≡ cond b (files_of key rows) (retention.kept_newest keep (files_of key rows))
+    by : (b : Bool) → files_of key (cond b rows (kept_newest retention key rows))
+        ≡ cond b (files_of key rows) (retaining.kept_newest retention (files_of key rows))
     by true = refl
-    by false = files_kept keep key rows
+    by false = files_kept retention key rows
 
 -- what is added to the rows is added to the generations of its name and type
-pub files_added : (keep : ℕ) (row : Row) (rows : List Row) → ascends by_row rows ≡ true
+pub files_added : (retention : ℕ) (row : Row) (rows : List Row) → ascends by_row rows ≡ true
     → has row.file.generation (files_of row.key rows) ≡ false
-    → files_of row.key (added keep row rows) ≡ retention.added keep row.file (files_of row.key rows)
-files_added keep row rows ascend none =
-    files_retained keep row.key (inserted row rows)
-    ∙ ap (retention.retained keep)
+    → files_of row.key (added retention row rows) ≡ retaining.added retention row.file (files_of row.key rows)
+files_added retention row rows ascend none =
+    files_retained retention row.key (inserted row rows)
+    ∙ ap (retaining.retained retention)
     (files_inserted row rows (absent_has row.key row.file.generation rows none) (sorted_ascends by_row by_row_total rows ascend))
 
 -- one more row in front
@@ -193,28 +193,28 @@ of_no_other : (key own : Key) (row : Row) → is_of own row ≡ true → is_eq (
 of_no_other key own row is apart =
     ap is_eq (by_key_total.congr row.key own key (is_equal (by_key row.key own) is)) ∙ apart
 
-others_kept : (keep : ℕ) (key own : Key) (rows : List Row) → is_eq (by_key own key) ≡ false
-    → files_of key (kept_newest keep own rows) ≡ files_of key rows
-others_kept keep key own [] apart = refl
-others_kept keep key own (row ∷ rows) apart =
-    by (is_of own row) (nat_le keep (live (files_of own rows))) refl (others_kept keep key own rows apart)
+others_kept : (retention : ℕ) (key own : Key) (rows : List Row) → is_eq (by_key own key) ≡ false
+    → files_of key (kept_newest retention own rows) ≡ files_of key rows
+others_kept retention key own [] apart = refl
+others_kept retention key own (row ∷ rows) apart =
+    by (is_of own row) (nat_le retention (live (files_of own rows))) refl (others_kept retention key own rows apart)
   where
-    by : (of marks : Bool) → is_of own row ≡ of → files_of key (kept_newest keep own rows) ≡ files_of key rows
-        → files_of key (cond (of && marks) (with_mark true row) row ∷ kept_newest keep own rows) ≡ files_of key (row ∷ rows)
+    by : (of marks : Bool) → is_of own row ≡ of → files_of key (kept_newest retention own rows) ≡ files_of key rows
+        → files_of key (cond (of && marks) (with_mark true row) row ∷ kept_newest retention own rows) ≡ files_of key (row ∷ rows)
     by true true is rest = rw (of_no_other key own row is apart) rest
-    by true false is rest = files_more key row (kept_newest keep own rows) rows rest
-    by false marks is rest = files_more key row (kept_newest keep own rows) rows rest
+    by true false is rest = files_more key row (kept_newest retention own rows) rows rest
+    by false marks is rest = files_more key row (kept_newest retention own rows) rows rest
 
-others_retained : (keep : ℕ) (key own : Key) (rows : List Row) → is_eq (by_key own key) ≡ false
-    → files_of key (retained keep own rows) ≡ files_of key rows
-others_retained keep key own rows apart = by (keep == 0)
+others_retained : (retention : ℕ) (key own : Key) (rows : List Row) → is_eq (by_key own key) ≡ false
+    → files_of key (retained retention own rows) ≡ files_of key rows
+others_retained retention key own rows apart = by (retention == 0)
   where
-    by : (b : Bool) → files_of key (cond b rows (kept_newest keep own rows)) ≡ files_of key rows
+    by : (b : Bool) → files_of key (cond b rows (kept_newest retention own rows)) ≡ files_of key rows
     by true = refl
-    by false = others_kept keep key own rows apart
+    by false = others_kept retention key own rows apart
 
 -- what is added stands among its own generations alone
-pub files_apart : (keep : ℕ) (row : Row) (rows : List Row) (key : Key) → is_of key row ≡ false
-    → files_of key (added keep row rows) ≡ files_of key rows
-files_apart keep row rows key apart =
-    others_retained keep key row.key (inserted row rows) apart ∙ others_inserted key row rows apart
+pub files_apart : (retention : ℕ) (row : Row) (rows : List Row) (key : Key) → is_of key row ≡ false
+    → files_of key (added retention row rows) ≡ files_of key rows
+files_apart retention row rows key apart =
+    others_retained retention key row.key (inserted row rows) apart ∙ others_inserted key row rows apart

@@ -1,18 +1,24 @@
 -- What is made of the sources of a plan is what the plan makes of the state.
-use Rattle.std.proofs.Common.{◌≡◌, ℕ, List, Result, Ok, Err, refl}
+use Rattle.std.proofs.Common.{◌≡◌, ℕ, List, Result, Ok, Err, refl, ap, sym, subst, ◌∙◌}
+use Rattle.std.proofs.lemmas.List.{append-nil}
 use Rattle.cm_fields.specs.declared.code.Code.{Code}
 use Rattle.ex_store.specs.declared.directory.Directory.{Directory}
+use Rattle.ex_store.specs.declared.key.NamePair.{NamePair}
 use Rattle.ex_store.specs.declared.place.Place.{Place}
 use Rattle.ex_store.specs.declared.plan.Refusal.{Refusal}
 use Rattle.ex_store.specs.declared.plan.Refusal.TheVariants as refusals
+use Rattle.ex_store.specs.declared.queue.QueueEntry.{QueueEntry}
+use Rattle.ex_store.specs.declared.ready.RowChange.{RowChange}
 use Rattle.ex_store.specs.declared.row.Row.{Row}
 use Rattle.ex_store.specs.Adding.{Outcome}
 use Rattle.ex_store.specs.Plan.{IsRefused, sources, with_rows}
 use Rattle.ex_store.specs.Positions.{elements_at, positions_from}
-use Rattle.ex_store.specs.Ready.{Change, IsMade, done_on, outcome_of}
+use Rattle.ex_store.specs.Ready.{Change, IsMade, applied, done_on, of_files, outcome_of, rows_after_all}
 use Rattle.ex_store.specs.Selection.{is_meant}
 use Rattle.ex_store.specs.State.{State}
+use Rattle.ex_store.specs.WellFormed.{IsWellFormed}
 use Rattle.ex_store.proofs.PositionsLaws.{elements_filter}
+use Rattle.ex_store.proofs.RemarkedLaws.{well_formed_with_rows}
 
 -- the directories, sources and rows that a plan is made of are those of the state
 pub record IsOver (state : State) (from : Place) (directories : List Directory) (taken rows : List Row) : Type 0 where
@@ -31,6 +37,19 @@ is_over state from directories rows given positions same_directories same_rows t
   rows_are = same_rows;
 }
 
+-- what is done where files alone are changed
+pub changes_files : (state : State) (retention : ℕ) (row_changes : List RowChange) (pairs : List NamePair)
+    → applied (of_files retention row_changes pairs) state
+    ≡ record state { rows = rows_after_all retention state.rows row_changes }
+changes_files state retention row_changes pairs =
+    ap (λ (queue : List QueueEntry). record state { rows = rows_after_all retention state.rows row_changes; queue = queue })
+    (append-nil state.queue)
+
+pub only_files : (state : State) (change : Change) → change ≡ of_files change.retention change.row_changes change.pairs
+    → applied change state ≡ record state { rows = rows_after_all change.retention state.rows change.row_changes }
+only_files state change files =
+    ap (λ (each : Change). applied each state) files ∙ changes_files state change.retention change.row_changes change.pairs
+
 -- what is made of the lists that the code has is the plan, done on the state
 pub made_by : (plan : List Directory → List Row → List Row → Result Outcome Code) (state : State) (from : Place)
     (directories : List Directory) (taken rows : List Row) (change : Change) → IsOver state from directories taken rows
@@ -39,7 +58,17 @@ pub made_by : (plan : List Directory → List Row → List Row → Result Outcom
 made_by plan state from directories taken rows change over made =
     let comes : plan state.directories (sources from state) state.rows ≡ Ok (outcome_of state.rows change) =
     rw (← over.sources_are, ← over.directories_are, ← over.rows_are) made.outcome in
-    rw (comes, made.none) refl
+    rw comes
+    (ap (λ (next : State). Ok (record { state = next; pairs = change.pairs })) (sym (only_files state change made.files)))
+
+-- and leads to a state that is well formed
+pub sound_by : (plan : Result Outcome Code) (state : State) (directories : List Directory) (rows : List Row) (change : Change)
+    → IsWellFormed state → directories ≡ state.directories → rows ≡ state.rows → IsMade directories rows plan change
+    → IsWellFormed (applied change state)
+sound_by plan state directories rows change well same_directories same_rows made =
+    subst (λ (next : State). IsWellFormed next) (sym (only_files state change made.files))
+    (well_formed_with_rows state (rows_after_all change.retention state.rows change.row_changes) well
+    (rw (← same_directories, ← same_rows) made.sound))
 
 -- and what is refused of them, the plan refuses
 pub refused_by : (plan : List Directory → List Row → List Row → Result Outcome Code) (state : State) (from : Place)

@@ -1,5 +1,5 @@
 -- A source that is taken out and added under another name: one step of a renaming.
-use Rattle.std.proofs.Common.{◌≡◌, ℕ, ◌+◌, nat_lt, nat_le, true, false, List, [], ◌∷◌, ◌++◌, length, map, Result, Ok, Err, Some, refl, ap, arith, ◌∙◌, sym, subst}
+use Rattle.std.proofs.Common.{◌≡◌, ℕ, ◌+◌, nat_lt, nat_le, true, false, not, List, [], ◌∷◌, ◌++◌, length, map, Result, Ok, Err, Some, refl, ap, arith, ◌∙◌, sym, subst}
 use Rattle.std.specs.Option.{option_map}
 use Rattle.std.proofs.lemmas.Bool.Decides.{nat_tests}
 use Rattle.cm_fields.specs.declared.code.Code.{Code}
@@ -23,6 +23,7 @@ use Rattle.ex_store.specs.WellFormed.{AreRows, is_row_among}
 use Rattle.ex_store.proofs.AdmittedLaws.{IsRoomy, and_then_ok, counted_target, numbered_free, rows_added}
 use Rattle.ex_store.proofs.AscendsLaws.{sorted_ascends}
 use Rattle.ex_store.proofs.BlankLaws.{numbered_blank, reinserted_blank, row_at_blank, without_blank}
+use Rattle.ex_store.proofs.DoableLaws.{doable_more}
 use Rattle.ex_store.proofs.AllCopiedLaws.{IsUnderWay, way_start, formed, from_formed, outcome_at, rows_after_more}
 use Rattle.ex_store.proofs.AllRenamedLaws.{AreThere, length_without, plain, rows_without, some_of, there_elements, there_moved, total_without}
 use Rattle.ex_store.proofs.AreRowsLaws.{absent_has, by_row_total}
@@ -82,17 +83,17 @@ pair_for to source rows =
     })) (numbered to.generation (files_of (key_from to source.key) (without (full_of source) rows)))
 
 -- the walk over the sources of a renaming
-pub record IsRenaming (directories : List Directory) (keep : ℕ) (to : Place) (rows whole left : List Row)
+pub record IsRenaming (directories : List Directory) (retention : ℕ) (to : Place) (rows whole left : List Row)
     (done : List RowChange) (pairs : List NamePair) (simulated : List Row) : Type 0 where
-  pub on : IsUnderWay (renamed keep to) directories keep rows whole left done pairs simulated
-  pub there : AreThere (rows_after_all keep rows done) left
+  pub on : IsUnderWay (renamed retention to) directories retention rows whole left done pairs simulated
+  pub there : AreThere (rows_after_all retention rows done) left
   pub distinct : AreDistinct left
 
-pub renaming_start : (directories : List Directory) (keep : ℕ) (to : Place) (rows : List Row) (positions : List ℕ) → AreRows directories rows
+pub renaming_start : (directories : List Directory) (retention : ℕ) (to : Place) (rows : List Row) (positions : List ℕ) → AreRows directories rows
     → AreDistinct (elements_at rows positions)
-    → IsRenaming directories keep to rows (elements_at rows positions) (elements_at rows positions) [] [] (map blank rows)
-renaming_start directories keep to rows positions are distinct = record {
-  on = way_start (renamed keep to) directories keep rows (elements_at rows positions) are;
+    → IsRenaming directories retention to rows (elements_at rows positions) (elements_at rows positions) [] [] (map blank rows)
+renaming_start directories retention to rows positions are distinct = record {
+  on = way_start (renamed retention to) directories retention rows (elements_at rows positions) are;
   there = there_elements rows positions (sorted_ascends by_row by_row_total rows are.ascend);
   distinct = distinct;
 }
@@ -102,12 +103,12 @@ simulated_pair : (to : Place) (source : Row) (rows simulated : List Row) → sim
 simulated_pair to source rows simulated is =
     rw (is, without_blank (full_of source) rows, numbered_blank to.generation (key_from to source.key) (without (full_of source) rows)) refl
 
-pub renames_refused : (directories : List Directory) (keep : ℕ) (to : Place) (rows whole more : List Row) (source : Row)
+pub renames_refused : (directories : List Directory) (retention : ℕ) (to : Place) (rows whole more : List Row) (source : Row)
     (done : List RowChange) (pairs : List NamePair) (simulated : List Row) (code : Code) → is_row_among directories source ≡ true
-    → IsRenaming directories keep to rows whole (source ∷ more) done pairs simulated → pair_for to source simulated ≡ Err code
-    → each_in_turn (renamed keep to) whole (record { rows = rows; pairs = [] }) ≡ Err code
-renames_refused directories keep to rows whole more source done pairs simulated code form is refused =
-    let so_far = rows_after_all keep rows done in
+    → IsRenaming directories retention to rows whole (source ∷ more) done pairs simulated → pair_for to source simulated ≡ Err code
+    → each_in_turn (renamed retention to) whole (record { rows = rows; pairs = [] }) ≡ Err code
+renames_refused directories retention to rows whole more source done pairs simulated code form is refused =
+    let so_far = rows_after_all retention rows done in
     let key = key_from to source.key in
     let known = taken directories to so_far source is.on.sound form is.there.0 in
     let none : numbered to.generation (files_of key (without (full_of source) so_far)) ≡ Err code =
@@ -123,27 +124,27 @@ renames_refused directories keep to rows whole more source done pairs simulated 
     asked_none (Ok number) is = absurd (cc)
     asked_none (Err other) is = cc
 
-simulated_moved : (keep : ℕ) (full target : FullName) (rows simulated : List Row) → simulated ≡ map blank rows
-    → reinserted keep target (without full simulated) (row_at full simulated)
-    ≡ map blank (reinserted keep target (without full rows) (row_at full rows))
-simulated_moved keep full target rows simulated is =
-    rw (is, without_blank full rows, row_at_blank full rows) (reinserted_blank keep target (without full rows) (row_at full rows))
+simulated_moved : (retention : ℕ) (full target : FullName) (rows simulated : List Row) → simulated ≡ map blank rows
+    → reinserted retention target (without full simulated) (row_at full simulated)
+    ≡ map blank (reinserted retention target (without full rows) (row_at full rows))
+simulated_moved retention full target rows simulated is =
+    rw (is, without_blank full rows, row_at_blank full rows) (reinserted_blank retention target (without full rows) (row_at full rows))
 
 -- the names that a source had and has under a number
 abbrev named : Place → Row → ℕ → NamePair
 named to source number =
     record { source = full_of source; target = record { key = key_from to source.key; generation = number } }
 
-renames_step : (directories : List Directory) (keep : ℕ) (to : Place) (rows whole more : List Row) (source : Row)
+renames_step : (directories : List Directory) (retention : ℕ) (to : Place) (rows whole more : List Row) (source : Row)
     (done : List RowChange) (pairs : List NamePair) (simulated : List Row) (number : ℕ) → IsTarget to directories
     → is_row_among directories source ≡ true
-    → IsRenaming directories keep to rows whole (source ∷ more) done pairs simulated
-    → numbered to.generation (files_of (key_from to source.key) (without (full_of source) (rows_after_all keep rows done))) ≡ Ok number
-    → IsRenaming directories keep to rows whole more (done ++ changes.Move (named to source number) ∷ [])
+    → IsRenaming directories retention to rows whole (source ∷ more) done pairs simulated
+    → numbered to.generation (files_of (key_from to source.key) (without (full_of source) (rows_after_all retention rows done))) ≡ Ok number
+    → IsRenaming directories retention to rows whole more (done ++ changes.Move (named to source number) ∷ [])
     (pairs ++ named to source number ∷ [])
-    (moved keep (named to source number) simulated)
-renames_step directories keep to rows whole more source done pairs simulated number target form is numbers =
-    let so_far = rows_after_all keep rows done in
+    (moved retention (named to source number) simulated)
+renames_step directories retention to rows whole more source done pairs simulated number target form is numbers =
+    let so_far = rows_after_all retention rows done in
     let key = key_from to source.key in
     let left = without (full_of source) so_far in
     let known = taken directories to so_far source is.on.sound form is.there.0 in
@@ -153,39 +154,40 @@ renames_step directories keep to rows whole more source done pairs simulated num
     let free = numbered_free to.generation (files_of key left) number (counted_target to.generation target.generation) numbers in
     let shape = from_formed directories to source source.file.moment number target form (formed directories source form).moment free.within in
     let same : with_name (named to source number).target known.found ≡ new = rw (known.moment, known.bytes) refl in
-    let put : reinserted keep (named to source number).target left (row_at (full_of source) so_far) ≡ added keep new left =
+    let put : reinserted retention (named to source number).target left (row_at (full_of source) so_far) ≡ added retention new left =
     rw (known.is, same) refl in
-    let next : rows_after_all keep rows (done ++ changes.Move (named to source number) ∷ []) ≡ added keep new left =
-    rows_after_more keep rows done (changes.Move (named to source number)) ∙ put in
+    let next : rows_after_all retention rows (done ++ changes.Move (named to source number) ∷ []) ≡ added retention new left =
+    rows_after_more retention rows done (changes.Move (named to source number)) ∙ put in
     record {
       on = record {
         walk = rw next (step_on asked is.on.walk);
-        sound = rw next (rows_added directories keep new left known.left (record { free = free; roomy = known.room }) shape);
-        simulated_are = rw next (simulated_moved keep (full_of source) (named to source number).target so_far simulated is.on.simulated_are ∙ ap (map blank) put);
+        sound = rw next (rows_added directories retention new left known.left (record { free = free; roomy = known.room }) shape);
+        doable = doable_more retention rows done (changes.Move (named to source number)) is.on.doable (ap not free.absent);
+        simulated_are = rw next (simulated_moved retention (full_of source) (named to source number).target so_far simulated is.on.simulated_are ∙ ap (map blank) put);
       };
-      there = rw next (there_moved keep source new so_far more (absent_has key number left free.absent) is.distinct.0 is.there.1);
+      there = rw next (there_moved retention source new so_far more (absent_has key number left free.absent) is.distinct.0 is.there.1);
       distinct = is.distinct.1;
     }
   where
-    step_on : admitted (key_from to source.key) to.generation (length source.file.bytes) (without (full_of source) (rows_after_all keep rows done)) ≡ Ok number
-        → each_in_turn (renamed keep to) (source ∷ more) (outcome_at keep rows done pairs) ≡ each_in_turn (renamed keep to) whole (record { rows = rows; pairs = [] })
-        → each_in_turn (renamed keep to) more (record {
-          rows = added keep (new_row (key_from to source.key) source.file.moment source.file.bytes number) (without (full_of source) (rows_after_all keep rows done));
+    step_on : admitted (key_from to source.key) to.generation (length source.file.bytes) (without (full_of source) (rows_after_all retention rows done)) ≡ Ok number
+        → each_in_turn (renamed retention to) (source ∷ more) (outcome_at retention rows done pairs) ≡ each_in_turn (renamed retention to) whole (record { rows = rows; pairs = [] })
+        → each_in_turn (renamed retention to) more (record {
+          rows = added retention (new_row (key_from to source.key) source.file.moment source.file.bytes number) (without (full_of source) (rows_after_all retention rows done));
           pairs = pairs ++ named to source number ∷ [];
-        }) ≡ each_in_turn (renamed keep to) whole (record { rows = rows; pairs = [] })
+        }) ≡ each_in_turn (renamed retention to) whole (record { rows = rows; pairs = [] })
     step_on asked walk = rw asked at walk
 
-pub renames_more : (directories : List Directory) (keep : ℕ) (to : Place) (rows whole more : List Row) (source : Row)
+pub renames_more : (directories : List Directory) (retention : ℕ) (to : Place) (rows whole more : List Row) (source : Row)
     (done : List RowChange) (pairs : List NamePair) (simulated : List Row) (pair : NamePair) → IsTarget to directories
     → is_row_among directories source ≡ true
-    → IsRenaming directories keep to rows whole (source ∷ more) done pairs simulated → pair_for to source simulated ≡ Ok pair
-    → IsRenaming directories keep to rows whole more (done ++ changes.Move pair ∷ []) (pairs ++ pair ∷ [])
-    (moved keep pair simulated)
-renames_more directories keep to rows whole more source done pairs simulated pair target form is names =
+    → IsRenaming directories retention to rows whole (source ∷ more) done pairs simulated → pair_for to source simulated ≡ Ok pair
+    → IsRenaming directories retention to rows whole more (done ++ changes.Move pair ∷ []) (pairs ++ pair ∷ [])
+    (moved retention pair simulated)
+renames_more directories retention to rows whole more source done pairs simulated pair target form is names =
     let parts = and_then_ok (λ number. Ok (named to source number))
-    (numbered to.generation (files_of (key_from to source.key) (without (full_of source) (rows_after_all keep rows done)))) pair
-    (sym (simulated_pair to source (rows_after_all keep rows done) simulated is.on.simulated_are) ∙ names) in
+    (numbered to.generation (files_of (key_from to source.key) (without (full_of source) (rows_after_all retention rows done)))) pair
+    (sym (simulated_pair to source (rows_after_all retention rows done) simulated is.on.simulated_are) ∙ names) in
     let same : named to source parts.0 ≡ pair = cc in
-    subst (λ (pair : NamePair). IsRenaming directories keep to rows whole more (done ++ changes.Move pair ∷ []) (pairs ++ pair ∷ [])
-    (moved keep pair simulated)) same
-    (renames_step directories keep to rows whole more source done pairs simulated parts.0 target form is parts.1)
+    subst (λ (pair : NamePair). IsRenaming directories retention to rows whole more (done ++ changes.Move pair ∷ []) (pairs ++ pair ∷ [])
+    (moved retention pair simulated)) same
+    (renames_step directories retention to rows whole more source done pairs simulated parts.0 target form is parts.1)

@@ -349,11 +349,11 @@ block_within test xs middle first behind parts =
     let inner = length-append middle parts.upper in
     (omega arith, omega arith)
 
-drop_front : {X : Type 0} (front more : List X) → drop (length front) (front ++ more) ≡ more
+pub drop_front : {X : Type 0} (front more : List X) → drop (length front) (front ++ more) ≡ more
 drop_front [] more = refl
 drop_front (x ∷ front) more = drop_front front more
 
-take_front : {X : Type 0} (front more : List X) → take (length front) (front ++ more) ≡ front
+pub take_front : {X : Type 0} (front more : List X) → take (length front) (front ++ more) ≡ front
 take_front [] more = refl
 take_front (x ∷ front) more = ap (λ rest. x ∷ rest) (take_front front more)
 

@@ -34,35 +34,35 @@ length_inserted row (other ∷ rows) = by (is_lt (by_row other row)) (length_ins
     by true rest = ap (λ n. suc n) rest
     by false rest = refl
 
-total_kept : (keep : ℕ) (key : Key) (rows : List Row) → total (kept_newest keep key rows) ≡ total rows
-total_kept keep key [] = refl
-total_kept keep key (row ∷ rows) =
-    by (is_of key row && nat_le keep (live (files_of key rows))) (total_kept keep key rows)
+total_kept : (retention : ℕ) (key : Key) (rows : List Row) → total (kept_newest retention key rows) ≡ total rows
+total_kept retention key [] = refl
+total_kept retention key (row ∷ rows) =
+    by (is_of key row && nat_le retention (live (files_of key rows))) (total_kept retention key rows)
   where
-    by : (b : Bool) → total (kept_newest keep key rows) ≡ total rows
-        → total (cond b (with_mark true row) row ∷ kept_newest keep key rows) ≡ total (row ∷ rows)
+    by : (b : Bool) → total (kept_newest retention key rows) ≡ total rows
+        → total (cond b (with_mark true row) row ∷ kept_newest retention key rows) ≡ total (row ∷ rows)
     by true rest =
-        total_cons (with_mark true row) (kept_newest keep key rows)
+        total_cons (with_mark true row) (kept_newest retention key rows)
         ∙ (ap (λ n. length row.file.bytes + n) rest ∙ sym (total_cons row rows))
     by false rest =
-        total_cons row (kept_newest keep key rows)
+        total_cons row (kept_newest retention key rows)
         ∙ (ap (λ n. length row.file.bytes + n) rest ∙ sym (total_cons row rows))
 
-length_kept : (keep : ℕ) (key : Key) (rows : List Row) → length (kept_newest keep key rows) ≡ length rows
-length_kept keep key [] = refl
-length_kept keep key (row ∷ rows) = ap (λ n. suc n) (length_kept keep key rows)
+length_kept : (retention : ℕ) (key : Key) (rows : List Row) → length (kept_newest retention key rows) ≡ length rows
+length_kept retention key [] = refl
+length_kept retention key (row ∷ rows) = ap (λ n. suc n) (length_kept retention key rows)
 
-pub total_added : (keep : ℕ) (row : Row) (rows : List Row) → total (added keep row rows) ≡ length row.file.bytes + total rows
-total_added keep row rows = by (keep == 0)
+pub total_added : (retention : ℕ) (row : Row) (rows : List Row) → total (added retention row rows) ≡ length row.file.bytes + total rows
+total_added retention row rows = by (retention == 0)
   where
-    by : (b : Bool) → total (cond b (inserted row rows) (kept_newest keep row.key (inserted row rows)))
+    by : (b : Bool) → total (cond b (inserted row rows) (kept_newest retention row.key (inserted row rows)))
         ≡ length row.file.bytes + total rows
     by true = total_inserted row rows
-    by false = total_kept keep row.key (inserted row rows) ∙ total_inserted row rows
+    by false = total_kept retention row.key (inserted row rows) ∙ total_inserted row rows
 
-pub length_added : (keep : ℕ) (row : Row) (rows : List Row) → length (added keep row rows) ≡ suc (length rows)
-length_added keep row rows = by (keep == 0)
+pub length_added : (retention : ℕ) (row : Row) (rows : List Row) → length (added retention row rows) ≡ suc (length rows)
+length_added retention row rows = by (retention == 0)
   where
-    by : (b : Bool) → length (cond b (inserted row rows) (kept_newest keep row.key (inserted row rows))) ≡ suc (length rows)
+    by : (b : Bool) → length (cond b (inserted row rows) (kept_newest retention row.key (inserted row rows))) ≡ suc (length rows)
     by true = length_inserted row rows
-    by false = length_kept keep row.key (inserted row rows) ∙ length_inserted row rows
+    by false = length_kept retention row.key (inserted row rows) ∙ length_inserted row rows

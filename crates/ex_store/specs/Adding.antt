@@ -65,9 +65,9 @@ pub record Outcome : Type 0 where
 
 -- a row is added that comes from this file
 abbrev pub placed : ℕ → FullName → Outcome → Row → Outcome
-placed keep source outcome row =
+placed retention source outcome row =
     record {
-      rows = added keep row outcome.rows;
+      rows = added retention row outcome.rows;
       pairs = outcome.pairs ++ (record { source = source; target = full_of row }) ∷ [];
     }
 

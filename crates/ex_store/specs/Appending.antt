@@ -48,8 +48,8 @@ opened moment key generation rows =
 
 -- the rows with the file that is put behind
 abbrev pub with_opened : ℕ → List Row → Option Row → List Row
-with_opened keep rows None = rows
-with_opened keep rows (Some row) = added keep row rows
+with_opened retention rows None = rows
+with_opened retention rows (Some row) = added retention row rows
 
 -- what a file holds; nothing where it is not there
 abbrev pub bytes_at : FullName → List Row → List ℕ
@@ -74,11 +74,11 @@ pairs_to target sources = map (λ source. record { source = full_of source; targ
 
 -- the bytes of the sources, as they were, are put behind the target, which gets the moment of the line
 abbrev pub appended : ℕ → ℕ → Place → List Row → List Row → Result Outcome Code
-appended keep moment to sources rows =
+appended retention moment to sources rows =
     and_then (λ there.
     and_then (λ bytes.
     Ok (record {
-      rows = filled there.target (moment_of moment) bytes (with_opened keep rows there.new);
+      rows = filled there.target (moment_of moment) bytes (with_opened retention rows there.new);
       pairs = pairs_to there.target sources;
     }))
     (poured (total rows) (bytes_at there.target rows) sources))

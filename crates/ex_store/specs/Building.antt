@@ -18,17 +18,20 @@ directory_inserted new (other ∷ more) =
 abbrev pub with_directory : Directory → List Directory → List Directory
 with_directory new directories =
     if has_directory new.name directories
-    then map (λ other. if is_named new.name other then record other { keep = new.keep } else other) directories
+    then map (λ other.
+    if is_named new.name other then record other { retention = new.retention } else other) directories
     else directory_inserted new directories
 
 -- how many generations it keeps: as is asked, or as before, and a new one keeps 1
-abbrev pub kept_by : List ℕ → Option ℕ → List Directory → ℕ
-kept_by name keep directories =
-    unwrap_or keep (unwrap_or (option_map (λ directory. directory.keep) (find (is_named name) directories)) 1)
+abbrev pub new_retention : List ℕ → Option ℕ → List Directory → ℕ
+new_retention name retention directories =
+    unwrap_or retention
+    (unwrap_or (option_map (λ directory. directory.retention) (find (is_named name) directories)) 1)
 
 -- the directory that is made, or the limit that is passed
 abbrev pub built : List ℕ → Option ℕ → List Directory → Result Directory Code
-built name keep directories =
-    if has_directory name directories then Ok (record { name = name; keep = kept_by name keep directories })
+built name retention directories =
+    if has_directory name directories
+    then Ok (record { name = name; retention = new_retention name retention directories })
     else (if nat_le DIRECTORY_LIMIT (length directories) then Err DirLimit
-    else Ok (record { name = name; keep = kept_by name keep directories }))
+    else Ok (record { name = name; retention = new_retention name retention directories }))

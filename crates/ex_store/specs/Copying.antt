@@ -34,16 +34,16 @@ key_from to source =
 
 -- a source is added under the target's name, with its bytes
 abbrev pub copied : ℕ → ℕ → Place → Row → Outcome → Result Outcome Code
-copied keep moment to source outcome =
+copied retention moment to source outcome =
     let key = key_from to source.key in
     and_then (λ generation.
-    Ok (placed keep (full_of source) outcome (new_row key (moment_of moment) source.file.bytes generation)))
+    Ok (placed retention (full_of source) outcome (new_row key (moment_of moment) source.file.bytes generation)))
     (admitted key to.generation (length source.file.bytes) outcome.rows)
 
 -- the sources are copied one after the other
 abbrev pub all_copied : ℕ → ℕ → Place → List Row → List Row → Result Outcome Code
-all_copied keep moment to sources rows =
-    each_in_turn (copied keep moment to) sources (record { rows = rows; pairs = [] })
+all_copied retention moment to sources rows =
+    each_in_turn (copied retention moment to) sources (record { rows = rows; pairs = [] })
 
 -- no name is given, or `*` stands for it
 abbrev pub name_is_open : Option (List ℕ) → Bool
@@ -66,9 +66,9 @@ own_key to =
 
 -- bytes are added under the target's name: it is its own source
 abbrev pub written : ℕ → ℕ → Place → List ℕ → List Row → Result Outcome Code
-written keep moment to bytes rows =
+written retention moment to bytes rows =
     if lacks_name to then Err NameNeeded
     else and_then (λ generation.
     let row = new_row (own_key to) (moment_of moment) bytes generation in
-    Ok (placed keep (full_of row) (record { rows = rows; pairs = [] }) row))
+    Ok (placed retention (full_of row) (record { rows = rows; pairs = [] }) row))
     (admitted (own_key to) to.generation (length bytes) rows)

@@ -1,12 +1,16 @@
 -- What a store tells of its parts, as texts that are lent.
+use Rattle.ex_store.specs.declared.directory.Definition.{Definition}
+use Rattle.ex_store.specs.declared.directory.DefinitionView.{DefinitionView}
+use Rattle.ex_store.specs.declared.directory.Directory.{Directory}
+use Rattle.ex_store.specs.declared.directory.DirectoryView.{DirectoryView}
 use Rattle.ex_store.specs.declared.key.Full.{Full}
 use Rattle.ex_store.specs.declared.key.FullName.{FullName}
 use Rattle.ex_store.specs.declared.key.NamePair.{NamePair}
 use Rattle.ex_store.specs.declared.key.Pair.{Pair}
-use Rattle.ex_store.specs.declared.parts.Parts.{Parts}
 use Rattle.ex_store.specs.declared.queue.QueueEntry.{QueueEntry}
 use Rattle.ex_store.specs.declared.queue.Queued.{Queued}
-use Rattle.ex_store.specs.State.{State}
+use Rattle.ex_store.specs.declared.row.Row.{Row}
+use Rattle.ex_store.specs.declared.row.RowView.{RowView}
 
 abbrev pub full_name : Full → FullName
 full_name full =
@@ -32,12 +36,15 @@ queue_entry queued =
       note = queued.note.now;
     }
 
-abbrev pub state_of : Parts → State
-state_of parts =
+abbrev pub directory_of_view : DirectoryView → Directory
+directory_of_view view = record { name = view.name.now; retention = view.retention }
+
+abbrev pub definition_of_view : DefinitionView → Definition
+definition_of_view view = record { name = view.name.now; directory = view.directory.now }
+
+abbrev pub row_of_view : RowView → Row
+row_of_view view =
     record {
-      directories = parts.directories.now;
-      connected = parts.connected.now;
-      logical = parts.logical.now;
-      rows = parts.rows.now;
-      queue = parts.queue.now;
+      key = record { directory = view.directory.now; name = view.name.now; kind = view.kind.now };
+      file = view.file.now;
     }

@@ -2,11 +2,14 @@ pub mod Adding
 pub mod Appending
 pub mod Building
 pub mod Copying
+pub mod Defining
 pub mod Draft
 pub mod Forms
+pub mod Insertion
 pub mod Lent
 pub mod Plan
 pub mod Positions
+pub mod Printing
 pub mod Ready
 pub mod Renaming
 pub mod Rows

@@ -1,26 +1,33 @@
 -- What a plan makes of a state, and from which file to which one each went; or the first refusal.
-use Rattle.std.specs.Prelude.{ℕ, ◌≡◌, ◌≤◌, ◌||◌, Bool, true, false, List, [], Option, None, Some, Result, Ok, Err, IfSome}
+use Rattle.std.specs.Prelude.{ℕ, ◌≡◌, ◌<◌, ◌≤◌, ◌||◌, ◌&&◌, nat_le, Bool, true, false, List, [], ◌++◌, length, Option, None, Some, Result, Ok, Err, IfSome}
+use Rattle.std.specs.List.{list_all}
+use Rattle.cm_text.specs.Bytes.{is_text}
+use Rattle.cm_text.specs.declared.name.TheConstants.{NAME_LIMIT}
 use Rattle.cm_fields.specs.declared.code.Code.{Code}
 use Rattle.cm_fields.specs.declared.value.Gen.{Gen}
 use Rattle.cm_fields.specs.declared.value.Gen.TheVariants.{Missing, Highest, Next, Lowest, All, Number}
 use Rattle.cm_files.specs.Catalogue.{is_directory_name}
+use Rattle.cm_files.specs.LogicalName.{is_logical_name}
 use Rattle.ex_store.specs.declared.directory.Directory.{Directory}
 use Rattle.ex_store.specs.declared.key.NamePair.{NamePair}
-use Rattle.ex_store.specs.declared.limits.TheConstants.{RETENTION_LIMIT}
+use Rattle.ex_store.specs.declared.limits.TheConstants.{COPIES_LIMIT, FORMS, RETENTION_LIMIT}
 use Rattle.ex_store.specs.declared.place.Place.{Place}
 use Rattle.ex_store.specs.declared.plan.Plan.{Plan}
 use Rattle.ex_store.specs.declared.plan.Plan.TheVariants as plans
 use Rattle.ex_store.specs.declared.plan.Refusal.{Refusal}
 use Rattle.ex_store.specs.declared.plan.Refusal.TheVariants as refusals
+use Rattle.ex_store.specs.declared.print.Request.{Request}
 use Rattle.ex_store.specs.declared.row.Row.{Row}
 use Rattle.ex_store.specs.Adding.{Outcome, and_then}
 use Rattle.ex_store.specs.Appending.{appended}
 use Rattle.ex_store.specs.Building.{built, with_directory}
 use Rattle.ex_store.specs.Copying.{all_copied, is_star, written}
+use Rattle.ex_store.specs.Defining.{definition_of, with_definition}
+use Rattle.ex_store.specs.Printing.{entries_for, own_pairs}
 use Rattle.ex_store.specs.Renaming.{all_renamed}
 use Rattle.ex_store.specs.Selection.{meant}
-use Rattle.ex_store.specs.State.{State, has_directory, keep_of}
-use Rattle.ex_store.specs.WellFormed.{is_file_name, is_file_type, is_numbered}
+use Rattle.ex_store.specs.State.{State, has_directory, retention_of}
+use Rattle.ex_store.specs.WellFormed.{is_day, is_file_name, is_file_type, is_numbered}
 
 -- the state behind a plan, and its pairs in order
 pub record Planned : Type 0 where
@@ -37,23 +44,31 @@ with_rows state =
     and_then (λ outcome. Ok (record { state = record state { rows = outcome.rows }; pairs = outcome.pairs }))
 
 -- how many generations the directory of a target keeps
-abbrev pub keep_at : Place → State → ℕ
-keep_at to state = keep_of to.directory state.directories
+abbrev pub retention_at : Place → State → ℕ
+retention_at to state = retention_of to.directory state.directories
 
 -- sources are those of the start, in ascending order, and each is taken in turn
 unfoldable pub planned : Plan → ℕ → State → Result Planned Code
-planned (plans.Build directory keep) moment state =
+planned (plans.Build directory retention) moment state =
     and_then (λ made.
     Ok (record { state = record state { directories = with_directory made state.directories }; pairs = [] }))
-    (built directory keep state.directories)
+    (built directory retention state.directories)
+planned (plans.Define name directory) moment state =
+    and_then (λ made.
+    Ok (record { state = record state { logical = with_definition made state.logical }; pairs = [] }))
+    (definition_of name directory state.logical)
 planned (plans.Copy from to) moment state =
-    with_rows state (all_copied (keep_at to state) moment to (sources from state) state.rows)
+    with_rows state (all_copied (retention_at to state) moment to (sources from state) state.rows)
 planned (plans.Rename from to) moment state =
-    with_rows state (all_renamed (keep_at to state) to (sources from state) state.rows)
+    with_rows state (all_renamed (retention_at to state) to (sources from state) state.rows)
 planned (plans.Append from to) moment state =
-    with_rows state (appended (keep_at to state) moment to (sources from state) state.rows)
+    with_rows state (appended (retention_at to state) moment to (sources from state) state.rows)
 planned (plans.Write to bytes) moment state =
-    with_rows state (written (keep_at to state) moment to bytes state.rows)
+    with_rows state (written (retention_at to state) moment to bytes state.rows)
+planned (plans.Print files request) moment state =
+    and_then (λ entries.
+    Ok (record { state = record state { queue = state.queue ++ entries }; pairs = own_pairs (sources files state) }))
+    (entries_for request (sources files state) state.queue)
 
 -- a part of a target's name: none, `*`, or one that a file may have
 abbrev pub may_be : (List ℕ → Bool) → Option (List ℕ) → Bool
@@ -100,18 +115,35 @@ pub record IsOneFile (to : Place) (directories : List Directory) : Type 0 where
   pub kind : has_plain_kind to.kind ≡ true
   pub generation : may_grow to.generation ≡ true
 
+-- a job that has a name, or none
+abbrev pub may_be_job : Option (List ℕ) → Bool
+may_be_job None = true
+may_be_job (Some job) = is_file_name job
+
+-- what may be asked for with files that are printed: what an entry of the queue may have
+pub record IsRequest (request : Request) : Type 0 where
+  pub some : 0 < request.copies
+  pub few : request.copies ≤ COPIES_LIMIT
+  pub form : request.form < FORMS
+  pub after : is_day request.after ≡ true
+  pub job : may_be_job request.job ≡ true
+  pub note : (nat_le (length request.note) NAME_LIMIT && list_all is_text request.note) ≡ true
+
 -- where files may be taken from
 abbrev pub IsSource : Place → State → Type 0
 IsSource from state = has_directory from.directory state.directories ≡ true
 
 -- a plan that can be prepared
 abbrev pub MayPlan : Plan → State → Type 0
-MayPlan (plans.Build directory keep) state =
-    (is_directory_name directory ≡ true) × IfSome keep (λ count. count ≤ RETENTION_LIMIT)
+MayPlan (plans.Build directory retention) state =
+    (is_directory_name directory ≡ true) × IfSome retention (λ count. count ≤ RETENTION_LIMIT)
+MayPlan (plans.Define name directory) state =
+    (is_logical_name name ≡ true) × (has_directory directory state.directories ≡ true)
 MayPlan (plans.Copy from to) state = IsSource from state × IsTarget to state.directories
 MayPlan (plans.Rename from to) state = IsSource from state × IsTarget to state.directories
 MayPlan (plans.Append from to) state = IsSource from state × IsOneFile to state.directories
 MayPlan (plans.Write to bytes) state = IsTarget to state.directories
+MayPlan (plans.Print files request) state = IsSource files state × IsRequest request
 
 -- a plan is refused with this code, or there was no memory for it
 abbrev pub IsRefused : {A : Type 0} → Result A Code → Refusal → Type 0

@@ -1,27 +1,53 @@
 -- A plan that is ready to be done.
-use Rattle.std.specs.Prelude.{ℕ, ◌≡◌, ◌+◌, ◌≤◌, List, length, Option, Some, None, Result, Ok}
+use Rattle.std.specs.Prelude.{ℕ, ◌≡◌, ◌+◌, ◌≤◌, ◌&&◌, Bool, true, not, List, [], ◌∷◌, length, Option, Some, None, Result, Ok, ◌++◌}
 use Rattle.std.specs.List.{fold}
 use Rattle.cm_fields.specs.declared.code.Code.{Code}
+use Rattle.ex_generations.specs.Generations.{has}
+use Rattle.ex_store.specs.declared.directory.Definition.{Definition}
 use Rattle.ex_store.specs.declared.directory.Directory.{Directory}
 use Rattle.ex_store.specs.declared.key.FullName.{FullName}
 use Rattle.ex_store.specs.declared.key.NamePair.{NamePair}
+use Rattle.ex_store.specs.declared.queue.QueueEntry.{QueueEntry}
 use Rattle.ex_store.specs.declared.ready.RowChange.{RowChange}
 use Rattle.ex_store.specs.declared.ready.RowChange.TheVariants as changes
 use Rattle.ex_store.specs.declared.row.Row.{Row}
 use Rattle.ex_store.specs.Building.{with_directory}
 use Rattle.ex_store.specs.Adding.{Outcome, new_row}
+use Rattle.ex_store.specs.Defining.{with_definition}
 use Rattle.ex_store.specs.Plan.{Planned}
-use Rattle.ex_store.specs.Rows.{added, filled, row_at, without}
+use Rattle.ex_store.specs.Rows.{added, filled, files_of, row_at, without}
 use Rattle.ex_store.specs.State.{StoreWithRoom, State}
 use Rattle.ex_store.specs.WellFormed.{AreRows, IsWellFormed}
 
--- a directory to be made or changed; how many generations are kept where files are added; what is done with the
--- files, one after the other; and from which file to which one each goes
+-- a directory to be made or changed; a logical name to be defined; how many generations are kept where files are
+-- added; what is done with the files, one after the other; what is put into the queue; and from which file to which
+-- one each goes
 pub record Change : Type 0 where
   pub directory : Option Directory
-  pub keep : ℕ
+  pub definition : Option Definition
+  pub retention : ℕ
   pub row_changes : List RowChange
+  pub entries : List QueueEntry
   pub pairs : List NamePair
+
+-- nothing is changed
+abbrev pub no_change : Change
+no_change =
+    record { directory = None; definition = None; retention = 0; row_changes = []; entries = []; pairs = [] }
+
+-- a directory alone, a logical name alone, files alone, or the queue alone
+abbrev pub of_directory : Directory → Change
+of_directory made = record no_change { directory = Some made }
+
+abbrev pub of_definition : Definition → Change
+of_definition made = record no_change { definition = Some made }
+
+abbrev pub of_files : ℕ → List RowChange → List NamePair → Change
+of_files retention row_changes pairs =
+    record no_change { retention = retention; row_changes = row_changes; pairs = pairs }
+
+abbrev pub of_entries : List QueueEntry → List NamePair → Change
+of_entries entries pairs = record no_change { entries = entries; pairs = pairs }
 
 -- the row under another name, unmarked
 abbrev pub with_name : FullName → Row → Row
@@ -29,57 +55,82 @@ with_name target row = new_row target.key row.file.moment row.file.bytes target.
 
 -- the row that was taken out, added under another name
 abbrev pub reinserted : ℕ → FullName → List Row → Option Row → List Row
-reinserted keep target rows None = rows
-reinserted keep target rows (Some row) = added keep (with_name target row) rows
+reinserted retention target rows None = rows
+reinserted retention target rows (Some row) = added retention (with_name target row) rows
 
 -- the row of a full name is taken out, where there is one, and added under another
 abbrev pub moved : ℕ → NamePair → List Row → List Row
-moved keep pair rows = reinserted keep pair.target (without pair.source rows) (row_at pair.source rows)
+moved retention pair rows = reinserted retention pair.target (without pair.source rows) (row_at pair.source rows)
 
 -- the rows after a change
 abbrev pub rows_after : ℕ → List Row → RowChange → List Row
-rows_after keep rows (changes.Add row) = added keep row rows
-rows_after keep rows (changes.Move pair) = moved keep pair rows
-rows_after keep rows (changes.Fill target moment bytes) = filled target moment bytes rows
+rows_after retention rows (changes.Add row) = added retention row rows
+rows_after retention rows (changes.Move pair) = moved retention pair rows
+rows_after retention rows (changes.Fill target moment bytes) = filled target moment bytes rows
 
 abbrev pub rows_after_all : ℕ → List Row → List RowChange → List Row
-rows_after_all keep rows done = fold (rows_after keep) rows done
+rows_after_all retention rows done = fold (rows_after retention) rows done
+
+-- a change can be done with these rows: what it adds goes under a full name that none of them has
+abbrev pub is_doable : List Row → RowChange → Bool
+is_doable rows (changes.Add row) = not (has row.file.generation (files_of row.key rows))
+is_doable rows (changes.Move pair) =
+    not (has pair.target.generation (files_of pair.target.key (without pair.source rows)))
+is_doable rows (changes.Fill target moment bytes) = true
+
+-- so can each of some changes, one after the other
+abbrev pub are_doable : ℕ → List Row → List RowChange → Bool
+are_doable retention rows [] = true
+are_doable retention rows (change ∷ more) =
+    is_doable rows change && are_doable retention (rows_after retention rows change) more
 
 -- what the changes make of some rows
 abbrev pub outcome_of : List Row → Change → Outcome
-outcome_of rows change = record { rows = rows_after_all change.keep rows change.row_changes; pairs = change.pairs }
+outcome_of rows change = record { rows = rows_after_all change.retention rows change.row_changes; pairs = change.pairs }
 
 -- what is to be done with some rows comes to what a plan makes of them, and they stay those of a store
 pub record IsMade (directories : List Directory) (rows : List Row) (plan : Result Outcome Code) (change : Change)
     : Type 0 where
-  pub none : change.directory ≡ None
+  pub files : change ≡ of_files change.retention change.row_changes change.pairs
   pub outcome : plan ≡ Ok (outcome_of rows change)
-  pub sound : AreRows directories (rows_after_all change.keep rows change.row_changes)
+  pub sound : AreRows directories (rows_after_all change.retention rows change.row_changes)
+  pub doable : are_doable change.retention rows change.row_changes ≡ true
 
 -- the directories with the one that is made
 abbrev pub with_made : Option Directory → List Directory → List Directory
 with_made None directories = directories
 with_made (Some directory) directories = with_directory directory directories
 
+-- the logical names with the one that is defined
+abbrev pub with_defined : Option Definition → List Definition → List Definition
+with_defined None logical = logical
+with_defined (Some definition) logical = with_definition definition logical
+
 -- the state when all of it is done
 abbrev pub applied : Change → State → State
 applied change state =
     record state {
       directories = with_made change.directory state.directories;
-      rows = rows_after_all change.keep state.rows change.row_changes;
+      logical = with_defined change.definition state.logical;
+      rows = rows_after_all change.retention state.rows change.row_changes;
+      queue = state.queue ++ change.entries;
     }
 
 -- what the plan makes, done on a state
 abbrev pub done_on : State → Change → Planned
 done_on state change = record { state = applied change state; pairs = change.pairs }
 
--- how many directories are made
-abbrev pub count_made : Option Directory → ℕ
+-- how many are made, of directories or of logical names
+abbrev pub count_made : {X : Type 0} → Option X → ℕ
 count_made None = 0
-count_made (Some directory) = 1
+count_made (Some made) = 1
 
--- it can be done on what is held: it leads to a state that may be, and there is room for what is made
+-- it can be done on what is held: it leads to a state that may be, no file is added under a name that another has, and
+-- there is room for what is made
 pub record IsFor (change : Change) (held : StoreWithRoom) : Type 0 where
   pub sound : IsWellFormed (applied change held.state)
+  pub doable : are_doable change.retention held.state.rows change.row_changes ≡ true
   pub directories : length held.state.directories + count_made change.directory ≤ held.directory_room
+  pub logical : length held.state.logical + count_made change.definition ≤ held.logical_room
   pub rows : length held.state.rows + length change.row_changes ≤ held.row_room
+  pub queue : length held.state.queue + length change.entries ≤ held.queue_room

@@ -11,17 +11,17 @@ use Rattle.ex_store.specs.Rows.{files_of, full_of, is_full, without}
 
 -- a source is taken out, and added under the target's name with its own moment and bytes
 abbrev pub renamed : ℕ → Place → Row → Outcome → Result Outcome Code
-renamed keep to source outcome =
+renamed retention to source outcome =
     let key = key_from to source.key in
     let left : Outcome = record outcome { rows = without (full_of source) outcome.rows } in
     and_then (λ generation.
-    Ok (placed keep (full_of source) left (new_row key source.file.moment source.file.bytes generation)))
+    Ok (placed retention (full_of source) left (new_row key source.file.moment source.file.bytes generation)))
     (admitted key to.generation (length source.file.bytes) left.rows)
 
 -- the sources are given other names, one after the other
 abbrev pub all_renamed : ℕ → Place → List Row → List Row → Result Outcome Code
-all_renamed keep to sources rows =
-    each_in_turn (renamed keep to) sources (record { rows = rows; pairs = [] })
+all_renamed retention to sources rows =
+    each_in_turn (renamed retention to) sources (record { rows = rows; pairs = [] })
 
 -- the names that a source had among these rows and has then, or the refusal of its generation
 abbrev pub pair_for : Place → Row → List Row → Result NamePair Code

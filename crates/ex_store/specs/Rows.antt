@@ -33,6 +33,10 @@ by_row = on full_of by_full
 abbrev pub is_of : Key → Row → Bool
 is_of key row = is_eq (by_key row.key key)
 
+-- the files of some rows
+abbrev pub files : List Row → List File
+files rows = map (λ row. row.file) rows
+
 -- the generations of a name and type in a directory
 abbrev pub files_of : Key → List Row → List File
 files_of key rows = map (λ row. row.file) (filter (is_of key) rows)
@@ -61,18 +65,24 @@ with_mark deleted row = record row { file = marked_as deleted row.file }
 
 -- each row of this directory, name and type is marked that has at least so many unmarked ones above it
 abbrev pub kept_newest : ℕ → Key → List Row → List Row
-kept_newest keep key [] = []
-kept_newest keep key (row ∷ more) =
-    (if is_of key row && nat_le keep (live (files_of key more)) then with_mark true row else row)
-    ∷ kept_newest keep key more
+kept_newest retention key [] = []
+kept_newest retention key (row ∷ more) =
+    (if is_of key row && nat_le retention (live (files_of key more)) then with_mark true row else row)
+    ∷ kept_newest retention key more
+
+-- the same, where all rows are of one directory, name and type
+abbrev pub older_marked : ℕ → List Row → List Row
+older_marked retention [] = []
+older_marked retention (row ∷ more) =
+    (if nat_le retention (live (files more)) then with_mark true row else row) ∷ older_marked retention more
 
 -- so many unmarked generations are kept, and with 0 all are
 abbrev pub retained : ℕ → Key → List Row → List Row
-retained keep key rows = if keep == 0 then rows else kept_newest keep key rows
+retained retention key rows = if retention == 0 then rows else kept_newest retention key rows
 
 -- the row at its place, and then all unmarked ones of its directory, name and type but so many are marked
 abbrev pub added : ℕ → Row → List Row → List Row
-added keep row rows = retained keep row.key (inserted row rows)
+added retention row rows = retained retention row.key (inserted row rows)
 
 -- the row of a full name is given a moment and bytes
 abbrev pub filled : FullName → ℕ → List ℕ → List Row → List Row
@@ -91,6 +101,10 @@ is_in directory row = is_eq (by_bytes row.key.directory directory)
 
 abbrev pub rows_in : List ℕ → List Row → List Row
 rows_in directory rows = filter (is_in directory) rows
+
+-- the pages of a directory's files, those that are marked too
+abbrev pub pages_in : List ℕ → List Row → ℕ
+pages_in directory rows = pages (map (λ row. row.file) (rows_in directory rows))
 
 -- how many rows stand before those of a directory, and before those behind it
 abbrev pub first_in : List ℕ → List Row → ℕ

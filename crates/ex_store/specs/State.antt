@@ -20,11 +20,13 @@ pub record State : Type 0 where
   pub rows : List Row
   pub queue : List QueueEntry
 
--- the state, and for how many directories and files there is room
+-- the state, and for how many directories, logical names, files and entries of the queue there is room
 pub record StoreWithRoom : Type 0 where
   pub state : State
   pub directory_room : ℕ
+  pub logical_room : ℕ
   pub row_room : ℕ
+  pub queue_room : ℕ
 
 -- a directory has this name
 abbrev pub is_named : List ℕ → Directory → Bool
@@ -39,8 +41,8 @@ abbrev pub number_of : List ℕ → List Directory → ℕ
 number_of name directories = prefix_len (λ directory. not (is_named name directory)) directories
 
 -- how many generations a directory keeps of each name and type; 0 where all are kept
-abbrev pub keep_of : List ℕ → List Directory → ℕ
-keep_of name directories = option_map_or (λ directory. directory.keep) (find (is_named name) directories) 0
+abbrev pub retention_of : List ℕ → List Directory → ℕ
+retention_of name directories = option_map_or (λ directory. directory.retention) (find (is_named name) directories) 0
 
 -- a row as a catalogue has it
 abbrev pub file_row : List Directory → Row → FileRow
@@ -76,16 +78,20 @@ catalogue_of state =
 abbrev pub first_state : State
 first_state =
     record {
-      directories = (record { name = codes "OPERATOR"; keep = 1 }) ∷ [];
+      directories = (record { name = codes "OPERATOR"; retention = 1 }) ∷ [];
       connected = codes "OPERATOR";
       logical = [];
       rows = [];
       queue = [];
     }
 
--- a logical name stands for a directory; letters have no case
+-- a logical name is among these; letters have no case
+abbrev pub has_definition : List ℕ → List Definition → Bool
+has_definition name logical = list_any (λ entry. equals entry.name name) logical
+
+-- a logical name stands for a directory
 abbrev pub defined : List ℕ → State → Bool
-defined name state = list_any (λ entry. equals entry.name name) state.logical
+defined name state = has_definition name state.logical
 
 -- the state without a logical name
 abbrev pub undefined : List ℕ → State → State

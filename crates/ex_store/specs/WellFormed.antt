@@ -18,7 +18,7 @@ use Rattle.ex_store.specs.State.{State, has_directory}
 
 -- a directory's name, and at most 63 generations that are kept
 abbrev pub is_directory : Directory → Bool
-is_directory directory = is_directory_name directory.name && nat_le directory.keep RETENTION_LIMIT
+is_directory directory = is_directory_name directory.name && nat_le directory.retention RETENTION_LIMIT
 
 -- 1 to 39 name bytes with no small letter, and a type of at most 39
 abbrev pub is_file_name : List ℕ → Bool

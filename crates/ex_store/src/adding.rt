@@ -1,20 +1,21 @@
 // Under which generation a file is added, or why it is refused.
-ghost use Rattle.std.specs.Prelude.{◌≡◌, ◌≤◌};
+ghost use Rattle.std.specs.Prelude.{◌≡◌, ◌≤◌, true};
+ghost use Rattle.cm_files.specs.Catalogue.{ascends};
 ghost use Rattle.ex_generations.specs.declared.file.TheConstants.{FILE_LIMIT};
 ghost use Rattle.ex_store.specs.Adding.{admitted_beside, limited, next_of, numbered};
-ghost use Rattle.ex_store.specs.Rows.{files_of};
+ghost use Rattle.ex_store.specs.Rows.{by_row, files, files_of};
 
 use crate::limits::{ROW_LIMIT, STORE_LIMIT};
-use crate::search::{has, top};
+use crate::search::{has, rows_of, top};
 use crate::{Key, Row};
 use cm_fields::{Code, Gen};
 use ex_generations::{FILE_LIMIT, GENERATION_LIMIT};
 
-// The generation behind the highest.
-fn next_of(rows: &[Row], key: &Key) -> Result<u32, Code>
-    ensures { result ≡ next_of (files_of key.now rows.now) }
+// The generation behind the highest of some rows.
+fn next_of(rows: &[Row]) -> Result<u32, Code>
+    ensures { result ≡ next_of (files rows.now) }
 {
-    let top = top(rows, key);
+    let top = top(rows);
     if top < GENERATION_LIMIT {
         Ok(top + 1)
     } else {
@@ -24,12 +25,14 @@ fn next_of(rows: &[Row], key: &Key) -> Result<u32, Code>
 
 // The generation that a new row takes: a number that is given, and else the next.
 pub(crate) fn numbered(rows: &[Row], key: &Key, generation: Gen) -> Result<u32, Code>
+    requires { ascends by_row rows.now ≡ true }
     ensures { result ≡ numbered generation (files_of key.now rows.now) }
 {
+    let own = rows_of(rows, key);
     match generation {
-        Gen::Number(number) if has(rows, key, number) => Err(Code::FileExists),
+        Gen::Number(number) if has(own, number) => Err(Code::FileExists),
         Gen::Number(number) => Ok(number),
-        _ => next_of(rows, key),
+        _ => next_of(own),
     }
 }
 
@@ -58,7 +61,8 @@ pub(crate) fn admitted(
     generation: Gen,
     size: usize,
 ) -> Result<u32, Code>
-    requires { bytes ≤ STORE_LIMIT }
+    requires rows { ascends by_row rows.now ≡ true }
+    requires bytes { bytes ≤ STORE_LIMIT }
     ensures { result ≡ admitted_beside bytes key.now generation size rows.now }
 {
     match numbered(rows, key, generation) {

@@ -1,6 +1,7 @@
 // The bytes of files are put behind those of one file.
 ghost use Rattle.std.specs.Prelude.{◌≡◌, ◌≤◌, true, length, nat_lt, IfOk, IfErr, Ok};
 ghost use Rattle.std.specs.List.{list_all};
+ghost use Rattle.cm_files.specs.Catalogue.{ascends};
 ghost use Rattle.ex_store.specs.declared.limits.TheConstants.{ROW_LIMIT, STORE_LIMIT};
 ghost use Rattle.ex_generations.specs.declared.file.TheConstants.{FILE_LIMIT};
 ghost use Rattle.ex_store.specs.declared.plan.Plan.TheVariants as plans;
@@ -8,16 +9,16 @@ ghost use Rattle.ex_store.specs.Appending.{appended, bytes_at, fitting, found, o
 ghost use Rattle.ex_store.specs.Copying.{moment_of};
 ghost use Rattle.ex_store.specs.Plan.{IsOneFile, IsRefused, MayPlan, planned};
 ghost use Rattle.ex_store.specs.Positions.{elements_at};
-ghost use Rattle.ex_store.specs.Ready.{IsMade, applied, done_on};
-ghost use Rattle.ex_store.specs.Rows.{files_of, total};
-ghost use Rattle.ex_store.specs.State.{keep_of};
+ghost use Rattle.ex_store.specs.Ready.{IsMade, applied, are_doable, done_on};
+ghost use Rattle.ex_store.specs.Rows.{by_row, files_of, total};
+ghost use Rattle.ex_store.specs.State.{retention_of};
 ghost use Rattle.ex_store.specs.WellFormed.{AreRows, IsWellFormed};
 
 use crate::adding::admitted;
 use crate::copy::moment_of;
-use crate::directory::keep_of;
+use crate::directory::retention_of;
 use crate::limits::STORE_LIMIT;
-use crate::search::{bottom_live, has, has_live, position, top_live, total};
+use crate::search::{bottom_live, has, has_live, position, rows_of, top_live, total};
 use crate::{Directory, FullName, Key, NamePair, Place, Ready, Refusal, Row, RowChange, Store};
 use cm_fields::{Code, Gen};
 use cm_io::NoMemory;
@@ -26,20 +27,23 @@ use std::alloc::Global;
 
 // The generation that is put behind, or none, where a new one is added.
 fn found(rows: &[Row], key: &Key, generation: Gen) -> Result<Option<u32>, Code>
+    requires { ascends by_row rows.now ≡ true }
     ensures { result ≡ found generation (files_of key.now rows.now) }
 {
+    let own = rows_of(rows, key);
     match generation {
         Gen::Next => Ok(None),
-        Gen::Lowest => Ok(bottom_live(rows, key)),
-        Gen::Missing | Gen::Highest | Gen::All => Ok(top_live(rows, key)),
-        Gen::Number(number) if has_live(rows, key, number) => Ok(Some(number)),
-        Gen::Number(number) if has(rows, key, number) => Err(Code::NoFile),
+        Gen::Lowest => Ok(bottom_live(own)),
+        Gen::Missing | Gen::Highest | Gen::All => Ok(top_live(own)),
+        Gen::Number(number) if has_live(own, number) => Ok(Some(number)),
+        Gen::Number(number) if has(own, number) => Err(Code::NoFile),
         Gen::Number(_) => Ok(None),
     }
 }
 
 // What a file holds; nothing where it is not there.
 fn bytes_at<'a>(rows: &'a [Row], full: &FullName) -> &'a [u8]
+    requires { ascends by_row rows.now ≡ true }
     ensures { result.now ≡ bytes_at full.now rows.now }
 {
     match position(rows, full) {
@@ -124,7 +128,8 @@ fn opened(
     generation: Gen,
     moment: u64,
 ) -> Result<Opening, Code>
-    requires { total rows.now ≤ STORE_LIMIT }
+    requires rows { ascends by_row rows.now ≡ true }
+    requires bytes { total rows.now ≤ STORE_LIMIT }
     ensures { result ≡ opened moment key generation rows.now }
 {
     let number = match found(rows, &key, generation) {
@@ -185,10 +190,10 @@ fn appends(
     requires target { IsOneFile to.now directories.now }
     ensures made { let sources = elements_at rows.now positions.now in
         IfOk result (IsMade directories.now rows.now
-        (appended (keep_of to.now.directory directories.now) moment to.now sources rows.now)) }
+        (appended (retention_of to.now.directory directories.now) moment to.now sources rows.now)) }
     ensures refused { let sources = elements_at rows.now positions.now in
         IfErr result (IsRefused
-        (appended (keep_of to.now.directory directories.now) moment to.now sources rows.now)) }
+        (appended (retention_of to.now.directory directories.now) moment to.now sources rows.now)) }
 {
     let opening = match opened(alloc, rows, to.own_key(), to.generation, moment) {
         Ok(opening) => opening,
@@ -207,12 +212,10 @@ fn appends(
         Err(NoMemory) => return Err(Refusal::NoMemory),
     };
     match row_changes_of(alloc, opening, moment, bytes) {
-        Ok(row_changes) => Ok(Ready {
-            directory: None,
-            keep: keep_of(directories, to.directory.as_bytes()),
-            row_changes,
-            pairs,
-        }),
+        Ok(row_changes) => {
+            let retention = retention_of(directories, to.directory.as_bytes());
+            Ok(Ready::of_files(alloc, retention, row_changes, pairs))
+        }
         Err(NoMemory) => Err(Refusal::NoMemory),
     }
 }
@@ -224,6 +227,8 @@ impl Store {
         ensures ready { IfOk result (λ ready.
             planned (plans.Append from.now to.now) moment self.now.state ≡ Ok (done_on self.now.state ready)) }
         ensures sound { IfOk result (λ ready. IsWellFormed (applied ready self.now.state)) }
+        ensures doable { IfOk result (λ ready.
+            are_doable ready.retention self.now.state.rows ready.row_changes ≡ true) }
         ensures refused { IfErr result (IsRefused (planned (plans.Append from.now to.now) moment self.now.state)) }
     {
         let positions = self.positions(from, from.flags.deleted);

@@ -1,31 +1,40 @@
 // Plans are done.
-ghost use Rattle.std.specs.Prelude.{◌≡◌, ◌<◌, ◌≤◌, ◌+◌, vec_capacity, vec_len};
-ghost use Rattle.ex_store.specs.Ready.{IsFor, applied, moved, rows_after, rows_after_all};
+ghost use Rattle.std.specs.Prelude.{◌≡◌, ◌<◌, ◌≤◌, ◌+◌, true, [], ◌∷◌, ◌++◌, vec_capacity, vec_len};
+ghost use Rattle.cm_files.specs.Catalogue.{ascends};
+ghost use Rattle.ex_store.specs.declared.ready.RowChange.TheVariants as changes;
+ghost use Rattle.ex_store.specs.Ready.{IsFor, applied, are_doable, is_doable, moved, rows_after, rows_after_all};
+ghost use Rattle.ex_store.specs.Rows.{by_row};
 
 use crate::build::make;
 use crate::change::{add, fill, reinsert, remove};
-use crate::{NamePair, Ready, Row, RowChange, Store};
+use crate::define::define;
+use crate::{NamePair, QueueEntry, Ready, Row, RowChange, Store};
 
 // A file goes to another name.
-fn rename_row(rows: &mut Vec<Row>, pair: &NamePair, keep: u8)
-    ensures items { rows.new.items ≡ moved keep pair.now rows.old.items }
+fn rename_row(rows: &mut Vec<Row>, pair: &NamePair, retention: u8)
+    requires rows { ascends by_row rows.old.items ≡ true }
+    requires doable { is_doable rows.old.items (changes.Move pair.now) ≡ true }
+    ensures items { rows.new.items ≡ moved retention pair.now rows.old.items }
     ensures len { vec_len rows.new ≤ vec_len rows.old }
     ensures capacity { vec_capacity rows.new ≡ vec_capacity rows.old }
 {
     let row = remove(rows, &pair.source);
-    reinsert(rows, &pair.target, row, keep);
+    reinsert(rows, &pair.target, row, retention);
 }
 
 // One change, in a vector that has room for it.
-fn change_row(rows: &mut Vec<Row>, change: RowChange, keep: u8)
-    requires { vec_len rows.old < vec_capacity rows.old }
-    ensures items { rows.new.items ≡ rows_after keep rows.old.items change }
+fn change_row(rows: &mut Vec<Row>, change: RowChange, retention: u8)
+    requires rows { ascends by_row rows.old.items ≡ true }
+    requires doable { is_doable rows.old.items change ≡ true }
+    requires room { vec_len rows.old < vec_capacity rows.old }
+    ensures items { rows.new.items ≡ rows_after retention rows.old.items change }
+    ensures ascend { ascends by_row rows.new.items ≡ true }
     ensures len { vec_len rows.new ≤ vec_len rows.old + 1 }
     ensures capacity { vec_capacity rows.new ≡ vec_capacity rows.old }
 {
     match change {
-        RowChange::Add(row) => add(rows, row, keep),
-        RowChange::Move(pair) => rename_row(rows, &pair, keep),
+        RowChange::Add(row) => add(rows, row, retention),
+        RowChange::Move(pair) => rename_row(rows, &pair, retention),
         RowChange::Fill {
             target,
             moment,
@@ -35,13 +44,38 @@ fn change_row(rows: &mut Vec<Row>, change: RowChange, keep: u8)
 }
 
 // All changes, one after the other, in a vector that has room for them.
-fn change_rows(rows: &mut Vec<Row>, row_changes: Vec<RowChange>, keep: u8)
-    requires { vec_len rows.old + vec_len row_changes ≤ vec_capacity rows.old }
-    ensures items { rows.new.items ≡ rows_after_all keep rows.old.items row_changes.items }
+fn change_rows(rows: &mut Vec<Row>, row_changes: Vec<RowChange>, retention: u8)
+    requires rows { ascends by_row rows.old.items ≡ true }
+    requires doable { are_doable retention rows.old.items row_changes.items ≡ true }
+    requires room { vec_len rows.old + vec_len row_changes ≤ vec_capacity rows.old }
+    ensures items { rows.new.items ≡ rows_after_all retention rows.old.items row_changes.items }
     ensures capacity { vec_capacity rows.new ≡ vec_capacity rows.old }
 {
     for change in row_changes {
-        change_row(rows, change, keep);
+        change_row(rows, change, retention);
+    }
+}
+
+// Puts an entry behind those of the queue, in a vector that has room for it.
+fn put_last(queue: &mut Vec<QueueEntry>, entry: QueueEntry)
+    requires { vec_len queue.old < vec_capacity queue.old }
+    ensures items { queue.new.items ≡ queue.old.items ++ entry ∷ [] }
+    ensures len { vec_len queue.new ≡ vec_len queue.old + 1 }
+    ensures capacity { vec_capacity queue.old ≤ vec_capacity queue.new }
+{
+    match queue.push(entry) {
+        Ok(()) => {}
+        Err(_) => unreachable!(),
+    }
+}
+
+// Puts entries into the queue, in a vector that has room for them.
+fn enqueue(queue: &mut Vec<QueueEntry>, entries: Vec<QueueEntry>)
+    requires { vec_len queue.old + vec_len entries ≤ vec_capacity queue.old }
+    ensures { queue.new.items ≡ queue.old.items ++ entries.items }
+{
+    for entry in entries {
+        put_last(queue, entry);
     }
 }
 
@@ -53,13 +87,19 @@ impl Store {
     {
         let Ready {
             directory,
-            keep,
+            definition,
+            retention,
             row_changes,
+            entries,
             ..
         } = ready;
         if let Some(directory) = directory {
             make(&mut self.directories, directory);
         }
-        change_rows(&mut self.rows, row_changes, keep);
+        if let Some(definition) = definition {
+            define(&mut self.logical, definition);
+        }
+        change_rows(&mut self.rows, row_changes, retention);
+        enqueue(&mut self.queue, entries);
     }
 }

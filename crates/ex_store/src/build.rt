@@ -26,14 +26,14 @@ fn place(directories: &[Directory], name: &[u8]) -> usize
 pub(crate) fn built(
     directories: &[Directory],
     name: Name,
-    keep: Option<u8>,
+    retention: Option<u8>,
 ) -> Result<Directory, Code>
-    ensures { result ≡ built name keep directories.now }
+    ensures { result ≡ built name retention directories.now }
 {
     for directory in directories {
         if directory.name.as_bytes() == name.as_bytes() {
-            let keep = keep.unwrap_or(directory.keep);
-            return Ok(Directory { name, keep });
+            let retention = retention.unwrap_or(directory.retention);
+            return Ok(Directory { name, retention });
         }
     }
     if directories.len() >= DIRECTORY_LIMIT {
@@ -41,18 +41,18 @@ pub(crate) fn built(
     }
     Ok(Directory {
         name,
-        keep: keep.unwrap_or(1),
+        retention: retention.unwrap_or(1),
     })
 }
 
 // The directory of a name keeps another number of generations.
-fn set_keep(directories: &mut [Directory], name: &[u8], keep: u8)
-    ensures { directories.new
-        ≡ map (λ other. if is_named name.now other then record other { keep = keep } else other) directories.old }
+fn set_retention(directories: &mut [Directory], name: &[u8], retention: u8)
+    ensures { directories.new ≡ map (λ other.
+        if is_named name.now other then record other { retention = retention } else other) directories.old }
 {
     for directory in directories.iter_mut() {
         if directory.name.as_bytes() == name {
-            directory.keep = keep;
+            directory.retention = retention;
         }
     }
 }
@@ -75,7 +75,7 @@ pub(crate) fn make(directories: &mut Vec<Directory>, new: Directory)
     ensures { directories.new.items ≡ with_directory new directories.old.items }
 {
     if has_directory(directories, new.name.as_bytes()) {
-        set_keep(directories, new.name.as_bytes(), new.keep);
+        set_retention(directories, new.name.as_bytes(), new.retention);
     } else {
         insert(directories, new);
     }

@@ -1,11 +1,12 @@
 // Changes of the rows of a store.
-ghost use Rattle.std.specs.Prelude.{◌≡◌, ◌<◌, ◌≤◌, ◌+◌, length, insert, vec_capacity, vec_len, OnSome};
+ghost use Rattle.std.specs.Prelude.{◌≡◌, ◌<◌, ◌≤◌, ◌+◌, true, false, length, insert, vec_capacity, vec_len, OnSome};
 ghost use Rattle.std.specs.Option.{option_to_list};
+ghost use Rattle.cm_files.specs.Catalogue.{ascends};
+ghost use Rattle.ex_generations.specs.Generations.{has, rewritten};
 ghost use Rattle.ex_store.specs.Ready.{reinserted, with_name};
-ghost use Rattle.ex_generations.specs.Generations.{rewritten};
-ghost use Rattle.ex_store.specs.Rows.{added, filled, inserted, kept_newest, retained, row_at, without};
+ghost use Rattle.ex_store.specs.Rows.{added, by_row, filled, files_of, inserted, kept_newest, older_marked, retained, row_at, without};
 
-use crate::search::{live, place, position};
+use crate::search::{live, place, position, range_of};
 use crate::{FullName, Key, Row};
 use ex_generations::Bytes;
 
@@ -25,6 +26,7 @@ fn put_at(rows: &mut Vec<Row>, at: usize, row: Row)
 
 // Puts a row at its place, in a vector that has room for it.
 fn insert(rows: &mut Vec<Row>, row: Row)
+    requires rows { ascends by_row rows.old.items ≡ true }
     requires room { vec_len rows.old < vec_capacity rows.old }
     ensures items { rows.new.items ≡ inserted row rows.old.items }
     ensures len { vec_len rows.new ≡ vec_len rows.old + 1 }
@@ -34,46 +36,57 @@ fn insert(rows: &mut Vec<Row>, row: Row)
     put_at(rows, at, row);
 }
 
-// Marks each row of a directory, name and type that has at least so many unmarked ones above it.
-fn keep_newest(rows: &mut [Row], key: &Key, keep: usize)
-    ensures { rows.new ≡ kept_newest keep key.now rows.old }
+// Marks each of some rows that has at least so many unmarked ones above it.
+fn mark_older(rows: &mut [Row], retention: usize)
+    ensures { rows.new ≡ older_marked retention rows.old }
 {
-    let mut above = live(rows, key);
+    let mut above = live(rows);
     for row in rows.iter_mut() {
-        if row.is_of(key) {
-            if !row.file.deleted {
-                above -= 1;
-            }
-            if above >= keep {
-                row.file.deleted = true;
-            }
+        if !row.file.deleted {
+            above -= 1;
+        }
+        if above >= retention {
+            row.file.deleted = true;
         }
     }
 }
 
-// Keeps so many unmarked generations of a directory, name and type, or all where the number is 0.
-fn retain(rows: &mut [Row], key: &Key, keep: u8)
-    ensures { rows.new ≡ retained keep key.now rows.old }
+// Marks each row of a directory, name and type that has at least so many unmarked ones above it.
+fn keep_newest(rows: &mut [Row], key: &Key, retention: usize)
+    requires { ascends by_row rows.old ≡ true }
+    ensures { rows.new ≡ kept_newest retention key.now rows.old }
 {
-    if keep > 0 {
-        keep_newest(rows, key, usize::from(keep));
+    let (first, end) = range_of(rows, key);
+    mark_older(&mut rows[first..end], retention);
+}
+
+// Keeps so many unmarked generations of a directory, name and type, or all where the number is 0.
+fn retain(rows: &mut [Row], key: &Key, retention: u8)
+    requires { ascends by_row rows.old ≡ true }
+    ensures { rows.new ≡ retained retention key.now rows.old }
+{
+    if retention > 0 {
+        keep_newest(rows, key, usize::from(retention));
     }
 }
 
 // Adds a row to a vector that has room for it, and then keeps so many unmarked generations.
-pub(crate) fn add(rows: &mut Vec<Row>, row: Row, keep: u8)
+pub(crate) fn add(rows: &mut Vec<Row>, row: Row, retention: u8)
+    requires rows { ascends by_row rows.old.items ≡ true }
+    requires absent { has row.file.generation (files_of row.key rows.old.items) ≡ false }
     requires room { vec_len rows.old < vec_capacity rows.old }
-    ensures items { rows.new.items ≡ added keep row rows.old.items }
+    ensures items { rows.new.items ≡ added retention row rows.old.items }
     ensures len { vec_len rows.new ≡ vec_len rows.old + 1 }
     ensures capacity { vec_capacity rows.new ≡ vec_capacity rows.old }
 {
     let key = row.key.copy();
     insert(rows, row);
-    retain(rows, &key, keep);
+    retain(rows, &key, retention);
 }
 
 // Takes the row of a full name out, where there is one.
 pub(crate) fn remove(rows: &mut Vec<Row>, full: &FullName) -> Option<Row>
+    requires { ascends by_row rows.old.items ≡ true }
     ensures row { result ≡ row_at full.now rows.old.items }
     ensures items { rows.new.items ≡ without full.now rows.old.items }
     ensures len { vec_len rows.new + length (option_to_list result) ≡ vec_len rows.old }
@@ -100,14 +113,16 @@ fn with_name(row: Row, target: &FullName) -> Row
 }
 
 // Adds a row that was taken out under another name.
-pub(crate) fn reinsert(rows: &mut Vec<Row>, target: &FullName, row: Option<Row>, keep: u8)
-    requires { OnSome row (vec_len rows.old < vec_capacity rows.old) }
-    ensures items { rows.new.items ≡ reinserted keep target.now rows.old.items row }
+pub(crate) fn reinsert(rows: &mut Vec<Row>, target: &FullName, row: Option<Row>, retention: u8)
+    requires rows { ascends by_row rows.old.items ≡ true }
+    requires absent { has target.now.generation (files_of target.now.key rows.old.items) ≡ false }
+    requires room { OnSome row (vec_len rows.old < vec_capacity rows.old) }
+    ensures items { rows.new.items ≡ reinserted retention target.now rows.old.items row }
     ensures len { vec_len rows.new ≡ vec_len rows.old + length (option_to_list row) }
     ensures capacity { vec_capacity rows.new ≡ vec_capacity rows.old }
 {
     if let Some(row) = row {
-        add(rows, with_name(row, target), keep);
+        add(rows, with_name(row, target), retention);
     }
 }
 
@@ -120,6 +135,7 @@ fn overwrite(row: &mut Row, moment: u64, bytes: Bytes)
 
 // Gives the row of a full name another moment and other bytes, where there is one.
 pub(crate) fn fill(rows: &mut [Row], target: &FullName, moment: u64, bytes: Bytes)
+    requires { ascends by_row rows.old ≡ true }
     ensures { rows.new ≡ filled target.now moment bytes rows.old }
 {
     if let Some(at) = position(rows, target) {

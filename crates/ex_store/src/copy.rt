@@ -1,6 +1,8 @@
 // Files are copied.
-ghost use Rattle.std.specs.Prelude.{◌≡◌, ◌≤◌, true, [], ◌∷◌, ◌++◌, length, nat_lt, min, IfOk, IfErr, OnOk, Ok};
+ghost use Rattle.std.specs.Prelude.{◌≡◌, ◌≤◌, true, false, [], ◌∷◌, ◌++◌, length, nat_lt, min, IfOk, IfErr, OnOk, Ok};
 ghost use Rattle.std.specs.List.{list_all};
+ghost use Rattle.cm_files.specs.Catalogue.{ascends};
+ghost use Rattle.ex_generations.specs.Generations.{has};
 ghost use Rattle.ex_store.specs.declared.limits.TheConstants.{ROW_LIMIT};
 ghost use Rattle.ex_store.specs.declared.plan.Plan.TheVariants as plans;
 ghost use Rattle.ex_store.specs.declared.ready.RowChange.TheVariants as changes;
@@ -8,14 +10,14 @@ ghost use Rattle.ex_store.specs.Adding.{new_row};
 ghost use Rattle.ex_store.specs.Copying.{all_copied, moment_of};
 ghost use Rattle.ex_store.specs.Plan.{IsRefused, IsTarget, MayPlan, planned};
 ghost use Rattle.ex_store.specs.Positions.{elements_at};
-ghost use Rattle.ex_store.specs.Ready.{IsMade, applied, done_on};
-ghost use Rattle.ex_store.specs.Rows.{added, blank, full_of};
-ghost use Rattle.ex_store.specs.State.{keep_of};
+ghost use Rattle.ex_store.specs.Ready.{IsMade, applied, are_doable, done_on};
+ghost use Rattle.ex_store.specs.Rows.{added, blank, by_row, files_of, full_of};
+ghost use Rattle.ex_store.specs.State.{retention_of};
 ghost use Rattle.ex_store.specs.WellFormed.{AreRows, IsWellFormed};
 
 use crate::adding::admitted;
 use crate::change::add;
-use crate::directory::keep_of;
+use crate::directory::retention_of;
 use crate::limits::MOMENT_LIMIT;
 use crate::search::total;
 use crate::simulation::Simulation;
@@ -39,8 +41,10 @@ impl Simulation {
         key: Key,
         generation: u32,
         moment: u64,
-        keep: u8,
+        retention: u8,
     ) -> Result<(), NoMemory>
+        requires rows { ascends by_row self.old.simulated.items ≡ true }
+        requires absent { has generation (files_of key self.old.simulated.items) ≡ false }
         ensures row_changes { OnOk result (self.new.row_changes.items
             ≡ self.old.row_changes.items ++ changes.Add (new_row key moment source.now.file.bytes generation) ∷ []) }
         ensures pairs { OnOk result (self.new.pairs.items
@@ -49,11 +53,11 @@ impl Simulation {
               target = record { key = key; generation = generation };
             }) ∷ []) }
         ensures simulated { OnOk result (self.new.simulated.items
-            ≡ added keep (blank (new_row key moment source.now.file.bytes generation)) self.old.simulated.items) }
+            ≡ added retention (blank (new_row key moment source.now.file.bytes generation)) self.old.simulated.items) }
     {
         let row = Row::new(key, generation, moment, source.file.bytes.copy(alloc)?);
         self.simulated.reserve(1)?;
-        add(&mut self.simulated, row.blank(alloc), keep);
+        add(&mut self.simulated, row.blank(alloc), retention);
         self.pairs.push(NamePair {
             source: source.full_name(),
             target: row.full_name(),
@@ -78,12 +82,12 @@ fn copies(
     requires target { IsTarget to.now directories.now }
     ensures made { let sources = elements_at rows.now positions.now in
         IfOk result (IsMade directories.now rows.now
-        (all_copied (keep_of to.now.directory directories.now) moment to.now sources rows.now)) }
+        (all_copied (retention_of to.now.directory directories.now) moment to.now sources rows.now)) }
     ensures refused { let sources = elements_at rows.now positions.now in
         IfErr result (IsRefused
-        (all_copied (keep_of to.now.directory directories.now) moment to.now sources rows.now)) }
+        (all_copied (retention_of to.now.directory directories.now) moment to.now sources rows.now)) }
 {
-    let keep = keep_of(directories, to.directory.as_bytes());
+    let retention = retention_of(directories, to.directory.as_bytes());
     let mut simulation = match Simulation::new(alloc, rows) {
         Ok(simulation) => simulation,
         Err(NoMemory) => return Err(Refusal::NoMemory),
@@ -97,12 +101,12 @@ fn copies(
             Ok(generation) => generation,
             Err(code) => return Err(Refusal::Code(code)),
         };
-        match simulation.copy(alloc, source, key, generation, moment_of(moment), keep) {
+        match simulation.copy(alloc, source, key, generation, moment_of(moment), retention) {
             Ok(()) => bytes += size,
             Err(NoMemory) => return Err(Refusal::NoMemory),
         }
     }
-    Ok(simulation.ready(keep))
+    Ok(simulation.ready(alloc, retention))
 }
 
 impl Store {
@@ -112,6 +116,8 @@ impl Store {
         ensures ready { IfOk result (λ ready.
             planned (plans.Copy from.now to.now) moment self.now.state ≡ Ok (done_on self.now.state ready)) }
         ensures sound { IfOk result (λ ready. IsWellFormed (applied ready self.now.state)) }
+        ensures doable { IfOk result (λ ready.
+            are_doable ready.retention self.now.state.rows ready.row_changes ≡ true) }
         ensures refused { IfErr result (IsRefused (planned (plans.Copy from.now to.now) moment self.now.state)) }
     {
         let positions = self.positions(from, from.flags.deleted);

@@ -1,7 +1,7 @@
 // A store that is filled part by part.
 ghost use Rattle.std.specs.Prelude.{◌≡◌, true, OnErr, OnOk, find, option_map};
 ghost use Rattle.ex_store.specs.Draft.{and_directory, and_logical, and_request, and_row, empty_state};
-ghost use Rattle.ex_store.specs.Lent.{queue_entry, state_of};
+ghost use Rattle.ex_store.specs.Lent.{queue_entry};
 ghost use Rattle.ex_store.specs.State.{has_directory, is_named};
 ghost use Rattle.ex_store.specs.WellFormed.{IsDraft};
 
@@ -63,13 +63,14 @@ impl Draft {
     }
 
     /// Adds a directory that keeps so many generations of each file.
-    pub fn directory(&mut self, name: &str, keep: u8) -> Result<(), NoMemory>
-        requires { IsDraft (and_directory (record { name = name.now; keep = keep }) self.old) }
-        ensures added { OnOk result (self.new ≡ and_directory (record { name = name.now; keep = keep }) self.old) }
+    pub fn directory(&mut self, name: &str, retention: u8) -> Result<(), NoMemory>
+        requires { IsDraft (and_directory (record { name = name.now; retention = retention }) self.old) }
+        ensures added { OnOk result
+            (self.new ≡ and_directory (record { name = name.now; retention = retention }) self.old) }
         ensures refused { OnErr result (self.new ≡ self.old) }
     {
         let name = Name::new(name);
-        self.directories.push(Directory { name, keep })?;
+        self.directories.push(Directory { name, retention })?;
         Ok(())
     }
 
@@ -138,11 +139,11 @@ impl Draft {
     /// that name was.
     pub fn retention(&self, directory: &str) -> Option<u8>
         ensures { result
-            ≡ option_map (λ directory. directory.keep) (find (is_named directory.now) self.now.directories) }
+            ≡ option_map (λ directory. directory.retention) (find (is_named directory.now) self.now.directories) }
     {
         for added in &self.directories {
             if added.name.as_bytes() == directory.as_bytes() {
-                return Some(added.keep);
+                return Some(added.retention);
             }
         }
         None
@@ -150,7 +151,7 @@ impl Draft {
 
     /// All that was added, and the connected directory.
     pub fn parts(&self) -> Parts<'_>
-        ensures value { state_of result ≡ self.now }
+        ensures value { result ≡ self.now }
         ensures lawful { IsDraft self.now }
     {
         Parts {

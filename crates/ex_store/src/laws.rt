@@ -7,22 +7,23 @@ ghost use Rattle.ex_store.specs.declared.key.Key.{Key};
 ghost use Rattle.ex_store.specs.declared.limits.TheConstants.{AFTER_LIMIT, COPIES_LIMIT, DIRECTORY_LIMIT, FORMS, LOGICAL_LIMIT, MOMENT_LIMIT, QUEUE_LIMIT, RETENTION_LIMIT, ROW_LIMIT, STORE_LIMIT};
 ghost use Rattle.ex_store.specs.declared.plan.Plan.{Plan};
 ghost use Rattle.ex_store.specs.declared.row.Row.{Row};
-ghost use Rattle.ex_store.specs.Plan.{Planned, planned};
+ghost use Rattle.ex_store.specs.Plan.{MayPlan, Planned, planned};
 ghost use Rattle.ex_store.specs.Rows.{added, by_row, expunged, files_of, is_in, is_of};
 ghost use Rattle.ex_store.specs.State.{State, has_directory};
+ghost use Rattle.ex_store.specs.WellFormed.{IsWellFormed};
 
 /// A row that is added is one of the generations of its directory, name and type: those are as if it were added to
 /// their list.
 pub fn an_add_is_one_of_generations()
-    ensures { (keep : ℕ) → (row : Row) → (rows : List Row) → ascends by_row rows ≡ true
+    ensures { (retention : ℕ) → (row : Row) → (rows : List Row) → ascends by_row rows ≡ true
         → has row.file.generation (files_of row.key rows) ≡ false
-        → files_of row.key (added keep row rows) ≡ generations.added keep row.file (files_of row.key rows) }
+        → files_of row.key (added retention row rows) ≡ generations.added retention row.file (files_of row.key rows) }
 {}
 
 /// The files of every other directory, name and type stay as they were.
 pub fn an_add_leaves_other_files()
-    ensures { (keep : ℕ) → (row : Row) → (rows : List Row) → (key : Key) → is_of key row ≡ false
-        → files_of key (added keep row rows) ≡ files_of key rows }
+    ensures { (retention : ℕ) → (row : Row) → (rows : List Row) → (key : Key) → is_of key row ≡ false
+        → files_of key (added retention row rows) ≡ files_of key rows }
 {}
 
 /// What expunging takes away are the marked files of the directory, and no others.
@@ -37,6 +38,12 @@ pub fn a_plan_keeps_the_directories()
     ensures { (plan : Plan) → (moment : ℕ) → (state : State) → (made : Planned) → planned plan moment state ≡ Ok made
         → (name : List ℕ) → has_directory name state.directories ≡ true
         → has_directory name made.state.directories ≡ true }
+{}
+
+/// What a plan makes of a state that is well formed is well formed, where the plan may be prepared.
+pub fn a_plan_makes_a_well_formed_state()
+    ensures { (plan : Plan) → (moment : ℕ) → (state : State) → (made : Planned) → IsWellFormed state
+        → MayPlan plan state → planned plan moment state ≡ Ok made → IsWellFormed made.state }
 {}
 
 /// The numbers: of each kind the most that a store has, and of each number the greatest that one has.

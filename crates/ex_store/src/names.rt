@@ -1,21 +1,25 @@
 // The store as the catalogue that file specifications are looked up in.
 ghost use Rattle.std.specs.Prelude.{◌≡◌, ◌<◌, true, length, option_map, slice_get, Some};
 ghost use Rattle.cm_files.specs.Catalogue.{ascends, rows_of};
+ghost use Rattle.ex_store.specs.Lent.{row_of_view};
 ghost use Rattle.ex_store.specs.Rows.{by_row, end_in, first_in, rows_in};
 ghost use Rattle.ex_store.specs.State.{catalogue_of, defined, rows_numbered};
 
 use crate::directory::number_of;
-use crate::{Row, Store};
+use crate::{Row, RowView, Store};
 use cm_files::Names;
 use cm_text::equals;
-use ex_generations::File;
+use ex_generations::{File, seek};
 
 // How many rows stand before those of a directory.
 pub(crate) fn first_of(rows: &[Row], directory: &[u8]) -> usize
     requires { ascends by_row rows.now ≡ true }
     ensures { result ≡ first_in directory.now rows.now }
 {
-    rows.partition_point(|row| row.key.directory.as_bytes().cmp(directory).is_lt())
+    seek(
+        rows,
+        |row| row.key.directory.as_bytes().cmp(directory).is_lt(),
+    )
 }
 
 // How many rows stand before those behind a directory.
@@ -23,7 +27,10 @@ fn end_of(rows: &[Row], directory: &[u8]) -> usize
     requires { ascends by_row rows.now ≡ true }
     ensures { result ≡ end_in directory.now rows.now }
 {
-    rows.partition_point(|row| row.key.directory.as_bytes().cmp(directory).is_le())
+    seek(
+        rows,
+        |row| row.key.directory.as_bytes().cmp(directory).is_le(),
+    )
 }
 
 impl Store {
@@ -53,11 +60,11 @@ impl Store {
     }
 
     /// A file of the directory with this name, in ascending order of name, type and generation.
-    pub fn row_in(&self, directory: &str, i: u32) -> &Row
+    pub fn row_in(&self, directory: &str, i: u32) -> RowView<'_>
         requires { i < length (rows_in directory.now self.now.state.rows) }
-        ensures { slice_get (rows_in directory.now self.now.state.rows) i ≡ Some result.now }
+        ensures { slice_get (rows_in directory.now self.now.state.rows) i ≡ Some (row_of_view result) }
     {
-        &self.rows[self.first_row(directory.as_bytes()) + i as usize]
+        self.rows[self.first_row(directory.as_bytes()) + i as usize].lent()
     }
 
     /// A file of the directory with this number, in ascending order of name, type and generation.

@@ -1,30 +1,140 @@
-// The store as flat lists that are lent.
-ghost use Rattle.std.specs.Prelude.{◌≡◌};
-ghost use Rattle.ex_store.specs.Lent.{state_of};
+// The store as flat lists whose elements are lent.
+ghost use Rattle.std.specs.Prelude.{◌≡◌, ◌<◌, length, slice_get, Some};
+ghost use Rattle.ex_store.specs.Lent.{definition_of_view, directory_of_view, row_of_view};
+ghost use Rattle.ex_store.specs.State.{has_directory};
 ghost use Rattle.ex_store.specs.WellFormed.{IsWellFormed};
 
-use crate::{Definition, Directory, QueueEntry, Row, Store};
+use crate::directory::has_directory;
+use crate::{
+    Definition, DefinitionView, Directory, DirectoryView, QueueEntry, Row, RowView, Store,
+};
 use cm_text::Name;
+use std::marker::Model;
 
-/// All that a store holds, as it is lent to one who writes it down.
-#[derive(Clone, Copy, Debug)]
+/// All that a store holds, as it is lent to one who writes it down, element by element. Contracts see its state.
+#[derive(Drop)]
 pub struct Parts<'a> {
-    /// The directories, in ascending order of their names.
-    pub directories: &'a [Directory],
+    pub(crate) directories: &'a [Directory],
+    pub(crate) connected: &'a Name,
+    pub(crate) logical: &'a [Definition],
+    pub(crate) rows: &'a [Row],
+    pub(crate) queue: &'a [QueueEntry],
+}
+
+impl<'a> Model for Parts<'a> {
+    ghost use Rattle.ex_store.specs.State.{State};
+
+    ghost Value = { State };
+
+    ghost view = { λ it. record {
+      directories = it.directories.now;
+      connected = it.connected.now;
+      logical = it.logical.now;
+      rows = it.rows.now;
+      queue = it.queue.now;
+    } };
+}
+
+fn directory_at(directories: &[Directory], i: usize) -> DirectoryView<'_>
+    requires { i < length directories.now }
+    ensures { slice_get directories.now i ≡ Some (directory_of_view result) }
+{
+    directories[i].lent()
+}
+
+fn definition_at(logical: &[Definition], i: usize) -> DefinitionView<'_>
+    requires { i < length logical.now }
+    ensures { slice_get logical.now i ≡ Some (definition_of_view result) }
+{
+    logical[i].lent()
+}
+
+fn row_at(rows: &[Row], i: usize) -> RowView<'_>
+    requires { i < length rows.now }
+    ensures { slice_get rows.now i ≡ Some (row_of_view result) }
+{
+    rows[i].lent()
+}
+
+impl<'a> Parts<'a> {
+    /// How many directories there are.
+    pub fn directories(&self) -> usize
+        ensures { result ≡ length self.now.directories }
+    {
+        self.directories.len()
+    }
+
+    /// A directory, in ascending order of the names.
+    pub fn directory(&self, i: usize) -> DirectoryView<'_>
+        requires { i < length self.now.directories }
+        ensures { slice_get self.now.directories i ≡ Some (directory_of_view result) }
+    {
+        directory_at(self.directories, i)
+    }
+
+    /// Whether there is a directory of this name.
+    pub fn has_directory(&self, name: &str) -> bool
+        ensures { result ≡ has_directory name.now self.now.directories }
+    {
+        has_directory(self.directories, name.as_bytes())
+    }
+
     /// The name of the connected directory.
-    pub connected: &'a Name,
+    pub fn connected(&self) -> &Name
+        ensures { result.now ≡ self.now.connected }
+    {
+        self.connected
+    }
+
+    /// How many logical names there are.
+    pub fn logicals(&self) -> usize
+        ensures { result ≡ length self.now.logical }
+    {
+        self.logical.len()
+    }
+
+    /// A logical name, in ascending order.
+    pub fn logical(&self, i: usize) -> DefinitionView<'_>
+        requires { i < length self.now.logical }
+        ensures { slice_get self.now.logical i ≡ Some (definition_of_view result) }
+    {
+        definition_at(self.logical, i)
+    }
+
     /// The logical names, in ascending order.
-    pub logical: &'a [Definition],
-    /// The files, in ascending order of directory, name, type and generation, those that are marked deleted too.
-    pub rows: &'a [Row],
+    pub fn definitions(&self) -> &[Definition]
+        ensures { result.now ≡ self.now.logical }
+    {
+        self.logical
+    }
+
+    /// How many files there are, those that are marked deleted too.
+    pub fn rows(&self) -> usize
+        ensures { result ≡ length self.now.rows }
+    {
+        self.rows.len()
+    }
+
+    /// A file, in ascending order of directory, name, type and generation.
+    pub fn row(&self, i: usize) -> RowView<'_>
+        requires { i < length self.now.rows }
+        ensures { slice_get self.now.rows i ≡ Some (row_of_view result) }
+    {
+        row_at(self.rows, i)
+    }
+
     /// The entries of the print queue, in the order in which they came.
-    pub queue: &'a [QueueEntry],
+    pub fn queue(&self) -> &[QueueEntry]
+        ensures { result.now ≡ self.now.queue }
+    {
+        self.queue
+    }
 }
 
 impl Store {
     /// All that the store holds: its state, which is well formed.
     pub fn parts(&self) -> Parts<'_>
-        ensures value { state_of result ≡ self.now.state }
+        ensures value { result ≡ self.now.state }
         ensures lawful { IsWellFormed self.now.state }
     {
         Parts {

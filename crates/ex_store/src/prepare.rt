@@ -1,8 +1,8 @@
 // Plans are prepared.
-ghost use Rattle.std.specs.Prelude.{ℕ, ◌≡◌, ◌≤◌, ◌+◌, length, IfOk, IfErr, OnOk, Ok};
+ghost use Rattle.std.specs.Prelude.{ℕ, ◌≡◌, ◌≤◌, ◌+◌, true, length, IfOk, IfErr, OnOk, Ok};
 ghost use Rattle.ex_store.specs.declared.plan.Plan.TheVariants as plans;
 ghost use Rattle.ex_store.specs.Plan.{IsRefused, MayPlan, planned};
-ghost use Rattle.ex_store.specs.Ready.{IsFor, applied, count_made, done_on};
+ghost use Rattle.ex_store.specs.Ready.{IsFor, applied, are_doable, count_made, done_on};
 ghost use Rattle.ex_store.specs.WellFormed.{IsWellFormed};
 
 use crate::build::built;
@@ -12,21 +12,18 @@ use cm_text::Name;
 
 impl Store {
     // A directory is made, or keeps another number of generations.
-    fn build(&self, directory: Name, keep: Option<u8>) -> Result<Ready, Refusal>
-        requires { MayPlan (plans.Build directory keep) self.now.state }
+    fn build(&self, directory: Name, retention: Option<u8>) -> Result<Ready, Refusal>
+        requires { MayPlan (plans.Build directory retention) self.now.state }
         ensures ready { IfOk result (λ ready. (moment : ℕ)
-            → planned (plans.Build directory keep) moment self.now.state ≡ Ok (done_on self.now.state ready)) }
+            → planned (plans.Build directory retention) moment self.now.state ≡ Ok (done_on self.now.state ready)) }
         ensures sound { IfOk result (λ ready. IsWellFormed (applied ready self.now.state)) }
+        ensures doable { IfOk result (λ ready.
+            are_doable ready.retention self.now.state.rows ready.row_changes ≡ true) }
         ensures refused { (moment : ℕ)
-            → IfErr result (IsRefused (planned (plans.Build directory keep) moment self.now.state)) }
+            → IfErr result (IsRefused (planned (plans.Build directory retention) moment self.now.state)) }
     {
-        match built(&self.directories, directory, keep) {
-            Ok(directory) => Ok(Ready {
-                directory: Some(directory),
-                keep: 0,
-                row_changes: Vec::new(self.alloc),
-                pairs: Vec::new(self.alloc),
-            }),
+        match built(&self.directories, directory, retention) {
+            Ok(directory) => Ok(Ready::of_directory(self.alloc, directory)),
             Err(code) => Err(Refusal::Code(code)),
         }
     }
@@ -36,14 +33,21 @@ impl Store {
         requires { MayPlan plan self.now.state }
         ensures ready { IfOk result (λ ready. planned plan moment self.now.state ≡ Ok (done_on self.now.state ready)) }
         ensures sound { IfOk result (λ ready. IsWellFormed (applied ready self.now.state)) }
+        ensures doable { IfOk result (λ ready.
+            are_doable ready.retention self.now.state.rows ready.row_changes ≡ true) }
         ensures refused { IfErr result (IsRefused (planned plan moment self.now.state)) }
     {
         match plan {
-            Plan::Build { directory, keep } => self.build(directory, keep),
+            Plan::Build {
+                directory,
+                retention,
+            } => self.build(directory, retention),
+            Plan::Define { name, directory } => self.define(&name, directory),
             Plan::Copy { from, to } => self.copy(&from, &to, moment),
             Plan::Rename { from, to } => self.rename(&from, &to),
             Plan::Append { from, to } => self.append(&from, &to, moment),
             Plan::Write { to, bytes } => self.write(&to, bytes, moment),
+            Plan::Print { files, request } => self.print(&files, &request),
         }
     }
 
@@ -52,12 +56,19 @@ impl Store {
         ensures state { self.new.state ≡ self.old.state }
         ensures directories { OnOk result
             (length self.old.state.directories + count_made ready.now.directory ≤ self.new.directory_room) }
+        ensures logical { OnOk result
+            (length self.old.state.logical + count_made ready.now.definition ≤ self.new.logical_room) }
         ensures rows { OnOk result (length self.old.state.rows + length ready.now.row_changes ≤ self.new.row_room) }
+        ensures queue { OnOk result (length self.old.state.queue + length ready.now.entries ≤ self.new.queue_room) }
     {
         if ready.directory.is_some() {
             self.directories.reserve(1)?;
         }
+        if ready.definition.is_some() {
+            self.logical.reserve(1)?;
+        }
         self.rows.reserve(ready.row_changes.len())?;
+        self.queue.reserve(ready.entries.len())?;
         Ok(())
     }
 

@@ -1,9 +1,12 @@
 // A plan that is ready to be done.
-ghost use Rattle.std.specs.Prelude.{◌≡◌, ◌<◌, length, slice_get, Some};
+ghost use Rattle.std.specs.Prelude.{◌≡◌, ◌<◌, ◌≤◌, length, slice_get, Some};
+ghost use Rattle.ex_store.specs.declared.limits.TheConstants.{ROW_LIMIT};
 ghost use Rattle.ex_store.specs.Lent.{name_pair};
+ghost use Rattle.ex_store.specs.Ready.{no_change, of_definition, of_directory, of_entries, of_files};
 
-use crate::{Directory, FullName, NamePair, Pair, Row};
+use crate::{Definition, Directory, FullName, NamePair, Pair, QueueEntry, Row};
 use ex_generations::Bytes;
+use std::alloc::Global;
 use std::marker::Model;
 
 /// One change of the files of a store.
@@ -25,8 +28,10 @@ pub enum RowChange {
 #[derive(Drop)]
 pub struct Ready {
     pub(crate) directory: Option<Directory>,
-    pub(crate) keep: u8,
+    pub(crate) definition: Option<Definition>,
+    pub(crate) retention: u8,
     pub(crate) row_changes: Vec<RowChange>,
+    pub(crate) entries: Vec<QueueEntry>,
     pub(crate) pairs: Vec<NamePair>,
 }
 
@@ -39,8 +44,10 @@ impl Model for Ready {
 
     ghost view = { λ it. record {
       directory = it.directory;
-      keep = it.keep;
+      definition = it.definition;
+      retention = it.retention;
       row_changes = it.row_changes.items;
+      entries = it.entries.items;
       pairs = it.pairs.items;
     } };
 
@@ -48,15 +55,77 @@ impl Model for Ready {
 }
 
 impl Ready {
-    /// How many pairs of files there are: one for each source of a copy, a renaming or an appending, in ascending
-    /// order of the sources, one for a file that is written, and none for a directory.
+    // Nothing is to be done.
+    fn new(alloc: Global) -> Ready
+        ensures { result ≡ no_change }
+    {
+        Ready {
+            directory: None,
+            definition: None,
+            retention: 0,
+            row_changes: Vec::new(alloc),
+            entries: Vec::new(alloc),
+            pairs: Vec::new(alloc),
+        }
+    }
+
+    // A directory is to be made, or is to keep another number of generations.
+    pub(crate) fn of_directory(alloc: Global, directory: Directory) -> Ready
+        ensures { result ≡ of_directory directory }
+    {
+        let mut ready = Ready::new(alloc);
+        ready.directory = Some(directory);
+        ready
+    }
+
+    // A logical name is to be defined.
+    pub(crate) fn of_definition(alloc: Global, definition: Definition) -> Ready
+        ensures { result ≡ of_definition definition }
+    {
+        let mut ready = Ready::new(alloc);
+        ready.definition = Some(definition);
+        ready
+    }
+
+    // Files are to be changed.
+    pub(crate) fn of_files(
+        alloc: Global,
+        retention: u8,
+        row_changes: Vec<RowChange>,
+        pairs: Vec<NamePair>,
+    ) -> Ready
+        requires { length pairs.items ≤ ROW_LIMIT }
+        ensures { result ≡ of_files retention row_changes.items pairs.items }
+    {
+        let mut ready = Ready::new(alloc);
+        ready.retention = retention;
+        ready.row_changes = row_changes;
+        ready.pairs = pairs;
+        ready
+    }
+
+    // Entries are to be queued.
+    pub(crate) fn of_entries(alloc: Global, entries: Vec<QueueEntry>, pairs: Vec<NamePair>) -> Ready
+        requires { length pairs.items ≤ ROW_LIMIT }
+        ensures { result ≡ of_entries entries.items pairs.items }
+    {
+        let mut ready = Ready::new(alloc);
+        ready.entries = entries;
+        ready.pairs = pairs;
+        ready
+    }
+
+    /// How many pairs of files there are: one for each source of a copy, a renaming or an appending, and one for each
+    /// file that is printed, in ascending order of the files; one for a file that is written; and none for a directory
+    /// or a logical name.
     pub fn pairs(&self) -> u32
         ensures { result ≡ length self.now.pairs }
     {
         self.pairs.len() as u32
     }
 
-    /// One of the pairs of files: which one is taken, and which one is made of it. A file that is written is both.
+    /// One of the pairs of files: which one is taken, and which one is made of it. A file that is written
+    /// or printed is both.
     pub fn pair(&self, i: u32) -> Pair<'_>
         requires { i < length self.now.pairs }
         ensures { slice_get self.now.pairs i ≡ Some (name_pair result) }

@@ -1,19 +1,21 @@
 // Files are given other names.
 ghost use Rattle.std.specs.Prelude.{ℕ, ◌≡◌, ◌≤◌, true, [], ◌∷◌, ◌++◌, length, nat_lt, IfOk, IfErr, OnOk, Ok};
 ghost use Rattle.std.specs.List.{list_all};
+ghost use Rattle.cm_files.specs.Catalogue.{ascends};
 ghost use Rattle.ex_store.specs.declared.limits.TheConstants.{ROW_LIMIT};
 ghost use Rattle.ex_store.specs.declared.plan.Plan.TheVariants as plans;
 ghost use Rattle.ex_store.specs.declared.ready.RowChange.TheVariants as changes;
-ghost use Rattle.ex_store.specs.Plan.{IsRefused, IsTarget, MayPlan, planned};
+ghost use Rattle.ex_store.specs.Plan.{IsRefused, IsTarget, MayPlan, may_number, planned};
 ghost use Rattle.ex_store.specs.Positions.{elements_at};
-ghost use Rattle.ex_store.specs.Ready.{IsMade, applied, done_on, moved};
+ghost use Rattle.ex_store.specs.Ready.{IsMade, applied, are_doable, done_on, moved};
 ghost use Rattle.ex_store.specs.Renaming.{AreDistinct, all_renamed, pair_for};
-ghost use Rattle.ex_store.specs.State.{keep_of};
+ghost use Rattle.ex_store.specs.Rows.{by_row};
+ghost use Rattle.ex_store.specs.State.{retention_of};
 ghost use Rattle.ex_store.specs.WellFormed.{AreRows, IsWellFormed};
 
 use crate::adding::numbered;
 use crate::change::{reinsert, remove};
-use crate::directory::keep_of;
+use crate::directory::retention_of;
 use crate::simulation::Simulation;
 use crate::{Directory, FullName, NamePair, Place, Ready, Refusal, Row, RowChange, Store};
 use cm_fields::Code;
@@ -21,9 +23,16 @@ use cm_io::NoMemory;
 use std::alloc::Global;
 
 // A source is renamed in a simulation: taken out, and added under the target's name. Which names it had and has.
-fn simulate(simulated: &mut Vec<Row>, source: &Row, to: &Place, keep: u8) -> Result<NamePair, Code>
+fn simulate(
+    simulated: &mut Vec<Row>,
+    source: &Row,
+    to: &Place,
+    retention: u8,
+) -> Result<NamePair, Code>
+    requires rows { ascends by_row simulated.old.items ≡ true }
+    requires number { may_number to.now.generation ≡ true }
     ensures pair { result ≡ pair_for to.now source.now simulated.old.items }
-    ensures simulated { IfOk result (λ pair. simulated.new.items ≡ moved keep pair simulated.old.items) }
+    ensures simulated { IfOk result (λ pair. simulated.new.items ≡ moved retention pair simulated.old.items) }
 {
     let full = source.full_name();
     let taken = remove(simulated, &full);
@@ -36,7 +45,7 @@ fn simulate(simulated: &mut Vec<Row>, source: &Row, to: &Place, keep: u8) -> Res
         source: full,
         target: FullName { key, generation },
     };
-    reinsert(simulated, &pair.target, taken, keep);
+    reinsert(simulated, &pair.target, taken, retention);
     Ok(pair)
 }
 
@@ -67,18 +76,24 @@ fn renames(
     requires few { length positions.now ≤ ROW_LIMIT }
     requires distinct { AreDistinct (elements_at rows.now positions.now) }
     requires target { IsTarget to.now directories.now }
-    ensures made { IfOk result (IsMade directories.now rows.now
-        (all_renamed (keep_of to.now.directory directories.now) to.now (elements_at rows.now positions.now) rows.now)) }
-    ensures refused { IfErr result (IsRefused
-        (all_renamed (keep_of to.now.directory directories.now) to.now (elements_at rows.now positions.now) rows.now)) }
+    ensures made { let sources = elements_at rows.now positions.now in
+        IfOk result (IsMade directories.now rows.now
+        (all_renamed (retention_of to.now.directory directories.now) to.now sources rows.now)) }
+    ensures refused { let sources = elements_at rows.now positions.now in
+        IfErr result (IsRefused (all_renamed (retention_of to.now.directory directories.now) to.now sources rows.now)) }
 {
-    let keep = keep_of(directories, to.directory.as_bytes());
+    let retention = retention_of(directories, to.directory.as_bytes());
     let mut simulation = match Simulation::new(alloc, rows) {
         Ok(simulation) => simulation,
         Err(NoMemory) => return Err(Refusal::NoMemory),
     };
     for at in positions {
-        let pair = match simulate(&mut simulation.simulated, &rows[usize::from(*at)], to, keep) {
+        let pair = match simulate(
+            &mut simulation.simulated,
+            &rows[usize::from(*at)],
+            to,
+            retention,
+        ) {
             Ok(pair) => pair,
             Err(code) => return Err(Refusal::Code(code)),
         };
@@ -87,7 +102,7 @@ fn renames(
             Err(NoMemory) => return Err(Refusal::NoMemory),
         }
     }
-    Ok(simulation.ready(keep))
+    Ok(simulation.ready(alloc, retention))
 }
 
 impl Store {
@@ -97,6 +112,8 @@ impl Store {
         ensures ready { IfOk result (λ ready. (moment : ℕ)
             → planned (plans.Rename from.now to.now) moment self.now.state ≡ Ok (done_on self.now.state ready)) }
         ensures sound { IfOk result (λ ready. IsWellFormed (applied ready self.now.state)) }
+        ensures doable { IfOk result (λ ready.
+            are_doable ready.retention self.now.state.rows ready.row_changes ≡ true) }
         ensures refused { (moment : ℕ)
             → IfErr result (IsRefused (planned (plans.Rename from.now to.now) moment self.now.state)) }
     {

@@ -1,10 +1,12 @@
 // The files of a store.
 ghost use Rattle.std.specs.Prelude.{◌≡◌};
 ghost use Rattle.ex_store.specs.Adding.{new_row};
-ghost use Rattle.ex_store.specs.Rows.{blank, by_row, full_of, is_full, is_in, is_of};
+ghost use Rattle.ex_store.specs.Lent.{row_of_view};
+ghost use Rattle.ex_store.specs.Rows.{blank, by_row, full_of, is_full, is_in};
 
 use crate::key::{full_cmp, key_cmp};
 use crate::{FullName, Key};
+use cm_text::Name;
 use ex_generations::{Bytes, File};
 use std::alloc::Global;
 use std::cmp::Ordering;
@@ -18,7 +20,32 @@ pub struct Row {
     pub file: File,
 }
 
+/// A file as a store tells it.
+#[derive(Clone, Copy, Debug)]
+pub struct RowView<'a> {
+    /// The name of its directory.
+    pub directory: &'a Name,
+    /// Its name.
+    pub name: &'a Name,
+    /// Its type.
+    pub kind: &'a Name,
+    /// Its generation, mark, moment and bytes.
+    pub file: &'a File,
+}
+
 impl Row {
+    // The same, lent.
+    pub(crate) fn lent(&self) -> RowView<'_>
+        ensures { row_of_view result ≡ self.now }
+    {
+        RowView {
+            directory: &self.key.directory,
+            name: &self.key.name,
+            kind: &self.key.kind,
+            file: &self.file,
+        }
+    }
+
     // A new file, unmarked.
     pub(crate) fn new(key: Key, generation: u32, moment: u64, bytes: Bytes) -> Row
         ensures { result ≡ new_row key moment bytes generation }
@@ -57,13 +84,6 @@ impl Row {
             key: self.key.copy(),
             generation: self.file.generation,
         }
-    }
-
-    // Whether it is of this directory, name and type.
-    pub(crate) fn is_of(&self, key: &Key) -> bool
-        ensures { result ≡ is_of key.now self.now }
-    {
-        key_cmp(&self.key, key).is_eq()
     }
 
     // Whether it has this full name.

@@ -1,6 +1,7 @@
 // A plan over files, as far as it has come.
-ghost use Rattle.std.specs.Prelude.{◌≡◌, ◌≤◌, [], length, map, IfOk, None};
+ghost use Rattle.std.specs.Prelude.{◌≡◌, ◌≤◌, [], length, map, IfOk};
 ghost use Rattle.ex_store.specs.declared.limits.TheConstants.{ROW_LIMIT};
+ghost use Rattle.ex_store.specs.Ready.{of_files};
 ghost use Rattle.ex_store.specs.Rows.{blank};
 
 use crate::{NamePair, Ready, Row, RowChange};
@@ -41,25 +42,15 @@ impl Simulation {
     }
 
     // All that is to be done, where so many generations are kept.
-    pub(crate) fn ready(self, keep: u8) -> Ready
+    pub(crate) fn ready(self, alloc: Global, retention: u8) -> Ready
         requires { length self.pairs.items ≤ ROW_LIMIT }
-        ensures { result ≡ record {
-          directory = None;
-          keep = keep;
-          row_changes = self.row_changes.items;
-          pairs = self.pairs.items;
-        } }
+        ensures { result ≡ of_files retention self.row_changes.items self.pairs.items }
     {
         let Simulation {
             row_changes,
             pairs,
             ..
         } = self;
-        Ready {
-            directory: None,
-            keep,
-            row_changes,
-            pairs,
-        }
+        Ready::of_files(alloc, retention, row_changes, pairs)
     }
 }

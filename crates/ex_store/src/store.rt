@@ -12,8 +12,8 @@ use cm_text::{Name, equals};
 use std::alloc::Global;
 use std::marker::Model;
 
-/// The state of the file machine. Contracts see it as five flat lists and values, and for how many directories and
-/// files there is room.
+/// The state of the file machine. Contracts see it as five flat lists and values, and for how many directories, logical
+/// names, files and entries of the queue there is room.
 #[derive(Drop)]
 pub struct Store {
     pub(crate) alloc: Global,
@@ -40,7 +40,9 @@ impl Model for Store {
         queue = it.queue.items;
       };
       directory_room = vec_capacity it.directories;
+      logical_room = vec_capacity it.logical;
       row_room = vec_capacity it.rows;
+      queue_room = vec_capacity it.queue;
     } };
 
     ghost invariant = { λ it. IsWellFormed (record {
@@ -60,7 +62,7 @@ impl Store {
     {
         let operator = Directory {
             name: Name::new("OPERATOR"),
-            keep: 1,
+            retention: 1,
         };
         let mut directories = Vec::new(alloc);
         directories.push(operator)?;
@@ -101,10 +103,10 @@ impl Store {
     /// How many generations of each file the directory with this number keeps; 0 where it keeps all.
     pub fn retention(&self, directory: u16) -> u8
         requires { directory < length self.now.state.directories }
-        ensures { option_map (λ directory. directory.keep) (slice_get self.now.state.directories directory)
+        ensures { option_map (λ directory. directory.retention) (slice_get self.now.state.directories directory)
             ≡ Some result }
     {
-        self.directories[usize::from(directory)].keep
+        self.directories[usize::from(directory)].retention
     }
 
     /// How many logical names there are.

@@ -1,15 +1,15 @@
 // A file is written.
-ghost use Rattle.std.specs.Prelude.{◌≡◌, [], ◌∷◌, IfOk, IfErr, None, Ok};
+ghost use Rattle.std.specs.Prelude.{◌≡◌, true, [], ◌∷◌, IfOk, IfErr, Ok};
 ghost use Rattle.ex_store.specs.declared.plan.Plan.TheVariants as plans;
 ghost use Rattle.ex_store.specs.declared.ready.RowChange.TheVariants as changes;
 ghost use Rattle.ex_store.specs.Plan.{IsRefused, MayPlan, planned};
-ghost use Rattle.ex_store.specs.Ready.{applied, done_on};
+ghost use Rattle.ex_store.specs.Ready.{applied, are_doable, done_on, of_files};
 ghost use Rattle.ex_store.specs.Rows.{full_of};
 ghost use Rattle.ex_store.specs.WellFormed.{IsWellFormed};
 
 use crate::adding::admitted;
 use crate::copy::moment_of;
-use crate::directory::keep_of;
+use crate::directory::retention_of;
 use crate::search::total;
 use crate::{NamePair, Place, Ready, Refusal, Row, RowChange, Store};
 use cm_fields::Code;
@@ -18,13 +18,9 @@ use ex_generations::Bytes;
 use std::alloc::Global;
 
 // One row is added, which is its own source.
-fn one_add(alloc: Global, row: Row, keep: u8) -> Result<Ready, NoMemory>
-    ensures { IfOk result (λ ready. ready ≡ record {
-      directory = None;
-      keep = keep;
-      row_changes = changes.Add row ∷ [];
-      pairs = (record { source = full_of row; target = full_of row }) ∷ [];
-    }) }
+fn one_add(alloc: Global, row: Row, retention: u8) -> Result<Ready, NoMemory>
+    ensures { IfOk result (λ ready. ready
+        ≡ of_files retention (changes.Add row ∷ []) ((record { source = full_of row; target = full_of row }) ∷ [])) }
 {
     let mut pairs = Vec::new(alloc);
     pairs.push(NamePair {
@@ -33,12 +29,7 @@ fn one_add(alloc: Global, row: Row, keep: u8) -> Result<Ready, NoMemory>
     })?;
     let mut row_changes = Vec::new(alloc);
     row_changes.push(RowChange::Add(row))?;
-    Ok(Ready {
-        directory: None,
-        keep,
-        row_changes,
-        pairs,
-    })
+    Ok(Ready::of_files(alloc, retention, row_changes, pairs))
 }
 
 impl Store {
@@ -48,6 +39,8 @@ impl Store {
         ensures ready { IfOk result (λ ready.
             planned (plans.Write to.now bytes) moment self.now.state ≡ Ok (done_on self.now.state ready)) }
         ensures sound { IfOk result (λ ready. IsWellFormed (applied ready self.now.state)) }
+        ensures doable { IfOk result (λ ready.
+            are_doable ready.retention self.now.state.rows ready.row_changes ≡ true) }
         ensures refused { IfErr result (IsRefused (planned (plans.Write to.now bytes) moment self.now.state)) }
     {
         if to.lacks_name() {
@@ -60,8 +53,8 @@ impl Store {
             Err(code) => return Err(Refusal::Code(code)),
         };
         let row = Row::new(key, generation, moment_of(moment), bytes);
-        let keep = keep_of(&self.directories, to.directory.as_bytes());
-        match one_add(self.alloc, row, keep) {
+        let retention = retention_of(&self.directories, to.directory.as_bytes());
+        match one_add(self.alloc, row, retention) {
             Ok(ready) => Ok(ready),
             Err(NoMemory) => Err(Refusal::NoMemory),
         }

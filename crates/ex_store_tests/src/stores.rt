@@ -2,12 +2,15 @@
 
 mod appends;
 mod copies;
+mod definitions;
 mod directories;
 mod drafts;
 mod images;
 mod limits;
 mod marks;
 mod names;
+mod neighbours;
+mod prints;
 mod refusals;
 mod renames;
 mod retention;

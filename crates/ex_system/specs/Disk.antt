@@ -3,8 +3,8 @@ use Rattle.std.specs.Prelude.{ℕ, Bool}
 use Rattle.cm_io.specs.Host.{Files}
 use Rattle.cm_io.specs.declared.host.Host.{Ghosts}
 
--- what each name has, if the host tells it; whether a file is open; how many loads and creates the host was asked, and how
--- often it failed
+-- what each name has, if the host tells it; whether a file is open; how many loads and creates the host was asked, and
+-- how often it failed
 pub record Disk : Type 0 where
   pub tells : Bool
   pub files : Files

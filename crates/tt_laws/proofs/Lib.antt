@@ -1,2 +1,4 @@
+pub mod Keeping
+pub mod LineEnds
 pub mod Showing
 mod Lines

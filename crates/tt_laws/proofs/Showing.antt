@@ -27,12 +27,13 @@ use Rattle.cm_state.specs.declared.prompt.Prompt.TheVariants.{Main, Sub}
 use Rattle.cm_state.specs.Echo.{again, complaint, echo, echo_of, prompt_text, refusal, ring, screen_line, taken_away}
 use Rattle.cm_state.specs.Edit.{before_fault, completed, completion, edit, edited, is_end}
 use Rattle.cm_state.specs.SessionState.{SessionState, at_start, met_line}
-use Rattle.cm_state.proofs.Lines.{edited_is_line, edited_keeps_a_line, edited_keeps_behind_an_end, rest_is_plain}
+use Rattle.cm_state.proofs.Lines.{edited_is_line, edited_restorable_is_line, edited_restorable_behind_an_end, rest_is_plain}
 use Rattle.tt_screen.specs.Grid.{Grid, feed, is_printed}
 use Rattle.tt_screen.specs.Holds.{ArePrinted, Holds}
 use Rattle.tt_screen.proofs.Feeding.{feed-append}
 use Rattle.tt_screen.proofs.Holding.{holds_bell, holds_bytes, holds_end, holds_none, holds_rubouts}
-use Rattle.tt_laws.specs.Shows.{EndsLine, IsClear, IsSound, Shows, ShowsBehind}
+use Rattle.cm_run.specs.Sound.{IsSound}
+use Rattle.tt_laws.specs.Shows.{EndsLine, IsClear, Shows, ShowsBehind}
 use Rattle.tt_laws.proofs.Lines.{byte_is_printed, line_is_printed, plain_is_printed}
 
 none_is_line : IsLine []
@@ -108,12 +109,12 @@ again_shown grid before prompt line printed is =
     (subst (λ (after : Grid). Holds after (prompt_text prompt)) (sym (feed-append grid (before ++ end_of_line) (prompt_text prompt)))
     (holds_bytes (feed grid (before ++ end_of_line)) [] (prompt_text prompt) printed (holds_end grid before)))))
 
--- the kept bytes come to a line that is empty, or a bell where none are kept
-pub kept_shown : (grid : Grid) (prompt line : List ℕ) (kept : Option (List ℕ)) → IfSome kept IsLine
-    → IfSome kept (λ (bytes : List ℕ). line ≡ []) → Holds grid (prompt ++ screen_line line)
-    → Holds (feed grid (if is_some kept then screen_line (unwrap_or kept line) else bell)) (prompt ++ screen_line (unwrap_or kept line))
-kept_shown grid prompt line None is empty holds = holds_bell grid (prompt ++ screen_line line) holds
-kept_shown grid prompt line (Some bytes) is empty holds =
+-- what control-H brings back comes to a line that is empty, or a bell where there is nothing
+pub restorable_shown : (grid : Grid) (prompt line : List ℕ) (restorable : Option (List ℕ)) → IfSome restorable IsLine
+    → IfSome restorable (λ (bytes : List ℕ). line ≡ []) → Holds grid (prompt ++ screen_line line)
+    → Holds (feed grid (if is_some restorable then screen_line (unwrap_or restorable line) else bell)) (prompt ++ screen_line (unwrap_or restorable line))
+restorable_shown grid prompt line None is empty holds = holds_bell grid (prompt ++ screen_line line) holds
+restorable_shown grid prompt line (Some bytes) is empty holds =
     grown grid prompt [] bytes (line_is_printed bytes is) (subst (λ line. Holds grid (prompt ++ screen_line line)) empty holds)
 
 -- a bell, or nothing
@@ -160,14 +161,14 @@ text_key key class = grind arith
 
 -- the session that a key of a class leaves
 abbrev left_by : KeyClass → ℕ → ℕ → Prompt → List ℕ → Option (List ℕ) → List ℕ → List FieldView → Ending → SessionState
-left_by class key node prompt line kept inserted fields ends = record {
+left_by class key node prompt line restorable inserted fields ends = record {
   node = node;
   prompt = prompt;
-  line = edit class key line kept inserted;
+  line = edit class key line restorable inserted;
   is_finished = is_end class;
   fields = fields;
   ending = ends;
-  kept = if is_end class then before_fault (edit class key line kept inserted) ends else None;
+  restorable = if is_end class then before_fault (edit class key line restorable inserted) ends else None;
 }
 
 -- what a key puts in is shown as it is, and the line with it is one
@@ -187,35 +188,35 @@ completion_completes s sound Part ends line is = record {
 }
 completion_completes s sound class ends line is = record { whole = subst IsLine (sym (append-nil line)) is; shown = refl }
 
-module _ (s : Setting) (key : ℕ) (grid : Grid) (node : ℕ) (prompt : Prompt) (line : List ℕ) (kept : Option (List ℕ)) (rings : Bool)
+module _ (s : Setting) (key : ℕ) (grid : Grid) (node : ℕ) (prompt : Prompt) (line : List ℕ) (restorable : Option (List ℕ)) (rings : Bool)
     (fields : List FieldView) (ends : Ending) where
   -- behind the echo of a key, by its class
   by_class : (class : KeyClass) (inserted : List ℕ) → (class ≡ Text → is_text key ≡ true) → ArePrinted (prompt_text prompt) → IsLine line
-      → IfSome kept IsLine → IfSome kept (λ (bytes : List ℕ). line ≡ []) → Completes line inserted
+      → IfSome restorable IsLine → IfSome restorable (λ (bytes : List ℕ). line ≡ []) → Completes line inserted
       → Holds grid (prompt_text prompt ++ screen_line line)
       → ShowsBehind class
-      (feed grid (echo_of s class key (length line) (is_some kept) rings (left_by class key node prompt line kept inserted fields ends)))
-      (left_by class key node prompt line kept inserted fields ends)
-  by_class Text inserted text printed is kept_is empty completes holds =
+      (feed grid (echo_of s class key (length line) (is_some restorable) rings (left_by class key node prompt line restorable inserted fields ends)))
+      (left_by class key node prompt line restorable inserted fields ends)
+  by_class Text inserted text printed is restorable_is empty completes holds =
       byte_shown (nat_lt (length line) LINE_LIMIT) grid (prompt_text prompt) line key (text refl) holds
-  by_class Rub inserted text printed is kept_is empty completes holds =
+  by_class Rub inserted text printed is restorable_is empty completes holds =
       taken_shown grid (prompt_text prompt) line (length line - 1) (omega arith) holds
-  by_class Word inserted text printed is kept_is empty completes holds =
+  by_class Word inserted text printed is restorable_is empty completes holds =
       taken_shown grid (prompt_text prompt) line (word_start line) (word_start-le line) holds
-  by_class Erase inserted text printed is kept_is empty completes holds =
+  by_class Erase inserted text printed is restorable_is empty completes holds =
       taken_shown grid (prompt_text prompt) line 0 (omega arith) holds
-  by_class Show inserted text printed is kept_is empty completes holds = again_shown grid [] prompt line printed is
-  by_class Help inserted text printed is kept_is empty completes holds =
+  by_class Show inserted text printed is restorable_is empty completes holds = again_shown grid [] prompt line printed is
+  by_class Help inserted text printed is restorable_is empty completes holds =
       again_shown grid (question ++ help_text s ends line) prompt line printed is
-  by_class Back inserted text printed is kept_is empty completes holds =
-      kept_shown grid (prompt_text prompt) line kept kept_is empty holds
-  by_class Stop inserted text printed is kept_is empty completes holds = holds_end grid control_c
-  by_class Escape inserted text printed is kept_is empty completes holds =
+  by_class Back inserted text printed is restorable_is empty completes holds =
+      restorable_shown grid (prompt_text prompt) line restorable restorable_is empty holds
+  by_class Stop inserted text printed is restorable_is empty completes holds = holds_end grid control_c
+  by_class Escape inserted text printed is restorable_is empty completes holds =
       inserted_shown grid (prompt_text prompt) line inserted rings completes.whole completes.shown holds
-  by_class Part inserted text printed is kept_is empty completes holds =
+  by_class Part inserted text printed is restorable_is empty completes holds =
       inserted_shown grid (prompt_text prompt) line inserted rings completes.whole completes.shown holds
-  by_class End inserted text printed is kept_is empty completes holds = end_shown grid ends
-  by_class Other inserted text printed is kept_is empty completes holds = holds_bell grid (prompt_text prompt ++ screen_line line) holds
+  by_class End inserted text printed is restorable_is empty completes holds = end_shown grid ends
+  by_class Other inserted text printed is restorable_is empty completes holds = holds_bell grid (prompt_text prompt ++ screen_line line) holds
 
 -- the echo of a key leaves prompt and line on the screen
 pub key_shows : (s : Setting) → IsSound s → (held : SessionState) (key : ℕ) → IsClear held → (grid : Grid) → Shows grid held
@@ -223,8 +224,8 @@ pub key_shows : (s : Setting) → IsSound s → (held : SessionState) (key : ℕ
 unfolding echo edited
 key_shows s sound held key clear grid shows =
     let ends : Ending = (parse_of s held.node (met_line held)).ending in
-    by_class s key grid held.node held.prompt (met_line held) held.kept (completed s held (class_of key)).bell _ _ (class_of key)
-    (completed s held (class_of key)).bytes (text_key key) clear.prompt clear.line clear.kept clear.empty
+    by_class s key grid held.node held.prompt (met_line held) held.restorable (completed s held (class_of key)).bell _ _ (class_of key)
+    (completed s held (class_of key)).bytes (text_key key) clear.prompt clear.line clear.restorable clear.empty
     (completion_completes s sound (class_of key) ends (met_line held) clear.line) shows
 
 -- and the session is as clear as before
@@ -232,25 +233,25 @@ pub key_clears : (s : Setting) → IsSound s → (held : SessionState) (key : �
 unfolding edited
 key_clears s sound held key clear =
     let line : IsLine (edited s held key).line =
-    edited_is_line s sound.grammar sound.catalogue sound.tables sound.meanings held key clear.line clear.kept in
+    edited_is_line s sound.grammar sound.catalogue sound.tables sound.meanings held key clear.line clear.restorable in
     record {
       prompt = clear.prompt;
       line = of_choice IsLine (is_end (class_of key)) [] _ none_is_line line;
-      kept = edited_keeps_a_line s sound.grammar sound.catalogue sound.tables sound.meanings held key clear.line clear.kept;
-      empty = edited_keeps_behind_an_end s held key;
+      restorable = edited_restorable_is_line s sound.grammar sound.catalogue sound.tables sound.meanings held key clear.line clear.restorable;
+      empty = edited_restorable_behind_an_end s held key;
     }
 
 -- a line begins behind its prompt
-pub start_shows : (grid : Grid) → Holds grid [] → (node : ℕ) (prompt : Prompt) (kept : Option (List ℕ)) → ArePrinted (prompt_text prompt)
-    → Shows (feed grid (prompt_text prompt)) (at_start node prompt kept)
-start_shows grid holds node prompt kept printed =
+pub start_shows : (grid : Grid) → Holds grid [] → (node : ℕ) (prompt : Prompt) (restorable : Option (List ℕ)) → ArePrinted (prompt_text prompt)
+    → Shows (feed grid (prompt_text prompt)) (at_start node prompt restorable)
+start_shows grid holds node prompt restorable printed =
     subst (λ shown. Holds (feed grid (prompt_text prompt)) shown) (sym (append-nil (prompt_text prompt)))
     (holds_bytes grid [] (prompt_text prompt) printed holds)
 
-pub start_is_clear : (node : ℕ) (prompt : Prompt) (kept : Option (List ℕ)) → ArePrinted (prompt_text prompt) → IfSome kept IsLine
-    → IsClear (at_start node prompt kept)
-start_is_clear node prompt None printed is = record { prompt = printed; line = none_is_line; kept = tt; empty = tt }
-start_is_clear node prompt (Some bytes) printed is = record { prompt = printed; line = none_is_line; kept = is; empty = refl }
+pub start_is_clear : (node : ℕ) (prompt : Prompt) (restorable : Option (List ℕ)) → ArePrinted (prompt_text prompt) → IfSome restorable IsLine
+    → IsClear (at_start node prompt restorable)
+start_is_clear node prompt None printed is = record { prompt = printed; line = none_is_line; restorable = tt; empty = tt }
+start_is_clear node prompt (Some bytes) printed is = record { prompt = printed; line = none_is_line; restorable = is; empty = refl }
 
 -- a reply that ends its line
 pub reply_shows : (grid : Grid) (bytes : List ℕ) → EndsLine bytes → Holds grid [] → Holds (feed grid bytes) []

@@ -1,32 +1,20 @@
 -- A screen that shows the prompt and the line of a session.
-use Rattle.std.specs.Prelude.{◌≡◌, ◌⊎◌, ℕ, List, [], ◌∷◌, ◌++◌, None, IfSome}
+use Rattle.std.specs.Prelude.{◌≡◌, ◌⊎◌, ℕ, List, [], ◌∷◌, ◌++◌, IfSome}
 use Rattle.cm_text.specs.Text.{IsLine}
 use Rattle.cm_line.specs.declared.key.KeyClass.{KeyClass}
 use Rattle.cm_line.specs.declared.key.KeyClass.TheVariants.{End, Stop}
-use Rattle.cm_files.specs.Catalogue.{IsCatalogue}
-use Rattle.cm_hooks.specs.Meanings.{IsLawful}
-use Rattle.cm_blocks.specs.Fault.{grammar_fault}
-use Rattle.cm_blocks.specs.Setting.{Setting}
-use Rattle.cm_blocks.specs.Well.{AreTables}
 use Rattle.cm_state.specs.Echo.{prompt_text, screen_line}
 use Rattle.cm_state.specs.SessionState.{SessionState, met_line}
 use Rattle.tt_screen.specs.Grid.{Grid}
 use Rattle.tt_screen.specs.Holds.{ArePrinted, Holds}
 
--- an accepted grammar with its tables, a catalogue and lawful meanings
-pub record IsSound (s : Setting) : Type 0 where
-  pub grammar : grammar_fault s.graph ≡ None
-  pub tables : AreTables s.graph.tables
-  pub catalogue : IsCatalogue s.catalogue
-  pub meanings : IsLawful s.meanings
-
--- a session whose prompt is printed bytes; its line and the bytes kept for control-H are lines, and bytes are kept
--- only while the line is empty
+-- a session whose prompt is printed bytes; its line and what control-H brings back are lines, and that is there only
+-- while the line is empty
 pub record IsClear (held : SessionState) : Type 0 where
   pub prompt : ArePrinted (prompt_text held.prompt)
   pub line : IsLine (met_line held)
-  pub kept : IfSome held.kept IsLine
-  pub empty : IfSome held.kept (λ (bytes : List ℕ). met_line held ≡ [])
+  pub restorable : IfSome held.restorable IsLine
+  pub empty : IfSome held.restorable (λ (bytes : List ℕ). met_line held ≡ [])
 
 -- the prompt, and behind it the line, each TAB as a space
 abbrev pub prompt_and_line : SessionState → List ℕ

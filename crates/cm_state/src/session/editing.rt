@@ -1,5 +1,5 @@
 // What a key makes of the line of a session.
-ghost use Rattle.std.specs.Prelude.{◌≡◌, ◌≤◌, true, false, [], ◌++◌, None, if◌then◌else◌};
+ghost use Rattle.std.specs.Prelude.{◌≡◌, ◌≤◌, true, false, [], ◌++◌, None, unwrap_or, if◌then◌else◌};
 ghost use Rattle.cm_text.specs.Bytes.{is_text};
 ghost use Rattle.cm_hooks.specs.Ties.{Ties, count};
 ghost use Rattle.cm_blocks.specs.Grammar.{hook_count};
@@ -61,11 +61,11 @@ impl<R: Rules> Session<R> {
         requires ties { Ties R.meanings hooks.now }
         requires hooks { hook_count grammar.now ≤ count hooks.now }
         ensures edited { self.new ≡ record self.old {
-          line = edit class key self.old.line self.old.kept
+          line = edit class key self.old.line self.old.restorable
               (completion (setting grammar.now (N.catalogue names.now) R.meanings)
               class self.old.ending self.old.line).bytes;
           is_finished = is_end class;
-          kept = None;
+          restorable = None;
         } }
         ensures front { result.front ≡ common self.old.line (text_of self.new) }
         ensures bell { result.rings ≡ (completion (setting grammar.now (N.catalogue names.now) R.meanings)
@@ -95,7 +95,7 @@ impl<R: Rules> Session<R> {
         ensures inserted { self.new ≡ record self.old {
           line = self.old.line ++ (insertion (setting grammar.now (N.catalogue names.now) R.meanings)
               self.old.ending self.old.line mode).bytes;
-          kept = None;
+          restorable = None;
         } }
         ensures front { result.front ≡ common self.old.line self.new.line }
         ensures bell { result.rings ≡ (insertion (setting grammar.now (N.catalogue names.now) R.meanings)
@@ -104,7 +104,7 @@ impl<R: Rules> Session<R> {
         let front = self.line.bytes().len();
         let insertion = complete(grammar, self.ending, self.line.bytes(), names, hooks, mode);
         self.line.append(insertion.bytes.as_slice());
-        self.kept = None;
+        self.restorable.forget();
         Change {
             front,
             rings: insertion.bell,
@@ -118,9 +118,9 @@ impl<R: Rules> Session<R> {
         requires open { self.old.is_finished ≡ false }
         requires text { class ≡ KeyClass.Text → is_text key ≡ true }
         ensures edited { self.new ≡ record self.old {
-          line = edit class key self.old.line self.old.kept [];
+          line = edit class key self.old.line self.old.restorable [];
           is_finished = is_end class;
-          kept = None;
+          restorable = None;
         } }
         ensures common { result ≡ common self.old.line (text_of self.new) }
     {
@@ -131,10 +131,10 @@ impl<R: Rules> Session<R> {
 
     // The most bytes at the front of the line that a key of this class leaves.
     fn front(&self, class: KeyClass) -> usize
-        ensures { result ≡ front class self.now.line self.now.kept }
+        ensures { result ≡ front class self.now.line self.now.restorable }
     {
-        match (class, &self.kept) {
-            (KeyClass::Back, Some(kept)) => common_len(self.line.bytes(), kept.bytes()),
+        match (class, self.restorable.line()) {
+            (KeyClass::Back, Some(line)) => common_len(self.line.bytes(), line.bytes()),
             _ => self.line.bytes().len(),
         }
     }
@@ -144,9 +144,9 @@ impl<R: Rules> Session<R> {
         requires open { self.old.is_finished ≡ false }
         requires text { class ≡ KeyClass.Text → is_text key ≡ true }
         ensures { self.new ≡ record self.old {
-          line = edit class key self.old.line self.old.kept [];
+          line = edit class key self.old.line self.old.restorable [];
           is_finished = is_end class;
-          kept = None;
+          restorable = None;
         } }
     {
         match class {
@@ -158,14 +158,20 @@ impl<R: Rules> Session<R> {
             }
             KeyClass::Word => self.line.cut(self.line.word_start()),
             KeyClass::Erase | KeyClass::Stop => self.line.cut(0),
-            KeyClass::Back => {
-                if let Some(kept) = self.kept.take() {
-                    self.line = kept;
-                }
-            }
+            KeyClass::Back => self.restore(),
             KeyClass::End => self.is_finished = true,
             _ => {}
         }
-        self.kept = None;
+        self.restorable.forget();
+    }
+
+    // Brings back the line that control-H brings back, where there is one.
+    fn restore(&mut self)
+        ensures { self.new ≡ record self.old { line = unwrap_or self.old.restorable self.old.line } }
+    {
+        if let Some(line) = self.restorable.line() {
+            self.line.cut(0);
+            self.line.append(line.bytes());
+        }
     }
 }

@@ -8,12 +8,18 @@ use std::alloc::AllocError;
 use std::process::Abort;
 
 // Adds a file of this many bytes.
-fn add(rt: &(impl Abort + AllocGlobal), gens: &mut Gens, generation: u32, keep: u8, size: usize) {
+fn add(
+    rt: &(impl Abort + AllocGlobal),
+    gens: &mut Gens,
+    generation: u32,
+    retention: u8,
+    size: usize,
+) {
     assert!(rt; generation > 0 && generation <= GENERATION_LIMIT && size <= FILE_LIMIT);
     assert!(rt; !gens.has(generation), "{generation} is there");
     let file = file(rt.alloc(), generation, size).expect(rt, "memory");
     gens.reserve(1).expect(rt, "memory");
-    gens.add(file, keep);
+    gens.add(file, retention);
 }
 
 // Adds an empty file, and marks it where a minus stands behind its generation.
@@ -29,9 +35,9 @@ fn add_marked(rt: &(impl Abort + AllocGlobal), gens: &mut Gens, text: &str) {
 }
 
 fn add_more(rt: &(impl Abort + AllocGlobal), gens: &mut Gens, generation: u32, more: &str) {
-    let (keep, size) = first_word(more);
-    let keep = keep.parse().expect(rt, "how many are kept");
-    add(rt, gens, generation, keep, size.parse().unwrap_or(0));
+    let (retention, size) = first_word(more);
+    let retention = retention.parse().expect(rt, "how many are kept");
+    add(rt, gens, generation, retention, size.parse().unwrap_or(0));
 }
 
 fn replace(rt: &(impl Abort + AllocGlobal), gens: &mut Gens, generation: u32, more: &str) {

@@ -1,15 +1,20 @@
 // Tests of what a plan asks for.
-ghost use Rattle.std.specs.Prelude.{◌≡◌, ◌==◌, ◌&&◌, true, length, nat_lt};
+ghost use Rattle.std.specs.Prelude.{◌≡◌, ◌==◌, ◌&&◌, true, length, nat_le, nat_lt};
 ghost use Rattle.std.specs.List.{list_all, slice_split};
+ghost use Rattle.cm_text.specs.Bytes.{is_text};
+ghost use Rattle.cm_text.specs.declared.name.TheConstants.{NAME_LIMIT};
 ghost use Rattle.cm_files.specs.Catalogue.{is_directory_name, is_upper_name};
-ghost use Rattle.ex_store.specs.Plan.{IsOneFile, IsTarget, MayPlan};
+ghost use Rattle.ex_store.specs.Plan.{IsOneFile, IsRequest, IsTarget, MayPlan, may_be_job};
 ghost use Rattle.ex_store.specs.State.{has_directory};
-ghost use Rattle.ex_store.specs.WellFormed.{is_file_name, is_file_type, is_numbered};
+ghost use Rattle.ex_store.specs.WellFormed.{is_day, is_file_name, is_file_type, is_numbered};
 
 use cm_fields::Gen;
-use cm_text::{NAME_LIMIT, is_name};
+use cm_files::is_logical_name;
+use cm_text::{NAME_LIMIT, Name, is_name, is_text};
 use ex_generations::GENERATION_LIMIT;
-use ex_store::{Directory, Place, Plan, RETENTION_LIMIT, Store};
+use ex_store::{
+    AFTER_LIMIT, COPIES_LIMIT, FORMS, Parts, Place, Plan, RETENTION_LIMIT, Request, Store,
+};
 
 fn is_upper_name(text: &[u8]) -> bool
     ensures { result ≡ is_upper_name text.now }
@@ -56,24 +61,16 @@ fn is_numbered(generation: u32) -> bool
     generation > 0 && generation <= GENERATION_LIMIT
 }
 
-fn is_among(directories: &[Directory], name: &[u8]) -> bool
-    ensures { result ≡ has_directory name.now directories.now }
-{
-    directories
-        .iter()
-        .any(|directory| directory.name.as_bytes() == name)
-}
-
 /// Whether there is a directory of this name.
 pub(crate) fn has(store: &Store, name: &str) -> bool
     ensures { result ≡ has_directory name.now store.now.state.directories }
 {
-    is_among(store.parts().directories, name.as_bytes())
+    store.parts().has_directory(name)
 }
 
 // Whether files can be put under a place's name and generation.
-fn is_target(to: &Place, directories: &[Directory]) -> bool
-    ensures { result ≡ true → IsTarget to.now directories.now }
+fn is_target(to: &Place, parts: &Parts<'_>) -> bool
+    ensures { result ≡ true → IsTarget to.now parts.now.directories }
 {
     let name = match &to.name {
         Some(name) => name.as_bytes() == b"*".as_slice() || is_file_name(name.as_bytes()),
@@ -88,12 +85,12 @@ fn is_target(to: &Place, directories: &[Directory]) -> bool
         Gen::Number(number) => is_numbered(number),
         _ => false,
     };
-    is_among(directories, to.directory.as_bytes()) && name && kind && generation
+    parts.has_directory(to.directory.as_str()) && name && kind && generation
 }
 
 // Whether bytes can be put behind the one file of a place.
-fn is_one_file(to: &Place, directories: &[Directory]) -> bool
-    ensures { result ≡ true → IsOneFile to.now directories.now }
+fn is_one_file(to: &Place, parts: &Parts<'_>) -> bool
+    ensures { result ≡ true → IsOneFile to.now parts.now.directories }
 {
     let name = match &to.name {
         Some(name) => is_file_name(name.as_bytes()),
@@ -108,24 +105,73 @@ fn is_one_file(to: &Place, directories: &[Directory]) -> bool
         Gen::Number(number) => is_numbered(number),
         _ => true,
     };
-    is_among(directories, to.directory.as_bytes()) && name && kind && generation
+    parts.has_directory(to.directory.as_str()) && name && kind && generation
+}
+
+fn is_day(after: Option<i32>) -> bool
+    ensures { result ≡ is_day after }
+{
+    match after {
+        Some(day) => 0 <= day && day <= AFTER_LIMIT,
+        None => true,
+    }
+}
+
+fn may_be_job(job: &Option<Name>) -> bool
+    ensures { result ≡ may_be_job job.now }
+{
+    match job {
+        Some(job) => is_file_name(job.as_bytes()),
+        None => true,
+    }
+}
+
+fn is_line(text: &[u8]) -> bool
+    ensures { result ≡ list_all is_text text.now }
+{
+    text.iter().all(|byte| is_text(*byte))
+}
+
+fn is_note(note: &[u8]) -> bool
+    ensures { result ≡ nat_le (length note.now) NAME_LIMIT && list_all is_text note.now }
+{
+    note.len() <= NAME_LIMIT && is_line(note)
+}
+
+// Whether files can be printed so.
+fn is_request(request: &Request) -> bool
+    ensures { result ≡ true → IsRequest request.now }
+{
+    let copies = 0 < request.copies && request.copies <= COPIES_LIMIT;
+    let job = may_be_job(&request.job);
+    let note = is_note(request.note.as_bytes());
+    copies && request.form < FORMS && is_day(request.after) && job && note
 }
 
 /// Whether a plan can be prepared.
 pub(super) fn may_plan(store: &Store, plan: &Plan) -> bool
     ensures { result ≡ true → MayPlan plan.now store.now.state }
 {
-    let directories = store.parts().directories;
+    let parts = store.parts();
     match plan {
-        Plan::Build { directory, keep } => {
-            is_directory_name(directory.as_bytes()) && keep.unwrap_or(0) <= RETENTION_LIMIT
+        Plan::Build {
+            directory,
+            retention,
+        } => {
+            is_directory_name(directory.as_bytes()) && retention.unwrap_or(0) <= RETENTION_LIMIT
+        }
+        Plan::Define { name, directory } => {
+            is_logical_name(name.as_bytes()) && parts.has_directory(directory.as_str())
         }
         Plan::Copy { from, to } | Plan::Rename { from, to } => {
-            is_among(directories, from.directory.as_bytes()) && is_target(to, directories)
+            parts.has_directory(from.directory.as_str()) && is_target(to, &parts)
         }
         Plan::Append { from, to } => {
-            is_among(directories, from.directory.as_bytes()) && is_one_file(to, directories)
+            parts.has_directory(from.directory.as_str()) && is_one_file(to, &parts)
         }
-        Plan::Write { to, .. } => is_target(to, directories),
+        Plan::Write { to, .. } => is_target(to, &parts),
+        Plan::Print { files, request } => {
+            parts.has_directory(files.directory.as_str()) && is_request(request)
+        }
     }
 }

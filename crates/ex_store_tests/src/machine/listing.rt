@@ -1,6 +1,6 @@
 // The files of a store, and the pairs of a plan, as texts.
 
-use ex_store::{Full, Ready, Row, Store};
+use ex_store::{Full, Ready, RowView, Store};
 use std::alloc::AllocError;
 
 // A space, behind what was listed before.
@@ -21,9 +21,9 @@ fn put_end(list: &mut String, is_empty: bool) -> Result<(), AllocError> {
 }
 
 // A file's full name, with a minus where it is marked as deleted.
-fn put_row(list: &mut String, row: &Row) -> Result<(), AllocError> {
-    let name = row.key.name.as_str();
-    let kind = row.key.kind.as_str();
+fn put_row(list: &mut String, row: RowView<'_>) -> Result<(), AllocError> {
+    let name = row.name.as_str();
+    let kind = row.kind.as_str();
     let generation = row.file.generation;
     write!(list, "{name}.{kind}.{generation}")?;
     list.push_str(if row.file.deleted { "-" } else { "" })
@@ -36,8 +36,10 @@ pub(super) fn put_names(
     directory: &str,
 ) -> Result<(), AllocError> {
     let mut is_first = true;
-    for row in store.parts().rows {
-        if row.key.directory.as_str() == directory {
+    let parts = store.parts();
+    for i in 0..parts.rows() {
+        let row = parts.row(i);
+        if row.directory.as_str() == directory {
             put_space(list, &mut is_first)?;
             put_row(list, row)?;
         }
@@ -46,7 +48,7 @@ pub(super) fn put_names(
 }
 
 // A file with its moment and its bytes.
-fn put_whole(list: &mut String, row: &Row) -> Result<(), AllocError> {
+fn put_whole(list: &mut String, row: RowView<'_>) -> Result<(), AllocError> {
     put_row(list, row)?;
     let moment = row.file.moment;
     write!(list, "@{moment}=")?;
@@ -59,9 +61,10 @@ fn put_whole(list: &mut String, row: &Row) -> Result<(), AllocError> {
 /// All files with their moments and bytes, with a space between.
 pub(super) fn put_contents(list: &mut String, store: &Store) -> Result<(), AllocError> {
     let mut is_first = true;
-    for row in store.parts().rows {
+    let parts = store.parts();
+    for i in 0..parts.rows() {
         put_space(list, &mut is_first)?;
-        put_whole(list, row)?;
+        put_whole(list, parts.row(i))?;
     }
     put_end(list, is_first)
 }
@@ -69,9 +72,10 @@ pub(super) fn put_contents(list: &mut String, store: &Store) -> Result<(), Alloc
 /// How many bytes each file has, with a space between.
 pub(super) fn put_sizes(list: &mut String, store: &Store) -> Result<(), AllocError> {
     let mut is_first = true;
-    for row in store.parts().rows {
+    let parts = store.parts();
+    for i in 0..parts.rows() {
         put_space(list, &mut is_first)?;
-        let size = row.file.bytes.len();
+        let size = parts.row(i).file.bytes.len();
         write!(list, "{size}")?;
     }
     put_end(list, is_first)

@@ -2,7 +2,7 @@
 
 use crate::cases::first_word;
 use cm_files::Names;
-use ex_store::Store;
+use ex_store::{Queued, Store};
 use std::alloc::AllocError;
 use std::process::Abort;
 
@@ -90,8 +90,8 @@ pub(super) fn put_retention(list: &mut String, store: &Store) -> Result<(), Allo
         if i > 0 {
             list.push(' ')?;
         }
-        let keep = store.retention(i);
-        write!(list, "{keep}")?;
+        let retention = store.retention(i);
+        write!(list, "{retention}")?;
     }
     Ok(())
 }
@@ -116,6 +116,40 @@ pub(super) fn put_requests(list: &mut String, store: &Store) -> Result<(), Alloc
     for i in 0..count {
         let request = store.request(i);
         write!(list, " {request:?}")?;
+    }
+    Ok(())
+}
+
+// A day, or a minus for none.
+fn put_day(list: &mut String, after: Option<i32>) -> Result<(), AllocError> {
+    match after {
+        Some(day) => write!(list, "{day}"),
+        None => list.push('-'),
+    }
+}
+
+fn put_entry(list: &mut String, entry: Queued<'_>) -> Result<(), AllocError> {
+    let directory = entry.directory;
+    let name = entry.name;
+    let kind = entry.kind;
+    let generation = entry.generation;
+    write!(list, "<{directory}>{name}.{kind}.{generation}")?;
+    let copies = entry.copies;
+    let form = entry.form;
+    write!(list, "/{copies}/{form}/")?;
+    put_day(list, entry.after)?;
+    let job = entry.job;
+    let note = entry.note;
+    write!(list, "/{job}/{note}")
+}
+
+/// The entries of the print queue, as they are asked for, with a space between.
+pub(super) fn put_queue(list: &mut String, store: &Store) -> Result<(), AllocError> {
+    for i in 0..store.requests() {
+        if i > 0 {
+            list.push(' ')?;
+        }
+        put_entry(list, store.request(i))?;
     }
     Ok(())
 }

@@ -5,15 +5,15 @@ use super::listing::put_pairs;
 use super::places::{name, place};
 use crate::cases::first_word;
 use ex_generations::Bytes;
-use ex_store::{Plan, Refusal, Store};
+use ex_store::{Plan, Refusal, Request, Store};
 use std::alloc::{AllocError, Global};
 use std::process::Abort;
 
 // A directory that is made, or that keeps as many generations.
-fn build(rt: &impl Abort, directory: &str, keep: &str) -> Plan {
+fn build(rt: &impl Abort, directory: &str, retention: &str) -> Plan {
     Plan::Build {
         directory: name(rt, directory),
-        keep: keep.parse().ok(),
+        retention: retention.parse().ok(),
     }
 }
 
@@ -40,11 +40,39 @@ fn put(rt: &(impl Abort + AllocGlobal), to: &str, text: &str) -> Plan {
     }
 }
 
+// What is asked for with files: copies, form, day, job and note, with `/` between. Where a part is left out, it is one
+// copy on the second form, with no day, no job and no note.
+fn request(rt: &impl Abort, text: &str) -> Request {
+    let mut parts = text.split('/');
+    let copies = parts.next().unwrap_or("").parse().unwrap_or(1);
+    let form = parts.next().unwrap_or("").parse().unwrap_or(1);
+    let after = parts.next().unwrap_or("").parse().ok();
+    let job = match parts.next() {
+        Some("") | None => None,
+        Some(job) => Some(name(rt, job)),
+    };
+    Request {
+        copies,
+        form,
+        after,
+        job,
+        note: name(rt, parts.next().unwrap_or("")),
+    }
+}
+
 fn plan_of(rt: &(impl Abort + AllocGlobal), verb: &str, first: &str, second: &str) -> Plan {
     match verb {
         "build" => build(rt, first, second),
         "write" => write(rt, first, second),
         "put" => put(rt, first, second),
+        "define" => Plan::Define {
+            name: name(rt, first),
+            directory: name(rt, second),
+        },
+        "print" => Plan::Print {
+            files: place(rt, first),
+            request: request(rt, second),
+        },
         "copy" => Plan::Copy {
             from: place(rt, first),
             to: place(rt, second),

@@ -3,7 +3,7 @@
 use super::listing::{put_contents, put_names, put_sizes};
 use super::marks::{connect, expunge, remark, select};
 use super::names::{
-    put_catalogue, put_file, put_logical, put_logicals, put_requests, put_retention,
+    put_catalogue, put_file, put_logical, put_logicals, put_queue, put_requests, put_retention,
 };
 use super::plans::{put_files, put_plan};
 use crate::cases::{bytes_of, first_word, halves, is_told};
@@ -34,7 +34,8 @@ fn put_image(
 }
 
 // What a store tells: its catalogue, and what each directory keeps; a logical name, or all; a file, or the names, the
-// contents or the sizes of all; the print queue; its image; and the next file that a place means.
+// contents or the sizes of all; the print queue; what a directory keeps, and its pages; its image; and the next file
+// that a place means.
 fn put_answer(
     rt: &(impl Abort + AllocGlobal),
     store: &Store,
@@ -52,8 +53,12 @@ fn put_answer(
         "names" => put_names(told, store, rest),
         "contents" => put_contents(told, store),
         "sizes" => put_sizes(told, store),
-        "count" => write!(told, "{}", store.parts().rows.len()),
+        "count" => write!(told, "{}", store.parts().rows()),
         "requests" => put_requests(told, store),
+        "entries" => write!(told, "{}", store.requests()),
+        "queue" => put_queue(told, store),
+        "kept" => write!(told, "{}", store.retention_in(rest)),
+        "pages" => write!(told, "{}", store.pages_in(rest)),
         "image" => put_image(rt, told, store),
         _ => write!(told, "{:?}", select(rt, store, rest)),
     }
@@ -68,9 +73,9 @@ fn put_step(
 ) -> Result<(), AllocError> {
     let (verb, rest) = first_word(step);
     match verb {
-        "build" | "write" | "put" | "copy" | "rename" | "append" => put_plan(
-            rt, store, verb, rest, told,
-        ),
+        "build" | "define" | "write" | "put" | "copy" | "rename" | "append" | "print" => {
+            put_plan(rt, store, verb, rest, told)
+        }
         "files" => put_files(rt, store, rest, told),
         "mark" => write!(told, "{}", remark(rt, store, rest, true)),
         "unmark" => write!(told, "{}", remark(rt, store, rest, false)),

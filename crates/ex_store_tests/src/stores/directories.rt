@@ -1,6 +1,6 @@
 // Directories that are made, connected and changed.
 
-use crate::machine::steps::{in_turn, store_behind};
+use crate::machine::steps::{each_behind, in_turn, store_behind};
 
 #[test]
 fn a_directory_keeps_so_many(rt: HostRuntime) {
@@ -14,6 +14,19 @@ build ZULU 63; retention -> none; 3 1 63
 build ALPHA; retention -> none; 3 1 63
 build OPERATOR 0; retention -> none; 3 0 63
 build ZULU; retention -> none; 3 0 63",
+    );
+}
+
+#[test]
+fn a_directory_is_told_by_its_name(rt: HostRuntime) {
+    each_behind(
+        &rt,
+        "build OPERATOR 0; build SMITH 7; build SMITH.A; write A.T 2560; write A.T 2561; write B.T 0; mark A.T.1; \
+put <SMITH.A>C X",
+        "\
+kept OPERATOR; kept SMITH; kept SMITH.A; kept ZULU -> 0; 7; 1; 0
+pages OPERATOR; pages SMITH; pages SMITH.A; pages ZULU -> 3; 0; 1; 0
+expunge OPERATOR; pages OPERATOR -> 1; 2",
     );
 }
 

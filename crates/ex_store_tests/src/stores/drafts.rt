@@ -37,14 +37,14 @@ fn a_draft_tells_what_its_directories_keep(rt: HostRuntime) {
     draft.directory("SMITH", 63).expect(&rt, "memory");
     let mut told = String::new(rt.alloc());
     for directory in ["OPERATOR", "SMITH", "SMIT", "SMITHS", "smith", ""] {
-        let keep = draft.retention(directory);
-        write!(told, "{keep:?} ").expect(&rt, "memory");
+        let retention = draft.retention(directory);
+        write!(told, "{retention:?} ").expect(&rt, "memory");
     }
     assert_eq!(rt; told.as_str(), "Some(0) Some(63) None None None None ");
     let parts = draft.parts();
-    let directories = parts.directories.len();
-    let connected = parts.connected.as_str();
-    let others = parts.logical.len() + parts.rows.len() + parts.queue.len();
+    let directories = parts.directories();
+    let connected = parts.connected().as_str();
+    let others = parts.logicals() + parts.rows() + parts.queue().len();
     let told = format!(in rt.alloc(); "{directories} {connected:?} {others}").expect(&rt, "memory");
     assert_eq!(rt; told.as_str(), "2 \"\" 0");
 }

@@ -17,7 +17,7 @@ fn builds(alloc: Global, count: u32) -> Result<String, AllocError> {
 fn there_are_at_most_64_directories(rt: HostRuntime) {
     let steps = builds(rt.alloc(), 63).expect(&rt, "memory");
     let mut store = store_behind(&rt, steps.as_str());
-    assert_eq!(rt; store.parts().directories.len(), 64);
+    assert_eq!(rt; store.parts().directories(), 64);
     in_turn(
         &rt,
         &mut store,
@@ -26,7 +26,7 @@ build D64 2 -> DirLimit
 build D63 2 -> none
 build OPERATOR 2 -> none",
     );
-    assert_eq!(rt; store.parts().directories.len(), 64);
+    assert_eq!(rt; store.parts().directories(), 64);
 }
 
 // The image of a store with so many empty generations of A.T.

@@ -9,5 +9,6 @@ use Rattle.cm_line.proofs.line.word_at_end.Goals as goal
 pub returns-clause-value : goal.returns-clause-value
 returns-clause-value c =
     count_from_yields_List c.take_while.result _ c.count.ensures.ran
-    (YieldsList-from_take_while _ is_word (YieldsList-from_rev_slice c.args.line.now (cc)) c.take_while.ensures.closure c.take_while.ensures.done (λ x b q k. search (rules, tests)))
+    (YieldsList-from_take_while _ is_word (YieldsList-from_rev_slice c.args.line.now (cc)) c.take_while.ensures.closure
+    c.take_while.ensures.done (λ x b q k. search (rules, tests)))
     ∙ length-prefix_len is_word (reverse c.args.line.now)

@@ -3,6 +3,7 @@ use Rattle.cm_run.specs.Cause.{Counts, ObeyCause, StrokeCause}
 use Rattle.cm_run.specs.Trace.{run_state}
 use Rattle.cm_run.proofs.Beginning.{run_begins, run_unbegun}
 use Rattle.cm_run.proofs.Causes.{acts_cause, count_cut, count_end, count_limit, count_more, count_over, count_prompt, count_unread, counts_same, run_limit, run_quiet, run_unread, stroke_run}
+use Rattle.cm_run.proofs.Progressing.{went_cut, went_first, went_on, went_sound}
 use Rattle.cm_run.proofs.Running.{run_ends, run_fails, run_goes_on, run_halts, run_over, run_stops}
 use Rattle.cm_run.proofs.engine.run.Goals as goal
 
@@ -28,6 +29,7 @@ loop-turn-init g c = record {
   screen = c.in-Ok.ensures.cause;
   log = refl;
   keys = refl;
+  went = λ keys_tell clock_tells. went_first g.A.Application.means c.args.app.now _ _ _ _ c.new-session.ensures.session c.in-Ok.ensures.session;
   quiet = λ none. refl;
 }
 
@@ -104,6 +106,11 @@ loop-turn-preserved g c = record {
   screen = ap (λ (n : Counts). n.screen) (c.in-Ok-handle_key.ensures.cause 0) ∙ c.loop-turn.invariant.screen;
   log = ap (λ (n : Counts). n.log) (c.in-Ok-handle_key.ensures.cause 0) ∙ c.loop-turn.invariant.log;
   keys = c.in-Byte.ensures.cause ∙ c.loop-turn.invariant.keys;
+  went = λ keys_tell clock_tells.
+      went_on g.A.Application.means _ _ _ _ (c.loop-turn.invariant.went keys_tell clock_tells) _ c.in-Byte.key
+      (run_state c.handle_key.new.session c.handle_key.new.app (g.C.Clock.left c.handle_key.new.clock))
+      (sym c.has_ended.ensures ∙ c.if-has_ended.false) (c.in-Byte.ensures.bytes keys_tell) c.meets_sound.ensures
+      (c.in-Ok-handle_key.ensures.next clock_tells refl);
   quiet = λ none. (c.in-Ok-handle_key.ensures.quiet none).0 ∙ c.loop-turn.invariant.quiet none;
 }
 
@@ -133,3 +140,36 @@ pub returns-else-has_ended-2-clause-count : goal.returns-else-has_ended-2-clause
 returns-else-has_ended-2-clause-count g c = λ keys_tell.
     count_limit c.args.limit _ _ c.loop-turn._turn _ (c.loop-turn.invariant.count keys_tell) c.loop-turn.auto._turn-end c.loop-turn-test.false
     (sym c.has_ended-2.ensures ∙ c.if-has_ended-2.false)
+
+-- what the keys that were taken met
+pub returns-in-Err-clause-sound : goal.returns-in-Err-clause-sound
+returns-in-Err-clause-sound g c = λ keys_tell clock_tells.
+    went_sound g.A.Application.means _ _ _ _
+    (went_first g.A.Application.means c.args.app.now (g.C.Clock.left c.args.clock.now) (g.K.Source.left c.args.keys.now) _ _ refl refl) _ refl
+
+pub returns-then-has_ended-clause-sound : goal.returns-then-has_ended-clause-sound
+returns-then-has_ended-clause-sound g c = λ keys_tell clock_tells.
+    went_sound g.A.Application.means _ _ _ _ (c.loop-turn.invariant.went keys_tell clock_tells) _ refl
+
+pub returns-in-End-clause-sound : goal.returns-in-End-clause-sound
+returns-in-End-clause-sound g c = λ keys_tell clock_tells.
+    went_sound g.A.Application.means _ _ _ _ (c.loop-turn.invariant.went keys_tell clock_tells) _
+    ((c.in-End.ensures.bytes keys_tell).1 ∙ sym (c.in-End.ensures.bytes keys_tell).0)
+
+pub returns-in-Failed-clause-sound : goal.returns-in-Failed-clause-sound
+returns-in-Failed-clause-sound g c = λ keys_tell clock_tells.
+    went_sound g.A.Application.means _ _ _ _ (c.loop-turn.invariant.went keys_tell clock_tells) _ (c.in-Failed.ensures.bytes keys_tell)
+
+pub returns-in-Err-handle_key-clause-sound : goal.returns-in-Err-handle_key-clause-sound
+returns-in-Err-handle_key-clause-sound g c = λ keys_tell clock_tells.
+    went_sound g.A.Application.means _ _ _ _
+    (went_cut g.A.Application.means _ _ _ _ (c.loop-turn.invariant.went keys_tell clock_tells) _ c.in-Byte.key
+    (sym c.has_ended.ensures ∙ c.if-has_ended.false) (c.in-Byte.ensures.bytes keys_tell) c.meets_sound.ensures) _ refl
+
+pub returns-then-has_ended-2-clause-sound : goal.returns-then-has_ended-2-clause-sound
+returns-then-has_ended-2-clause-sound g c = λ keys_tell clock_tells.
+    went_sound g.A.Application.means _ _ _ _ (c.loop-turn.invariant.went keys_tell clock_tells) _ refl
+
+pub returns-else-has_ended-2-clause-sound : goal.returns-else-has_ended-2-clause-sound
+returns-else-has_ended-2-clause-sound g c = λ keys_tell clock_tells.
+    went_sound g.A.Application.means _ _ _ _ (c.loop-turn.invariant.went keys_tell clock_tells) _ refl

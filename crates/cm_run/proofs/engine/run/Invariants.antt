@@ -1,7 +1,8 @@
 use Rattle.std.proofs.Common.{◌≡◌, ◌+◌, false, length, IsTrue}
 use Rattle.cm_run.specs.Observed.{observed}
 use Rattle.cm_run.specs.Ready.{IsReadyIn}
-use Rattle.cm_run.specs.Trace.{is_ended, keys_trace, run_state, run_trace, unless}
+use Rattle.cm_run.specs.Trace.{is_ended, keys_trace, run_state, run_trace, starting, unless}
+use Rattle.cm_run.proofs.Progressing.{Went}
 use Rattle.cm_run.proofs.Running.{Ahead}
 use Rattle.cm_run.proofs.engine.run.Given as goal
 
@@ -21,5 +22,8 @@ invariant-loop-turn g l = record {
   screen : g.S.Sink.faults l.screen ≡ g.S.Sink.faults l.fn.screen;
   log : g.W.Sink.faults l.log ≡ g.W.Sink.faults l.fn.log;
   keys : g.K.Source.faults l.keys ≡ g.K.Source.faults l.fn.keys;
+  went : IsTrue g.K.Source.tells → IsTrue g.C.Clock.tells → Went g.A.Application.means
+      (starting g.A.Application.means l.fn.app (g.C.Clock.left l.fn.clock)) (run_state l.session l.app (g.C.Clock.left l.clock))
+      (g.K.Source.left l.fn.keys) (g.K.Source.left l.keys);
   quiet : l.logging ≡ false → g.W.Sink.told l.log ≡ g.W.Sink.told l.fn.log;
 }

@@ -4,7 +4,3 @@ use Rattle.ex_commands.proofs.acts.do_command.Goals as goal
 pub returns-in-CopyTty : goal.returns-in-CopyTty
 unfolding act_of
 returns-in-CopyTty g c = rw c.in-CopyTty.is (c.begin.ensures c.args.store.now.state)
-
-pub returns-in-Information : goal.returns-in-Information
-unfolding act_of
-returns-in-Information g c = rw c.in-Information.is (c.tell.ensures c.args.store.now.state)

@@ -1,17 +1,23 @@
-use Rattle.std.proofs.Common.{◌≡◌, ◌+◌, false, Some, inr, ap, ◌∙◌}
+use Rattle.std.proofs.Common.{◌≡◌, ◌+◌, false, Some, inr, refl, sym, ap, subst, ◌∙◌}
 use Rattle.cm_io.specs.Told.{add}
 use Rattle.cm_run.specs.Event.{log_bytes, trials_of}
 use Rattle.ex_image.specs.Image.{image_text}
-use Rattle.ex_exec.specs.ExecState.{ExecState}
+use Rattle.tt_laws.specs.Keeping.{KeepsLine}
+use Rattle.ex_exec.specs.Exec.{exec_meaning}
+use Rattle.ex_exec.specs.ExecState.{ExecState, exec_start}
 use Rattle.ex_store.specs.State.{State}
 use Rattle.ex_program.specs.Asked.{form_view}
 use Rattle.ex_program.specs.Form.{Form}
 use Rattle.ex_program.specs.Run.{exec_left, exec_trace, run_shown}
+use Rattle.ex_program.specs.Scene.{scene}
 use Rattle.ex_system.specs.Disk.{disk_of}
+use Rattle.ex_system.specs.Start.{Began}
 use Rattle.ex_system.proofs.Beginning.{refused_causes}
-use Rattle.ex_program.proofs.Beginning.{as_asked, asked_memory, back_to_asked, quiet_since, started}
+use Rattle.ex_program.proofs.Beginning.{as_asked, asked_memory, back_to_asked, quiet_since, stands_early, stands_past, started}
+use Rattle.ex_program.proofs.Early.{as_early, stands_usage, tried_refused}
 use Rattle.ex_program.proofs.Ending.{done_counted, done_logged, done_saved, done_shown}
 use Rattle.ex_program.proofs.Quieting.{quiet_done, quiet_limit}
+use Rattle.ex_program.proofs.Showing.{none_taken}
 use Rattle.ex_program.proofs.program.exec20.Goals as goal
 
 -- before the first prompt
@@ -29,6 +35,12 @@ returns-in-Err-clause-limit g c = λ keys clock form start asks taken rest all c
     inr (c.refuse-in-Err.ensures.status
     ∙ asked_memory _ (disk_of g.H.Host c.args.host.now) _ form start _ _ c.in-Err.status c.in-Some.ensures c.in-Err.ensures.early c.in-Err.ensures.cause asks
     c.in-Err.ensures.host_cause host)
+
+pub returns-in-Err-clause-on_screen : goal.returns-in-Err-clause-on_screen
+returns-in-Err-clause-on_screen g c = λ keys clock form start asks taken rest all. none_taken start _ _ _ taken rest refl all
+
+pub returns-in_default-grammar-clause-on_screen : goal.returns-in_default-grammar-clause-on_screen
+returns-in_default-grammar-clause-on_screen g c = λ keys clock form start asks taken rest all. none_taken start _ _ _ taken rest refl all
 
 -- past it
 pub returns-clause-done_shown : goal.returns-clause-done_shown
@@ -79,3 +91,46 @@ returns-clause-limit g c = λ keys clock form start asks taken rest all count go
     (back_to_asked (λ (it : Form) (at : State). (exec_left it.logs at (g.C.Clock.left c.args.clock.now) taken).ended ≡ false)
     _ (disk_of g.H.Host c.args.host.now) (form_view c.in-Some.form) form c.new-exec.result.state c.in-Ok.store.state start c.in-Some.ensures
     (ap (λ (it : ExecState). it.state) c.new-exec.ensures) c.in-Ok.ensures.began asks going)
+
+pub returns-clause-on_screen : goal.returns-clause-on_screen
+returns-clause-on_screen g c = λ keys clock form start asks taken rest all.
+    as_asked (λ (it : Form) (at : State). KeepsLine exec_meaning (exec_start at) (g.C.Clock.left c.args.clock.now) taken)
+    _ (disk_of g.H.Host c.args.host.now) (form_view c.in-Some.form) form c.new-exec.result.state c.in-Ok.store.state start c.in-Some.ensures
+    (ap (λ (it : ExecState). it.state) c.new-exec.ensures) c.in-Ok.ensures.began asks
+    (c.run_exec.ensures.on_screen keys clock taken rest all)
+
+-- what stands, by the way out
+pub returns-in_default-clause-stands : goal.returns-in_default-clause-stands
+returns-in_default-clause-stands g c =
+    stands_usage _ _ (scene g.S.Sink c.args.screen.now g.W.Sink c.args.log.now g.K.Source c.args.keys.now g.C.Clock c.args.clock.now c.args.steps.now)
+    _ (disk_of g.H.Host c.args.host.now) c.refuse.result c.in_default.ensures c.refuse.ensures.status
+    (tried_refused _ _ _ _ _ c.refuse.ensures.status c.refuse.ensures.shown)
+
+pub returns-in-Err-clause-stands : goal.returns-in-Err-clause-stands
+returns-in-Err-clause-stands g c =
+    stands_early _ _ (form_view c.in-Some.form) (scene g.S.Sink c.args.screen.now g.W.Sink c.args.log.now g.K.Source c.args.keys.now g.C.Clock c.args.clock.now c.args.steps.now)
+    _ (disk_of g.H.Host c.args.host.now) (disk_of g.H.Host c.start.new.host) c.refuse-in-Err.result c.in-Some.ensures
+    (as_early _ _ _ c.refuse-in-Err.ensures.status c.in-Err.ensures.early)
+    (tried_refused _ _ _ _ _ c.refuse-in-Err.ensures.status c.refuse-in-Err.ensures.shown) c.in-Err.ensures.loaded
+
+pub returns-in_default-grammar-clause-stands : goal.returns-in_default-grammar-clause-stands
+returns-in_default-grammar-clause-stands g c =
+    stands_early _ _ (form_view c.in-Some.form) (scene g.S.Sink c.args.screen.now g.W.Sink c.args.log.now g.K.Source c.args.keys.now g.C.Clock c.args.clock.now c.args.steps.now)
+    _ (disk_of g.H.Host c.args.host.now) (disk_of g.H.Host c.start.new.host) c.refuse-in_default-grammar.result c.in-Some.ensures
+    (as_early _ _ _ c.refuse-in_default-grammar.ensures.status tt)
+    (tried_refused _ _ _ _ _ c.refuse-in_default-grammar.ensures.status c.refuse-in_default-grammar.ensures.shown) c.in-Ok.ensures.loaded
+
+pub returns-clause-stands : goal.returns-clause-stands
+returns-clause-stands g c = stands_past _ _ (form_view c.in-Some.form) _ _ _ _ c.run_exec.result c.in-Some.ensures (record {
+  start = c.new-exec.result.state;
+  left = c.run_exec.new.exec;
+  loaded = disk_of g.H.Host c.start.new.host;
+  begins = (
+    c.in-Ok.ensures.loaded,
+    c.in-Ok.ensures.quiet,
+    subst (λ (it : State). Began (disk_of g.H.Host c.args.host.now) (form_view c.in-Some.form).input it)
+        (sym (ap (λ (it : ExecState). it.state) c.new-exec.ensures)) c.in-Ok.ensures.began,
+  );
+  ran = c.run_exec.ensures.ran;
+  saves = c.run_exec.ensures.saves;
+})

@@ -6,6 +6,7 @@ use Rattle.ex_system.specs.Saving.{Saves}
 use Rattle.ex_system.proofs.Causing.{closes_causes, closes_run}
 use Rattle.ex_program.specs.Scene.{scene}
 use Rattle.ex_program.proofs.Running.{as_count, as_traces}
+use Rattle.ex_program.proofs.Showing.{some_taken}
 use Rattle.ex_program.proofs.program.run_exec.Goals as goal
 
 pub returns-clause-ran : goal.returns-clause-ran
@@ -41,10 +42,9 @@ returns-clause-past_the_prompt g c = closes_run c.run-stop.result c.has_ended.re
 pub run-stop-requires : goal.run-stop-requires
 run-stop-requires g c = (
   omega arith,
-  record {
-    grammar = c.requires.grammar;
-    rules = refl;
-    ties = c.requires.ties;
-    enough = c.requires.hooks;
-  },
+  c.requires.serves,
 )
+
+pub returns-clause-on_screen : goal.returns-clause-on_screen
+returns-clause-on_screen g c = λ keys clock taken rest all.
+    some_taken c.args.exec.now _ taken c.requires.start (c.run-stop.ensures.sound keys clock taken rest all)

@@ -12,6 +12,6 @@ returns c =
     let test = λ (row : Row). is_lt (by_bytes row.key.directory c.args.directory.now) in
     let rise = directories_rise c.args.directory.now c.args.rows.now c.requires in
     let falls = parted is_lt lower_falls (λ (row : Row). by_bytes row.key.directory c.args.directory.now) c.args.rows.now rise in
-    let point = IsPartitionPoint-from_clause test c.args.rows.now c.partition_point.result
-    c.partition_point.ensures.partitioned falls (λ a r f k. search rules) in
-    sym (prefix_from_point test c.args.rows.now c.partition_point.result c.partition_point.ensures.bound point.0 point.1)
+    let point = IsPartitionPoint-from_clause test c.args.rows.now c.seek.result
+    c.seek.ensures.parted falls (λ a r f k. search rules) in
+    sym (prefix_from_point test c.args.rows.now c.seek.result c.seek.ensures.bound point.0 point.1)

@@ -10,9 +10,11 @@ use Rattle.cm_state.proofs.session.Session.edit_and_parse.Goals as goal
 pub reparse-requires : goal.reparse-requires
 reparse-requires g c =
     let s = setting c.args.grammar.now (g.N.Names.catalogue c.args.names.now) g.R.Rules.meanings in
-    let trim = trims s c.args.self.now c.reopen.new.self c.apply_edit-change.new.self c.keep.new.self c.args.class c.args.key c.apply_edit-change.result.front
-    c.has_no_fault.ensures c.requires.ready c.reopen.ensures c.apply_edit-change.ensures.edited c.apply_edit-change.ensures.front c.keep.ensures in
-    let starts = trimmed_starts s c.args.self.now c.keep.new.self c.has_no_fault.ensures c.requires.ready trim in
+    let trim = trims s c.args.self.now c.reopen.new.self c.apply_edit-change.new.self c.truncate.new.self c.args.class
+    c.args.key c.apply_edit-change.result.front
+    c.has_no_fault.ensures c.requires.ready c.reopen.ensures c.apply_edit-change.ensures.edited
+    c.apply_edit-change.ensures.front c.truncate.ensures in
+    let starts = trimmed_starts s c.args.self.now c.truncate.new.self c.has_no_fault.ensures c.requires.ready trim in
     (omega arith, (starts, (c.requires.ties, c.requires.hooks)))
 
 -- in what setting the key is done
@@ -22,14 +24,18 @@ given g c = setting c.args.grammar.now (g.N.Names.catalogue c.args.names.now) g.
 -- what the steps have made of the session
 done : (g : Over) (c : goal.After-reparse g)
     → EditsAndParses (given g c) c.args.self.now c.reparse.new.self c.args.key
-    (cost_behind (given g c) c.keep.new.self.node (text_of c.keep.new.self) c.keep.new.self.fields)
+    (cost_behind (given g c) c.truncate.new.self.node (text_of c.truncate.new.self) c.truncate.new.self.fields)
 done g c =
-    let trim = trims (given g c) c.args.self.now c.reopen.new.self c.apply_edit-change.new.self c.keep.new.self c.args.class c.args.key
-    c.apply_edit-change.result.front c.has_no_fault.ensures c.requires.ready c.reopen.ensures c.apply_edit-change.ensures.edited
-    c.apply_edit-change.ensures.front c.keep.ensures in
-    edits_and_parses (given g c) c.args.self.now c.reopen.new.self c.apply_edit-change.new.self c.keep.new.self c.reparse.new.self c.args.class c.args.key
-    c.apply_edit-change.result.front _ c.has_no_fault.ensures c.requires.ready c.requires.class c.reopen.ensures c.apply_edit-change.ensures.edited
-    c.keep.ensures trim c.reparse.ensures.kept c.reparse.ensures.same c.reparse.ensures.parse refl
+    let trim = trims (given g c) c.args.self.now c.reopen.new.self c.apply_edit-change.new.self c.truncate.new.self
+    c.args.class c.args.key
+    c.apply_edit-change.result.front c.has_no_fault.ensures c.requires.ready c.reopen.ensures
+    c.apply_edit-change.ensures.edited
+    c.apply_edit-change.ensures.front c.truncate.ensures in
+    edits_and_parses (given g c) c.args.self.now c.reopen.new.self c.apply_edit-change.new.self c.truncate.new.self
+    c.reparse.new.self c.args.class c.args.key
+    c.apply_edit-change.result.front _ c.has_no_fault.ensures c.requires.ready c.requires.class c.reopen.ensures
+    c.apply_edit-change.ensures.edited
+    c.truncate.ensures trim c.reparse.ensures.restorable c.reparse.ensures.same c.reparse.ensures.parse refl
 
 pub returns-clause-edited : goal.returns-clause-edited
 returns-clause-edited g c = (done g c).edited
@@ -50,4 +56,5 @@ pub returns-clause-bell : goal.returns-clause-bell
 returns-clause-bell g c =
     c.apply_edit-change.ensures.bell
     ∙ ap (λ (put : Insertion). put.bell)
-    (met_completion (given g c) c.args.self.now c.reopen.new.self c.args.class c.has_no_fault.ensures c.requires.ready c.reopen.ensures)
+    (met_completion (given g c) c.args.self.now c.reopen.new.self c.args.class c.has_no_fault.ensures c.requires.ready
+    c.reopen.ensures)

@@ -10,7 +10,8 @@ append-requires g c = rw c.as_slice.ensures.value (rest_is_plain _ _ c.complete-
 
 pub returns-clause-front : goal.returns-clause-front
 returns-clause-front g c =
-    let same : c.append.new.self ≡ c.args.self.now.line ++ c.complete-insertion.result.bytes = grind (arith, common_steps) in
+    let same : c.append.new.self ≡ c.args.self.now.line ++ c.complete-insertion.result.bytes =
+    grind (arith, common_steps) in
     let size : length c.bytes-front.result.now ≡ length c.args.self.now.line = search rules in
     size ∙ sym (common_longer c.args.self.now.line c.complete-insertion.result.bytes)
     ∙ ap (λ (now : List ℕ). common c.args.self.now.line now) (sym same)

@@ -1,6 +1,9 @@
-use Rattle.std.proofs.Common.{ap, arith, refl}
+use Rattle.std.proofs.Common.{[], ap, arith, refl}
 use Rattle.cm_blocks.specs.Grammar.{hook_count}
+use Rattle.tt_laws.proofs.Keeping.{run_keeps}
+use Rattle.eg_lamps.specs.Program.{lamp_meaning}
 use Rattle.eg_lamps.proofs.Faultless.{graph_hooks}
+use Rattle.eg_lamps.proofs.Replying.{lamps_keep_lines}
 use Rattle.eg_lamps.proofs.program.Program.run.Goals as goal
 
 -- one hook is enough
@@ -14,3 +17,8 @@ run-went-requires g c = (
     enough = omega (arith, c.requires.hook, ap hook_count c.requires.grammar, graph_hooks);
   },
 )
+
+-- each key that was taken met what is sound
+pub returns-clause-screen : goal.returns-clause-screen
+returns-clause-screen g c = λ tells taken rest all.
+    run_keeps lamp_meaning lamps_keep_lines c.args.self.now [] taken (c.run-went.ensures.sound tells refl taken rest all)

@@ -8,5 +8,5 @@ returns-then-lacks_name-clause-ready c =
 
 pub returns-clause-ready : goal.returns-clause-ready
 returns-clause-ready c =
-    named c.self.inside.store.state c.self.inside.typing c.self.inside.has_ended c.args.self.now c.args.moment c.args.to.now c.copy.result
+    named c.self.inside.store.state c.self.inside.typing c.self.inside.has_ended c.self.inside.pending c.args.self.now c.args.moment c.args.to.now c.copy.result
     c.in_ok-typed.typed c.self.view_is c.copy.ensures c.in_ok-typed.ensures (sym c.lacks_name.ensures ∙ c.if-lacks_name.false)

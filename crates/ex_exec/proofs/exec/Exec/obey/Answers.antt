@@ -1,14 +1,16 @@
-use Rattle.std.proofs.Common.{Result, refl, sym, subst, ◌∙◌}
+use Rattle.std.proofs.Common.{◌≡◌, None, Result, refl, sym, subst, ◌∙◌}
 use Rattle.cm_run.specs.Cause.{ObeyCause}
 use Rattle.cm_run.specs.declared.stop.Stop.{Stop}
 use Rattle.ex_exec.specs.Exec.{deed_of}
-use Rattle.ex_exec.proofs.Acting.{act_obeys, act_target, may_act}
-use Rattle.ex_exec.proofs.Obeying.{answer_cause, obeys_wanting}
+use Rattle.ex_exec.proofs.Acting.{act_free, act_obeys, act_target, may_act}
+use Rattle.ex_exec.proofs.Waiting.{none_waits}
+use Rattle.cm_run.proofs.Obeying.{obeys_wanting}
+use Rattle.ex_exec.proofs.Obeying.{answer_cause}
 use Rattle.ex_exec.proofs.exec.Exec.obey.Goals as goal
 
 pub returns-clause-obeys : goal.returns-clause-obeys
 returns-clause-obeys g c =
-    act_obeys c.self.inside.store.state c.self.inside.typing c.self.inside.has_ended c.args.self.now c.args.moment c.args.command.now
+    act_obeys c.self.inside.store.state c.self.inside.typing c.self.inside.has_ended c.self.inside.pending c.args.self.now c.args.moment c.args.command.now
     (c.self.view_is ∙ c.in-Ok.ensures.ready) (g.S.Sink.told c.args.screen.now) (g.S.Sink.told c.act.new.sink) c.act.new.store.state
     c.act.result c.outcome_of.result c.outcome_of.ensures c.act.ensures.acts
 
@@ -19,14 +21,19 @@ returns-clause-cause g c =
 
 pub act-requires : goal.act-requires
 act-requires g c =
-    may_act c.self.inside.store.state c.self.inside.typing c.self.inside.has_ended c.args.self.now c.args.moment c.args.command.now
+    may_act c.self.inside.store.state c.self.inside.typing c.self.inside.has_ended c.self.inside.pending c.args.self.now c.args.moment c.args.command.now
     (c.self.view_is ∙ c.in-Ok.ensures.ready) c.requires.may_act
 
 pub invariant_of-self : goal.invariant_of-self
 invariant_of-self g c =
-    act_target c.self.inside.store.state c.self.inside.typing c.self.inside.has_ended c.args.self.now c.args.moment c.args.command.now
-    (c.self.view_is ∙ c.in-Ok.ensures.ready) (g.S.Sink.told c.args.screen.now) (g.S.Sink.told c.act.new.sink) c.act.new.store.state
-    c.act.result c.requires.line c.self.invariant c.act.ensures.acts
+    let none : c.self.inside.pending ≡ None =
+    act_free c.self.inside.store.state c.self.inside.typing c.self.inside.has_ended c.self.inside.pending c.args.self.now c.args.moment
+    c.args.command.now (c.self.view_is ∙ c.in-Ok.ensures.ready) c.requires.free c.requires.acts in (
+      act_target c.self.inside.store.state c.self.inside.typing c.self.inside.has_ended c.self.inside.pending c.args.self.now c.args.moment c.args.command.now
+          (c.self.view_is ∙ c.in-Ok.ensures.ready) (g.S.Sink.told c.args.screen.now) (g.S.Sink.told c.act.new.sink) c.act.new.store.state
+          c.act.result c.requires.line c.self.invariant.0 c.act.ensures.acts,
+      (none_waits _ _ none, λ typing some. none),
+    )
 
 pub returns-in_default-clause-obeys : goal.returns-in_default-clause-obeys
 returns-in_default-clause-obeys g c =

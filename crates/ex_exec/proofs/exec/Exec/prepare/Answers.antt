@@ -5,7 +5,7 @@ use Rattle.ex_exec.proofs.exec.Exec.prepare.Goals as goal
 
 pub returns-in-Logout-clause-ready : goal.returns-in-Logout-clause-ready
 returns-in-Logout-clause-ready c =
-    logout c.self.inside.store.state c.self.inside.typing c.self.inside.has_ended c.args.self.now c.args.moment c.args.command.now c.self.view_is c.in-Logout.is
+    logout c.self.inside.store.state c.self.inside.typing c.self.inside.has_ended c.self.inside.pending c.args.self.now c.args.moment c.args.command.now c.self.view_is c.in-Logout.is
 
 pub returns-in-CopyTty-clause-ready : goal.returns-in-CopyTty-clause-ready
 returns-in-CopyTty-clause-ready c =
@@ -14,4 +14,4 @@ returns-in-CopyTty-clause-ready c =
 
 pub returns-in_default-clause-ready : goal.returns-in_default-clause-ready
 returns-in_default-clause-ready c =
-    otherwise c.args.self.now c.args.moment c.args.command.now c.in_default.not-Logout c.in_default.not-CopyTty
+    otherwise c.args.self.now c.args.moment c.args.command.now c.requires.acts c.in_default.not-Logout c.in_default.not-CopyTty

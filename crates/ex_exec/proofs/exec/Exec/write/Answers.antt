@@ -6,7 +6,7 @@ use Rattle.ex_exec.proofs.exec.Exec.write.Goals as goal
 
 pub returns-clause-obeys : goal.returns-clause-obeys
 returns-clause-obeys g c =
-    write_obeys c.self.inside.store.state c.self.inside.typing c.self.inside.has_ended c.args.self.now c.args.typing
+    write_obeys c.self.inside.store.state c.self.inside.typing c.self.inside.has_ended c.self.inside.pending c.args.self.now c.args.typing
     (g.S.Sink.told c.args.screen.now) (g.S.Sink.told c.write_data.new.sink) c.write_data.new.store.state c.write_data.result c.outcome_of.result
     c.self.view_is c.outcome_of.ensures c.write_data.ensures.acts
 

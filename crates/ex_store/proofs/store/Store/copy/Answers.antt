@@ -1,4 +1,4 @@
-use Rattle.std.proofs.Common.{ℕ, List, Result, ap, ◌∙◌}
+use Rattle.std.proofs.Common.{◌≡◌, ℕ, true, List, Result, ap, subst, ◌∙◌}
 use Rattle.std.proofs.lemmas.Result.{IfErr-weaker, IfOk-weaker}
 use Rattle.cm_fields.specs.declared.code.Code.{Code}
 use Rattle.ex_store.specs.declared.directory.Directory.{Directory}
@@ -9,9 +9,9 @@ use Rattle.ex_store.specs.Adding.{Outcome}
 use Rattle.ex_store.specs.Copying.{all_copied}
 use Rattle.ex_store.specs.Plan.{planned}
 use Rattle.ex_store.specs.Positions.{elements_at}
-use Rattle.ex_store.specs.Ready.{Change}
+use Rattle.ex_store.specs.Ready.{Change, are_doable}
 use Rattle.ex_store.specs.Selection.{is_meant}
-use Rattle.ex_store.specs.State.{StoreWithRoom, keep_of}
+use Rattle.ex_store.specs.State.{StoreWithRoom, retention_of}
 use Rattle.ex_store.proofs.RemarkedLaws.{positions_fit}
 use Rattle.ex_store.proofs.PlannedLaws.{IsOver, is_over, made_by, refused_by}
 use Rattle.ex_store.proofs.store.Store.copy.Goals as goal
@@ -30,7 +30,7 @@ over c =
 
 -- a copy, of any directories, sources and rows
 abbrev copy : ℕ → Place → List Directory → List Row → List Row → Result Outcome Code
-copy moment to directories taken rows = all_copied (keep_of to.directory directories) moment to taken rows
+copy moment to directories taken rows = all_copied (retention_of to.directory directories) moment to taken rows
 
 pub returns-clause-ready : goal.returns-clause-ready
 unfolding planned
@@ -45,3 +45,9 @@ returns-clause-refused c =
     IfErr-weaker c.copies.result _ _ (λ (refusal : Refusal) refused.
     refused_by (copy c.args.moment c.args.to.now) c.args.self.now.state c.args.from.now c.deref.result.now _ c.deref-2.result.now refusal (over c) refused)
     c.copies.ensures.refused
+
+pub returns-clause-doable : goal.returns-clause-doable
+returns-clause-doable c =
+    IfOk-weaker c.copies.result _ _ (λ (ready : Change) made.
+    subst (λ (rows : List Row). are_doable ready.retention rows ready.row_changes ≡ true) (over c).rows_are made.doable)
+    c.copies.ensures.made

@@ -9,11 +9,11 @@ use Rattle.ex_store.specs.declared.row.Row.{Row}
 use Rattle.ex_store.specs.Adding.{Outcome}
 use Rattle.ex_store.specs.Plan.{planned}
 use Rattle.ex_store.specs.Positions.{elements_at}
-use Rattle.ex_store.specs.Ready.{Change}
+use Rattle.ex_store.specs.Ready.{Change, are_doable}
 use Rattle.ex_store.specs.Renaming.{all_renamed}
 use Rattle.ex_store.specs.Rows.{by_row}
 use Rattle.ex_store.specs.Selection.{is_meant}
-use Rattle.ex_store.specs.State.{StoreWithRoom, keep_of}
+use Rattle.ex_store.specs.State.{StoreWithRoom, retention_of}
 use Rattle.ex_store.proofs.RemarkedLaws.{positions_fit}
 use Rattle.ex_store.proofs.PlannedLaws.{IsOver, is_over, made_by, refused_by}
 use Rattle.ex_store.proofs.AllRenamedLaws.{distinct_meant}
@@ -40,7 +40,7 @@ renames-requires-clause-distinct c =
 
 -- a renaming, of any directories, sources and rows
 abbrev rename : Place → List Directory → List Row → List Row → Result Outcome Code
-rename to directories taken rows = all_renamed (keep_of to.directory directories) to taken rows
+rename to directories taken rows = all_renamed (retention_of to.directory directories) to taken rows
 
 pub returns-clause-ready : goal.returns-clause-ready
 unfolding planned
@@ -55,3 +55,10 @@ returns-clause-refused c = λ moment.
     IfErr-weaker c.renames.result _ _ (λ (refusal : Refusal) refused.
     refused_by (rename c.args.to.now) c.args.self.now.state c.args.from.now c.deref.result.now _ c.deref-2.result.now refusal (over (goal.at.returns-clause-refused c).After-deref-3) refused)
     c.renames.ensures.refused
+
+pub returns-clause-doable : goal.returns-clause-doable
+returns-clause-doable c =
+    IfOk-weaker c.renames.result _ _ (λ (ready : Change) made.
+    subst (λ (rows : List Row). are_doable ready.retention rows ready.row_changes ≡ true)
+    (over (goal.at.returns-clause-doable c).After-deref-3).rows_are made.doable)
+    c.renames.ensures.made

@@ -29,4 +29,4 @@ returns c =
     c.self.inside.rows.items c.requires
     (let same = c.as_bytes.ensures in cc) (ap (λ held. held.state.rows) c.self.view_is) in
     place.1 ∙ slice_get-get_or c.self.inside.rows.items (c.first_row.result + c.args.i) c.index.result.now place.0
-    ∙ ap Some (sym c.index.ensures)
+    ∙ ap Some (sym (c.lent.ensures ∙ c.index.ensures))

@@ -17,4 +17,4 @@ pub invariant_of-self : goal.invariant_of-self
 invariant_of-self c = rw (kept c) (fewer_well_formed _ (λ entry. not (equals entry.name c.args.name.now)) c.self.invariant)
 
 pub returns-clause-gone : goal.returns-clause-gone
-returns-clause-gone c = rw (kept c, ← c.self.view_is)
+returns-clause-gone c = rw (kept c, c.retain.ensures.capacity, ← c.self.view_is)

@@ -1,11 +1,11 @@
 use Rattle.std.proofs.Common.{◌≡◌, ℕ, List, length, Ok, ap, sym, subst, ◌∙◌}
 use Rattle.ex_store.specs.Adding.{admitted}
 use Rattle.ex_store.specs.Copying.{own_key}
-use Rattle.ex_store.specs.Plan.{keep_at}
+use Rattle.ex_store.specs.Plan.{retention_at}
 use Rattle.ex_store.specs.Rows.{total}
-use Rattle.ex_store.specs.State.{StoreWithRoom, keep_of}
+use Rattle.ex_store.specs.State.{StoreWithRoom, retention_of}
 use Rattle.ex_store.specs.WellFormed.{IsWellFormed}
-use Rattle.ex_store.proofs.WrittenLaws.{adds_one, asked_is, write_nameless, write_ready, write_refused, write_sound, written_row}
+use Rattle.ex_store.proofs.WrittenLaws.{adds_one, asked_is, write_doable, write_nameless, write_ready, write_refused, write_sound, written_row}
 use Rattle.ex_store.proofs.store.Store.write.Goals as goal
 
 pub returns-then-lacks_name-clause-refused : goal.returns-then-lacks_name-clause-refused
@@ -33,22 +33,27 @@ admits c =
     sym asked ∙ c.in-Ok.is
 
 -- and it is what is added
-adds : (c : goal.In-Ok-one_add) → c.in-Ok-one_add.ready ≡ adds_one c.keep_of-keep.result (written_row c.args.to.now c.args.moment c.args.bytes c.in-Ok.generation)
+adds : (c : goal.In-Ok-one_add) → c.in-Ok-one_add.ready ≡ adds_one c.retention_of-retention.result (written_row c.args.to.now c.args.moment c.args.bytes c.in-Ok.generation)
 adds c =
     let row_is : c.new-row.result ≡ written_row c.args.to.now c.args.moment c.args.bytes c.in-Ok.generation =
     c.new-row.ensures ∙ rw (c.own_key-key.ensures, c.moment_of.ensures) in
-    c.in-Ok-one_add.ensures ∙ ap (adds_one c.keep_of-keep.result) row_is
+    c.in-Ok-one_add.ensures ∙ ap (adds_one c.retention_of-retention.result) row_is
 
 pub returns-in-Ok-one_add-clause-ready : goal.returns-in-Ok-one_add-clause-ready
 returns-in-Ok-one_add-clause-ready c =
-    let keep_is : c.keep_of-keep.result ≡ keep_at c.args.to.now c.args.self.now.state =
-    c.keep_of-keep.ensures ∙ ap (λ (name : List ℕ). keep_of name c.deref-3.result.now) c.as_bytes.ensures.value
-    ∙ ap (keep_of c.args.to.now.directory) (c.deref-3.ensures.value ∙ ap (λ (held : StoreWithRoom). held.state.directories) c.self.view_is) in
-    write_ready c.args.self.now.state c.args.to.now c.args.bytes c.args.moment c.keep_of-keep.result c.in-Ok.generation c.in-Ok-one_add.ready (sym c.lacks_name.ensures ∙ c.if-lacks_name.false)
-    (admits c) keep_is (adds c)
+    let retention_is : c.retention_of-retention.result ≡ retention_at c.args.to.now c.args.self.now.state =
+    c.retention_of-retention.ensures ∙ ap (λ (name : List ℕ). retention_of name c.deref-3.result.now) c.as_bytes.ensures.value
+    ∙ ap (retention_of c.args.to.now.directory) (c.deref-3.ensures.value ∙ ap (λ (held : StoreWithRoom). held.state.directories) c.self.view_is) in
+    write_ready c.args.self.now.state c.args.to.now c.args.bytes c.args.moment c.retention_of-retention.result c.in-Ok.generation c.in-Ok-one_add.ready (sym c.lacks_name.ensures ∙ c.if-lacks_name.false)
+    (admits c) retention_is (adds c)
 
 pub returns-in-Ok-one_add-clause-sound : goal.returns-in-Ok-one_add-clause-sound
 returns-in-Ok-one_add-clause-sound c =
     let well = subst (λ (held : StoreWithRoom). IsWellFormed held.state) c.self.view_is c.self.invariant in
-    write_sound c.args.self.now.state c.args.to.now c.args.bytes c.args.moment c.keep_of-keep.result c.in-Ok.generation c.in-Ok-one_add.ready well c.requires
+    write_sound c.args.self.now.state c.args.to.now c.args.bytes c.args.moment c.retention_of-retention.result c.in-Ok.generation c.in-Ok-one_add.ready well c.requires
     (sym c.lacks_name.ensures ∙ c.if-lacks_name.false) (admits c) (adds c)
+
+pub returns-in-Ok-one_add-clause-doable : goal.returns-in-Ok-one_add-clause-doable
+returns-in-Ok-one_add-clause-doable c =
+    write_doable c.args.self.now.state c.args.to.now c.args.bytes c.args.moment c.retention_of-retention.result c.in-Ok.generation c.in-Ok-one_add.ready c.requires
+    (admits c) (adds c)

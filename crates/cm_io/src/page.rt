@@ -1,0 +1,102 @@
+// A page: bytes that are gathered, and then put at once.
+ghost use Rattle.std.specs.Prelude.{◌≡◌, ◌+◌, ◌≤◌, ◌++◌, [], length};
+ghost use Rattle.std.specs.Fmt.{decimal};
+ghost use Rattle.cm_io.specs.Pieces.{hex};
+
+use crate::pieces::hex_digits;
+use arrayvec::ArrayVec;
+use cm_text::DIGIT_LIMIT;
+use std::marker::Model;
+
+/// The most bytes of a page.
+pub const PAGE_LIMIT: usize = 256;
+
+/// Bytes that are gathered to be put at once, at most 256. Contracts see them.
+#[derive(Drop)]
+pub struct Page {
+    bytes: ArrayVec<u8, PAGE_LIMIT>,
+}
+
+impl Model for Page {
+    ghost use Rattle.std.specs.Prelude.{ℕ, List};
+
+    ghost Value = { List ℕ };
+
+    ghost view = { λ page. page.bytes.items };
+}
+
+impl Page {
+    /// A page with no bytes.
+    pub fn new() -> Page
+        ensures { result ≡ [] }
+    {
+        Page {
+            bytes: ArrayVec::new(),
+        }
+    }
+
+    /// The bytes.
+    pub fn as_slice(&self) -> &[u8]
+        ensures value { result.now ≡ self.now }
+        ensures within { length result.now ≤ PAGE_LIMIT }
+    {
+        self.bytes.as_slice()
+    }
+
+    /// How many more bytes fit.
+    pub fn room(&self) -> usize
+        ensures { result + length self.now ≡ PAGE_LIMIT }
+    {
+        self.bytes.remaining_capacity()
+    }
+
+    /// Takes all bytes from the page.
+    pub fn clear(&mut self)
+        ensures { self.new ≡ [] }
+    {
+        self.bytes.clear();
+    }
+
+    /// Puts some bytes behind the others. There must be room.
+    #[inline]
+    pub fn put(&mut self, bytes: &[u8])
+        requires { length self.old + length bytes.now ≤ PAGE_LIMIT }
+        ensures { self.new ≡ self.old ++ bytes.now }
+    {
+        let _ = self.bytes.try_extend_from_slice(bytes);
+    }
+
+    /// Puts the two hexadecimal digits of a byte behind the others, letters in lower case. There must be room.
+    pub fn put_hex(&mut self, byte: u8)
+        requires { length self.old + 2 ≤ PAGE_LIMIT }
+        ensures value { self.new ≡ self.old ++ hex byte }
+        ensures size { length self.new ≡ length self.old + 2 }
+    {
+        self.put(&hex_digits(byte));
+    }
+
+    /// Puts the decimal digits of a number behind the others, with no zero before them. There must be room for the
+    /// longest number.
+    #[tactic(auto, using(crate::proofs::Decimal::decimal_fits))]
+    pub fn put_decimal(&mut self, number: u64)
+        requires { length self.old + DIGIT_LIMIT ≤ PAGE_LIMIT }
+        ensures value { self.new ≡ self.old ++ decimal number }
+        ensures size { length (decimal number) ≤ DIGIT_LIMIT }
+    {
+        push_digits(number, &mut self.bytes);
+    }
+}
+
+// Puts the digits of a number behind other bytes, where there is room for just these.
+#[tactic(auto, using(std::proofs::lemmas::Fmt::decimal_digit, std::proofs::lemmas::Fmt::decimal_step, crate::proofs::Decimal::length_decimal_step))]
+fn push_digits(number: u64, bytes: &mut ArrayVec<u8, PAGE_LIMIT>)
+    requires { length bytes.old.items + length (decimal number) ≤ PAGE_LIMIT }
+    ensures { bytes.new.items ≡ bytes.old.items ++ decimal number }
+{
+    if number < 10 {
+        bytes.push(b'0' + number as u8);
+    } else {
+        push_digits(number / 10, bytes);
+        bytes.push(b'0' + (number % 10) as u8);
+    }
+}

@@ -1,0 +1,38 @@
+-- The lines of those files that are of some days.
+use Rattle.std.proofs.Common.{◌≡◌, ℕ, ◌+◌, Bool, true, false, List, [], ◌∷◌, ◌++◌, length, filter, if◌then◌else◌, refl, ap, arith}
+use Rattle.std.specs.List.{flat_map}
+use Rattle.ex_store.specs.declared.row.Row.{Row}
+use Rattle.ex_commands.specs.declared.lines.Days.{Days}
+use Rattle.ex_commands.specs.declared.lines.Lines.TheVariants.{Listed}
+use Rattle.ex_commands.specs.Replies.{is_within, line_of, listed_line}
+
+-- the files of other days have no line
+pub lines_within : (days : Days) (rows : List Row)
+    → flat_map (line_of (Listed days)) rows ≡ flat_map listed_line (filter (is_within days) rows)
+lines_within days [] = refl
+lines_within days (row ∷ rows) = by (is_within days row) (lines_within days rows)
+  where
+    by : (test : Bool) → flat_map (line_of (Listed days)) rows ≡ flat_map listed_line (filter (is_within days) rows)
+        → (if test then listed_line row else []) ++ flat_map (line_of (Listed days)) rows
+        ≡ flat_map listed_line (if test then row ∷ filter (is_within days) rows else filter (is_within days) rows)
+    by true rest = ap (λ more. listed_line row ++ more) rest
+    by false rest = rest
+
+-- one element more is counted alone
+pub counted_more : {X : Type 0} (test : X → Bool) (x : X) (more : List X)
+    → length (filter test (x ∷ more)) ≡ length (filter test (x ∷ [])) + length (filter test more)
+counted_more {X} test x more = by (test x)
+  where
+    by : (passes : Bool) → length (if passes then x ∷ filter test more else filter test more)
+        ≡ length (if passes then x ∷ [] else []) + length (filter test more)
+    by true = omega arith
+    by false = omega arith
+
+-- so the files from the next on are counted
+pub counted_next : (days : Days) (rows rest : List Row) (row : Row) (count more whole : ℕ) → rows ≡ row ∷ rest
+    → more ≡ length (filter (is_within days) (row ∷ [])) → count + length (filter (is_within days) rows) ≡ whole
+    → count + more + length (filter (is_within days) rest) ≡ whole
+counted_next days rows rest row count more whole is one all =
+    let split = counted_more (is_within days) row rest in
+    let same = ap (λ (rows : List Row). length (filter (is_within days) rows)) is in
+    omega arith

@@ -1,0 +1,112 @@
+-- What a command leaves of a state that is well formed is well formed.
+use Rattle.std.proofs.Common.{◌≡◌, ℕ, Bool, ◌&&◌, not, true, false, List, [], ◌∷◌, nat_le, nat_lt, Some, None, Result, Ok, Err, refl, arith}
+use Rattle.std.proofs.lemmas.Bool.{and_parts}
+use Rattle.std.proofs.lemmas.Bool.Decides.{nat_tests}
+use Rattle.cm_text.specs.Case.{equals}
+use Rattle.cm_fields.specs.declared.code.Code.{Code}
+use Rattle.cm_fields.specs.declared.code.Code.TheVariants.{CopyRange, NoDefinition}
+use Rattle.cm_fields.proofs.Holding.{holds_of_choice, of_choice}
+use Rattle.ex_store.specs.declared.directory.Definition.{Definition}
+use Rattle.ex_store.specs.declared.limits.TheConstants.{COPIES_LIMIT}
+use Rattle.ex_store.specs.declared.place.Place.{Place}
+use Rattle.ex_store.specs.declared.plan.Plan.{Plan}
+use Rattle.ex_store.specs.declared.plan.Plan.TheVariants as plans
+use Rattle.ex_store.specs.declared.row.Row.{Row}
+use Rattle.ex_store.specs.Copying.{lacks_name}
+use Rattle.ex_store.specs.Plan.{IsRequest, MayPlan, Planned, planned}
+use Rattle.ex_store.specs.Rows.{is_in}
+use Rattle.ex_store.specs.Selection.{is_meant}
+use Rattle.ex_store.specs.State.{State, defined, undefined}
+use Rattle.ex_store.specs.WellFormed.{IsWellFormed}
+use Rattle.ex_store.proofs.RemarkedLaws.{rows_left, rows_marked, well_formed_with_rows}
+use Rattle.ex_store.proofs.SoundLaws.{plan_sound}
+use Rattle.ex_store.proofs.StateLaws.{fewer_well_formed}
+use Rattle.ex_commands.specs.declared.command.Command.{Command}
+use Rattle.ex_commands.specs.declared.command.Command.TheVariants as commands
+use Rattle.ex_commands.specs.declared.pairs.Origin.{Origin}
+use Rattle.ex_commands.specs.declared.pairs.Origin.TheVariants.{Files, Queue}
+use Rattle.ex_commands.specs.Act.{act_of}
+use Rattle.ex_commands.specs.Answer.{MayAct}
+use Rattle.ex_commands.specs.Commands.Directory.{lists_rows}
+use Rattle.ex_commands.specs.Commands.Print.{request_of}
+use Rattle.ex_commands.specs.Effect.{Act, does, marks, pends, plays, refuses, without_marked}
+
+-- a plan
+plays_sound : (origin : Origin) (plan : Plan) (moment : ℕ) (state : State) → IsWellFormed state → MayPlan plan state
+    → (result : Result Planned Code) → planned plan moment state ≡ result → IsWellFormed (plays origin result state).state
+plays_sound origin plan moment state well may (Ok made) is = plan_sound plan moment state made well may is
+plays_sound origin plan moment state well may (Err code) is = well
+
+-- files that are marked, and those that are removed
+marks_sound : (deleted : Bool) (files : Place) (state : State) → IsWellFormed state → IsWellFormed (marks deleted files state).state
+marks_sound deleted files state well =
+    well_formed_with_rows state _ well
+    (rows_marked state.directories state.rows (is_meant files.flags.deleted files state) deleted well.draft.rows)
+
+removed_sound : (directory : List ℕ) (state : State) → IsWellFormed state → IsWellFormed (without_marked directory state)
+removed_sound directory state well =
+    well_formed_with_rows state _ well
+    (rows_left state.directories state.rows (λ row. not (is_in directory row && row.file.deleted)) well.draft.rows)
+
+listed_sound : (directory : List ℕ) (rows : List Row) (state : State) → IsWellFormed state → IsWellFormed (lists_rows directory rows state).state
+listed_sound directory [] state well = well
+listed_sound directory (row ∷ rows) state well = well
+
+pub act_sound : (command : Command) (moment : ℕ) (state : State) → IsWellFormed state → MayAct command state
+    → IsWellFormed (act_of command moment state).state
+unfolding act_of
+act_sound commands.Empty moment state well may = well
+act_sound (commands.Append from to) moment state well may = plays_sound Files (plans.Append from to) moment state well may _ refl
+act_sound (commands.Build directory retention sub) moment state well may =
+    of_choice (λ (act : Act). IsWellFormed act.state) sub (pends state) _ well
+    (plays_sound Files (plans.Build directory retention) moment state well may _ refl)
+act_sound (commands.Connect directory) moment state well may = record {
+  draft = record {
+    directories_ascend = well.draft.directories_ascend;
+    directories_within = well.draft.directories_within;
+    few_directories = well.draft.few_directories;
+    logical_ascend = well.draft.logical_ascend;
+    logical_within = well.draft.logical_within;
+    few_logical = well.draft.few_logical;
+    rows = well.draft.rows;
+    queue_within = well.draft.queue_within;
+    few_entries = well.draft.few_entries;
+  };
+  connected_there = may;
+}
+act_sound (commands.Copy from to) moment state well may = plays_sound Files (plans.Copy from to) moment state well may _ refl
+act_sound (commands.CopyTty to) moment state well may =
+    of_choice (λ (act : Act). IsWellFormed act.state) (lacks_name to) _ _ well well
+act_sound (commands.Define name None) moment state well may =
+    of_choice (λ (act : Act). IsWellFormed act.state) (defined name state) (does [] (undefined name state)) (refuses NoDefinition state)
+    (fewer_well_formed state (λ (entry : Definition). not (equals entry.name name)) well) well
+act_sound (commands.Define name (Some directory)) moment state well may =
+    plays_sound Files (plans.Define name directory) moment state well may _ refl
+act_sound (commands.Delete files) moment state well may = marks_sound true files state well
+act_sound (commands.Directory files since before deleted sub) moment state well may =
+    of_choice (λ (act : Act). IsWellFormed act.state) sub (pends state) _ well (listed_sound files.directory _ state well)
+act_sound (commands.Expunge directory) moment state well may = removed_sound _ state well
+act_sound (commands.Information what) moment state well may = well
+act_sound commands.Logout moment state well may = removed_sound state.connected state well
+act_sound (commands.Print files copies form after job note) moment state well may =
+    holds_of_choice (λ (act : Act). IsWellFormed act.state) (nat_lt 0 copies && nat_le copies COPIES_LIMIT) _ (refuses CopyRange state)
+    (λ fits. plays_sound Queue (plans.Print files (request_of copies form after job note)) moment state well (may.0, asked fits) _ refl)
+    (λ other. well)
+  where
+    asked : (nat_lt 0 copies && nat_le copies COPIES_LIMIT) ≡ true → IsRequest (request_of copies form after job note)
+    asked fits =
+        let both = and_parts (nat_lt 0 copies) (nat_le copies COPIES_LIMIT) fits in
+        let low = both.0 in
+        let high = both.1 in
+        record {
+          some = grind (arith, nat_tests);
+          few = grind (arith, nat_tests);
+          form = may.1.on_form;
+          after = may.1.on_day;
+          job = may.1.in_job;
+          note = may.1.with_note;
+        }
+act_sound commands.Remark moment state well may = well
+act_sound (commands.Rename from to) moment state well may = plays_sound Files (plans.Rename from to) moment state well may _ refl
+act_sound (commands.TypeOut files) moment state well may = well
+act_sound (commands.Undelete files) moment state well may = marks_sound false files state well

@@ -1,0 +1,206 @@
+-- What a search by halving finds among rows that ascend.
+use Rattle.std.proofs.Common.{◌≡◌, ℕ, suc, ◌+◌, ◌<◌, ◌≤◌, ◌-◌, nat_lt, Bool, true, false, not, cond, List, [], ◌∷◌, length, filter, get_or, take, drop, position, Some, None, refl, ap, arith, ◌∙◌, sym}
+use Rattle.std.specs.Cmp.{IsTotalOrder}
+use Rattle.std.specs.List.{list_all, position_or_len, prefix_len}
+use Rattle.std.specs.Ordering.{is_eq, is_gt, is_le, is_lt, nat_cmp, ordering_reverse, ordering_then}
+use Rattle.std.specs.declared.cmp.Ordering.{Ordering}
+use Rattle.std.specs.declared.cmp.Ordering.TheVariants.{Less, Equal, Greater}
+use Rattle.std.proofs.lemmas.Bool.{and_from, and_parts, le-ltb, lt-ltb}
+use Rattle.cm_files.specs.Catalogue.{ascends}
+use Rattle.ex_store.specs.declared.key.FullName.{FullName}
+use Rattle.ex_store.specs.declared.key.Key.{Key}
+use Rattle.ex_store.specs.declared.row.Row.{Row}
+use Rattle.ex_store.specs.Rows.{by_full, by_key, by_row, files, files_of, full_of, is_full, is_of}
+use Rattle.ex_store.proofs.AreRowsLaws.{by_full_total, by_key_total, by_row_total}
+use Rattle.ex_store.proofs.AscendsLaws.{all_above, is_sorted, sorted_ascends}
+use Rattle.ex_store.proofs.RowsInLaws.{Parts, block_within, may_follow, middle_slice, parts_of, rises}
+
+follows_itself : (o : Ordering) → may_follow o o ≡ true
+follows_itself Less = refl
+follows_itself Equal = refl
+follows_itself Greater = refl
+
+-- of two that do not fall, the second may follow the first, whatever is looked for
+follows_of : {X : Type 0} (compare : X → X → Ordering) → IsTotalOrder compare → (wanted x y : X) → is_gt (compare x y) ≡ false
+    → may_follow (compare x wanted) (compare y wanted) ≡ true
+follows_of compare total wanted x y not_above = by (compare x y) refl not_above (compare x wanted) refl
+  where
+    by : (o : Ordering) → compare x y ≡ o → is_gt o ≡ false → (a : Ordering) → compare x wanted ≡ a
+        → may_follow a (compare y wanted) ≡ true
+    by Equal same not_above a is =
+        let places : compare y wanted ≡ a = sym (total.congr x y wanted same) ∙ is in rw places (follows_itself a)
+    by Less less not_above Less is = refl
+    by Less less not_above Equal is =
+        let below : compare wanted y ≡ Less = sym (total.congr x wanted y is) ∙ less in
+        let behind = total.antisymm y wanted ∙ ap ordering_reverse below in
+        ap (λ (o : Ordering). not (is_lt o)) behind
+    by Less less not_above Greater is =
+        let below : compare wanted x ≡ Less = total.antisymm wanted x ∙ ap ordering_reverse is in
+        let far = total.trans wanted x y below less in
+        let behind = total.antisymm y wanted ∙ ap ordering_reverse far in
+        ap is_gt behind
+    by Greater more not_above a is = absurd (cc)
+
+-- what does not fall along sorted elements
+rises_sorted : {X Y : Type 0} (compare : X → X → Ordering) (under : Y → Y → Ordering) → IsTotalOrder under → (part : X → Y)
+    → ((x y : X) → is_lt (compare x y) ≡ true → is_gt (under (part x) (part y)) ≡ false) → (wanted : Y) (xs : List X)
+    → is_sorted compare xs ≡ true → rises (λ x. under (part x) wanted) xs ≡ true
+rises_sorted compare under total part falls wanted [] sorted = refl
+rises_sorted {X} {Y} compare under total part falls wanted (x ∷ xs) sorted =
+    let parts = and_parts _ _ sorted in
+    and_from _ _ (behind xs parts.0) (rises_sorted compare under total part falls wanted xs parts.1)
+  where
+    behind : (more : List X) → all_above compare x more ≡ true
+        → list_all (λ y. may_follow (under (part x) wanted) (under (part y) wanted)) more ≡ true
+    behind [] above = refl
+    behind (y ∷ more) above =
+        let parts = and_parts _ _ above in
+        and_from _ _ (follows_of under total wanted (part x) (part y) (falls x y parts.0)) (behind more parts.1)
+
+-- keys do not fall along rows, and neither do full names
+key_stays : (o : Ordering) (number : Ordering) → is_lt (ordering_then o number) ≡ true → is_gt o ≡ false
+key_stays Less number less = refl
+key_stays Equal number less = refl
+key_stays Greater number less = absurd (cc)
+
+full_stays : (o : Ordering) → is_lt o ≡ true → is_gt o ≡ false
+full_stays Less less = refl
+full_stays Equal less = refl
+full_stays Greater less = absurd (cc)
+
+-- where a row stands beside a key, and beside a full name
+abbrev pub key_place : Key → Row → Ordering
+key_place key row = by_key row.key key
+
+abbrev pub full_place : FullName → Row → Ordering
+full_place full row = by_full (full_of row) full
+
+pub keys_rise : (key : Key) (rows : List Row) → ascends by_row rows ≡ true → rises (key_place key) rows ≡ true
+keys_rise key rows ascend =
+    rises_sorted by_row by_key by_key_total (λ (row : Row). row.key)
+    (λ x y less. key_stays (by_key x.key y.key) (nat_cmp x.file.generation y.file.generation) less) key rows
+    (sorted_ascends by_row by_row_total rows ascend)
+
+pub fulls_rise : (full : FullName) (rows : List Row) → ascends by_row rows ≡ true → rises (full_place full) rows ≡ true
+fulls_rise full rows ascend =
+    rises_sorted by_row by_full by_full_total full_of (λ x y less. full_stays (by_row x y) less) full rows
+    (sorted_ascends by_row by_row_total rows ascend)
+
+-- how many rows stand before those of a key, and before those behind it
+abbrev pub first_of_key : Key → List Row → ℕ
+first_of_key key rows = prefix_len (λ row. is_lt (key_place key row)) rows
+
+abbrev pub end_of_key : Key → List Row → ℕ
+end_of_key key rows = prefix_len (λ row. is_le (key_place key row)) rows
+
+-- the rows of a key stand together
+pub group : (key : Key) (rows : List Row) → ascends by_row rows ≡ true
+    → Parts (is_of key) rows (filter (is_of key) rows) (first_of_key key rows) (end_of_key key rows)
+group key rows ascend = parts_of (key_place key) rows (keys_rise key rows ascend)
+
+pub group_files : (key : Key) (rows slice : List Row) (first end : ℕ) → ascends by_row rows ≡ true → first ≡ first_of_key key rows
+    → end ≡ end_of_key key rows → slice ≡ take (end - first) (drop first rows) → files slice ≡ files_of key rows
+group_files key rows slice first end ascend starts ends is =
+    rw (is, starts, ends)
+    (ap files
+    (middle_slice (is_of key) rows (filter (is_of key) rows) (first_of_key key rows) (end_of_key key rows) (group key rows ascend)))
+
+pub group_within : (key : Key) (rows : List Row) (first end : ℕ) → ascends by_row rows ≡ true → first ≡ first_of_key key rows
+    → end ≡ end_of_key key rows → (first ≤ end) × (end ≤ length rows)
+group_within key rows first end ascend starts ends =
+    let bounds = block_within (is_of key) rows (filter (is_of key) rows) (first_of_key key rows) (end_of_key key rows) (group key rows ascend) in
+    let size = bounds.0 in
+    let last = bounds.1 in
+    (omega arith, omega arith)
+
+-- the first element at a place is the one behind those below it
+found_first : {X : Type 0} (place : X → Ordering) (xs : List X) (d : X)
+    → prefix_len (λ x. is_lt (place x)) xs < length xs
+    → is_eq (place (get_or xs (prefix_len (λ x. is_lt (place x)) xs) d)) ≡ true
+    → position_or_len (λ x. is_eq (place x)) xs ≡ prefix_len (λ x. is_lt (place x)) xs
+found_first place [] d within here = absurd (omega arith)
+found_first {X} place (x ∷ xs) d within here = by (place x) refl (found_first place xs d) within here
+  where
+    by : (o : Ordering) → place x ≡ o
+        → (prefix_len (λ y. is_lt (place y)) xs < length xs
+        → is_eq (place (get_or xs (prefix_len (λ y. is_lt (place y)) xs) d)) ≡ true
+        → position_or_len (λ y. is_eq (place y)) xs ≡ prefix_len (λ y. is_lt (place y)) xs)
+        → cond (is_lt o) (1 + prefix_len (λ y. is_lt (place y)) xs) 0 < suc (length xs)
+        → is_eq (place (get_or (x ∷ xs) (cond (is_lt o) (1 + prefix_len (λ y. is_lt (place y)) xs) 0) d)) ≡ true
+        → cond (not (is_eq o)) (1 + position_or_len (λ y. is_eq (place y)) xs) 0
+        ≡ cond (is_lt o) (1 + prefix_len (λ y. is_lt (place y)) xs) 0
+    by Less is rest within here =
+        let next : 1 + prefix_len (λ y. is_lt (place y)) xs ≡ suc (prefix_len (λ y. is_lt (place y)) xs) = omega arith in
+        let there : is_eq (place (get_or xs (prefix_len (λ y. is_lt (place y)) xs) d)) ≡ true =
+        ap (λ (n : ℕ). is_eq (place (get_or (x ∷ xs) n d))) (sym next) ∙ here in
+        ap (λ n. 1 + n) (rest (omega arith) there)
+    by Equal is rest within here = refl
+    by Greater is rest within here =
+        let there : is_eq (place x) ≡ true = here in
+        let above : is_eq (place x) ≡ false = ap is_eq is in
+        absurd (cc)
+
+none_above : {X : Type 0} (place : X → Ordering) (xs : List X) → list_all (λ y. is_gt (place y)) xs ≡ true
+    → position_or_len (λ x. is_eq (place x)) xs ≡ length xs
+none_above place [] all = refl
+none_above place (x ∷ xs) all = by (place x) (and_parts _ _ all).0 (none_above place xs (and_parts _ _ all).1)
+  where
+    by : (o : Ordering) → is_gt o ≡ true → position_or_len (λ y. is_eq (place y)) xs ≡ length xs
+        → cond (not (is_eq o)) (1 + position_or_len (λ y. is_eq (place y)) xs) 0 ≡ suc (length xs)
+    by Less is rest = absurd (cc)
+    by Equal is rest = absurd (cc)
+    by Greater is rest = omega arith
+
+-- and where that one is at another place, none is at this one
+found_none : {X : Type 0} (place : X → Ordering) (xs : List X) → rises place xs ≡ true
+    → ((d : X) → prefix_len (λ x. is_lt (place x)) xs < length xs
+    → is_eq (place (get_or xs (prefix_len (λ x. is_lt (place x)) xs) d)) ≡ false)
+    → position_or_len (λ x. is_eq (place x)) xs ≡ length xs
+found_none place [] rise other = refl
+found_none {X} place (x ∷ xs) rise other =
+    by (place x) refl (and_parts _ _ rise).0 (found_none place xs (and_parts _ _ rise).1) other
+  where
+    by : (o : Ordering) → place x ≡ o → list_all (λ y. may_follow o (place y)) xs ≡ true
+        → (((d : X) → prefix_len (λ y. is_lt (place y)) xs < length xs
+        → is_eq (place (get_or xs (prefix_len (λ y. is_lt (place y)) xs) d)) ≡ false)
+        → position_or_len (λ y. is_eq (place y)) xs ≡ length xs)
+        → ((d : X) → cond (is_lt o) (1 + prefix_len (λ y. is_lt (place y)) xs) 0 < suc (length xs)
+        → is_eq (place (get_or (x ∷ xs) (cond (is_lt o) (1 + prefix_len (λ y. is_lt (place y)) xs) 0) d)) ≡ false)
+        → cond (not (is_eq o)) (1 + position_or_len (λ y. is_eq (place y)) xs) 0 ≡ suc (length xs)
+    by Less is follow rest other =
+        let next : 1 + prefix_len (λ y. is_lt (place y)) xs ≡ suc (prefix_len (λ y. is_lt (place y)) xs) = omega arith in
+        let size = rest (λ d within.
+        ap (λ (n : ℕ). is_eq (place (get_or (x ∷ xs) n d))) (sym next) ∙ other d (omega arith)) in
+        omega arith
+    by Equal is follow rest other =
+        let here : is_eq (place x) ≡ true = ap is_eq is in
+        let not_here : is_eq (place x) ≡ false = other x (omega arith) in
+        absurd (cc)
+    by Greater is follow rest other = let size = none_above place xs follow in omega arith
+
+at_position : {X : Type 0} (test : X → Bool) (xs : List X) (at : ℕ) → position_or_len test xs ≡ at → at < length xs
+    → Some at ≡ position test xs
+at_position test xs at is within =
+    sym (ap (λ n. cond (nat_lt n (length xs)) (Some n) None) is ∙ ap (λ b. cond b (Some at) None) (lt-ltb at (length xs) within))
+
+no_position : {X : Type 0} (test : X → Bool) (xs : List X) → position_or_len test xs ≡ length xs → None ≡ position test xs
+no_position test xs is =
+    sym (ap (λ n. cond (nat_lt n (length xs)) (Some n) None) is
+    ∙ ap (λ b. cond b (Some (length xs)) None) (le-ltb (length xs) (length xs) (omega arith)))
+
+-- the row at the place of a full name is the one that is looked for
+pub full_found : (full : FullName) (rows : List Row) (at : ℕ) (row : Row) → at ≡ prefix_len (λ other. is_lt (full_place full other)) rows
+    → at < length rows → row ≡ get_or rows at row → is_full full row ≡ true → Some at ≡ position (is_full full) rows
+full_found full rows at row place within is here =
+    let there : is_eq (full_place full (get_or rows (prefix_len (λ other. is_lt (full_place full other)) rows) row)) ≡ true =
+    ap (λ (n : ℕ). is_full full (get_or rows n row)) (sym place) ∙ ap (is_full full) (sym is) ∙ here in
+    at_position (is_full full) rows at (found_first (full_place full) rows row (omega arith) there ∙ sym place) within
+
+-- or there is none
+pub full_none : (full : FullName) (rows : List Row) (at : ℕ) → ascends by_row rows ≡ true
+    → at ≡ prefix_len (λ other. is_lt (full_place full other)) rows
+    → ((d : Row) → at < length rows → is_full full (get_or rows at d) ≡ false) → None ≡ position (is_full full) rows
+full_none full rows at ascend place other =
+    no_position (is_full full) rows
+    (found_none (full_place full) rows (fulls_rise full rows ascend)
+    (λ d within. ap (λ (n : ℕ). is_full full (get_or rows n d)) (sym place) ∙ other d (omega arith)))

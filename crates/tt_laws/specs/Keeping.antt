@@ -1,0 +1,54 @@
+-- Runs that keep prompt and line on the screen.
+use Rattle.std.specs.Prelude.{◌≡◌, ℕ, Bool, true, false, List, [], ◌++◌}
+use Rattle.cm_state.specs.Echo.{prompt_text}
+use Rattle.cm_state.specs.SessionState.{SessionState}
+use Rattle.cm_run.specs.declared.mode.Mode.{Mode}
+use Rattle.cm_run.specs.declared.mode.Mode.TheVariants as mode
+use Rattle.cm_run.specs.Event.{screen_bytes}
+use Rattle.cm_run.specs.Meaning.{Meaning}
+use Rattle.cm_run.specs.Obey.{left_by, replies}
+use Rattle.cm_run.specs.Progress.{progress}
+use Rattle.cm_run.specs.Trace.{RunState, run_trace, starting}
+use Rattle.tt_screen.specs.Grid.{Grid, feed}
+use Rattle.tt_screen.specs.Holds.{ArePrinted, Holds}
+use Rattle.tt_laws.specs.Shows.{EndsLine, IsEnded, Shows}
+
+-- where the next key is for a line, its prompt is printed bytes
+abbrev pub HasPrintedPrompt : Mode → Type 0
+HasPrintedPrompt (mode.Line node prompt takes_moment) = ArePrinted (prompt_text prompt)
+HasPrintedPrompt mode.Raw = Unit {0}
+HasPrintedPrompt mode.Ended = Unit {0}
+
+-- the next key is for a line
+abbrev pub is_line : Mode → Bool
+is_line (mode.Line node prompt takes_moment) = true
+is_line mode.Raw = false
+is_line mode.Ended = false
+
+-- an application whose prompts are printed; what a line shows in all ends with a line feed, or is nothing, and so does
+-- what a line of a command file shows; and a raw key behind which a line begins shows, with what it does, bytes that
+-- end with a line feed
+pub record IsLineKeeping {S : Type 0} (m : Meaning S) : Type 0 where
+  pub prompts : (state : S) → HasPrintedPrompt (m.mode_of state)
+  pub lines : (state : S) (session : SessionState) (moment : ℕ) → EndsLine (replies (m.line_deeds state session moment))
+  pub file_lines : (state : S) (session : SessionState) (moment : ℕ)
+      → EndsLine (replies (m.file_line_deeds state session moment))
+  pub raw_keys : (state : S) (key : ℕ) → m.mode_of state ≡ mode.Raw
+      → is_line (m.mode_of (left_by state (m.raw_deeds state key))) ≡ true
+      → IsEnded (m.raw_echo state key ++ replies (m.raw_deeds state key))
+
+-- where the next key is for a line, the screen shows prompt and line
+abbrev pub ShowsIn : Mode → Grid → SessionState → Type 0
+ShowsIn (mode.Line node prompt takes_moment) grid session = Shows grid session
+ShowsIn mode.Raw grid session = Unit {0}
+ShowsIn mode.Ended grid session = Unit {0}
+
+-- behind these bytes, so many as a run has shown by then
+abbrev pub ShowsAt : {S : Type 0} → Meaning S → Grid → List ℕ → RunState S → Type 0
+ShowsAt m grid bytes at = ShowsIn (m.mode_of at.state) (feed grid bytes) at.session
+
+-- on a screen whose last row is blank, all that the run over these keys shows leaves prompt and line as they then are
+unfoldable pub KeepsLine : {S : Type 0} → Meaning S → S → List ℕ → List ℕ → Type 0
+KeepsLine m state moments keys = (logging : Bool) (grid : Grid) → Holds grid []
+    → ShowsAt m grid (screen_bytes (run_trace m logging state moments keys))
+    (progress m (starting m state moments) keys)
