@@ -6,6 +6,7 @@ use Rattle.std.proofs.lemmas.List.{append-nil}
 use Rattle.std.proofs.lemmas.List.Sums.{fold-append, sum_by-append}
 use Rattle.std.proofs.lemmas.Grind.{flat_map-append}
 use Rattle.cm_io.specs.Fault.{Rose}
+use Rattle.cm_blocks.specs.declared.field.Fault.{Fault}
 use Rattle.cm_state.specs.SessionState.{SessionState}
 use Rattle.cm_state.specs.declared.turn.Turn.{Turn}
 use Rattle.cm_state.specs.declared.turn.Turn.TheVariants as turn
@@ -18,15 +19,22 @@ use Rattle.cm_run.specs.Meaning.{Meaning}
 use Rattle.cm_run.specs.Observed.{Observed, Performs}
 use Rattle.cm_run.specs.Trace.{RunState, events_if, key_trace, outcome_trace, stroke, stroke_trace, turn_outcome}
 
--- a line that is neither confirmed nor given up does nothing
-pub idle : {S : Type 0} (m : Meaning S) (state : S) (session : SessionState) (moment : ℕ) (it : Turn) → it ≢ turn.Confirmed → it ≢ turn.Abandoned
+-- a line is refused, and does what the application means by it
+pub refused : {S : Type 0} (m : Meaning S) (state : S) (session : SessionState) (moment : ℕ) (fault : Fault)
+    → ((turn_outcome m state session moment (turn.Refused fault)).events ≡ Act (m.refusal state) ∷ [])
+    × ((turn_outcome m state session moment (turn.Refused fault)).takes_moment ≡ false)
+unfolding turn_outcome
+refused m state session moment fault = (refl, refl)
+
+-- a line that goes on does nothing
+pub idle : {S : Type 0} (m : Meaning S) (state : S) (session : SessionState) (moment : ℕ) (it : Turn) → (turn_outcome m state session moment it).begins ≡ false
     → ((turn_outcome m state session moment it).events ≡ []) × ((turn_outcome m state session moment it).takes_moment ≡ false)
 unfolding turn_outcome
-idle m state session moment turn.Confirmed other others = absurd (other refl)
-idle m state session moment turn.Abandoned other others = absurd (others refl)
-idle m state session moment turn.Edited other others = (refl, refl)
-idle m state session moment (turn.Refused fault) other others = (refl, refl)
-idle m state session moment turn.Failed other others = (refl, refl)
+idle m state session moment turn.Confirmed on = absurd (cc)
+idle m state session moment turn.Abandoned on = absurd (cc)
+idle m state session moment turn.Edited on = (refl, refl)
+idle m state session moment (turn.Refused fault) on = absurd (cc)
+idle m state session moment turn.Failed on = (refl, refl)
 
 module _ {S : Type 0} where
   is_act : Event S → Bool

@@ -106,9 +106,10 @@ module _ {S : Type 0} (m : Meaning S) (log : Told) (keys : List ℕ) (gets : ℕ
       (subst (λ xs. Performs (observed screen log keys gets moments trials state) (observed screen log keys gets xs trials state) (events_if (takes_moment (m.mode_of state)) (Moment ∷ [])))
       (sym later) (moment_taken (takes_moment (m.mode_of state)) screen trials state))
 
-  given_up : (screen : Told) (trials : ℕ) (state : S) → Performs (observed screen log keys gets moments trials state) (observed screen log keys gets moments trials (m.abandonment state)) (Act (m.abandonment state) ∷ [])
+  -- an act that shows nothing
+  acted : (screen : Told) (trials : ℕ) (state left : S) → Performs (observed screen log keys gets moments trials state) (observed screen log keys gets moments trials left) (Act left ∷ [])
   unfolding Performs
-  given_up screen trials state = record {
+  acted screen trials state left = record {
     screen = sym (add_none screen);
     log = sym (add_none log);
     keys = refl;
@@ -125,14 +126,16 @@ module _ {S : Type 0} (m : Meaning S) (log : Told) (keys : List ℕ) (gets : ℕ
   unfolding outcome_trace turn_outcome
   abandons screen trials moment session state b result opens =
       traces_both (observed screen log keys gets moments trials state) (observed screen log keys gets moments trials (m.abandonment state)) b
-      (Act (m.abandonment state) ∷ []) (opening (m.mode_of (m.abandonment state))) result opens (given_up screen trials state)
+      (Act (m.abandonment state) ∷ []) (opening (m.mode_of (m.abandonment state))) result opens (acted screen trials state (m.abandonment state))
 
   -- a line is refused, and the next begins
   pub refuses : (screen : Told) (trials moment : ℕ) (session : SessionState) (state : S) (fault : Fault) (b : Observed S) (result : Result Unit Stop)
-      → Traces (observed screen log keys gets moments trials state) b (opening (m.mode_of state)) result
+      → Traces (observed screen log keys gets moments trials (m.refusal state)) b (opening (m.mode_of (m.refusal state))) result
       → Traces (observed screen log keys gets moments trials state) b (outcome_trace m state (turn_outcome m state session moment (turn.Refused fault))) result
   unfolding outcome_trace turn_outcome
-  refuses screen trials moment session state fault b result opens = opens
+  refuses screen trials moment session state fault b result opens =
+      traces_both (observed screen log keys gets moments trials state) (observed screen log keys gets moments trials (m.refusal state)) b
+      (Act (m.refusal state) ∷ []) (opening (m.mode_of (m.refusal state))) result opens (acted screen trials state (m.refusal state))
 
   -- a line goes on
   pub edits : (screen : Told) (trials moment : ℕ) (session : SessionState) (state : S) (value : Unit)
@@ -154,10 +157,11 @@ module _ {S : Type 0} (m : Meaning S) (log : Told) (keys : List ℕ) (gets : ℕ
   unfolding step_of turn_outcome
   fails_next session state moment = refl
 
-  pub refuses_next : (session to : SessionState) (state : S) (moment : ℕ) (fault : Fault) → to ≡ line_start (m.mode_of state) session
-      → run_state to state moments ≡ step_of m session state moments (turn_outcome m state session moment (turn.Refused fault))
+  pub refuses_next : (session to : SessionState) (state left : S) (moment : ℕ) (fault : Fault) → left ≡ m.refusal state → to ≡ line_start (m.mode_of left) session
+      → run_state to left moments ≡ step_of m session state moments (turn_outcome m state session moment (turn.Refused fault))
   unfolding step_of turn_outcome
-  refuses_next session to state moment fault opens = ap (λ it. run_state it state moments) opens
+  refuses_next session to state left moment fault gives opens =
+      ap (λ it. run_state it left moments) opens ∙ ap (λ s. run_state (line_start (m.mode_of s) session) s moments) gives
 
   pub abandons_next : (session to : SessionState) (state left : S) (moment : ℕ) → left ≡ m.abandonment state → to ≡ line_start (m.mode_of left) session
       → run_state to left moments ≡ step_of m session state moments (turn_outcome m state session moment turn.Abandoned)

@@ -16,13 +16,15 @@ pub record Deed (S : Type 0) : Type 0 where
   pub reply : List ℕ
 
 -- the grammar and the rules; the catalogue and the mode of a state; the acts of a line that is confirmed, and the state
--- behind one that is given up; what a raw key shows, and its acts; the line that waits in a command file, and its acts
+-- behind one that is refused and one that is given up; what a raw key shows, and its acts; the line that waits in a
+-- command file, and its acts
 pub record Meaning (S : Type 0) : Type 0 where
   pub graph : Graph
   pub rules : Meanings
   pub catalogue_of : S → Catalogue
   pub mode_of : S → Mode
   pub line_deeds : S → SessionState → ℕ → List (Deed S)
+  pub refusal : S → S
   pub abandonment : S → S
   pub raw_echo : S → ℕ → List ℕ
   pub raw_deeds : S → ℕ → List (Deed S)

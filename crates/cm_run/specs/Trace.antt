@@ -126,7 +126,8 @@ turn_outcome m state session moment turn.Confirmed = record {
   events = line_trace m state session moment;
   begins = true;
 }
-turn_outcome m state session moment (turn.Refused fault) = record { takes_moment = false; events = []; begins = true }
+turn_outcome m state session moment (turn.Refused fault) =
+    record { takes_moment = false; events = Act (m.refusal state) ∷ []; begins = true }
 turn_outcome m state session moment turn.Abandoned =
     record { takes_moment = false; events = Act (m.abandonment state) ∷ []; begins = true }
 turn_outcome m state session moment turn.Edited = record { takes_moment = false; events = []; begins = false }

@@ -56,6 +56,10 @@ pub trait Application {
         ensures later { S.faults screen.old ≤ S.faults screen.new }
         ensures cause { ObeyCause (S.faults screen.old) (S.faults screen.new) result };
 
+    /// A line was refused by the parser, and why is shown.
+    fn refuse(&mut self)
+        ensures { self.new ≡ means.refusal self.old };
+
     /// A line was given up.
     fn abandon(&mut self)
         ensures { self.new ≡ means.abandonment self.old };

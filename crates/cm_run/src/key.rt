@@ -186,7 +186,10 @@ fn finish_key<A: Application, S: Sink, C: Clock, L: Ledger>(
         Turn::Edited => Ok(()),
         Turn::Failed => Ok(()),
         Turn::Confirmed => act(app, session, grammar, hooks, screen, clock, steps),
-        Turn::Refused(_) => open_line(app, session, screen),
+        Turn::Refused(_) => {
+            app.refuse();
+            open_line(app, session, screen)
+        }
         Turn::Abandoned => {
             app.abandon();
             open_line(app, session, screen)

@@ -1,6 +1,7 @@
 // Laws of every run, whatever the application.
-ghost use Rattle.std.specs.Prelude.{◌≡◌, ◌≢◌, ◌⊎◌, ◌+◌, ◌<◌, ◌^◌, ◌-◌, ℕ, Bool, false, List, [], ◌∷◌, ◌++◌, None, Result, Ok, Err};
+ghost use Rattle.std.specs.Prelude.{◌≡◌, ◌⊎◌, ◌+◌, ◌<◌, ◌^◌, ◌-◌, ℕ, Bool, false, List, [], ◌∷◌, ◌++◌, None, Result, Ok, Err};
 ghost use Rattle.cm_io.specs.Told.{AddsPart, IsPart};
+ghost use Rattle.cm_blocks.specs.declared.field.Fault.{Fault};
 ghost use Rattle.cm_state.specs.SessionState.{SessionState};
 ghost use Rattle.cm_state.specs.declared.turn.Turn.{Turn};
 ghost use Rattle.cm_state.specs.declared.turn.Turn.TheVariants as turn;
@@ -15,12 +16,16 @@ ghost use Rattle.cm_run.specs.declared.engine.TheConstants.{FILE_LINES};
 
 use crate::{Application, Stop};
 
-/// Nothing acts before confirmation: a line that goes on, or that is refused, does nothing and takes no moment.
+/// Nothing acts before confirmation: a line that goes on does nothing and takes no moment, and one that is refused takes
+/// none, and does no more than what the application means by a refusal, which shows nothing and takes no memory.
 pub fn only_a_line_that_is_done_acts<A: Application>()
-    ensures { (m : Meaning A) → (state : A) → (session : SessionState) → (moment : ℕ) → (it : Turn)
-        → it ≢ turn.Confirmed → it ≢ turn.Abandoned
+    ensures going_on { (m : Meaning A) → (state : A) → (session : SessionState) → (moment : ℕ) → (it : Turn)
+        → (turn_outcome m state session moment it).begins ≡ false
         → ((turn_outcome m state session moment it).events ≡ [])
         × ((turn_outcome m state session moment it).takes_moment ≡ false) }
+    ensures refused { (m : Meaning A) → (state : A) → (session : SessionState) → (moment : ℕ) → (fault : Fault)
+        → ((turn_outcome m state session moment (turn.Refused fault)).events ≡ Act (m.refusal state) ∷ [])
+        × ((turn_outcome m state session moment (turn.Refused fault)).takes_moment ≡ false) }
 {}
 
 /// Nothing acts before the key that confirms it is shown whole, and logged where there is a log: whatever of the trace

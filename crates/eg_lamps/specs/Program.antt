@@ -52,6 +52,7 @@ lamp_meaning = record {
   catalogue_of = λ at. at.names;
   mode_of = λ at. if at.has_quit then mode.Ended else mode.Line COMMANDS Main false;
   line_deeds = λ at session moment. deed_of at (command_of session) ∷ [];
+  refusal = λ at. at;
   abandonment = λ at. at;
   raw_echo = λ at key. [];
   raw_deeds = λ at key. [];

@@ -165,6 +165,8 @@ impl Application for Program {
         }
     }
 
+    fn refuse(&mut self) {}
+
     fn abandon(&mut self) {}
 
     #[tactic(auto, using(cm_io::proofs::Adding::add_none))]

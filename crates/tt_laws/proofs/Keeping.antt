@@ -139,7 +139,7 @@ module _ {S : Type 0} (m : Meaning S) (keeping : IsLineKeeping m) where
     unfolding turn_outcome
     by_ending (ending.Open place) is holds = absurd is
     by_ending ending.Done is holds = next_begins grid session state moments _ (line_trace m state session moment) clear.restorable holds (line_ends state session moment)
-    by_ending (ending.Fault fault) is holds = next_begins grid session state moments false [] clear.restorable holds (inl refl)
+    by_ending (ending.Fault fault) is holds = next_begins grid session state moments false (Act (m.refusal state) ∷ []) clear.restorable holds (inl refl)
 
     by_turn : (class : KeyClass) (ends : Ending) → (class ≡ End → IsClosed ends) → ShowsBehind class grid session
         → Keeps (feed grid (shown_of state (turn_outcome m state session moment (turn_of class ends))))
