@@ -85,6 +85,12 @@ pub fn only_copy_from_the_terminal_begins_a_file()
         → (act_of command moment state).answer ≡ answers.Data → (to : Place) × (command ≡ commands.CopyTty to) }
 {}
 
+/// The lines of a file are taken behind TAKE alone.
+pub fn only_take_begins_a_command_file()
+    ensures { (command : Command) (moment : ℕ) (state : State)
+        → ((act_of command moment state).answer ≡ answers.Take) ↔ ((file : Place) × (command ≡ commands.Take file)) }
+{}
+
 /// What a command shows is nothing, or ends with a line feed; and so is what is shown where a file that was typed in is
 /// written. So a line begins at the start of a row.
 pub fn a_reply_ends_its_line()
