@@ -1,5 +1,5 @@
 mod Beginning
-mod Causes
+pub mod Causes
 mod Counting
 pub mod Cutting
 pub mod Deeds

@@ -25,3 +25,4 @@ pub use command::Command;
 pub use commands::take::file_bytes;
 pub use data::{Data, DataTurn};
 pub use plans::write_data;
+pub use replies::put_refusal;

@@ -65,8 +65,8 @@ impl Command {
         true
     }
 
-    // Waits for no more subcommands.
-    fn complete(&mut self)
+    /// Waits for no more subcommands, as behind an empty line of them.
+    pub fn complete(&mut self)
         ensures { self.new ≡ complete self.old }
     {
         match self {

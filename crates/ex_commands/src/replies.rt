@@ -10,9 +10,9 @@ use cm_fields::Code;
 use cm_io::{Sink, Writer};
 use cm_text::question;
 
-/// Puts why a command is refused.
+/// Puts why a line is refused.
 #[tactic(auto, using(cm_io::proofs::Texts::texts), unfolding(cm_state::specs::Echo::refusal))]
-pub(crate) fn put_refusal<S: Sink>(code: Code, out: &mut Writer<'_, S>)
+pub fn put_refusal<S: Sink>(code: Code, out: &mut Writer<'_, S>)
     ensures { Writes S.Sink out.old out.new (refusal code) }
 {
     out.put(question());

@@ -1,5 +1,5 @@
 -- What a command does, from what the EXEC has become before it is done.
-use Rattle.std.proofs.Common.{◌≡◌, ◌⊎◌, ℕ, Bool, false, [], ◌∷◌, Option, None, Result, sym, ap, ◌∙◌, subst, inl, inr}
+use Rattle.std.proofs.Common.{◌≡◌, ◌⊎◌, ℕ, Bool, false, [], ◌∷◌, Option, None, Result, Ok, sym, ap, ◌∙◌, subst, inl, inr}
 use Rattle.std.specs.Option.{ForSome}
 use Rattle.cm_io.specs.Told.{Told}
 use Rattle.cm_run.specs.Obey.{Obeys, stage}
@@ -18,7 +18,7 @@ use Rattle.ex_exec.specs.Outcome.{outcome_of}
 use Rattle.ex_exec.specs.declared.pending.Pending.{Pending}
 use Rattle.ex_exec.specs.declared.typing.Typing.{Typing}
 use Rattle.ex_exec.proofs.Becoming.{allocating_same, free_kept, may_want, state_kept, target_kept}
-use Rattle.ex_exec.proofs.Obeying.{answer_obeys}
+use Rattle.ex_exec.proofs.Obeying.{answer_is, answer_obeys}
 
 -- an act leaves its state, or the one that it met
 left_by : (told then : Told) (act : Act) (lacks : Bool) (start left : State) (answer : Acted) → Answers told then act lacks start left answer
@@ -28,6 +28,7 @@ left_by told then act lacks start left (answers.Refused code) done = inl done.st
 left_by told then act lacks start left answers.Pending done = inl done.state
 left_by told then act lacks start left answers.Data done = inl done.state
 left_by told then act lacks start left answers.Logout done = inl done.state
+left_by told then act lacks start left answers.Take done = inl done.state
 left_by told then act lacks start left answers.Failed cut = inl cut.state
 left_by told then act lacks start left answers.NoMemory lacking = inr lacking.state
 
@@ -50,6 +51,14 @@ module _ (state : State) (held : Option Typing) (ended : Bool) (waits : Option P
       (allocates command) (act_of command moment now.state) (may_allocate command) told then left
       (ap (λ (it : ExecState). record it { state = left }) is) (may_want command) (allocating_same now moment command) answer
       (subst (λ (it : State). Answers told then (act_of command moment it) (may_allocate command) it left answer) state_is acts))
+
+  -- the answer is that of the act, wherever it went to its end
+  pub act_answers : (told then : Told) (left : State) (answer : Acted)
+      → Answers told then (act_of command moment state) (may_allocate command) state left answer
+      → outcome_of answer ≡ Ok tt → answer ≡ (act_of command moment now.state).answer
+  act_answers told then left answer acts went =
+      answer_is told then (act_of command moment now.state) (may_allocate command) now.state left answer
+      (subst (λ (it : State). Answers told then (act_of command moment it) (may_allocate command) it left answer) state_is acts) went
 
   -- what is typed in has a target behind it
   pub act_target : (told then : Told) (left : State) (answer : Acted) → now.typing ≡ None

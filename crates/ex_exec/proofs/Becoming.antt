@@ -33,6 +33,7 @@ state_kept exec moment command (answers.Refused code) = refl
 state_kept exec moment command answers.Pending = refl
 state_kept exec moment command answers.Data = refl
 state_kept exec moment command answers.Logout = refl
+state_kept exec moment command answers.Take = refl
 state_kept exec moment command answers.NoMemory = refl
 state_kept exec moment command answers.Failed = refl
 
@@ -40,6 +41,10 @@ state_kept exec moment command answers.Failed = refl
 becomes-done : (exec : ExecState) (moment : ℕ) (command : Command) (act : Act) → act.answer ≡ answers.Ok → becomes exec moment command act.answer ≡ exec
 unfolding becomes
 becomes-done exec moment command act done = ap (λ (it : Acted). becomes exec moment command it) done
+
+becomes-taken : (exec : ExecState) (moment : ℕ) (command : Command) (act : Act) → act.answer ≡ answers.Take → becomes exec moment command act.answer ≡ exec
+unfolding becomes
+becomes-taken exec moment command act taken = ap (λ (it : Acted). becomes exec moment command it) taken
 
 becomes-refused : (exec : ExecState) (moment : ℕ) (command : Command) (act : Act) (code : Code) (state : State) → act ≡ refuses code state
     → becomes exec moment command act.answer ≡ exec
@@ -69,6 +74,7 @@ otherwise exec moment command acts stays shows = by (act_of command moment exec.
   by act (Comes.refused code is) = sym (becomes-refused exec moment command act code exec.state is)
   by act (Comes.waits pending is) = let wrong : true ≡ false = sym pending ∙ acts in absurd (cc)
   by act (Comes.begun to is answer) = absurd (shows to is)
+  by act (Comes.taken file is answer) = sym (becomes-taken exec moment command act answer)
   by act (Comes.ended is answer) = absurd (stays is)
 
 -- LOGOUT ends the run
@@ -138,6 +144,7 @@ allocating_same exec moment command lacks = absurd (cc)
 
 pub may_want : (command : Command) → may_allocate command ≡ true → allocates command ≡ true
 may_want (commands.CopyTty to) lacks = refl
+may_want (commands.Take file) lacks = refl
 may_want command lacks = lacks
 
 -- a file that is to be typed in has a target behind the act too
@@ -171,6 +178,8 @@ target_kept exec moment command line target = by (comes command moment exec.stat
       absurd (untyped (becomes-waits exec moment command (act_of command moment exec.state) exec.state is) typing some)
   by (Comes.begun to is answer) = λ typing some. subst (λ (it : State). IsTarget typing.to it.directories)
       (sym (copies-state to command moment exec.state is)) (target typing some)
+  by (Comes.taken file is answer) = λ typing some. absurd (untyped (ap (λ (it : ExecState). it.typing)
+      (becomes-taken exec moment command (act_of command moment exec.state) answer)) typing some)
   by (Comes.ended is answer) = λ typing some. absurd (untyped (becomes-ended exec moment command (act_of command moment exec.state) answer) typing some)
 
 -- where none waits, none waits behind a command that acts
@@ -183,4 +192,5 @@ free_kept exec moment command acts = by (act_of command moment exec.state) (come
   by act (Comes.refused code is) = ap (λ (it : Act). (becomes exec moment command it.answer).pending) is
   by act (Comes.waits pending is) = let wrong : true ≡ false = sym pending ∙ acts in absurd (cc)
   by act (Comes.begun to is answer) = ap (λ (it : Acted). (becomes exec moment command it).pending) answer
+  by act (Comes.taken file is answer) = ap (λ (it : Acted). (becomes exec moment command it).pending) answer
   by act (Comes.ended is answer) = ap (λ (it : Acted). (becomes exec moment command it).pending) answer

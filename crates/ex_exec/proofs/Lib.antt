@@ -1,7 +1,5 @@
 pub mod Acting
 pub mod Becoming
-mod Keys
-pub mod LineKeeping
 pub mod Obeying
 pub mod TypedKeys
-mod Waiting
+pub mod Waiting

@@ -66,12 +66,25 @@ module _ (exec becoming next : ExecState) (allocates : Bool) (act : Act) (lacks 
   answer_obeys answers.Ok done = obeys_done deed told now exec next done.told (leaves_act done.state)
   answer_obeys (answers.Refused code) done = obeys_done deed told now exec next done.told (leaves_act done.state)
   answer_obeys answers.Pending done = obeys_done deed told now exec next done.told (leaves_act done.state)
+  answer_obeys answers.Take done = obeys_done deed told now exec next done.told (leaves_act done.state)
   answer_obeys answers.Data done = obeys_done deed told now exec next done.told (leaves_act done.state)
   answer_obeys answers.Logout done = obeys_done deed told now exec next done.told (leaves_act done.state)
   answer_obeys answers.Failed cut = obeys_cut deed told now exec next cut.told (leaves_act cut.state)
   answer_obeys answers.NoMemory lacking = obeys_wanting deed told now exec next (may_want lacking.may_allocate) lacking.told
       (leaves ∙ ap (λ (it : ExecState). record it { state = left }) (same lacking.may_allocate)
       ∙ ap (λ (it : State). record exec { state = it }) lacking.state)
+
+-- an answer that went to its end is that of the act
+pub answer_is : (told now : Told) (act : Act) (lacks : Bool) (start left : State) (answer : Acted)
+    → Answers told now act lacks start left answer → outcome_of answer ≡ Ok tt → answer ≡ act.answer
+answer_is told now act lacks start left answers.Ok done went = sym done.answer_is
+answer_is told now act lacks start left (answers.Refused code) done went = sym done.answer_is
+answer_is told now act lacks start left answers.Pending done went = sym done.answer_is
+answer_is told now act lacks start left answers.Data done went = sym done.answer_is
+answer_is told now act lacks start left answers.Take done went = sym done.answer_is
+answer_is told now act lacks start left answers.Logout done went = sym done.answer_is
+answer_is told now act lacks start left answers.Failed cut went = absurd (cc)
+answer_is told now act lacks start left answers.NoMemory lacking went = absurd (cc)
 
 -- by the counts
 pub answer_cause : (f g : ℕ) (answer : Acted) → ActCause f g answer → ObeyCause f g (outcome_of answer)
@@ -80,6 +93,7 @@ answer_cause f g answers.Ok cause = cause
 answer_cause f g (answers.Refused code) cause = cause
 answer_cause f g answers.Pending cause = cause
 answer_cause f g answers.Data cause = cause
+answer_cause f g answers.Take cause = cause
 answer_cause f g answers.Logout cause = cause
 answer_cause f g answers.NoMemory cause = cause
 answer_cause f g answers.Failed cause = cause
@@ -97,3 +111,11 @@ write_obeys state held ended waits now typing told then left answer result view 
     (answer_obeys (record { state = state; typing = held; ended = ended; pending = waits }) (record { state = state; typing = held; ended = ended; pending = waits })
     (record { state = left; typing = held; ended = ended; pending = waits }) true (writes typing.to typing.typed typing.moment state) true told then left
     refl (λ lacks. refl) (λ lacks. refl) answer acts))
+
+pub write_answers : (state : State) (held : Option Typing) (ended : Bool) (waits : Option Pending) (now : ExecState) (typing : Typing) (told then : Told) (left : State)
+    (answer : Acted) → record { state = state; typing = held; ended = ended; pending = waits } ≡ now
+    → Answers told then (writes typing.to typing.typed typing.moment state) true state left answer
+    → outcome_of answer ≡ Ok tt → answer ≡ (writes typing.to typing.typed typing.moment now.state).answer
+write_answers state held ended waits now typing told then left answer view acts went =
+    answer_is told then (writes typing.to typing.typed typing.moment state) true state left answer acts went
+    ∙ ap (λ (it : ExecState). (writes typing.to typing.typed typing.moment it.state).answer) view

@@ -7,7 +7,8 @@ use Rattle.ex_store.specs.State.{State}
 use Rattle.ex_commands.specs.Typed.{bytes_behind, echo_of, turn_of}
 use Rattle.ex_commands.specs.declared.data.DataTurn.{DataTurn}
 use Rattle.ex_commands.specs.declared.data.DataTurn.TheVariants as turns
-use Rattle.ex_exec.specs.Exec.{raw_by, typed_deeds, written}
+use Rattle.ex_commands.specs.declared.acted.Acted.{Acted}
+use Rattle.ex_exec.specs.Exec.{raw_answer, raw_by, typed_answer, typed_deeds, written}
 use Rattle.ex_exec.specs.ExecState.{ExecState}
 use Rattle.ex_exec.specs.declared.pending.Pending.{Pending}
 use Rattle.ex_exec.specs.declared.typing.Typing.{Typing}
@@ -58,3 +59,11 @@ module _ (state : State) (held : Option Typing) (ended : Bool) (waits : Option P
       (written (record it { typing = None }) (record typing { typed = bytes }) ∷ []) result) view
       (subst (λ (it : Option Typing). Obeys (stage told (record { state = state; typing = it; ended = ended; pending = waits })) (stage then next)
       (written (record { state = state; typing = it; ended = ended; pending = waits }) (record typing { typed = bytes }) ∷ []) result) as_none obeys)))
+
+  -- and what is answered
+  pub raw_answers : (turn : DataTurn) → turn_of (echo_of typing.typed key) ≡ turn → (answer : Acted)
+      → answer ≡ typed_answer now (record typing { typed = bytes }) turn → answer ≡ raw_answer now key now.typing
+  raw_answers turn is answer came =
+      subst (λ (it : Option Typing). answer ≡ raw_answer now key it) (sym some ∙ ap (λ (it : ExecState). it.typing) view)
+      (subst (λ (it : DataTurn). answer ≡ typed_answer now (record typing { typed = bytes_behind typing.typed key }) it) (sym is)
+      (subst (λ (it : List ℕ). answer ≡ typed_answer now (record typing { typed = it }) turn) puts came))

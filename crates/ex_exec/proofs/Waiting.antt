@@ -12,13 +12,14 @@ use Rattle.ex_grammar.specs.declared.node.TheConstants.{COMMANDS}
 use Rattle.ex_store.specs.State.{State}
 use Rattle.ex_commands.specs.Act.{Act, act_of}
 use Rattle.ex_commands.specs.Answer.{MayAct}
-use Rattle.ex_commands.specs.Command.{added, is_pending, subcommand_node}
+use Rattle.ex_commands.specs.Command.{complete, is_pending, subcommand_node}
 use Rattle.ex_store.specs.Plan.{IsTarget}
-use Rattle.cm_state.specs.SessionState.{SessionState}
 use Rattle.ex_commands.specs.declared.acted.Acted.{Acted}
+use Rattle.ex_commands.specs.declared.acted.Acted.TheVariants as answers
 use Rattle.ex_commands.specs.declared.command.Command.{Command}
+use Rattle.ex_commands.specs.declared.command.Command.TheVariants as commands
 use Rattle.ex_commands.proofs.Coming.{waiting_changes_nothing, waits_for_subcommands}
-use Rattle.ex_exec.specs.Exec.{becomes, completion, deed_of, mode_by, pending_with, silent, subcommand_deeds}
+use Rattle.ex_exec.specs.Exec.{becomes, completion, completion_answer, deed_of, mode_by, silent, subcommand_deeds}
 use Rattle.ex_exec.specs.Outcome.{lacks_memory}
 use Rattle.ex_exec.specs.ExecState.{ExecState}
 use Rattle.ex_exec.specs.declared.pending.Pending.{Pending}
@@ -151,30 +152,44 @@ last_obeys told then one exec next pending result acts free obeys =
     (subst (λ (it : Option Pending). Obeys (stage told (record exec { pending = Some pending })) (stage then next)
     (deed_of (record exec { pending = it }) pending.moment pending.command ∷ []) result) free obeys))
 
--- both, of the line of a session
-pub more_line : (state : State) (held : Option Typing) (ended : Bool) (waits : Option Pending) (now one : ExecState) (pending : Pending)
-    (command : Command) (session : SessionState) (told : Told)
-    → record { state = state; typing = held; ended = ended; pending = waits } ≡ now
-    → command ≡ added session.fields pending.command → is_pending command ≡ true
-    → Obeys (stage told one)
-    (stage told (record { state = state; typing = held; ended = ended; pending = Some (pending_of command pending.moment) }))
-    (subcommand_deeds now (pending_with session pending)) (Ok tt)
-more_line state held ended waits now one pending command session told view is more =
-    subst (λ (it : ExecState). Obeys (stage told one) (stage told (record it { pending = Some (pending_of command pending.moment) }))
-    (subcommand_deeds now (pending_with session pending)) (Ok tt)) (sym view)
-    (subst (λ (it : Command). Obeys (stage told one) (stage told (record now { pending = Some (pending_of it pending.moment) }))
-    (subcommand_deeds now (pending_with session pending)) (Ok tt)) (sym is)
-    (more_obeys told one now (pending_with session pending) (ap is_pending (sym is) ∙ more)))
+-- both, as the EXEC holds it
+pub goes_on : (state : State) (held : Option Typing) (ended : Bool) (waits : Option Pending) (now one : ExecState) (pending : Pending) (told : Told)
+    → record { state = state; typing = held; ended = ended; pending = waits } ≡ now → is_pending pending.command ≡ true
+    → Obeys (stage told one) (stage told (record { state = state; typing = held; ended = ended; pending = Some pending }))
+    (subcommand_deeds now pending) (Ok tt)
+goes_on state held ended waits now one pending told view more =
+    subst (λ (it : ExecState). Obeys (stage told one) (stage told (record it { pending = Some pending }))
+    (subcommand_deeds now pending) (Ok tt)) (sym view) (more_obeys told one now pending more)
 
-pub last_line : (now one next : ExecState) (pending : Pending) (command : Command) (session : SessionState) (told then : Told)
-    (result : Result Unit Stop) → command ≡ added session.fields pending.command → is_pending command ≡ false → now.pending ≡ None
-    → Obeys (stage told (record now { pending = Some (pending_of command pending.moment) })) (stage then next)
-    (deed_of now pending.moment command ∷ []) result
-    → Obeys (stage told one) (stage then next) (subcommand_deeds now (pending_with session pending)) result
-last_line now one next pending command session told then result is last free obeys =
-    last_obeys told then one now next (pending_with session pending) result (ap is_pending (sym is) ∙ last) free
-    (subst (λ (it : Command). Obeys (stage told (record now { pending = Some (pending_of it pending.moment) })) (stage then next)
-    (deed_of now pending.moment it ∷ []) result) is obeys)
+-- what is answered
+pub waits_answer : (exec : ExecState) (pending : Pending) → is_pending pending.command ≡ true → answers.Pending ≡ completion_answer exec pending
+waits_answer exec pending more = rw more refl
+
+pub acts_answer : (exec : ExecState) (pending : Pending) (answer : Acted) → is_pending pending.command ≡ false
+    → answer ≡ (act_of pending.command pending.moment exec.state).answer → answer ≡ completion_answer exec pending
+acts_answer exec pending answer last is = rw last is
+
+-- what may be done may be done without more subcommands
+pub may_act_complete : (command : Command) (state : State) → MayAct command state → MayAct (complete command) state
+may_act_complete commands.Empty state may = may
+may_act_complete (commands.Append from to) state may = may
+may_act_complete (commands.Build directory retention sub) state may = may
+may_act_complete (commands.Connect directory) state may = may
+may_act_complete (commands.Copy from to) state may = may
+may_act_complete (commands.CopyTty to) state may = may
+may_act_complete (commands.Define name None) state may = may
+may_act_complete (commands.Define name (Some directory)) state may = may
+may_act_complete (commands.Delete files) state may = may
+may_act_complete (commands.Directory files since before deleted sub) state may = may
+may_act_complete (commands.Expunge directory) state may = may
+may_act_complete (commands.Information what) state may = may
+may_act_complete commands.Logout state may = may
+may_act_complete (commands.Print files copies form after job note) state may = may
+may_act_complete commands.Remark state may = may
+may_act_complete (commands.Rename from to) state may = may
+may_act_complete (commands.Take file) state may = may
+may_act_complete (commands.TypeOut files) state may = may
+may_act_complete (commands.Undelete files) state may = may
 
 -- a line of subcommands is read where a command waits for them, and a main line else
 pub subcommand_line : (ended : Bool) (typing : Option Typing) (pending : Pending) (node : ℕ)

@@ -1,4 +1,3 @@
-pub mod Ending
 pub mod Exec
 pub mod ExecState
 pub mod Outcome

@@ -10,6 +10,7 @@ outcome_of answers.Ok = Ok tt
 outcome_of (answers.Refused code) = Ok tt
 outcome_of answers.Pending = Ok tt
 outcome_of answers.Data = Ok tt
+outcome_of answers.Take = Ok tt
 outcome_of answers.Logout = Ok tt
 outcome_of answers.NoMemory = Err stop.Memory
 outcome_of answers.Failed = Err stop.Screen

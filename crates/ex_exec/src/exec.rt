@@ -1,16 +1,18 @@
-// The EXEC as an application.
+// The EXEC in its course.
 #![tactic(auto)]
 
-ghost use Rattle.std.specs.Prelude.{◌≡◌, ◌≤◌, true, false, None, Some, [], ◌∷◌, OnErr, OnOk};
-ghost use Rattle.std.specs.Option.{option_copied};
+ghost use Rattle.std.specs.Prelude.{◌≡◌, ◌≤◌, true, false, None, Some, Ok, [], ◌∷◌, OnErr, OnOk};
+ghost use Rattle.std.specs.Option.{ForSome, option_copied};
 ghost use Rattle.cm_blocks.specs.Parse.{IsParse};
 ghost use Rattle.cm_blocks.specs.Setting.{setting};
 ghost use Rattle.cm_blocks.specs.declared.field.Ending.TheVariants as ending;
+ghost use Rattle.cm_io.specs.Fault.{PutCause};
+ghost use Rattle.cm_io.specs.Told.{Adds};
 ghost use Rattle.cm_run.specs.Cause.{ObeyCause};
 ghost use Rattle.cm_run.specs.Meaning.{IsModeOf};
 ghost use Rattle.cm_run.specs.Obey.{Obeys, stage};
 ghost use Rattle.cm_state.specs.SessionState.{text_of};
-ghost use Rattle.ex_commands.specs.Act.{act_of, begins};
+ghost use Rattle.ex_commands.specs.Act.{act_of, begins, writes};
 ghost use Rattle.ex_commands.specs.Answer.{MayAct};
 ghost use Rattle.ex_commands.specs.Command.{is_pending, subcommand_node};
 ghost use Rattle.ex_store.specs.Plan.{IsTarget};
@@ -18,15 +20,15 @@ ghost use Rattle.ex_grammar.specs.ExecRules.{exec_meanings};
 ghost use Rattle.ex_grammar.specs.Graph.{exec_graph};
 ghost use Rattle.ex_grammar.specs.declared.node.TheConstants.{COMMANDS};
 ghost use Rattle.ex_store.specs.State.{catalogue_of};
-ghost use Rattle.ex_exec.specs.Exec.{allocates, becomes, command_at, deed_of, line_mode, pending_with, subcommand_deeds, written};
-ghost use Rattle.ex_exec.specs.ExecState.{exec_start};
+ghost use Rattle.ex_exec.specs.Exec.{allocates, becomes, command_at, completion_answer, deed_of, echo_by, line_mode, mode_of, pending_complete, pending_with, raw_answer, raw_by, subcommand_deeds, written};
+ghost use Rattle.ex_exec.specs.ExecState.{ExecState, exec_start};
 ghost use Rattle.ex_exec.specs.Outcome.{lacks_memory, outcome_of};
 
 use crate::{Pending, Typing};
 use cm_blocks::Grammar;
 use cm_files::Names;
 use cm_io::{NoMemory, Put, Sink};
-use cm_run::{Application, Mode, Stop};
+use cm_run::{Mode, Stop};
 use cm_state::{Prompt, Session};
 use ex_commands::laws::{a_line_may_act, a_subcommand_may_act};
 use ex_commands::{Acted, Command, Data, DataTurn, act, write_data};
@@ -96,8 +98,8 @@ impl Exec {
         self.has_ended
     }
 
-    // What a confirmed line commands.
-    fn command_of(&self, session: &Session<ExecRules>, grammar: &Grammar) -> Command
+    /// What a confirmed line commands.
+    pub fn command_of(&self, session: &Session<ExecRules>, grammar: &Grammar) -> Command
         requires grammar { grammar.now ≡ exec_graph }
         requires parse { IsParse (setting exec_graph (catalogue_of self.now.state) exec_meanings) COMMANDS
             (text_of session.now) session.now.fields ending.Done }
@@ -152,111 +154,212 @@ impl Exec {
     }
 
     // Writes a file that was typed in, and is typed in no more.
-    fn write<S: Sink>(&mut self, typing: Typing, screen: &mut S) -> Result<(), Stop>
+    fn write<S: Sink>(&mut self, typing: Typing, screen: &mut S) -> Acted
         requires target { IsTarget typing.to self.old.state.directories }
         requires over { self.old.typing ≡ None }
         requires free { self.old.pending ≡ None }
         ensures obeys { Obeys (stage (S.told screen.old) self.old) (stage (S.told screen.new) self.new)
-            (written self.old typing ∷ []) result }
+            (written self.old typing ∷ []) (outcome_of result) }
+        ensures answer { outcome_of result ≡ Ok tt
+            → result ≡ (writes typing.to typing.typed typing.moment self.old.state).answer }
         ensures later { S.faults screen.old ≤ S.faults screen.new }
-        ensures cause { ObeyCause (S.faults screen.old) (S.faults screen.new) result }
+        ensures cause { ObeyCause (S.faults screen.old) (S.faults screen.new) (outcome_of result) }
     {
         let Typing { to, moment, typed } = typing;
-        outcome_of(write_data(&mut self.store, &to, typed, moment, screen))
+        write_data(&mut self.store, &to, typed, moment, screen)
     }
 
-    // Does a command.
-    fn obey<S: Sink>(&mut self, command: &Command, moment: u64, screen: &mut S) -> Result<(), Stop>
+    // Does a command that waits for no subcommands.
+    fn do_command<S: Sink>(&mut self, command: &Command, moment: u64, screen: &mut S) -> Acted
         requires may_act { MayAct command.now self.old.state }
         requires acts { is_pending command.now ≡ false }
         requires line { self.old.typing ≡ None }
         requires free { self.old.pending ≡ None }
         ensures obeys { Obeys (stage (S.told screen.old) self.old) (stage (S.told screen.new) self.new)
-            (deed_of self.old moment command.now ∷ []) result }
+            (deed_of self.old moment command.now ∷ []) (outcome_of result) }
+        ensures answer { outcome_of result ≡ Ok tt → result ≡ (act_of command.now moment self.old.state).answer }
         ensures later { S.faults screen.old ≤ S.faults screen.new }
-        ensures cause { ObeyCause (S.faults screen.old) (S.faults screen.new) result }
+        ensures cause { ObeyCause (S.faults screen.old) (S.faults screen.new) (outcome_of result) }
     {
         let Ok(()) = self.prepare(command, moment) else {
-            return Err(Stop::Memory);
+            return Acted::NoMemory;
         };
-        outcome_of(act(&mut self.store, command, moment, screen))
+        act(&mut self.store, command, moment, screen)
+    }
+
+    /// Does what a main line commands, or waits for its subcommands.
+    pub fn obey<S: Sink>(&mut self, command: Command, moment: u64, screen: &mut S) -> Acted
+        requires may_act { MayAct command self.old.state }
+        requires line { self.old.typing ≡ None }
+        requires free { self.old.pending ≡ None }
+        ensures obeys { Obeys (stage (S.told screen.old) self.old) (stage (S.told screen.new) self.new)
+            (deed_of self.old moment command ∷ []) (outcome_of result) }
+        ensures answer { outcome_of result ≡ Ok tt → result ≡ (act_of command moment self.old.state).answer }
+        ensures later { S.faults screen.old ≤ S.faults screen.new }
+        ensures cause { ObeyCause (S.faults screen.old) (S.faults screen.new) (outcome_of result) }
+    {
+        if command.is_pending() {
+            self.pending = Some(Pending { command, moment });
+            return Acted::Pending;
+        }
+        self.do_command(&command, moment, screen)
     }
 
     // Does a command behind its last subcommand, or has it wait on where memory is wanting.
-    fn complete<S: Sink>(&mut self, pending: Pending, screen: &mut S) -> Result<(), Stop>
+    fn complete<S: Sink>(&mut self, pending: Pending, screen: &mut S) -> Acted
         requires may_act { MayAct pending.command self.old.state }
         requires acts { is_pending pending.command ≡ false }
         requires line { self.old.typing ≡ None }
         requires free { self.old.pending ≡ None }
         ensures obeys { Obeys (stage (S.told screen.old) (record self.old { pending = Some pending }))
-            (stage (S.told screen.new) self.new) (deed_of self.old pending.moment pending.command ∷ []) result }
+            (stage (S.told screen.new) self.new) (deed_of self.old pending.moment pending.command ∷ [])
+            (outcome_of result) }
+        ensures answer { outcome_of result ≡ Ok tt
+            → result ≡ (act_of pending.command pending.moment self.old.state).answer }
         ensures later { S.faults screen.old ≤ S.faults screen.new }
-        ensures cause { ObeyCause (S.faults screen.old) (S.faults screen.new) result }
+        ensures cause { ObeyCause (S.faults screen.old) (S.faults screen.new) (outcome_of result) }
     {
-        let result = self.obey(&pending.command, pending.moment, screen);
-        if lacks_memory(result) {
+        let answer = self.do_command(&pending.command, pending.moment, screen);
+        if lacks_memory(answer) {
             self.pending = Some(pending);
-            return result;
+            return answer;
         }
-        result
+        answer
     }
 
-    // Does what a main line commands, or waits for its subcommands.
-    fn begin<S: Sink>(&mut self, command: Command, moment: u64, screen: &mut S) -> Result<(), Stop>
-        requires may_act { MayAct command self.old.state }
+    // Does a command to which a line of subcommands was added, unless it waits on.
+    fn go_on<S: Sink>(&mut self, pending: Pending, screen: &mut S) -> Acted
+        requires may_act { MayAct pending.command self.old.state }
         requires line { self.old.typing ≡ None }
         requires free { self.old.pending ≡ None }
-        ensures obeys { Obeys (stage (S.told screen.old) self.old) (stage (S.told screen.new) self.new)
-            (deed_of self.old moment command ∷ []) result }
+        ensures obeys { (before : ExecState) → Obeys (stage (S.told screen.old) before)
+            (stage (S.told screen.new) self.new) (subcommand_deeds self.old pending) (outcome_of result) }
+        ensures answer { outcome_of result ≡ Ok tt → result ≡ completion_answer self.old pending }
         ensures later { S.faults screen.old ≤ S.faults screen.new }
-        ensures cause { ObeyCause (S.faults screen.old) (S.faults screen.new) result }
+        ensures cause { ObeyCause (S.faults screen.old) (S.faults screen.new) (outcome_of result) }
     {
-        if command.is_pending() {
-            self.pending = Some(Pending { command, moment });
-            return Ok(());
+        if pending.command.is_pending() {
+            self.pending = Some(pending);
+            return Acted::Pending;
         }
-        self.obey(&command, moment, screen)
+        self.complete(pending, screen)
     }
 
-    // Adds a line of subcommands to a command that waited; behind an empty one it acts.
-    fn add_line<S: Sink>(
+    /// The command that waits for its subcommands, which waits no more then.
+    pub fn take_pending(&mut self) -> Option<Pending>
+        ensures pending { result ≡ self.old.pending }
+        ensures rest { self.new ≡ record self.old { pending = None } }
+        ensures may_act { ForSome result (λ pending. MayAct pending.command self.old.state) }
+        ensures line { ForSome result (λ pending. self.old.typing ≡ None) }
+    {
+        self.pending.take()
+    }
+
+    /// Adds a line of subcommands to a command that waited; behind an empty one it acts.
+    pub fn add_subcommands<S: Sink>(
         &mut self,
         mut pending: Pending,
         session: &Session<ExecRules>,
         screen: &mut S,
-    ) -> Result<(), Stop>
+    ) -> Acted
         requires may_act { MayAct pending.command self.old.state }
         requires parse { IsParse (setting exec_graph (catalogue_of self.old.state) exec_meanings)
             (subcommand_node pending.command) (text_of session.now) session.now.fields ending.Done }
         requires line { self.old.typing ≡ None }
         requires free { self.old.pending ≡ None }
-        ensures obeys { Obeys (stage (S.told screen.old) (record self.old { pending = Some pending }))
-            (stage (S.told screen.new) self.new) (subcommand_deeds self.old (pending_with session.now pending)) result }
+        ensures obeys { (before : ExecState) → Obeys (stage (S.told screen.old) before)
+            (stage (S.told screen.new) self.new) (subcommand_deeds self.old (pending_with session.now pending))
+            (outcome_of result) }
+        ensures answer { outcome_of result ≡ Ok tt
+            → result ≡ completion_answer self.old (pending_with session.now pending) }
         ensures later { S.faults screen.old ≤ S.faults screen.new }
-        ensures cause { ObeyCause (S.faults screen.old) (S.faults screen.new) result }
+        ensures cause { ObeyCause (S.faults screen.old) (S.faults screen.new) (outcome_of result) }
     {
         a_subcommand_may_act();
         pending.command.add_sub(session);
-        if pending.command.is_pending() {
-            self.pending = Some(pending);
-            return Ok(());
+        self.go_on(pending, screen)
+    }
+
+    /// Ends the subcommands of a command that waited, as an empty line of them does: it acts.
+    #[tactic(auto, using(crate::proofs::Waiting::may_act_complete))]
+    pub fn end_subcommands<S: Sink>(&mut self, mut pending: Pending, screen: &mut S) -> Acted
+        requires may_act { MayAct pending.command self.old.state }
+        requires line { self.old.typing ≡ None }
+        requires free { self.old.pending ≡ None }
+        ensures obeys { (before : ExecState) → Obeys (stage (S.told screen.old) before)
+            (stage (S.told screen.new) self.new) (subcommand_deeds self.old (pending_complete pending))
+            (outcome_of result) }
+        ensures answer { outcome_of result ≡ Ok tt
+            → result ≡ completion_answer self.old (pending_complete pending) }
+        ensures later { S.faults screen.old ≤ S.faults screen.new }
+        ensures cause { ObeyCause (S.faults screen.old) (S.faults screen.new) (outcome_of result) }
+    {
+        pending.command.complete();
+        self.go_on(pending, screen)
+    }
+
+    /// What the next key is for.
+    pub fn mode(&self) -> Mode
+        ensures mode { result ≡ mode_of self.now }
+        ensures node { IsModeOf exec_graph result }
+    {
+        if self.has_ended {
+            return Mode::Ended;
         }
-        self.complete(pending, screen)
+        match &self.typing {
+            Some(_) => Mode::Raw,
+            None => line_mode(self.pending.as_ref()),
+        }
+    }
+
+    /// Drops the command that waits for its subcommands.
+    pub fn abandon(&mut self)
+        ensures { self.new ≡ record self.old { pending = None } }
+    {
+        self.pending = None;
+    }
+
+    /// Shows what a key of a file that is typed in does, and does nothing yet.
+    #[tactic(auto, using(cm_io::proofs::Adding::add_none))]
+    pub fn echo_raw<S: Sink>(&self, key: u8, screen: &mut S) -> Put
+        ensures bytes { Adds (S.told screen.old) (S.told screen.new) (echo_by key self.now.typing) result }
+        ensures later { S.faults screen.old ≤ S.faults screen.new }
+        ensures cause { PutCause (S.faults screen.old) (S.faults screen.new) result }
+    {
+        match &self.typing {
+            Some(typing) => typing.typed.echo(key, screen),
+            None => Put::Done,
+        }
+    }
+
+    /// Takes a key of a file that is typed in.
+    #[tactic(auto, using(cm_run::proofs::Obeying::obeys_nothing, crate::proofs::Obeying::obeys_silent), unfolding(cm_run::specs::Cause::ObeyCause, crate::specs::Exec::typed_deeds))]
+    pub fn obey_raw<S: Sink>(&mut self, key: u8, screen: &mut S) -> Acted
+        ensures obeys { Obeys (stage (S.told screen.old) self.old) (stage (S.told screen.new) self.new)
+            (raw_by self.old key self.old.typing) (outcome_of result) }
+        ensures answer { outcome_of result ≡ Ok tt → result ≡ raw_answer self.old key self.old.typing }
+        ensures later { S.faults screen.old ≤ S.faults screen.new }
+        ensures cause { ObeyCause (S.faults screen.old) (S.faults screen.new) (outcome_of result) }
+    {
+        let Some(mut typing) = self.typing.take() else {
+            return Acted::Ok;
+        };
+        match typing.typed.take(key) {
+            DataTurn::More => {
+                self.typing = Some(typing);
+                Acted::Ok
+            }
+            DataTurn::Write => self.write(typing, screen),
+            DataTurn::Dropped => Acted::Ok,
+        }
     }
 }
 
 // Whether memory was wanting.
-fn lacks_memory(went: Result<(), Stop>) -> bool
-    ensures { result ≡ lacks_memory went }
+fn lacks_memory(answer: Acted) -> bool
+    ensures { result ≡ lacks_memory (outcome_of answer) }
 {
-    match went {
-        Ok(()) => false,
-        Err(Stop::Memory) => true,
-        Err(Stop::Screen) => false,
-        Err(Stop::Log) => false,
-        Err(Stop::Keys) => false,
-        Err(Stop::Limit) => false,
-    }
+    matches!(answer, Acted::NoMemory)
 }
 
 // A line is of subcommands where a command waits for them.
@@ -279,8 +382,8 @@ fn line_mode(pending: Option<&Pending>) -> Mode
     }
 }
 
-// What came of a command, as the engine is told it.
-fn outcome_of(acted: Acted) -> Result<(), Stop>
+/// What came of a command, as the engine is told it.
+pub fn outcome_of(acted: Acted) -> Result<(), Stop>
     ensures { result ≡ outcome_of acted }
 {
     match acted {
@@ -288,90 +391,9 @@ fn outcome_of(acted: Acted) -> Result<(), Stop>
         Acted::Refused(_) => Ok(()),
         Acted::Pending => Ok(()),
         Acted::Data => Ok(()),
+        Acted::Take => Ok(()),
         Acted::Logout => Ok(()),
         Acted::NoMemory => Err(Stop::Memory),
         Acted::Failed => Err(Stop::Screen),
-    }
-}
-
-impl Application for Exec {
-    ghost use Rattle.ex_exec.specs.Exec.{exec_meaning};
-
-    type Rules = ExecRules;
-
-    type Names = Store;
-
-    ghost means = { exec_meaning };
-
-    fn names(&self) -> &Store {
-        &self.store
-    }
-
-    fn mode(&self) -> Mode {
-        if self.has_ended {
-            return Mode::Ended;
-        }
-        match &self.typing {
-            Some(_) => Mode::Raw,
-            None => line_mode(self.pending.as_ref()),
-        }
-    }
-
-    fn obey_line<S: Sink>(
-        &mut self,
-        session: &Session<ExecRules>,
-        grammar: &Grammar,
-        moment: u64,
-        screen: &mut S,
-    ) -> Result<(), Stop> {
-        match self.pending.take() {
-            Some(pending) => self.add_line(pending, session, screen),
-            None => {
-                let command = self.command_of(session, grammar);
-                self.begin(command, moment, screen)
-            }
-        }
-    }
-
-    fn abandon(&mut self) {
-        self.pending = None;
-    }
-
-    #[tactic(auto, using(cm_io::proofs::Adding::add_none))]
-    fn echo_raw<S: Sink>(&self, key: u8, screen: &mut S) -> Put {
-        match &self.typing {
-            Some(typing) => typing.typed.echo(key, screen),
-            None => Put::Done,
-        }
-    }
-
-    #[tactic(auto, using(cm_run::proofs::Obeying::obeys_nothing, crate::proofs::Obeying::obeys_silent), unfolding(cm_run::specs::Cause::ObeyCause, crate::specs::Exec::typed_deeds))]
-    fn obey_raw<S: Sink>(&mut self, key: u8, screen: &mut S) -> Result<(), Stop> {
-        let Some(mut typing) = self.typing.take() else {
-            return Ok(());
-        };
-        match typing.typed.take(key) {
-            DataTurn::More => {
-                self.typing = Some(typing);
-                Ok(())
-            }
-            DataTurn::Write => self.write(typing, screen),
-            DataTurn::Dropped => Ok(()),
-        }
-    }
-
-    fn file_line(&self) -> Option<&[u8]> {
-        None
-    }
-
-    #[tactic(auto, using(cm_run::proofs::Obeying::obeys_nothing), unfolding(cm_run::specs::Cause::ObeyCause))]
-    fn obey_file_line<S: Sink>(
-        &mut self,
-        _session: &Session<ExecRules>,
-        _grammar: &Grammar,
-        _moment: u64,
-        _screen: &mut S,
-    ) -> Result<(), Stop> {
-        Ok(())
     }
 }

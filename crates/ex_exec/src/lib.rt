@@ -1,12 +1,11 @@
-//! The EXEC as an application of the engine: what its confirmed lines do, how a command waits for
-//! its subcommands, and how a file is typed in.
+//! The EXEC in its course: what its confirmed lines do, how a command waits for its subcommands, and how a file is
+//! typed in.
 #![tactic(auto)]
 
 mod exec;
-pub mod laws;
 mod pending;
 mod typing;
 
-pub use exec::Exec;
+pub use exec::{Exec, outcome_of};
 pub use pending::Pending;
 pub use typing::Typing;

@@ -10,7 +10,7 @@ use Rattle.cm_run.specs.Observed.{Between, Performs}
 use Rattle.cm_run.specs.declared.stop.Stop.{Stop}
 use Rattle.cm_run.specs.declared.stop.Stop.TheVariants as stop
 use Rattle.ex_image.specs.Image.{image_text}
-use Rattle.ex_exec.specs.ExecState.{ExecState, exec_start}
+use Rattle.ex_take.specs.TakerState.{TakerState, taker_start}
 use Rattle.ex_store.specs.State.{State}
 use Rattle.ex_system.specs.Closing.{Closes, Ends}
 use Rattle.ex_system.specs.Disk.{Disk}
@@ -71,23 +71,23 @@ closes_done (Err stop.Log) ended before now f g result closes done =
     absurd (is_not result status.WriteFault status.Done closes.0 done (λ (same : status.WriteFault ≡ status.Done). cc) (λ (same : status.HostFault ≡ status.Done). cc))
 
 -- a run that is Done, and what was observed where it stopped
-module _ (told : Type 0) (form : Form) (start : State) (left : ExecState) (a b : Scene) (result : Status) (ran : Ran told form start left a b result)
+module _ (told : Type 0) (form : Form) (start : State) (left : TakerState) (a b : Scene) (result : Status) (ran : Ran told form start left a b result)
     (done : result ≡ status.Done) where
-  closes : ClosesDone ran.stop left.ended ran.at.screen b.screen
-  closes = closes_done ran.stop left.ended ran.at.screen b.screen ran.at.faults.screen b.faults.screen result ran.closes done
+  closes : ClosesDone ran.stop left.exec.ended ran.at.screen b.screen
+  closes = closes_done ran.stop left.exec.ended ran.at.screen b.screen ran.at.faults.screen b.faults.screen result ran.closes done
 
-  pub done_between : told → Between (seen a (exec_start start)) (seen ran.at left) (exec_trace form.logs start a.moments a.keys)
+  pub done_between : told → Between (seen a (taker_start start)) (seen ran.at left) (exec_trace form.logs start a.moments a.keys)
   unfolding Traces Performs
   done_between tells =
-      subst (λ (why : Result Unit Stop). Traces (seen a (exec_start start)) (seen ran.at left) (exec_trace form.logs start a.moments a.keys) why)
+      subst (λ (why : Result Unit Stop). Traces (seen a (taker_start start)) (seen ran.at left) (exec_trace form.logs start a.moments a.keys) why)
       closes.stop (ran.traces tells)
 
   pub done_shown : told → b.screen ≡ add a.screen (run_shown form.logs start a.moments a.keys)
   done_shown tells =
       let between = done_between tells in
       let bytes = screen_bytes (exec_trace form.logs start a.moments a.keys) in
-      closes.told ∙ ap (λ (it : Told). add it (closing left.ended)) between.screen ∙ sym (add_append a.screen bytes (closing left.ended))
-      ∙ ap (λ (it : ExecState). add a.screen (bytes ++ closing it.ended)) between.state
+      closes.told ∙ ap (λ (it : Told). add it (closing left.exec.ended)) between.screen ∙ sym (add_append a.screen bytes (closing left.exec.ended))
+      ∙ ap (λ (it : TakerState). add a.screen (bytes ++ closing it.exec.ended)) between.state
 
   pub done_logged : told → b.log ≡ add a.log (log_bytes (exec_trace form.logs start a.moments a.keys))
   done_logged tells = ap (λ (it : Scene). it.log) ran.rest ∙ (done_between tells).log
@@ -96,7 +96,7 @@ module _ (told : Type 0) (form : Form) (start : State) (left : ExecState) (a b :
   done_counted tells = ap (λ (it : Scene). it.trials) ran.rest ∙ (done_between tells).trials
 
   pub done_saved : (before now : Disk) → told → IsTrue before.tells → Saves before now form.out left.state result
-      → now.files form.out ≡ Some (image_text (exec_left form.logs start a.moments a.keys).state)
+      → now.files form.out ≡ Some (image_text (exec_left form.logs start a.moments a.keys).exec.state)
   done_saved before now tells tell saves =
       subst (λ (it : Status). Keeps (image_text left.state) (before.files form.out) (now.files form.out) it) done (saves.file tell)
-      ∙ ap (λ (it : ExecState). Some (image_text it.state)) (done_between tells).state
+      ∙ ap (λ (it : TakerState). Some (image_text it.exec.state)) (done_between tells).state

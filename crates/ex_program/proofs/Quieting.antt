@@ -8,8 +8,9 @@ use Rattle.cm_run.specs.Trace.{RunState, is_ended, keys_trace}
 use Rattle.cm_run.specs.declared.stop.Stop.{Stop}
 use Rattle.cm_run.specs.declared.stop.Stop.TheVariants as stop
 use Rattle.cm_run.proofs.Prefixes.{GoesOn, runs_on}
-use Rattle.ex_exec.specs.Exec.{exec_meaning, mode_of}
-use Rattle.ex_exec.specs.ExecState.{ExecState, exec_start}
+use Rattle.ex_exec.specs.Exec.{mode_of}
+use Rattle.ex_take.specs.Taker.{taker_meaning}
+use Rattle.ex_take.specs.TakerState.{TakerState, taker_start}
 use Rattle.ex_store.specs.State.{State}
 use Rattle.ex_system.specs.Cause.{IsQuiet, StatusCause}
 use Rattle.ex_system.specs.Closing.{Closes, Ends}
@@ -79,26 +80,26 @@ none_of [] none = refl
 none_of (x ∷ xs) none = absurd (omega (arith, none))
 
 -- the EXEC has not ended where its mode is none of the end
-goes : (exec : ExecState) → is_ended (mode_of exec) ≡ false → exec.ended ≡ false
-goes exec going = sym (ended_by exec.ended exec.typing exec.pending) ∙ going
+goes : (taker : TakerState) → is_ended (mode_of taker.exec) ≡ false → taker.exec.ended ≡ false
+goes taker going = sym (ended_by taker.exec.ended taker.exec.typing taker.exec.pending) ∙ going
 
 -- a run that went to its end, at as many keys as it takes, ended over them
-module _ (logging : Bool) (start : State) (moments taken rest : List ℕ) (left : ExecState) where
-  abbrev events : List ℕ → List (Event ExecState)
+module _ (logging : Bool) (start : State) (moments taken rest : List ℕ) (left : TakerState) where
+  abbrev events : List ℕ → List (Event TakerState)
   events keys = exec_trace logging start moments keys
 
-  ended_over : (next : RunState ExecState) → is_ended (mode_of next.state) ≡ false
-      → left ≡ state_behind next.state (keys_trace exec_meaning logging next rest) → left.ended ≡ true
-      → length (keys_of (keys_trace exec_meaning logging next rest)) ≡ 0 → ⊥
+  ended_over : (next : RunState TakerState) → is_ended (mode_of next.state.exec) ≡ false
+      → left ≡ state_behind next.state (keys_trace taker_meaning logging next rest) → left.exec.ended ≡ true
+      → length (keys_of (keys_trace taker_meaning logging next rest)) ≡ 0 → ⊥
   ended_over next going leads ended none = by rest leads none where
-    by : (behind : List ℕ) → left ≡ state_behind next.state (keys_trace exec_meaning logging next behind)
-        → length (keys_of (keys_trace exec_meaning logging next behind)) ≡ 0 → ⊥
-    by [] leads none = let both : true ≡ false = sym ended ∙ ap (λ (it : ExecState). it.ended) leads ∙ goes next.state going in cc
-    by (key ∷ keys) leads none = let empty = none_of (keys_of (keys_trace exec_meaning logging next (key ∷ keys))) none in cc
+    by : (behind : List ℕ) → left ≡ state_behind next.state (keys_trace taker_meaning logging next behind)
+        → length (keys_of (keys_trace taker_meaning logging next behind)) ≡ 0 → ⊥
+    by [] leads none = let both : true ≡ false = sym ended ∙ ap (λ (it : TakerState). it.exec.ended) leads ∙ goes next.state going in cc
+    by (key ∷ keys) leads none = let empty = none_of (keys_of (keys_trace taker_meaning logging next (key ∷ keys))) none in cc
 
-  not_over_by : (more : List ℕ) → length taken ≡ KEY_LIMIT → GoesOn exec_meaning logging (exec_start start) (events (taken ++ rest)) taken rest
-      → keys_of (events (taken ++ rest)) ++ more ≡ taken ++ rest → left ≡ state_behind (exec_start start) (events (taken ++ rest))
-      → (ended : Bool) → left.ended ≡ ended → KeyCount KEY_LIMIT (length (taken ++ rest)) (length more) ended (Ok tt) → ⊥
+  not_over_by : (more : List ℕ) → length taken ≡ KEY_LIMIT → GoesOn taker_meaning logging (taker_start start) (events (taken ++ rest)) taken rest
+      → keys_of (events (taken ++ rest)) ++ more ≡ taken ++ rest → left ≡ state_behind (taker_start start) (events (taken ++ rest))
+      → (ended : Bool) → left.exec.ended ≡ ended → KeyCount KEY_LIMIT (length (taken ++ rest)) (length more) ended (Ok tt) → ⊥
   unfolding KeyCount
   not_over_by more limit on keys leads false is count =
       omega (
@@ -109,7 +110,7 @@ module _ (logging : Bool) (start : State) (moments taken rest : List ℕ) (left 
         ap length keys,
         length-append (keys_of (events (taken ++ rest))) more,
         ap length on.keys,
-        length-append taken (keys_of (keys_trace exec_meaning logging on.next rest)),
+        length-append taken (keys_of (keys_trace taker_meaning logging on.next rest)),
       )
   not_over_by more limit on keys leads true is count =
       ended_over on.next on.going (leads ∙ on.left) is
@@ -121,25 +122,25 @@ module _ (logging : Bool) (start : State) (moments taken rest : List ℕ) (left 
         ap length keys,
         length-append (keys_of (events (taken ++ rest))) more,
         ap length on.keys,
-        length-append taken (keys_of (keys_trace exec_meaning logging on.next rest)),
+        length-append taken (keys_of (keys_trace taker_meaning logging on.next rest)),
       ))
 
-not_over : (logging : Bool) (start : State) (moments taken rest all more : List ℕ) (left : ExecState) → taken ++ rest ≡ all → length taken ≡ KEY_LIMIT
-    → (exec_left logging start moments taken).ended ≡ false → keys_of (exec_trace logging start moments all) ++ more ≡ all
-    → left ≡ state_behind (exec_start start) (exec_trace logging start moments all)
-    → KeyCount KEY_LIMIT (length all) (length more) left.ended (Ok tt) → ⊥
+not_over : (logging : Bool) (start : State) (moments taken rest all more : List ℕ) (left : TakerState) → taken ++ rest ≡ all → length taken ≡ KEY_LIMIT
+    → (exec_left logging start moments taken).exec.ended ≡ false → keys_of (exec_trace logging start moments all) ++ more ≡ all
+    → left ≡ state_behind (taker_start start) (exec_trace logging start moments all)
+    → KeyCount KEY_LIMIT (length all) (length more) left.exec.ended (Ok tt) → ⊥
 not_over logging start moments taken rest all more left joined limit going keys leads count =
     not_over_by logging start moments taken rest left more limit
-    (runs_on exec_meaning logging (exec_start start) moments taken rest
-    (ended_by (exec_left logging start moments taken).ended (exec_left logging start moments taken).typing
-    (exec_left logging start moments taken).pending ∙ going))
+    (runs_on taker_meaning logging (taker_start start) moments taken rest
+    (ended_by (exec_left logging start moments taken).exec.ended (exec_left logging start moments taken).exec.typing
+    (exec_left logging start moments taken).exec.pending ∙ going))
     (subst (λ (it : List ℕ). keys_of (exec_trace logging start moments it) ++ more ≡ it) (sym joined) keys)
-    (subst (λ (it : List ℕ). left ≡ state_behind (exec_start start) (exec_trace logging start moments it)) (sym joined) leads)
-    left.ended refl
-    (subst (λ (it : List ℕ). KeyCount KEY_LIMIT (length it) (length more) left.ended (Ok tt)) (sym joined) count)
+    (subst (λ (it : List ℕ). left ≡ state_behind (taker_start start) (exec_trace logging start moments it)) (sym joined) leads)
+    left.exec.ended refl
+    (subst (λ (it : List ℕ). KeyCount KEY_LIMIT (length it) (length more) left.exec.ended (Ok tt)) (sym joined) count)
 
 -- a run of which keys and clock told
-module _ (told : Type 0) (tells : told) (form : Form) (start : State) (left : ExecState) (a b : Scene) (h k : ℕ) (result : Status)
+module _ (told : Type 0) (tells : told) (form : Form) (start : State) (left : TakerState) (a b : Scene) (h k : ℕ) (result : Status)
     (ran : Ran told form start left a b result) (run : IsRun result) (cause : StatusCause a.faults b.faults result) (host_cause : HostCause h k result)
     (screen : IsQuiet a.faults.screen b.faults.screen) (log : IsQuiet a.faults.log b.faults.log) (keys : IsQuiet a.faults.keys b.faults.keys)
     (host : IsQuiet h k) where
@@ -152,21 +153,21 @@ module _ (told : Type 0) (tells : told) (form : Form) (start : State) (left : Ex
     by (inr (inl limit)) = absurd (omega (
       arith,
       few,
-      limit_count (length a.keys) (length ran.at.keys) left.ended
-          (subst (λ (why : Result Unit Stop). KeyCount KEY_LIMIT (length a.keys) (length ran.at.keys) left.ended why)
-          (closes_limit ran.stop left.ended ran.at.screen b.screen ran.at.faults.screen b.faults.screen result ran.closes limit)
+      limit_count (length a.keys) (length ran.at.keys) left.exec.ended
+          (subst (λ (why : Result Unit Stop). KeyCount KEY_LIMIT (length a.keys) (length ran.at.keys) left.exec.ended why)
+          (closes_limit ran.stop left.exec.ended ran.at.screen b.screen ran.at.faults.screen b.faults.screen result ran.closes limit)
           (ran.count tells)),
     ))
 
   -- with as many keys as a run takes, over which it has not ended, it is halted
   pub quiet_limit : (taken rest : List ℕ) → taken ++ rest ≡ a.keys → length taken ≡ KEY_LIMIT
-      → (exec_left form.logs start a.moments taken).ended ≡ false → (result ≡ status.KeyLimit) ⊎ (result ≡ status.NoMemory)
+      → (exec_left form.logs start a.moments taken).exec.ended ≡ false → (result ≡ status.KeyLimit) ⊎ (result ≡ status.NoMemory)
   quiet_limit taken rest all count going = by (quiet_end a.faults b.faults h k screen log keys host result run cause host_cause) where
     by : IsQuietEnd result → (result ≡ status.KeyLimit) ⊎ (result ≡ status.NoMemory)
     by (inr (inr memory)) = inr memory
     by (inr (inl limit)) = inl limit
     by (inl done) = absurd (not_over form.logs start a.moments taken rest a.keys ran.at.keys left all count going between.keys between.state
-        (subst (λ (why : Result Unit Stop). KeyCount KEY_LIMIT (length a.keys) (length ran.at.keys) left.ended why)
-        (closes_done ran.stop left.ended ran.at.screen b.screen ran.at.faults.screen b.faults.screen result ran.closes done).stop (ran.count tells))) where
-          between : Between (seen a (exec_start start)) (seen ran.at left) (exec_trace form.logs start a.moments a.keys)
+        (subst (λ (why : Result Unit Stop). KeyCount KEY_LIMIT (length a.keys) (length ran.at.keys) left.exec.ended why)
+        (closes_done ran.stop left.exec.ended ran.at.screen b.screen ran.at.faults.screen b.faults.screen result ran.closes done).stop (ran.count tells))) where
+          between : Between (seen a (taker_start start)) (seen ran.at left) (exec_trace form.logs start a.moments a.keys)
           between = done_between told form start left a b result ran done tells

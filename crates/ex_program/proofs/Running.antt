@@ -4,8 +4,9 @@ use Rattle.cm_run.specs.Cause.{KeyCount}
 use Rattle.cm_run.specs.Cut.{Traces}
 use Rattle.cm_run.specs.Trace.{is_ended, run_trace}
 use Rattle.cm_run.specs.declared.stop.Stop.{Stop}
-use Rattle.ex_exec.specs.Exec.{exec_meaning, mode_by, mode_of}
-use Rattle.ex_exec.specs.ExecState.{ExecState, exec_start}
+use Rattle.ex_exec.specs.Exec.{mode_by, mode_of}
+use Rattle.ex_take.specs.Taker.{taker_meaning}
+use Rattle.ex_take.specs.TakerState.{TakerState, taker_start}
 use Rattle.ex_exec.specs.declared.pending.Pending.{Pending}
 use Rattle.ex_exec.specs.declared.typing.Typing.{Typing}
 use Rattle.ex_program.specs.Run.{exec_trace}
@@ -19,13 +20,13 @@ ended_by false None None = refl
 ended_by false None (Some pending) = refl
 ended_by false (Some typing) pending = refl
 
-pub as_count : (before now : ℕ) (left : ExecState) (result : Result Unit Stop) → KeyCount KEY_LIMIT before now (is_ended (mode_of left)) result
-    → KeyCount KEY_LIMIT before now left.ended result
-as_count before now left result count = subst (λ (it : Bool). KeyCount KEY_LIMIT before now it result) (ended_by left.ended left.typing left.pending) count
+pub as_count : (before now : ℕ) (left : TakerState) (result : Result Unit Stop) → KeyCount KEY_LIMIT before now (is_ended (mode_of left.exec)) result
+    → KeyCount KEY_LIMIT before now left.exec.ended result
+as_count before now left result count = subst (λ (it : Bool). KeyCount KEY_LIMIT before now it result) (ended_by left.exec.ended left.exec.typing left.exec.pending) count
 
 -- a run that begins in this state is one that starts from its state of the file machine
-pub as_traces : (a at : Scene) (exec left : ExecState) (logging : Bool) (result : Result Unit Stop) → exec ≡ exec_start exec.state
-    → Traces (seen a exec) (seen at left) (run_trace exec_meaning logging exec a.moments a.keys) result
-    → Traces (seen a (exec_start exec.state)) (seen at left) (exec_trace logging exec.state a.moments a.keys) result
-as_traces a at exec left logging result starts traces =
-    subst (λ (it : ExecState). Traces (seen a it) (seen at left) (run_trace exec_meaning logging it a.moments a.keys) result) starts traces
+pub as_traces : (a at : Scene) (taker left : TakerState) (logging : Bool) (result : Result Unit Stop) → taker ≡ taker_start taker.exec.state
+    → Traces (seen a taker) (seen at left) (run_trace taker_meaning logging taker a.moments a.keys) result
+    → Traces (seen a (taker_start taker.exec.state)) (seen at left) (exec_trace logging taker.exec.state a.moments a.keys) result
+as_traces a at taker left logging result starts traces =
+    subst (λ (it : TakerState). Traces (seen a it) (seen at left) (run_trace taker_meaning logging it a.moments a.keys) result) starts traces

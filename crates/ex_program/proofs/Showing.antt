@@ -5,9 +5,9 @@ use Rattle.cm_run.specs.Progress.{MeetSound}
 use Rattle.cm_run.specs.Trace.{starting}
 use Rattle.tt_laws.specs.Keeping.{KeepsLine}
 use Rattle.tt_laws.proofs.Keeping.{run_keeps}
-use Rattle.ex_exec.specs.Exec.{exec_meaning}
-use Rattle.ex_exec.specs.ExecState.{ExecState, exec_start}
-use Rattle.ex_exec.proofs.LineKeeping.{exec_keeps_lines}
+use Rattle.ex_take.specs.Taker.{taker_meaning}
+use Rattle.ex_take.specs.TakerState.{TakerState, taker_start}
+use Rattle.ex_take.proofs.LineKeeping.{taker_keeps_lines}
 use Rattle.ex_store.specs.State.{State}
 
 -- a beginning of no keys
@@ -17,15 +17,15 @@ no_first (key ∷ first) rest none = cc
 
 -- where no key was taken there is no beginning but this
 pub none_taken : (start : State) (moments before now taken rest : List ℕ) → now ≡ before → (taken ++ rest) ++ now ≡ before
-    → KeepsLine exec_meaning (exec_start start) moments taken
+    → KeepsLine taker_meaning (taker_start start) moments taken
 unfolding MeetSound
 none_taken start moments before now taken rest same all =
     let none : taken ++ rest ≡ [] = append_cancel_right (taken ++ rest) [] now (all ∙ sym same) in
-    subst (λ keys. KeepsLine exec_meaning (exec_start start) moments keys) (sym (no_first taken rest none))
-    (run_keeps exec_meaning exec_keeps_lines (exec_start start) moments [] tt)
+    subst (λ keys. KeepsLine taker_meaning (taker_start start) moments keys) (sym (no_first taken rest none))
+    (run_keeps taker_meaning taker_keeps_lines (taker_start start) moments [] tt)
 
 -- each key that was taken met what is sound
-pub some_taken : (exec : ExecState) (moments taken : List ℕ) → exec ≡ exec_start exec.state
-    → MeetSound exec_meaning (starting exec_meaning exec moments) taken → KeepsLine exec_meaning (exec_start exec.state) moments taken
-some_taken exec moments taken starts met =
-    subst (λ (it : ExecState). KeepsLine exec_meaning it moments taken) starts (run_keeps exec_meaning exec_keeps_lines exec moments taken met)
+pub some_taken : (taker : TakerState) (moments taken : List ℕ) → taker ≡ taker_start taker.exec.state
+    → MeetSound taker_meaning (starting taker_meaning taker moments) taken → KeepsLine taker_meaning (taker_start taker.exec.state) moments taken
+some_taken taker moments taken starts met =
+    subst (λ (it : TakerState). KeepsLine taker_meaning it moments taken) starts (run_keeps taker_meaning taker_keeps_lines taker moments taken met)

@@ -6,7 +6,7 @@ use Rattle.cm_io.specs.declared.sink.Sink
 use Rattle.cm_io.specs.declared.source.Source
 use Rattle.cm_run.specs.Cause.{Counts, counts}
 use Rattle.cm_run.specs.Observed.{Observed, observed}
-use Rattle.ex_exec.specs.ExecState.{ExecState}
+use Rattle.ex_take.specs.TakerState.{TakerState}
 
 -- the screen and the log; the keys that are left, and how often they were asked for; the moments to come; the counter;
 -- and how often each has failed
@@ -32,7 +32,7 @@ scene s screen w log k keys c clock trials = record {
 }
 
 -- what is observed where the EXEC is in this state
-abbrev pub seen : Scene → ExecState → Observed ExecState
+abbrev pub seen : Scene → TakerState → Observed TakerState
 seen at state = observed at.screen at.log at.keys at.gets at.moments at.trials state
 
 -- the screen alone has changed

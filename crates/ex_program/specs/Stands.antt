@@ -3,7 +3,7 @@ use Rattle.std.specs.Prelude.{◌≡◌, ◌⊎◌, Bool, false, [], length, Opt
 use Rattle.cm_run.specs.Cause.{KeyCount, RunCause}
 use Rattle.cm_run.specs.Cut.{Traces}
 use Rattle.cm_run.specs.declared.stop.Stop.{Stop}
-use Rattle.ex_exec.specs.ExecState.{ExecState, exec_start}
+use Rattle.ex_take.specs.TakerState.{TakerState, taker_start}
 use Rattle.ex_store.specs.State.{State}
 use Rattle.ex_system.specs.Closing.{Closes}
 use Rattle.ex_system.specs.Disk.{Disk}
@@ -29,21 +29,21 @@ pub record Refused (a b : Scene) (result : Status) : Type 0 where
 
 -- past it the run stopped so, and what was observed then is its trace, or a cut of it, as far as keys and clock tell;
 -- behind that nothing but the screen is touched, which shows how the run is closed
-pub record Ran (told : Type 0) (form : Form) (start : State) (left : ExecState) (a b : Scene) (result : Status)
+pub record Ran (told : Type 0) (form : Form) (start : State) (left : TakerState) (a b : Scene) (result : Status)
     : Type 0 where
   pub stop : Result Unit Stop
   pub at : Scene
   pub traces : told
-      → Traces (seen a (exec_start start)) (seen at left) (exec_trace form.logs start a.moments a.keys) stop
-  pub count : told → KeyCount KEY_LIMIT (length a.keys) (length at.keys) left.ended stop
+      → Traces (seen a (taker_start start)) (seen at left) (exec_trace form.logs start a.moments a.keys) stop
+  pub count : told → KeyCount KEY_LIMIT (length a.keys) (length at.keys) left.exec.ended stop
   pub cause : RunCause a.faults at.faults stop
-  pub closes : Closes stop left.ended at.screen b.screen at.faults.screen b.faults.screen result
+  pub closes : Closes stop left.exec.ended at.screen b.screen at.faults.screen b.faults.screen result
   pub rest : b ≡ with_screen at b.screen b.faults.screen
 
 -- the run began in a state, and the image of the state that it left is written
 pub record Past (told : Type 0) (form : Form) (a b : Scene) (before now : Disk) (result : Status) : Type 0 where
   pub start : State
-  pub left : ExecState
+  pub left : TakerState
   pub loaded : Disk
   pub begins : IsLoaded form.input before loaded × (loaded.faults ≡ before.faults) × Began before form.input start
   pub ran : Ran told form start left a b result

@@ -9,8 +9,8 @@ ghost use Rattle.tt_laws.specs.Keeping.{KeepsLine};
 ghost use Rattle.ex_grammar.specs.ExecRules.{exec_meanings};
 ghost use Rattle.ex_image.specs.Image.{image_text};
 ghost use Rattle.ex_store.specs.State.{State};
-ghost use Rattle.ex_exec.specs.Exec.{exec_meaning};
-ghost use Rattle.ex_exec.specs.ExecState.{exec_start};
+ghost use Rattle.ex_take.specs.Taker.{taker_meaning};
+ghost use Rattle.ex_take.specs.TakerState.{taker_start};
 ghost use Rattle.ex_system.specs.Cause.{IsQuiet, StatusCause};
 ghost use Rattle.ex_system.specs.Disk.{disk_of};
 ghost use Rattle.ex_system.specs.Saving.{HostCause, Saves};
@@ -26,9 +26,9 @@ use cm_blocks::{Grammar, Steps};
 use cm_hooks::Hooks;
 use cm_io::{Clock, Host, Sink, Source};
 use cm_run::run;
-use ex_exec::Exec;
 use ex_grammar::{ExecRules, grammar};
 use ex_system::{close, refuse, start};
+use ex_take::Taker;
 use std::alloc::Global;
 use std::sync::ledger::Ledger;
 
@@ -38,7 +38,7 @@ pub const KEY_LIMIT: u64 = 16_777_216;
 // Runs over the keys to the end, writes the image, and shows the message of the status.
 fn run_exec<H: Host, K: Source, S: Sink, W: Sink, C: Clock, L: Ledger>(
     form: &words::Form<'_>,
-    exec: &mut Exec,
+    taker: &mut Taker,
     grammar: &Grammar,
     hooks: &Hooks<ExecRules>,
     host: &mut H,
@@ -48,26 +48,26 @@ fn run_exec<H: Host, K: Source, S: Sink, W: Sink, C: Clock, L: Ledger>(
     clock: &mut C,
     steps: &mut Steps<L>,
 ) -> Status
-    requires serves { Serves exec_meaning grammar.now exec_meanings hooks.now }
-    requires start { exec.old ≡ exec_start exec.old.state }
-    ensures ran { Ran (IsTrue K.tells × IsTrue C.tells) (form_view form.now) exec.old.state exec.new
+    requires serves { Serves taker_meaning grammar.now exec_meanings hooks.now }
+    requires start { taker.old ≡ taker_start taker.old.exec.state }
+    ensures ran { Ran (IsTrue K.tells × IsTrue C.tells) (form_view form.now) taker.old.exec.state taker.new
         (scene S.Sink screen.old W.Sink log.old K.Source keys.old C.Clock clock.old steps.old)
         (scene S.Sink screen.new W.Sink log.new K.Source keys.new C.Clock clock.new steps.new)
         result }
     ensures counts { StatusCause (counts (S.faults screen.old) (W.faults log.old) (K.faults keys.old))
         (counts (S.faults screen.new) (W.faults log.new) (K.faults keys.new)) result }
-    ensures saves { Saves (disk_of H.Host host.old) (disk_of H.Host host.new) form.now.out.now exec.new.state result }
+    ensures saves { Saves (disk_of H.Host host.old) (disk_of H.Host host.new) form.now.out.now taker.new.exec.state result }
     ensures unlogged { form.now.logs ≡ false
         → (W.told log.new ≡ W.told log.old) × (W.faults log.new ≡ W.faults log.old) }
     ensures past_the_prompt { IsRun result }
     ensures on_screen { IsTrue K.tells → IsTrue C.tells → (taken rest : List ℕ)
         → (taken ++ rest) ++ K.left keys.new ≡ K.left keys.old
-        → KeepsLine exec_meaning (exec_start exec.old.state) (C.left clock.old) taken }
+        → KeepsLine taker_meaning (taker_start taker.old.exec.state) (C.left clock.old) taken }
 {
     let stop = run(
-        KEY_LIMIT, form.logs, exec, grammar, hooks, keys, screen, log, clock, steps,
+        KEY_LIMIT, form.logs, taker, grammar, hooks, keys, screen, log, clock, steps,
     );
-    close(stop, exec.has_ended(), exec.store(), form.out, host, screen)
+    close(stop, taker.has_ended(), taker.store(), form.out, host, screen)
 }
 
 /// The program `exec20`: takes the keys in turn, shows what they come to, logs the parse that is held after
@@ -115,14 +115,14 @@ pub fn exec20<H: Host, K: Source, S: Sink, W: Sink, C: Clock, L: Ledger>(
     ensures done_saved { IsTrue K.tells → IsTrue C.tells → IsTrue H.tells → result ≡ Status.Done
         → (form : Form) → (start : State) → Asks (form_of words.now) (disk_of H.Host host.old) form start
         → H.files host.new form.out
-        ≡ Some (image_text (exec_left form.logs start (C.left clock.old) (K.left keys.old)).state) }
+        ≡ Some (image_text (exec_left form.logs start (C.left clock.old) (K.left keys.old)).exec.state) }
 
     // Behind each beginning of the keys taken the screen shows the prompt and the line as they then are, where the next
     // key is for a line: all that the run over them shows leaves both on any screen whose last row was blank.
     ensures on_screen { IsTrue K.tells → IsTrue C.tells → (form : Form) → (start : State)
         → Asks (form_of words.now) (disk_of H.Host host.old) form start
         → (taken rest : List ℕ) → (taken ++ rest) ++ K.left keys.new ≡ K.left keys.old
-        → KeepsLine exec_meaning (exec_start start) (C.left clock.old) taken }
+        → KeepsLine taker_meaning (taker_start start) (C.left clock.old) taken }
 
     // What stands, whatever the status: before the first prompt the message alone is shown, IN is loaded once, if there
     // is one, and OUT is not created. Past it the trace of the run stands, or a cut of it, and then how it was closed;
@@ -158,7 +158,7 @@ pub fn exec20<H: Host, K: Source, S: Sink, W: Sink, C: Clock, L: Ledger>(
     ensures limit { IsTrue K.tells → IsTrue C.tells → (form : Form) → (start : State)
         → Asks (form_of words.now) (disk_of H.Host host.old) form start
         → (taken rest : List ℕ) → taken ++ rest ≡ K.left keys.old → length taken ≡ KEY_LIMIT
-        → (exec_left form.logs start (C.left clock.old) taken).ended ≡ false
+        → (exec_left form.logs start (C.left clock.old) taken).exec.ended ≡ false
         → IsQuiet (S.faults screen.old) (S.faults screen.new) → IsQuiet (W.faults log.old) (W.faults log.new)
         → IsQuiet (K.faults keys.old) (K.faults keys.new) → IsQuiet (H.faults host.old) (H.faults host.new)
         → (result ≡ Status.KeyLimit) ⊎ (result ≡ Status.NoMemory) }
@@ -173,8 +173,8 @@ pub fn exec20<H: Host, K: Source, S: Sink, W: Sink, C: Clock, L: Ledger>(
     let Ok(grammar) = grammar(alloc) else {
         return refuse(Status::NoMemory, screen);
     };
-    let mut exec = Exec::new(alloc, store);
+    let mut taker = Taker::new(alloc, store);
     run_exec(
-        &form, &mut exec, &grammar, hooks, host, keys, screen, log, clock, steps,
+        &form, &mut taker, &grammar, hooks, host, keys, screen, log, clock, steps,
     )
 }

@@ -3,8 +3,8 @@ use Rattle.cm_io.specs.Told.{add}
 use Rattle.cm_run.specs.Event.{log_bytes, trials_of}
 use Rattle.ex_image.specs.Image.{image_text}
 use Rattle.tt_laws.specs.Keeping.{KeepsLine}
-use Rattle.ex_exec.specs.Exec.{exec_meaning}
-use Rattle.ex_exec.specs.ExecState.{ExecState, exec_start}
+use Rattle.ex_take.specs.Taker.{taker_meaning}
+use Rattle.ex_take.specs.TakerState.{TakerState, taker_start}
 use Rattle.ex_store.specs.State.{State}
 use Rattle.ex_program.specs.Asked.{form_view}
 use Rattle.ex_program.specs.Form.{Form}
@@ -47,32 +47,32 @@ pub returns-clause-done_shown : goal.returns-clause-done_shown
 returns-clause-done_shown g c = λ keys clock done form start asks.
     as_asked (λ (it : Form) (at : State). g.S.Sink.told c.run_exec.new.screen
     ≡ add (g.S.Sink.told c.args.screen.now) (run_shown it.logs at (g.C.Clock.left c.args.clock.now) (g.K.Source.left c.args.keys.now)))
-    _ (disk_of g.H.Host c.args.host.now) (form_view c.in-Some.form) form c.new-exec.result.state c.in-Ok.store.state start c.in-Some.ensures
-    (ap (λ (it : ExecState). it.state) c.new-exec.ensures) c.in-Ok.ensures.began asks
+    _ (disk_of g.H.Host c.args.host.now) (form_view c.in-Some.form) form c.new-taker.result.exec.state c.in-Ok.store.state start c.in-Some.ensures
+    (ap (λ (it : TakerState). it.exec.state) c.new-taker.ensures) c.in-Ok.ensures.began asks
     (done_shown _ _ _ _ _ _ c.run_exec.result c.run_exec.ensures.ran done (keys, clock))
 
 pub returns-clause-done_logged : goal.returns-clause-done_logged
 returns-clause-done_logged g c = λ keys clock done form start asks.
     as_asked (λ (it : Form) (at : State). g.W.Sink.told c.run_exec.new.log
     ≡ add (g.W.Sink.told c.args.log.now) (log_bytes (exec_trace it.logs at (g.C.Clock.left c.args.clock.now) (g.K.Source.left c.args.keys.now))))
-    _ (disk_of g.H.Host c.args.host.now) (form_view c.in-Some.form) form c.new-exec.result.state c.in-Ok.store.state start c.in-Some.ensures
-    (ap (λ (it : ExecState). it.state) c.new-exec.ensures) c.in-Ok.ensures.began asks
+    _ (disk_of g.H.Host c.args.host.now) (form_view c.in-Some.form) form c.new-taker.result.exec.state c.in-Ok.store.state start c.in-Some.ensures
+    (ap (λ (it : TakerState). it.exec.state) c.new-taker.ensures) c.in-Ok.ensures.began asks
     (done_logged _ _ _ _ _ _ c.run_exec.result c.run_exec.ensures.ran done (keys, clock))
 
 pub returns-clause-done_counted : goal.returns-clause-done_counted
 returns-clause-done_counted g c = λ keys clock done form start asks.
     as_asked (λ (it : Form) (at : State). c.run_exec.new.steps
     ≡ c.args.steps.now + trials_of (exec_trace it.logs at (g.C.Clock.left c.args.clock.now) (g.K.Source.left c.args.keys.now)))
-    _ (disk_of g.H.Host c.args.host.now) (form_view c.in-Some.form) form c.new-exec.result.state c.in-Ok.store.state start c.in-Some.ensures
-    (ap (λ (it : ExecState). it.state) c.new-exec.ensures) c.in-Ok.ensures.began asks
+    _ (disk_of g.H.Host c.args.host.now) (form_view c.in-Some.form) form c.new-taker.result.exec.state c.in-Ok.store.state start c.in-Some.ensures
+    (ap (λ (it : TakerState). it.exec.state) c.new-taker.ensures) c.in-Ok.ensures.began asks
     (done_counted _ _ _ _ _ _ c.run_exec.result c.run_exec.ensures.ran done (keys, clock))
 
 pub returns-clause-done_saved : goal.returns-clause-done_saved
 returns-clause-done_saved g c = λ keys clock host done form start asks.
     as_asked (λ (it : Form) (at : State). g.H.Host.files c.run_exec.new.host it.out
-    ≡ Some (image_text (exec_left it.logs at (g.C.Clock.left c.args.clock.now) (g.K.Source.left c.args.keys.now)).state))
-    _ (disk_of g.H.Host c.args.host.now) (form_view c.in-Some.form) form c.new-exec.result.state c.in-Ok.store.state start c.in-Some.ensures
-    (ap (λ (it : ExecState). it.state) c.new-exec.ensures) c.in-Ok.ensures.began asks
+    ≡ Some (image_text (exec_left it.logs at (g.C.Clock.left c.args.clock.now) (g.K.Source.left c.args.keys.now)).exec.state))
+    _ (disk_of g.H.Host c.args.host.now) (form_view c.in-Some.form) form c.new-taker.result.exec.state c.in-Ok.store.state start c.in-Some.ensures
+    (ap (λ (it : TakerState). it.exec.state) c.new-taker.ensures) c.in-Ok.ensures.began asks
     (done_saved _ _ _ _ _ _ c.run_exec.result c.run_exec.ensures.ran done (disk_of g.H.Host c.start.new.host) (disk_of g.H.Host c.run_exec.new.host) (keys, clock) host c.run_exec.ensures.saves)
 
 pub returns-clause-start : goal.returns-clause-start
@@ -88,15 +88,15 @@ pub returns-clause-limit : goal.returns-clause-limit
 returns-clause-limit g c = λ keys clock form start asks taken rest all count going screen log source host.
     quiet_limit _ (keys, clock) _ _ _ _ _ _ _ c.run_exec.result c.run_exec.ensures.ran c.run_exec.ensures.past_the_prompt c.run_exec.ensures.counts
     c.run_exec.ensures.saves.cause screen log source (quiet_since _ _ _ c.in-Ok.ensures.quiet host) taken rest all count
-    (back_to_asked (λ (it : Form) (at : State). (exec_left it.logs at (g.C.Clock.left c.args.clock.now) taken).ended ≡ false)
-    _ (disk_of g.H.Host c.args.host.now) (form_view c.in-Some.form) form c.new-exec.result.state c.in-Ok.store.state start c.in-Some.ensures
-    (ap (λ (it : ExecState). it.state) c.new-exec.ensures) c.in-Ok.ensures.began asks going)
+    (back_to_asked (λ (it : Form) (at : State). (exec_left it.logs at (g.C.Clock.left c.args.clock.now) taken).exec.ended ≡ false)
+    _ (disk_of g.H.Host c.args.host.now) (form_view c.in-Some.form) form c.new-taker.result.exec.state c.in-Ok.store.state start c.in-Some.ensures
+    (ap (λ (it : TakerState). it.exec.state) c.new-taker.ensures) c.in-Ok.ensures.began asks going)
 
 pub returns-clause-on_screen : goal.returns-clause-on_screen
 returns-clause-on_screen g c = λ keys clock form start asks taken rest all.
-    as_asked (λ (it : Form) (at : State). KeepsLine exec_meaning (exec_start at) (g.C.Clock.left c.args.clock.now) taken)
-    _ (disk_of g.H.Host c.args.host.now) (form_view c.in-Some.form) form c.new-exec.result.state c.in-Ok.store.state start c.in-Some.ensures
-    (ap (λ (it : ExecState). it.state) c.new-exec.ensures) c.in-Ok.ensures.began asks
+    as_asked (λ (it : Form) (at : State). KeepsLine taker_meaning (taker_start at) (g.C.Clock.left c.args.clock.now) taken)
+    _ (disk_of g.H.Host c.args.host.now) (form_view c.in-Some.form) form c.new-taker.result.exec.state c.in-Ok.store.state start c.in-Some.ensures
+    (ap (λ (it : TakerState). it.exec.state) c.new-taker.ensures) c.in-Ok.ensures.began asks
     (c.run_exec.ensures.on_screen keys clock taken rest all)
 
 -- what stands, by the way out
@@ -122,14 +122,14 @@ returns-in_default-grammar-clause-stands g c =
 
 pub returns-clause-stands : goal.returns-clause-stands
 returns-clause-stands g c = stands_past _ _ (form_view c.in-Some.form) _ _ _ _ c.run_exec.result c.in-Some.ensures (record {
-  start = c.new-exec.result.state;
-  left = c.run_exec.new.exec;
+  start = c.new-taker.result.exec.state;
+  left = c.run_exec.new.taker;
   loaded = disk_of g.H.Host c.start.new.host;
   begins = (
     c.in-Ok.ensures.loaded,
     c.in-Ok.ensures.quiet,
     subst (λ (it : State). Began (disk_of g.H.Host c.args.host.now) (form_view c.in-Some.form).input it)
-        (sym (ap (λ (it : ExecState). it.state) c.new-exec.ensures)) c.in-Ok.ensures.began,
+        (sym (ap (λ (it : TakerState). it.exec.state) c.new-taker.ensures)) c.in-Ok.ensures.began,
   );
   ran = c.run_exec.ensures.ran;
   saves = c.run_exec.ensures.saves;

@@ -16,7 +16,7 @@ returns-clause-ran g c = record {
   traces = λ told. as_traces
       (scene g.S.Sink c.args.screen.now g.W.Sink c.args.log.now g.K.Source c.args.keys.now g.C.Clock c.args.clock.now c.args.steps.now)
       (scene g.S.Sink c.run-stop.new.screen g.W.Sink c.run-stop.new.log g.K.Source c.run-stop.new.keys g.C.Clock c.run-stop.new.clock c.run-stop.new.steps)
-      c.args.exec.now c.run-stop.new.app c.args.form.now.logs c.run-stop.result c.requires.start (c.run-stop.ensures.traces told.0 told.1);
+      c.args.taker.now c.run-stop.new.app c.args.form.now.logs c.run-stop.result c.requires.start (c.run-stop.ensures.traces told.0 told.1);
   count = λ told. as_count _ _ c.run-stop.new.app c.run-stop.result (c.run-stop.ensures.count told.0);
   cause = c.run-stop.ensures.cause;
   closes = subst (λ (it : Bool). Closes c.run-stop.result it (g.S.Sink.told c.run-stop.new.screen) (g.S.Sink.told c.close.new.screen)
@@ -47,4 +47,4 @@ run-stop-requires g c = (
 
 pub returns-clause-on_screen : goal.returns-clause-on_screen
 returns-clause-on_screen g c = λ keys clock taken rest all.
-    some_taken c.args.exec.now _ taken c.requires.start (c.run-stop.ensures.sound keys clock taken rest all)
+    some_taken c.args.taker.now _ taken c.requires.start (c.run-stop.ensures.sound keys clock taken rest all)

@@ -1,45 +1,24 @@
-use Rattle.std.proofs.Common.{◌≡◌, None, Result, refl, sym, subst, ◌∙◌}
+use Rattle.std.proofs.Common.{Some, Ok, refl, sym, subst, ◌∷◌, [], ◌∙◌}
 use Rattle.cm_run.specs.Cause.{ObeyCause}
-use Rattle.cm_run.specs.declared.stop.Stop.{Stop}
+use Rattle.cm_run.specs.Obey.{Obeys, stage}
+use Rattle.ex_commands.proofs.Coming.{waits_for_subcommands}
 use Rattle.ex_exec.specs.Exec.{deed_of}
-use Rattle.ex_exec.proofs.Acting.{act_free, act_obeys, act_target, may_act}
-use Rattle.ex_exec.proofs.Waiting.{none_waits}
-use Rattle.cm_run.proofs.Obeying.{obeys_wanting}
-use Rattle.ex_exec.proofs.Obeying.{answer_cause}
+use Rattle.ex_exec.specs.ExecState.{ExecState}
+use Rattle.ex_exec.proofs.Waiting.{pending_of, waits_obeys}
 use Rattle.ex_exec.proofs.exec.Exec.obey.Goals as goal
 
-pub returns-clause-obeys : goal.returns-clause-obeys
-returns-clause-obeys g c =
-    act_obeys c.self.inside.store.state c.self.inside.typing c.self.inside.has_ended c.self.inside.pending c.args.self.now c.args.moment c.args.command.now
-    (c.self.view_is ∙ c.in-Ok.ensures.ready) (g.S.Sink.told c.args.screen.now) (g.S.Sink.told c.act.new.sink) c.act.new.store.state
-    c.act.result c.outcome_of.result c.outcome_of.ensures c.act.ensures.acts
+pub returns-then-is_pending-clause-obeys : goal.returns-then-is_pending-clause-obeys
+returns-then-is_pending-clause-obeys g c =
+    subst (λ (it : ExecState). Obeys (stage (g.S.Sink.told c.args.screen.now) c.args.self.now)
+    (stage (g.S.Sink.told c.args.screen.now) (record it { pending = Some (pending_of c.args.command c.args.moment) }))
+    (deed_of c.args.self.now c.args.moment c.args.command ∷ []) (Ok tt)) (sym c.self.view_is)
+    (waits_obeys c.args.self.now c.args.moment c.args.command (g.S.Sink.told c.args.screen.now)
+    (sym c.is_pending.ensures ∙ c.if-is_pending.true))
 
-pub returns-clause-cause : goal.returns-clause-cause
-returns-clause-cause g c =
-    subst (λ (it : Result Unit Stop). ObeyCause (g.S.Sink.faults c.args.screen.now) (g.S.Sink.faults c.act.new.sink) it)
-    (sym c.outcome_of.ensures) (answer_cause _ _ c.act.result c.act.ensures.cause)
-
-pub act-requires : goal.act-requires
-act-requires g c =
-    may_act c.self.inside.store.state c.self.inside.typing c.self.inside.has_ended c.self.inside.pending c.args.self.now c.args.moment c.args.command.now
-    (c.self.view_is ∙ c.in-Ok.ensures.ready) c.requires.may_act
-
-pub invariant_of-self : goal.invariant_of-self
-invariant_of-self g c =
-    let none : c.self.inside.pending ≡ None =
-    act_free c.self.inside.store.state c.self.inside.typing c.self.inside.has_ended c.self.inside.pending c.args.self.now c.args.moment
-    c.args.command.now (c.self.view_is ∙ c.in-Ok.ensures.ready) c.requires.free c.requires.acts in (
-      act_target c.self.inside.store.state c.self.inside.typing c.self.inside.has_ended c.self.inside.pending c.args.self.now c.args.moment c.args.command.now
-          (c.self.view_is ∙ c.in-Ok.ensures.ready) (g.S.Sink.told c.args.screen.now) (g.S.Sink.told c.act.new.sink) c.act.new.store.state
-          c.act.result c.requires.line c.self.invariant.0 c.act.ensures.acts,
-      (none_waits _ _ none, λ typing some. none),
-    )
-
-pub returns-in_default-clause-obeys : goal.returns-in_default-clause-obeys
-returns-in_default-clause-obeys g c =
-    obeys_wanting (deed_of c.args.self.now c.args.moment c.args.command.now) (g.S.Sink.told c.args.screen.now) (g.S.Sink.told c.args.screen.now)
-    c.args.self.now c.prepare.new.self c.in_default.ensures.wanting refl c.in_default.ensures.same
-
-pub returns-in_default-clause-cause : goal.returns-in_default-clause-cause
+pub returns-then-is_pending-clause-cause : goal.returns-then-is_pending-clause-cause
 unfolding ObeyCause
-returns-in_default-clause-cause g c = refl
+returns-then-is_pending-clause-cause g c = refl
+
+pub returns-then-is_pending-clause-answer : goal.returns-then-is_pending-clause-answer
+returns-then-is_pending-clause-answer g c = λ went.
+    sym ((waits_for_subcommands c.args.command c.args.moment c.args.self.now.state).1 (sym c.is_pending.ensures ∙ c.if-is_pending.true))

@@ -1,5 +1,0 @@
-use Rattle.ex_exec.proofs.LineKeeping.{exec_keeps_lines}
-use Rattle.ex_exec.proofs.laws.the_exec_keeps_its_lines.Goals as goal
-
-pub returns : goal.returns
-returns c = exec_keeps_lines

@@ -1,0 +1,16 @@
+-- What the EXEC goes on from, with the command files that it takes.
+use Rattle.std.specs.Prelude.{ℕ, List, []}
+use Rattle.ex_store.specs.State.{State}
+use Rattle.ex_exec.specs.ExecState.{ExecState, exec_start}
+
+-- the EXEC; the files that are open, each as the lines of it that are left, the one that is taken now at the end; how
+-- many of their lines were taken; and how many lines were refused
+pub record TakerState : Type 0 where
+  pub exec : ExecState
+  pub files : List (List (List ℕ))
+  pub taken : ℕ
+  pub refused : ℕ
+
+-- a run begins at a typed line, in this state
+abbrev pub taker_start : State → TakerState
+taker_start state = record { exec = exec_start state; files = []; taken = 0; refused = 0 }

@@ -1,0 +1,113 @@
+// A command file that is open.
+ghost use Rattle.std.specs.Prelude.{◌≡◌, ◌≤◌, drop, length, slice_get, take, IfOk};
+ghost use Rattle.std.specs.Option.{option_copied};
+ghost use Rattle.ex_take.specs.Lines.{BeginsLines, is_line, lines, without_return};
+
+use cm_io::NoMemory;
+use cm_text::{LINE_LIMIT, is_text};
+use std::alloc::Global;
+use std::marker::Model;
+
+/// A command file that is open: its bytes, and how many of them were taken. Contracts see the lines that are left.
+#[derive(Drop)]
+pub(crate) struct CommandFile {
+    bytes: Vec<u8>,
+    at: usize,
+}
+
+impl Model for CommandFile {
+    ghost use Rattle.std.specs.Prelude.{◌≤◌, ℕ, List, drop, length};
+    ghost use Rattle.ex_take.specs.Lines.{lines};
+
+    ghost Value = { List (List ℕ) };
+
+    ghost view = { λ it. lines (drop it.at it.bytes.items) };
+
+    ghost invariant = { λ it. it.at ≤ length it.bytes.items };
+}
+
+// Where the first line of some bytes ends, and where the next begins.
+#[derive(Clone, Copy)]
+struct LineEnd {
+    end: usize,
+    next: usize,
+}
+
+impl CommandFile {
+    /// A file with these bytes, of which none is taken.
+    pub(crate) fn open(alloc: Global, bytes: &[u8]) -> Result<CommandFile, NoMemory>
+        ensures { IfOk result (λ file. file ≡ lines bytes.now) }
+    {
+        Ok(CommandFile {
+            bytes: bytes.to_vec(alloc)?,
+            at: 0,
+        })
+    }
+
+    /// The next line, if one is left.
+    pub(crate) fn line(&self) -> Option<&[u8]>
+        ensures { option_copied result ≡ slice_get self.now 0 }
+    {
+        let rest = &self.bytes[self.at..];
+        match first_line(rest) {
+            Some(first) => Some(&rest[..first.end]),
+            None => None,
+        }
+    }
+
+    /// Whether no line is left.
+    pub(crate) fn is_over(&self) -> bool
+        ensures { result ≡ length self.now == 0 }
+    {
+        self.line().is_none()
+    }
+
+    /// Passes the next line.
+    pub(crate) fn pass(&mut self)
+        ensures { self.new ≡ drop 1 self.old }
+    {
+        if let Some(first) = first_line(&self.bytes[self.at..]) {
+            self.at += first.next;
+        }
+    }
+}
+
+// The length of a line without the carriage return that ends it.
+fn end_of(line: &[u8]) -> usize
+    ensures value { take result line.now ≡ without_return line.now }
+    ensures within { result ≤ length line.now }
+{
+    match line.last() {
+        Some(&b'\r') => line.len() - 1,
+        _ => line.len(),
+    }
+}
+
+// The first line of some bytes.
+fn first_line(bytes: &[u8]) -> Option<LineEnd>
+    ensures { BeginsLines bytes.now result }
+{
+    for at in 0..bytes.len() {
+        if bytes[at] == b'\n' {
+            return Some(LineEnd {
+                end: end_of(&bytes[..at]),
+                next: at + 1,
+            });
+        }
+    }
+    if bytes.is_empty() {
+        None
+    } else {
+        Some(LineEnd {
+            end: bytes.len(),
+            next: bytes.len(),
+        })
+    }
+}
+
+/// Whether a line can be parsed: it has text bytes alone, and not too many.
+pub(crate) fn is_line(line: &[u8]) -> bool
+    ensures { result ≡ is_line line.now }
+{
+    line.len() <= LINE_LIMIT && line.iter().all(|byte| is_text(*byte))
+}

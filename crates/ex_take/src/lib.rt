@@ -1,0 +1,8 @@
+//! The EXEC as an application of the engine, with the command files that it takes.
+#![tactic(auto)]
+
+mod command_file;
+pub mod laws;
+mod taker;
+
+pub use taker::{MOST_FILES, Taker};
