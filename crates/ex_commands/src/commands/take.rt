@@ -32,11 +32,10 @@ pub fn file_bytes<'a>(store: &'a Store, file: &Place) -> &'a [u8]
     ensures short { length result.now ≤ FILE_LIMIT }
 {
     match next_file(store, file, 0) {
-        Some(at) => store
-            .row_in(file.directory.as_str(), at)
-            .file
-            .bytes
-            .as_slice(),
+        Some(at) => {
+            let row = store.row_in(file.directory.as_str(), at);
+            row.file.bytes.as_slice()
+        }
         None => b"",
     }
 }
