@@ -43,13 +43,13 @@ module _ {S : Type 0} where
     }
 
   -- acts behind others
-  replies_append : (first second : List (Deed S)) → replies (first ++ second) ≡ replies first ++ replies second
+  pub replies_append : (first second : List (Deed S)) → replies (first ++ second) ≡ replies first ++ replies second
   replies_append [] second = refl
   replies_append (deed ∷ first) second =
       ap (λ bytes. deed.reply ++ bytes) (replies_append first second)
       ∙ sym (append_assoc deed.reply (replies first) (replies second))
 
-  left_append : (first second : List (Deed S)) (state : S) → left_by state (first ++ second) ≡ left_by (left_by state first) second
+  pub left_append : (first second : List (Deed S)) (state : S) → left_by state (first ++ second) ≡ left_by (left_by state first) second
   left_append [] second state = refl
   left_append (deed ∷ first) second state = left_append first second deed.state
 

@@ -105,7 +105,7 @@ test_ends bytes (inr ended) =
     ap ends_line (sym ended.ends) ∙ ap (λ (o : Option ℕ). option_map_or (λ last. last == 10) o true) (last_behind None ended.front 10)
 
 -- the lines of replies
-refusal_ends : (code : Code) → Ended (refusal code)
+pub refusal_ends : (code : Code) → Ended (refusal code)
 unfolding refusal
 refusal_ends code = behind question _ (behind (code_text code) _ eol_ends)
 

@@ -3,6 +3,7 @@
 #![tactic(auto)]
 
 mod exec;
+pub mod laws;
 mod pending;
 mod typing;
 

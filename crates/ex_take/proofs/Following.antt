@@ -18,7 +18,7 @@ module _ (at : TakerState) where
   abbrev pub over : ExecState → TakerState
   over exec = record at { exec = exec }
 
-  replies_lifted : (deeds : List (Deed ExecState)) → replies (map (lifted at) deeds) ≡ replies deeds
+  pub replies_lifted : (deeds : List (Deed ExecState)) → replies (map (lifted at) deeds) ≡ replies deeds
   replies_lifted [] = refl
   replies_lifted (deed ∷ deeds) = ap (λ bytes. deed.reply ++ bytes) (replies_lifted deeds)
 

@@ -1,3 +1,4 @@
 mod Files
 mod Following
+pub mod LineKeeping
 mod Splitting
