@@ -39,7 +39,7 @@ pub over_less : (files others : List (List (List ℕ))) → is_over (innermost f
     → length others < length files
 over_less [] others over less = absurd (cc)
 over_less (file ∷ files) others over less =
-    let size : length (file ∷ files) ≡ 1 + length files = refl in
+    let size : length (file ∷ files) ≡ suc (length files) = refl in
     omega (arith, ap length less, size, length-take-le (length (file ∷ files) - 1) (file ∷ files) (omega arith))
 
 by_last : (files : List (List (List ℕ))) (last : Option (List (List ℕ))) → innermost files ≡ last → is_over last ≡ true
@@ -55,7 +55,7 @@ open_less files others over less = ap open_files less ∙ by_last files (innermo
 -- else all go on
 some_last : (file : List (List ℕ)) (files : List (List (List ℕ))) → innermost (file ∷ files) ≡ None → ⊥
 some_last file files is =
-    let size : length (file ∷ files) ≡ 1 + length files = refl in
+    let size : length (file ∷ files) ≡ suc (length files) = refl in
     let there : slice_get (file ∷ files) (length (file ∷ files) - 1) ≡ Some (get_or (file ∷ files) (length (file ∷ files) - 1) file)
     = slice_get-get_or (file ∷ files) (length (file ∷ files) - 1) file (omega (arith, size)) in cc
 

@@ -21,11 +21,16 @@ use Rattle.ex_commands.specs.declared.acted.Acted.TheVariants as answers
 use Rattle.ex_commands.specs.declared.command.Command.{Command}
 use Rattle.ex_commands.specs.declared.command.Command.TheVariants as commands
 use Rattle.ex_store.specs.declared.place.Place.{Place}
-use Rattle.ex_exec.specs.Exec.{subcommand_deeds}
+use Rattle.cm_blocks.specs.declared.field.Ending.{Ending}
+use Rattle.cm_blocks.specs.declared.field.Ending.TheVariants as endings
+use Rattle.cm_blocks.specs.declared.field.Fault.{Fault}
+use Rattle.cm_blocks.specs.declared.field.Open.{Open}
+use Rattle.cm_state.specs.SessionState.{SessionState}
+use Rattle.ex_exec.specs.Exec.{command_at, completion_answer, pending_complete, subcommand_deeds}
 use Rattle.ex_exec.specs.ExecState.{ExecState}
 use Rattle.ex_exec.specs.declared.pending.Pending.{Pending}
 use Rattle.ex_exec.specs.Outcome.{outcome_of}
-use Rattle.ex_take.specs.Taker.{acts, behind_end, closed, closes, command_deeds, counted, counted_by, counts, end_deeds, fault_deeds, follows, innermost, is_over, lifted, looks_ahead, next_fault, opened, opens, refuses, settles, silent, stopped, take_deeds, typing_deeds}
+use Rattle.ex_take.specs.Taker.{acts, behind_end, closed, closes, command_deeds, completion_deeds, counted, counted_by, counts, end_deeds, ending_deeds, fault_deeds, file_line_deeds, follows, innermost, is_over, lifted, line_by, line_deeds, looks_ahead, next_fault, opened, opens, passed, pending_deeds, refuses, settles, silent, stopped, take_deeds, typing_deeds, unwaiting}
 use Rattle.ex_take.specs.TakerState.{TakerState}
 use Rattle.ex_take.specs.declared.taker.TheConstants.{MOST_FILES}
 
@@ -329,3 +334,78 @@ cause_on a b c answer result went first then =
 
 pub cause_kept : (a b : ℕ) (answer : Acted) (why : Stop) → outcome_of answer ≡ Err why → ObeyCause a b (outcome_of answer) → ObeyCause a b (Err why)
 cause_kept a b answer why went first = subst (λ (it : Result Unit Stop). ObeyCause a b it) went first
+
+-- at the end of a file a command that waited acts
+module _ (at : TakerState) (exec : ExecState) (pending : Pending) (told middle : Told) (next : ExecState) (answer : Acted)
+    (waits : at.exec.pending ≡ Some pending) (is : exec ≡ record at.exec { pending = None })
+    (answers_so : outcome_of answer ≡ Ok tt → answer ≡ completion_answer exec (pending_complete pending))
+    (obeys : (before : ExecState) → Obeys (stage told before) (stage middle next) (subcommand_deeds exec (pending_complete pending)) (outcome_of answer)) where
+  abbrev unwaited : over at exec ≡ unwaiting at
+  unwaited = ap (λ (it : ExecState). over at it) is
+
+  end_as : (left : TakerState) (then : Told) (result : Result Unit Stop)
+      → Obeys (stage told at) (stage then left) (completion_deeds (over at exec) (pending_complete pending)) result
+      → Obeys (stage told at) (stage then left) (end_deeds at at.exec.pending) result
+  end_as left then result obeys =
+      subst (λ (it : Option Pending). Obeys (stage told at) (stage then left) (end_deeds at it) result) (sym waits)
+      (subst (λ (it : TakerState). Obeys (stage told at) (stage then left) (completion_deeds it (pending_complete pending)) result) unwaited obeys)
+
+  pub end_ends : (left : TakerState) (then : Told) (result : Result Unit Stop) → outcome_of answer ≡ Ok tt
+      → Obeys (stage middle (over at next)) (stage then left) (behind_end (over at next) answer) result
+      → Obeys (stage told at) (stage then left) (end_deeds at at.exec.pending) result
+  end_ends left then result went more =
+      end_as left then result
+      (followed_on (over at exec) told middle at.exec next (subcommand_deeds exec (pending_complete pending)) answer
+      (completion_answer exec (pending_complete pending)) behind_end then left result went answers_so (obeys at.exec) more)
+
+  pub end_ends_cut : (why : Stop) → outcome_of answer ≡ Err why
+      → Obeys (stage told at) (stage middle (over at next)) (end_deeds at at.exec.pending) (Err why)
+  end_ends_cut why went =
+      end_as (over at next) middle (Err why)
+      (followed_cut (over at exec) told middle at.exec next (subcommand_deeds exec (pending_complete pending)) answer
+      (completion_answer exec (pending_complete pending)) behind_end why went (obeys at.exec))
+
+-- a line is for the command that waits, or commands itself
+module _ (at left : TakerState) (exec : ExecState) (session : SessionState) (moment : ℕ) (told then : Told) (result : Result Unit Stop)
+    (is : exec ≡ record at.exec { pending = None }) where
+  pub line_waits : (pending : Pending) → at.exec.pending ≡ Some pending
+      → ((one : ExecState) → Obeys (stage told (over at one)) (stage then left) (pending_deeds (over at exec) session pending) result)
+      → Obeys (stage told at) (stage then left) (line_deeds at session moment) result
+  unfolding line_deeds
+  line_waits pending waits obeys =
+      subst (λ (it : Option Pending). Obeys (stage told at) (stage then left) (line_by at session moment it) result) (sym waits)
+      (subst (λ (it : ExecState). Obeys (stage told at) (stage then left) (pending_deeds (over at it) session pending) result) is (obeys at.exec))
+
+  pub line_commands : (command : Command) → at.exec.pending ≡ None → command ≡ command_at exec session
+      → Obeys (stage told (over at exec)) (stage then left) (command_deeds (over at exec) moment command) result
+      → Obeys (stage told at) (stage then left) (line_deeds at session moment) result
+  unfolding line_deeds
+  line_commands command none said obeys =
+      let same : exec ≡ at.exec = is ∙ ap (λ (it : Option Pending). record at.exec { pending = it }) (sym none) in
+      subst (λ (it : Option Pending). Obeys (stage told at) (stage then left) (line_by at session moment it) result) (sym none)
+      (subst (λ (it : ExecState). Obeys (stage told (over at it)) (stage then left) (command_deeds (over at it) moment (command_at it session)) result) same
+      (subst (λ (it : Command). Obeys (stage told (over at exec)) (stage then left) (command_deeds (over at exec) moment it) result) said obeys))
+
+-- a line of a file
+module _ (at on left : TakerState) (session : SessionState) (moment : ℕ) (told then : Told) (result : Result Unit Stop) (is : on ≡ passed at) where
+  file_as : Obeys (stage told on) (stage then left) (ending_deeds on session moment session.ending) result
+      → Obeys (stage told at) (stage then left) (file_line_deeds at session moment) result
+  file_as obeys =
+      silent_first (passed at) told then at left (ending_deeds (passed at) session moment session.ending) result
+      (subst (λ (it : TakerState). Obeys (stage told it) (stage then left) (ending_deeds it session moment session.ending) result) is obeys)
+
+  pub file_done : session.ending ≡ endings.Done → Obeys (stage told on) (stage then left) (line_deeds on session moment) result
+      → Obeys (stage told at) (stage then left) (file_line_deeds at session moment) result
+  file_done ends obeys =
+      file_as (subst (λ (it : Ending). Obeys (stage told on) (stage then left) (ending_deeds on session moment it) result) (sym ends) obeys)
+
+  pub file_refused : (fault : Fault) → session.ending ≡ endings.Fault fault → Obeys (stage told on) (stage then left) (refuses fault.code on ∷ []) result
+      → Obeys (stage told at) (stage then left) (file_line_deeds at session moment) result
+  file_refused fault ends obeys =
+      file_as (subst (λ (it : Ending). Obeys (stage told on) (stage then left) (ending_deeds on session moment it) result) (sym ends) obeys)
+
+pub file_open : (at on : TakerState) (session : SessionState) (moment : ℕ) (told : Told) (open : Open) → on ≡ passed at
+    → session.ending ≡ endings.Open open → Obeys (stage told at) (stage told on) (file_line_deeds at session moment) (Ok tt)
+file_open at on session moment told open is ends =
+    file_as at on on session moment told told (Ok tt) is
+    (subst (λ (it : Ending). Obeys (stage told on) (stage told on) (ending_deeds on session moment it) (Ok tt)) (sym ends) (obeys_nothing told on))

@@ -1,6 +1,7 @@
 -- The lines of bytes, one after the other.
-use Rattle.std.proofs.Common.{◌≡◌, ℕ, suc, ◌+◌, ◌-◌, ◌<◌, ◌≤◌, ◌==◌, nat_le, Bool, true, false, List, [], ◌∷◌, ◌++◌, ◌&&◌, length, take, drop, get_or, Some, refl, sym, ap, ◌∙◌, subst, arith}
+use Rattle.std.proofs.Common.{◌≡◌, ℕ, suc, ◌+◌, ◌-◌, ◌<◌, ◌≤◌, ◌==◌, nat_le, Bool, true, false, List, [], ◌∷◌, ◌++◌, ◌&&◌, length, take, drop, get_or, zero, Option, None, Some, refl, sym, ap, ◌∙◌, subst, arith}
 use Rattle.std.specs.List.{AllByRecursion, list_all}
+use Rattle.std.specs.Option.{option_map_or}
 use Rattle.std.proofs.Math.Seq.{drop-cons, drop-length}
 use Rattle.std.proofs.lemmas.List.{drop-drop, length-drop, length-take-le, take-take, take_all}
 use Rattle.std.proofs.lemmas.Bool.Decides.{nat_tests}
@@ -24,9 +25,11 @@ at_feed bytes at end begun within is ends short =
     let size : length (take at bytes) ≡ at = length-take-le at bytes (omega (arith, within)) in
     let inside : end ≤ at = subst (λ n. end ≤ n) size short in
     let line : take end bytes ≡ without_return (take at bytes) = sym (take-take end at bytes inside) ∙ ends in
-    let rest : drop at bytes ≡ get_or bytes at 0 ∷ drop (suc at) bytes = drop-cons bytes at 0 within in (
-      sym begun ∙ ap (λ it. lines_behind (take at bytes) it) rest ∙ feeds (take at bytes) (get_or bytes at 0) (drop (suc at) bytes) is
-      ∙ ap (λ it. it ∷ lines_behind [] (drop (suc at) bytes)) (sym line) ∙ ap (λ n. take end bytes ∷ lines_behind [] (drop n bytes)) (omega arith),
+    let rest : drop at bytes ≡ get_or bytes at 0 ∷ drop (suc at) bytes = drop-cons bytes at 0 within in
+    let next : suc at ≡ at + 1 = omega arith in (
+      sym begun ∙ ap (λ (it : List ℕ). lines_behind (take at bytes) it) rest ∙ feeds (take at bytes) (get_or bytes at 0) (drop (suc at) bytes) is
+      ∙ ap (λ (it : List ℕ). it ∷ lines_behind [] (drop (suc at) bytes)) (sym line)
+      ∙ ap (λ (n : ℕ). take end bytes ∷ lines_behind [] (drop n bytes)) next,
       omega (arith, within, inside),
       omega (arith, within),
     )
@@ -64,6 +67,18 @@ passes bytes at first begins =
 pub passes_within : (bytes : List ℕ) (at : ℕ) (first : LineEnd) → BeginsLines (drop at bytes) (Some first) → at ≤ length bytes
     → at + first.next ≤ length bytes
 passes_within bytes at first begins within = omega (arith, begins.2, length-drop at bytes, within)
+
+pub nothing_passes : {V : Type 0} (f : V → List ℕ) (bytes : Option V) (at : ℕ) (left : List (List ℕ)) → ((v : V) → bytes ≡ Some v → ⊥)
+    → lines (drop at (option_map_or f bytes [])) ≡ left → left ≡ drop 1 left
+unfolding lines
+nothing_passes f (Some v) at left none is = absurd (none v refl)
+nothing_passes f None at left none is =
+    let empty : left ≡ [] = sym is ∙ ap (λ (it : List ℕ). lines_behind [] it) (drop-nil at) in
+    empty ∙ sym (ap (λ (it : List (List ℕ)). drop 1 it) empty)
+  where
+    drop-nil : (n : ℕ) → drop n ([] {A = ℕ}) ≡ []
+    drop-nil zero = refl
+    drop-nil (suc n) = refl
 
 pub passes_none : (bytes : List ℕ) → lines bytes ≡ [] → lines bytes ≡ drop 1 (lines bytes)
 passes_none bytes none = rw none refl
