@@ -404,8 +404,8 @@ module _ (at on left : TakerState) (session : SessionState) (moment : ℕ) (told
   file_refused fault ends obeys =
       file_as (subst (λ (it : Ending). Obeys (stage told on) (stage then left) (ending_deeds on session moment it) result) (sym ends) obeys)
 
-pub file_open : (at on : TakerState) (session : SessionState) (moment : ℕ) (told : Told) (open : Open) → on ≡ passed at
-    → session.ending ≡ endings.Open open → Obeys (stage told at) (stage told on) (file_line_deeds at session moment) (Ok tt)
-file_open at on session moment told open is ends =
+pub file_open : (at on : TakerState) (session : SessionState) (moment : ℕ) (told : Told) (place : Open) → on ≡ passed at
+    → session.ending ≡ endings.Open place → Obeys (stage told at) (stage told on) (file_line_deeds at session moment) (Ok tt)
+file_open at on session moment told place is ends =
     file_as at on on session moment told told (Ok tt) is
     (subst (λ (it : Ending). Obeys (stage told on) (stage told on) (ending_deeds on session moment it) (Ok tt)) (sym ends) (obeys_nothing told on))

@@ -10,6 +10,7 @@ use Rattle.cm_run.specs.Trace.{deeds_trace, file_trace}
 use Rattle.cm_run.specs.declared.engine.TheConstants.{FILE_LINES}
 use Rattle.cm_run.specs.declared.stop.Stop.{Stop}
 use Rattle.cm_run.specs.declared.stop.Stop.TheVariants as stop
+use Rattle.cm_run.proofs.Causes.{obey_cause_on}
 use Rattle.cm_run.proofs.Deeds.{deeds_traces}
 use Rattle.cm_run.proofs.Joining.{traces_cut, traces_on}
 use Rattle.ex_store.specs.declared.place.Place.{Place}
@@ -71,3 +72,17 @@ told_by at (Err stop.Screen) whole = absurd (cc)
 told_by at (Err stop.Log) whole = absurd (cc)
 told_by at (Err stop.Keys) whole = absurd (cc)
 told_by at (Err stop.Limit) whole = absurd (cc)
+
+-- by the counts
+pub opens_cause : (f g : ℕ) (at : TakerState) (went : Result Unit Stop) (why : Stop) (result : Took) → went ≡ Err why → result ≡ took_by at (Err why)
+    → ObeyCause f g went → ObeyCause f g (outcome_of result)
+opens_cause f g at went why result is came cause =
+    let cut : ObeyCause f g (Err why) = subst (λ (it : Result Unit Stop). ObeyCause f g it) is cause in
+    subst (λ (it : Result Unit Stop). ObeyCause f g it) (went_so f g at (Err why) cut ∙ ap outcome_of (sym came)) cut
+
+pub lines_cause : (a b c : ℕ) (at : TakerState) (first went : Result Unit Stop) (result : Took) → first ≡ Ok tt → result ≡ took_by at went
+    → ObeyCause a b first → ObeyCause b c went → ObeyCause a c (outcome_of result)
+unfolding ObeyCause
+lines_cause a b c at first went result is came cause more =
+    obey_cause_on a b c (outcome_of result) (subst (λ (it : Result Unit Stop). ObeyCause a b it) is cause)
+    (subst (λ (it : Result Unit Stop). ObeyCause b c it) (went_so b c at went more ∙ ap outcome_of (sym came)) more)

@@ -68,17 +68,18 @@ pub passes_within : (bytes : List ℕ) (at : ℕ) (first : LineEnd) → BeginsLi
     → at + first.next ≤ length bytes
 passes_within bytes at first begins within = omega (arith, begins.2, length-drop at bytes, within)
 
+dropped_none : (n : ℕ) (none : List ℕ) → none ≡ [] → drop n none ≡ []
+dropped_none zero [] is = refl
+dropped_none (suc n) [] is = refl
+dropped_none n (byte ∷ none) is = absurd (cc)
+
 pub nothing_passes : {V : Type 0} (f : V → List ℕ) (bytes : Option V) (at : ℕ) (left : List (List ℕ)) → ((v : V) → bytes ≡ Some v → ⊥)
     → lines (drop at (option_map_or f bytes [])) ≡ left → left ≡ drop 1 left
 unfolding lines
 nothing_passes f (Some v) at left none is = absurd (none v refl)
 nothing_passes f None at left none is =
-    let empty : left ≡ [] = sym is ∙ ap (λ (it : List ℕ). lines_behind [] it) (drop-nil at) in
+    let empty : left ≡ [] = sym is ∙ ap (λ (it : List ℕ). lines_behind [] it) (dropped_none at [] refl) in
     empty ∙ sym (ap (λ (it : List (List ℕ)). drop 1 it) empty)
-  where
-    drop-nil : (n : ℕ) → drop n ([] {A = ℕ}) ≡ []
-    drop-nil zero = refl
-    drop-nil (suc n) = refl
 
 pub passes_none : (bytes : List ℕ) → lines bytes ≡ [] → lines bytes ≡ drop 1 (lines bytes)
 passes_none bytes none = rw none refl

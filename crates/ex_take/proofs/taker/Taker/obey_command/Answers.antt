@@ -1,7 +1,3 @@
-use Rattle.std.proofs.Common.{◌≡◌, subst}
-use Rattle.cm_run.specs.Obey.{Obeys, stage}
-use Rattle.ex_commands.specs.declared.command.Command.{Command}
-use Rattle.ex_take.specs.Taker.{acts}
 use Rattle.ex_take.proofs.Following.{command_acts, command_takes, command_types}
 use Rattle.ex_take.proofs.taker.Taker.obey_command.Goals as goal
 
@@ -16,14 +12,9 @@ returns-in-CopyTty-clause-obeys g c =
     c.in-CopyTty.to c.in-CopyTty.is c.begin_file.ensures.obeys
 
 pub returns-in_default : goal.returns-in_default
-returns-in_default g c =
-    let is = c.in_default.command-is in
-    let same : c.in_default.command ≡ c.args.command = cc in
-    record {
-      obeys = command_acts c.args.self.now c.act.new.self (g.S.Sink.told c.args.screen.now) (g.S.Sink.told c.act.new.screen) c.act.result c.args.moment c.args.command
-          c.in_default.not-Take c.in_default.not-CopyTty
-          (subst (λ (it : Command). Obeys (stage (g.S.Sink.told c.args.screen.now) c.args.self.now) (stage (g.S.Sink.told c.act.new.screen) c.act.new.self)
-          (acts c.args.self.now c.args.moment it) c.act.result) same c.act.ensures.obeys);
-      later = c.act.ensures.later;
-      cause = c.act.ensures.cause;
-    }
+returns-in_default g c = record {
+  obeys = command_acts c.args.self.now c.act.new.self (g.S.Sink.told c.args.screen.now) (g.S.Sink.told c.act.new.screen) c.act.result c.args.moment
+      c.args.command c.in_default.not-Take c.in_default.not-CopyTty c.act.ensures.obeys;
+  later = c.act.ensures.later;
+  cause = c.act.ensures.cause;
+}
