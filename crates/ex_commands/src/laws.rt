@@ -1,5 +1,5 @@
 //! Laws of commands. Each is a function that does nothing, whose contract is the law.
-ghost use Rattle.std.specs.Prelude.{ℕ, List, [], true, ◌≡◌, ◌↔◌};
+ghost use Rattle.std.specs.Prelude.{ℕ, List, [], ◌∷◌, true, ◌≡◌, ◌↔◌};
 ghost use Rattle.cm_text.specs.Text.{IsLine};
 ghost use Rattle.cm_blocks.specs.declared.field.Ending.TheVariants as ending;
 ghost use Rattle.cm_blocks.specs.Parse.{IsParse};
@@ -13,6 +13,8 @@ ghost use Rattle.ex_grammar.specs.declared.node.TheConstants.{COMMANDS};
 ghost use Rattle.ex_grammar.specs.ExecRules.{exec_meanings};
 ghost use Rattle.ex_grammar.specs.Graph.{exec_graph};
 ghost use Rattle.ex_store.specs.declared.place.Place.{Place};
+ghost use Rattle.ex_store.specs.declared.row.Row.{Row};
+ghost use Rattle.ex_store.specs.Plan.{sources};
 ghost use Rattle.ex_store.specs.State.{State, catalogue_of};
 ghost use Rattle.ex_store.specs.WellFormed.{IsWellFormed};
 ghost use Rattle.ex_commands.specs.declared.acted.Acted.TheVariants as answers;
@@ -77,6 +79,20 @@ pub fn a_command_that_waits_changes_nothing()
 pub fn only_logout_ends_the_run()
     ensures { (command : Command) (moment : ℕ) (state : State)
         → ((act_of command moment state).answer ≡ answers.Logout) ↔ (command ≡ commands.Logout) }
+{}
+
+/// A line of TAKE means one file.
+pub fn a_line_takes_one_file()
+    ensures { (state : State) (session : SessionState) (file : Place) → IsWellFormed state
+        → IsParse (setting exec_graph (catalogue_of state) exec_meanings) COMMANDS (text_of session) session.fields
+        ending.Done
+        → command_of (record {
+          graph = exec_graph;
+          catalogue = catalogue_of state;
+          text = text_of session;
+          fields = session.fields;
+        }) ≡ commands.Take file
+        → (row : Row) × (sources file state ≡ row ∷ []) }
 {}
 
 /// A file is typed in behind COPY TTY: alone.
