@@ -1,4 +1,4 @@
--- What a command comes to: it is done or refused, or it is COPY TTY: or LOGOUT, or it waits for subcommands.
+-- What a command comes to: it is done or refused, or it is COPY TTY:, TAKE or LOGOUT, or it waits for subcommands.
 use Rattle.std.proofs.Common.{◌≡◌, ◌↔◌, ℕ, Bool, true, false, cond, ◌&&◌, nat_le, nat_lt, Some, None, List, [], ◌∷◌, Result, Ok, Err, refl, ap, sym, ◌∙◌}
 use Rattle.cm_fields.specs.declared.code.Code.{Code}
 use Rattle.cm_fields.specs.declared.code.Code.TheVariants.{CopyRange, NameNeeded, NoDefinition, NoMatch}
@@ -26,6 +26,7 @@ pub data Comes (command : Command) (state : State) (act : Act) : Type 0 where
   refused : (code : Code) → act ≡ refuses code state → Comes command state act
   waits : is_pending command ≡ true → act ≡ pends state → Comes command state act
   begun : (to : Place) → command ≡ commands.CopyTty to → act.answer ≡ answers.Data → Comes command state act
+  taken : (file : Place) → command ≡ commands.Take file → act.answer ≡ answers.Take → Comes command state act
   ended : command ≡ commands.Logout → act.answer ≡ answers.Logout → Comes command state act
 
 plan_comes : (command : Command) (origin : Origin) (made : Result Planned Code) (state : State)
@@ -81,6 +82,7 @@ comes (commands.Print files copies form after job note) moment state =
 comes commands.Remark moment state = done refl
 comes (commands.Rename from to) moment state =
     plan_comes (commands.Rename from to) Files (planned (plans.Rename from to) moment state) state
+comes (commands.Take file) moment state = taken file refl refl
 comes (commands.TypeOut files) moment state = done refl
 comes (commands.Undelete files) moment state = done refl
 
@@ -95,6 +97,7 @@ refused_stays command state act (refused other is) code says =
 refused_stays command state act (waits pending is) code says =
     let both : answers.Pending ≡ answers.Refused code = sym (ap (λ (act : Act). act.answer) is) ∙ says in absurd (cc)
 refused_stays command state act (begun to named is) code says = absurd (cc)
+refused_stays command state act (taken file named is) code says = absurd (cc)
 refused_stays command state act (ended named is) code says = absurd (cc)
 
 pub refusal_stays : (command : Command) (moment : ℕ) (state : State) (code : Code)
@@ -112,6 +115,7 @@ of_logout command state act (refused code is) says =
 of_logout command state act (waits pending is) says =
     let both : answers.Pending ≡ answers.Logout = sym (ap (λ (act : Act). act.answer) is) ∙ says in absurd (cc)
 of_logout command state act (begun to named is) says = absurd (cc)
+of_logout command state act (taken file named is) says = absurd (cc)
 of_logout command state act (ended named is) says = named
 
 logout_ends : (moment : ℕ) (state : State) → (act_of commands.Logout moment state).answer ≡ answers.Logout
@@ -134,12 +138,36 @@ of_copy command state act (refused code is) says =
 of_copy command state act (waits pending is) says =
     let both : answers.Pending ≡ answers.Data = sym (ap (λ (act : Act). act.answer) is) ∙ says in absurd (cc)
 of_copy command state act (begun to named is) says = (to, named)
+of_copy command state act (taken file named is) says = absurd (cc)
 of_copy command state act (ended named is) says = absurd (cc)
 
 pub begins_by_copy : (command : Command) (moment : ℕ) (state : State)
     → (act_of command moment state).answer ≡ answers.Data → (to : Place) × (command ≡ commands.CopyTty to)
 begins_by_copy command moment state =
     of_copy command state (act_of command moment state) (comes command moment state)
+
+-- TAKE alone begins a command file
+of_take : (command : Command) (state : State) (act : Act) → Comes command state act → act.answer ≡ answers.Take
+    → (file : Place) × (command ≡ commands.Take file)
+of_take command state act (done is) says = absurd (cc)
+of_take command state act (refused code is) says =
+    let both : answers.Refused code ≡ answers.Take = sym (ap (λ (act : Act). act.answer) is) ∙ says in absurd (cc)
+of_take command state act (waits pending is) says =
+    let both : answers.Pending ≡ answers.Take = sym (ap (λ (act : Act). act.answer) is) ∙ says in absurd (cc)
+of_take command state act (begun to named is) says = absurd (cc)
+of_take command state act (taken file named is) says = (file, named)
+of_take command state act (ended named is) says = absurd (cc)
+
+take_begins : (file : Place) (moment : ℕ) (state : State) → (act_of (commands.Take file) moment state).answer ≡ answers.Take
+unfolding act_of
+take_begins file moment state = refl
+
+pub begins_by_take : (command : Command) (moment : ℕ) (state : State)
+    → ((act_of command moment state).answer ≡ answers.Take) ↔ ((file : Place) × (command ≡ commands.Take file))
+begins_by_take command moment state = (
+  of_take command state (act_of command moment state) (comes command moment state),
+  λ named. ap (λ (command : Command). (act_of command moment state).answer) named.1 ∙ take_begins named.0 moment state,
+)
 
 -- what waits for subcommands, and nothing else, is pending; it changes nothing and shows nothing
 of_pending : (command : Command) (state : State) (act : Act) → Comes command state act → act.answer ≡ answers.Pending
@@ -149,6 +177,7 @@ of_pending command state act (refused code is) says =
     let both : answers.Refused code ≡ answers.Pending = sym (ap (λ (act : Act). act.answer) is) ∙ says in absurd (cc)
 of_pending command state act (waits pending is) says = (pending, is)
 of_pending command state act (begun to named is) says = absurd (cc)
+of_pending command state act (taken file named is) says = absurd (cc)
 of_pending command state act (ended named is) says = absurd (cc)
 
 pending_waits : (command : Command) (moment : ℕ) (state : State) → is_pending command ≡ true

@@ -33,7 +33,7 @@ use Rattle.cm_state.specs.Roles.{field_of}
 use Rattle.ex_grammar.specs.ExecRules.{exec_meanings}
 use Rattle.ex_grammar.specs.Graph.{append_blocks, build_blocks, define_blocks, delete_blocks, directory_nodes, exec_graph, exec_nodes, first_nodes, last_nodes, listing_nodes, print_blocks, retention_nodes, source_nodes, switch_blocks, target_blocks, type_blocks}
 use Rattle.ex_grammar.specs.Tables.{command_entries, exec_tables}
-use Rattle.ex_grammar.specs.declared.code.TheConstants.{APPEND, BUILD, CONNECT, COPY, DEFINE, DELETE, DIRECTORY, EXPUNGE, INFORMATION, LOGOUT, PRINT, REMARK, RENAME, TYPE, UNDELETE}
+use Rattle.ex_grammar.specs.declared.code.TheConstants.{APPEND, BUILD, CONNECT, COPY, DEFINE, DELETE, DIRECTORY, EXPUNGE, INFORMATION, LOGOUT, PRINT, REMARK, RENAME, TAKE, TYPE, UNDELETE}
 use Rattle.ex_grammar.specs.declared.node.TheConstants.{COMMANDS}
 use Rattle.ex_grammar.proofs.Faultless.{commands_have_no_fault}
 use Rattle.ex_store.specs.declared.place.Place.{Place}
@@ -54,7 +54,8 @@ abbrev is_command : ℕ → Bool
 is_command code =
     code == APPEND || (code == BUILD || (code == CONNECT || (code == COPY || (code == DEFINE || (code == DELETE
     || (code == DIRECTORY || (code == EXPUNGE || (code == INFORMATION || (code == LOGOUT || (code == PRINT
-    || (code == REMARK || (code == RENAME || (code == TYPE || (code == UNDELETE || false))))))))))))))
+    || (code == REMARK || (code == RENAME || (code == TAKE || (code == TYPE || (code == UNDELETE
+    || false)))))))))))))))
 
 -- an entry that can be meant is that of a command
 abbrev is_commanding : Entry → Bool
@@ -247,9 +248,10 @@ target_way = record {
 -- .. the files, the directory and the logical name that they work on
 abbrev files_way : Branch
 files_way = record {
-  names = λ (code : ℕ). code == DELETE || code == PRINT || code == TYPE || code == UNDELETE;
+  names = λ (code : ℕ). code == DELETE || code == PRINT || code == TAKE || code == TYPE || code == UNDELETE;
   inside = λ (node : ℕ).
-      node == 13 || node == 14 || node == 15 || node == 16 || node == 19 || node == 20 || node == 37 || node == 38;
+      node == 13 || node == 14 || node == 15 || node == 16 || node == 19 || node == 20 || node == 21
+      || node == 22 || node == 37 || node == 38;
   role = roles.Files;
   reads = λ (block : Block). reads_files block.function;
 }
@@ -388,7 +390,7 @@ module _ (c : Catalogue) (text : List ℕ) (fields : List FieldView) (verb : Fie
       between_said commands.Copy (place_in (line_in c text fields) (Some from.field)) _ meant.0 to.0 meant.1 to.1 refl
       ))
 
-  -- DELETE, PRINT, TYPE and UNDELETE
+  -- DELETE, PRINT, TAKE, TYPE and UNDELETE
   works : (command : Place → Command) (wanted : ℕ) → files_way.names wanted ≡ true
       → ((files : Place) → is_empty (command files) ≡ false) → (keyword_code verb.value == wanted) ≡ true
       → is_empty (on command (place_in (line_in c text fields) (field_of roles.Files fields))) ≡ false
@@ -436,9 +438,10 @@ module _ (c : Catalogue) (text : List ℕ) (fields : List FieldView) (verb : Fie
       (job_in (line_in c text fields)) (note_in (line_in c text fields))) PRINT refl (λ files. refl))
       (choose REMARK _ _ _ (λ is. refl)
       (choose RENAME _ _ _ (moves commands.Rename RENAME refl refl (λ from to. refl))
+      (choose TAKE _ _ _ (works commands.Take TAKE refl (λ file. refl))
       (choose TYPE _ _ _ (works commands.TypeOut TYPE refl (λ files. refl))
       (choose UNDELETE _ _ _ (works commands.Undelete UNDELETE refl (λ files. refl))
-      (λ (none : false ≡ true). cc)))))))))))))))
+      (λ (none : false ≡ true). cc))))))))))))))))
       (verb_commands c text fields verb typed)
     where
       choose : (wanted : ℕ) (rest : Bool) (first later : Command)

@@ -14,7 +14,7 @@ use Rattle.cm_blocks.specs.FieldView.{FieldView}
 use Rattle.cm_state.specs.Roles.{field_of}
 use Rattle.ex_grammar.specs.ExecRules.{exec_meanings}
 use Rattle.ex_grammar.specs.Graph.{exec_graph}
-use Rattle.ex_grammar.specs.declared.code.TheConstants.{APPEND, BUILD, CONNECT, COPY, DEFINE, DELETE, DIRECTORY, EXPUNGE, INFORMATION, LOGOUT, PRINT, REMARK, RENAME, TYPE, UNDELETE}
+use Rattle.ex_grammar.specs.declared.code.TheConstants.{APPEND, BUILD, CONNECT, COPY, DEFINE, DELETE, DIRECTORY, EXPUNGE, INFORMATION, LOGOUT, PRINT, REMARK, RENAME, TAKE, TYPE, UNDELETE}
 use Rattle.ex_grammar.specs.declared.node.TheConstants.{COMMANDS}
 use Rattle.ex_store.specs.declared.place.Place.{Place}
 use Rattle.ex_store.specs.Plan.{IsOneFile, IsSource, IsTarget}
@@ -255,8 +255,9 @@ named_may state text fields typed verb verb_is =
     (choose PRINT _ _ (λ is. prints_may state text fields typed)
     (choose REMARK _ _ (λ is. tt)
     (choose RENAME _ _ (λ is. renames_may state text fields typed verb verb_is (second_named _ _ is))
+    (choose TAKE _ _ (λ is. on_may state commands.Take _ (files_there state text fields typed))
     (choose TYPE _ _ (λ is. on_may state commands.TypeOut _ (files_there state text fields typed))
-    (choose UNDELETE _ _ (λ is. on_may state commands.Undelete _ (files_there state text fields typed)) tt))))))))))))))
+    (choose UNDELETE _ _ (λ is. on_may state commands.Undelete _ (files_there state text fields typed)) tt)))))))))))))))
   where
     choose : (wanted : ℕ) (first later : Command) → ((keyword_code verb.value == wanted) ≡ true → MayAct first state) → MayAct later state
         → MayAct (if keyword_code verb.value == wanted then first else later) state

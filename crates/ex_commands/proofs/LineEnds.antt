@@ -223,6 +223,7 @@ act_ends (commands.Print files copies form after job note) moment state =
     (inr (refusal_ends CopyRange))
 act_ends commands.Remark moment state = inl refl
 act_ends (commands.Rename from to) moment state = plays_end Files (planned (plans.Rename from to) moment state) state
+act_ends (commands.Take file) moment state = inl refl
 act_ends (commands.TypeOut files) moment state = each (line_of Held) held_ends (sources files state)
 act_ends (commands.Undelete files) moment state = each (line_of Marked) marked_ends (sources files state)
 

@@ -108,5 +108,6 @@ act_sound (commands.Print files copies form after job note) moment state well ma
         }
 act_sound commands.Remark moment state well may = well
 act_sound (commands.Rename from to) moment state well may = plays_sound Files (plans.Rename from to) moment state well may _ refl
+act_sound (commands.Take file) moment state well may = well
 act_sound (commands.TypeOut files) moment state well may = well
 act_sound (commands.Undelete files) moment state well may = marks_sound false files state well

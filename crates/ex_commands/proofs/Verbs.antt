@@ -30,10 +30,10 @@ use Rattle.ex_grammar.specs.ExecRules.{exec_meanings}
 use Rattle.ex_grammar.specs.Graph.{append_blocks, build_blocks, define_blocks, delete_blocks, directory_nodes, exec_graph, exec_nodes, first_nodes, last_nodes, listing_nodes, print_blocks, retention_nodes, source_nodes, switch_blocks, target_blocks, type_blocks}
 use Rattle.ex_grammar.specs.Tables.{build_entries, command_entries, directory_entries, exec_tables, switch_entries, topic_entries}
 use Rattle.ex_grammar.specs.Words.{confirm, either, keyword}
-use Rattle.ex_grammar.specs.declared.code.TheConstants.{APPEND, CONNECT, COPY, DEFINE, EXPUNGE, RENAME}
+use Rattle.ex_grammar.specs.declared.code.TheConstants.{APPEND, CONNECT, COPY, DEFINE, EXPUNGE, RENAME, TAKE}
 use Rattle.ex_grammar.specs.declared.node.TheConstants.{COMMANDS}
 use Rattle.ex_commands.specs.Line.{keyword_code}
-use Rattle.ex_commands.proofs.Fitting.{all_pass_at, reads_made, reads_one}
+use Rattle.ex_commands.proofs.Fitting.{all_pass_at, reads_made, reads_one, reads_single}
 use Rattle.ex_commands.proofs.Saying.{run_of}
 use Rattle.ex_commands.proofs.Trying.{IsTried, chain_number, chain_tried}
 
@@ -358,3 +358,28 @@ pub grown_target : (c : Catalogue) (text : List ℕ) (fields : List FieldView) (
     → names_grown (keyword_code verb.value) ≡ true → field_of roles.Target fields ≡ Some field
     → IsOf c text is_one field
 grown_target = behind_verb grown_branch grown_is
+
+-- TAKE: one file that is there
+abbrev pub names_take : ℕ → Bool
+names_take code = code == TAKE
+
+abbrev pub is_single : Block → Bool
+is_single block = reads_single block.function block.flags
+
+abbrev take_branch : Branch
+take_branch = record {
+  names = names_take;
+  inside = λ (node : ℕ). node == 5 || node == 21 || node == 22;
+  role = roles.Files;
+  reads = is_single;
+}
+
+take_is : IsBranch take_branch
+unfolding exec_graph exec_nodes first_nodes source_nodes target_blocks append_blocks delete_blocks type_blocks listing_nodes define_blocks build_blocks last_nodes print_blocks switch_blocks directory_nodes retention_nodes exec_tables command_entries topic_entries directory_entries build_entries switch_entries
+take_is = record { none = refl; ends = refl; nodes = refl; commands = refl; some = refl; other = refl }
+
+pub take_file : (c : Catalogue) (text : List ℕ) (fields : List FieldView) (ends : Ending) (verb field : FieldView)
+    → IsParse (setting exec_graph c exec_meanings) COMMANDS text fields ends → field_of roles.Verb fields ≡ Some verb
+    → names_take (keyword_code verb.value) ≡ true → field_of roles.Files fields ≡ Some field
+    → IsOf c text is_single field
+take_file = behind_verb take_branch take_is

@@ -17,6 +17,7 @@ use Rattle.ex_commands.specs.Commands.Information.{tells}
 use Rattle.ex_commands.specs.Commands.Logout.{logs_out}
 use Rattle.ex_commands.specs.Commands.Print.{prints}
 use Rattle.ex_commands.specs.Commands.Rename.{renames}
+use Rattle.ex_commands.specs.Commands.Take.{takes}
 use Rattle.ex_commands.specs.Commands.TypeOut.{types_out}
 use Rattle.ex_commands.specs.Commands.Undelete.{undeletes}
 
@@ -38,5 +39,6 @@ act_of (commands.Print files copies form after job note) moment state =
     prints files copies form after job note moment state
 act_of commands.Remark moment state = does [] state
 act_of (commands.Rename from to) moment state = renames from to moment state
+act_of (commands.Take file) moment state = takes state
 act_of (commands.TypeOut files) moment state = types_out files state
 act_of (commands.Undelete files) moment state = undeletes files state

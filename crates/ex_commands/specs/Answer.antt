@@ -44,6 +44,7 @@ Answers before now act lacks state left answers.Ok = IsDone before now act left 
 Answers before now act lacks state left (answers.Refused code) = IsDone before now act left (answers.Refused code)
 Answers before now act lacks state left answers.Pending = IsDone before now act left answers.Pending
 Answers before now act lacks state left answers.Data = IsDone before now act left answers.Data
+Answers before now act lacks state left answers.Take = IsDone before now act left answers.Take
 Answers before now act lacks state left answers.Logout = IsDone before now act left answers.Logout
 
 -- the answer to an act whose reply was put so
@@ -59,6 +60,7 @@ ActCause before now answers.Ok = now ≡ before
 ActCause before now (answers.Refused code) = now ≡ before
 ActCause before now answers.Pending = now ≡ before
 ActCause before now answers.Data = now ≡ before
+ActCause before now answers.Take = now ≡ before
 ActCause before now answers.Logout = now ≡ before
 
 -- the commands that take memory
@@ -95,6 +97,7 @@ MayAct (commands.CopyTty to) state = IsTarget to state.directories
 MayAct (commands.Delete files) state = IsSource files state
 MayAct (commands.Undelete files) state = IsSource files state
 MayAct (commands.Directory files since before deleted sub) state = IsSource files state
+MayAct (commands.Take file) state = IsSource file state
 MayAct (commands.TypeOut files) state = IsSource files state
 MayAct (commands.Expunge directory) state = IsThere directory state
 MayAct commands.Empty state = Unit {0}

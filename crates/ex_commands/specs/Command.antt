@@ -4,7 +4,7 @@ use Rattle.std.specs.Option.{option_map_or}
 use Rattle.cm_blocks.specs.declared.function.Role.TheVariants as roles
 use Rattle.cm_blocks.specs.FieldView.{FieldView}
 use Rattle.cm_state.specs.Roles.{field_of}
-use Rattle.ex_grammar.specs.declared.code.TheConstants.{APPEND, BEFORE, BUILD, CONNECT, COPY, DEFINE, DELETE, DELETED, DIRECTORY, EXPUNGE, INFORMATION, LOGOUT, PRINT, REMARK, RENAME, SINCE, TYPE, UNDELETE}
+use Rattle.ex_grammar.specs.declared.code.TheConstants.{APPEND, BEFORE, BUILD, CONNECT, COPY, DEFINE, DELETE, DELETED, DIRECTORY, EXPUNGE, INFORMATION, LOGOUT, PRINT, REMARK, RENAME, SINCE, TAKE, TYPE, UNDELETE}
 use Rattle.ex_grammar.specs.declared.node.TheConstants.{BUILD_SUBCOMMANDS, COMMANDS, DIRECTORY_SUBCOMMANDS}
 use Rattle.ex_commands.specs.declared.command.Command.{Command}
 use Rattle.ex_commands.specs.declared.command.Command.TheVariants as commands
@@ -20,6 +20,7 @@ use Rattle.ex_commands.specs.Commands.Expunge.{expunge_of}
 use Rattle.ex_commands.specs.Commands.Information.{information_of}
 use Rattle.ex_commands.specs.Commands.Print.{print_of}
 use Rattle.ex_commands.specs.Commands.Rename.{rename_of}
+use Rattle.ex_commands.specs.Commands.Take.{take_of}
 use Rattle.ex_commands.specs.Commands.TypeOut.{type_of}
 use Rattle.ex_commands.specs.Commands.Undelete.{undelete_of}
 
@@ -39,9 +40,10 @@ named line verb =
     else (if verb == PRINT then print_of line
     else (if verb == REMARK then commands.Remark
     else (if verb == RENAME then rename_of line
+    else (if verb == TAKE then take_of line
     else (if verb == TYPE then type_of line
     else (if verb == UNDELETE then undelete_of line
-    else commands.Empty))))))))))))))
+    else commands.Empty)))))))))))))))
 
 -- the field of role Verb names the command; a line without fields is empty
 unfoldable pub command_of : Line → Command

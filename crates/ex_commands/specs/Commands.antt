@@ -11,5 +11,6 @@ pub mod Information
 pub mod Logout
 pub mod Print
 pub mod Rename
+pub mod Take
 pub mod TypeOut
 pub mod Undelete

@@ -29,4 +29,5 @@ Outcome s before now act lacks state left answers.Ok = Replies s before now act 
 Outcome s before now act lacks state left (answers.Refused code) = Replies s before now act left (answers.Refused code)
 Outcome s before now act lacks state left answers.Pending = Replies s before now act left answers.Pending
 Outcome s before now act lacks state left answers.Data = Replies s before now act left answers.Data
+Outcome s before now act lacks state left answers.Take = Replies s before now act left answers.Take
 Outcome s before now act lacks state left answers.Logout = Replies s before now act left answers.Logout

@@ -16,6 +16,8 @@ pub enum Acted {
     Pending,
     /// A file is to be typed in: data mode begins.
     Data,
+    /// The lines of a file are taken next: nothing is shown, and nothing changed.
+    Take,
     /// The run is over.
     Logout,
     /// There is no memory for it: nothing is shown, and nothing changed.

@@ -77,6 +77,10 @@ pub enum Command {
         from: Place,
         to: Place,
     },
+    /// TAKE: to take the lines of a file as commands.
+    Take {
+        file: Place,
+    },
     /// TYPE: to show what files hold.
     TypeOut {
         files: Place,

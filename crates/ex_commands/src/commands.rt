@@ -11,5 +11,6 @@ pub(crate) mod information;
 pub(crate) mod logout;
 pub(crate) mod print;
 pub(crate) mod rename;
+pub(crate) mod take;
 pub(crate) mod type_out;
 pub(crate) mod undelete;

@@ -1,5 +1,5 @@
 //! Laws of commands. Each is a function that does nothing, whose contract is the law.
-ghost use Rattle.std.specs.Prelude.{ℕ, List, [], None, Some, true, ◌≡◌, ◌≢◌, ◌↔◌};
+ghost use Rattle.std.specs.Prelude.{ℕ, List, [], ◌∷◌, None, Some, true, ◌≡◌, ◌≢◌, ◌↔◌};
 ghost use Rattle.cm_text.specs.Text.{IsLine};
 ghost use Rattle.cm_blocks.specs.declared.field.Ending.TheVariants as ending;
 ghost use Rattle.cm_blocks.specs.declared.function.Role.TheVariants as roles;
@@ -15,6 +15,8 @@ ghost use Rattle.ex_grammar.specs.declared.node.TheConstants.{COMMANDS};
 ghost use Rattle.ex_grammar.specs.ExecRules.{exec_meanings};
 ghost use Rattle.ex_grammar.specs.Graph.{exec_graph};
 ghost use Rattle.ex_store.specs.declared.place.Place.{Place};
+ghost use Rattle.ex_store.specs.declared.row.Row.{Row};
+ghost use Rattle.ex_store.specs.Plan.{sources};
 ghost use Rattle.ex_store.specs.State.{State, catalogue_of};
 ghost use Rattle.ex_store.specs.WellFormed.{IsWellFormed};
 ghost use Rattle.ex_commands.specs.declared.acted.Acted.TheVariants as answers;
@@ -91,10 +93,30 @@ pub fn only_logout_ends_the_run()
         → ((act_of command moment state).answer ≡ answers.Logout) ↔ (command ≡ commands.Logout) }
 {}
 
+/// A line of TAKE means one file.
+pub fn a_line_takes_one_file()
+    ensures { (state : State) (session : SessionState) (file : Place) → IsWellFormed state
+        → IsParse (setting exec_graph (catalogue_of state) exec_meanings) COMMANDS (text_of session) session.fields
+        ending.Done
+        → command_of (record {
+          graph = exec_graph;
+          catalogue = catalogue_of state;
+          text = text_of session;
+          fields = session.fields;
+        }) ≡ commands.Take file
+        → (row : Row) × (sources file state ≡ row ∷ []) }
+{}
+
 /// A file is typed in behind COPY TTY: alone.
 pub fn only_copy_from_the_terminal_begins_a_file()
     ensures { (command : Command) (moment : ℕ) (state : State)
         → (act_of command moment state).answer ≡ answers.Data → (to : Place) × (command ≡ commands.CopyTty to) }
+{}
+
+/// The lines of a file are taken behind TAKE alone.
+pub fn only_take_begins_a_command_file()
+    ensures { (command : Command) (moment : ℕ) (state : State)
+        → ((act_of command moment state).answer ≡ answers.Take) ↔ ((file : Place) × (command ≡ commands.Take file)) }
 {}
 
 /// What a command shows is nothing, or ends with a line feed; and so is what is shown where a file that was typed in is

@@ -22,5 +22,6 @@ mod texts;
 pub use acted::Acted;
 pub use acts::act;
 pub use command::Command;
+pub use commands::take::file_bytes;
 pub use data::{Data, DataTurn};
 pub use plans::write_data;

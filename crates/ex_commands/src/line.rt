@@ -16,7 +16,7 @@ use crate::commands::build::retention_with;
 use crate::commands::directory::day_with;
 use crate::commands::{
     append, build, connect, copy, define, delete, directory, expunge, information, print, rename,
-    type_out, undelete,
+    take, type_out, undelete,
 };
 use crate::fields::keyword_code;
 use cm_blocks::{Field, Grammar, Role};
@@ -24,7 +24,7 @@ use cm_files::Names;
 use cm_state::Session;
 use ex_grammar::{
     APPEND, BEFORE, BUILD, CONNECT, COPY, DEFINE, DELETE, DELETED, DIRECTORY, EXPUNGE, ExecRules,
-    INFORMATION, LOGOUT, PRINT, REMARK, RENAME, SINCE, TYPE, UNDELETE,
+    INFORMATION, LOGOUT, PRINT, REMARK, RENAME, SINCE, TAKE, TYPE, UNDELETE,
 };
 
 impl Command {
@@ -128,6 +128,7 @@ fn named<N: Names>(verb: u16, session: &Session<ExecRules>, grammar: &Grammar, n
         PRINT => print::read(session, grammar, names),
         REMARK => Command::Remark,
         RENAME => rename::read(session, grammar, names),
+        TAKE => take::read(session, grammar, names),
         TYPE => type_out::read(session, grammar, names),
         UNDELETE => undelete::read(session, grammar, names),
         _ => Command::Empty,

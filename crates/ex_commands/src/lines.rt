@@ -41,9 +41,9 @@ pub enum Lines {
     Held,
 }
 
-// The number of the first file that a place means, among those of its directory with this number or a later one; none
-// where there is no such file.
-fn next_file(store: &Store, files: &Place, from: u32) -> Option<u32>
+/// The number of the first file that a place means, among those of its directory with this number or a later one; none
+/// where there is no such file.
+pub(crate) fn next_file(store: &Store, files: &Place, from: u32) -> Option<u32>
     requires { IsSource files.now store.now.state }
     ensures { IsNumber files.now store.now.state from result }
 {

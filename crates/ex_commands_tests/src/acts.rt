@@ -96,6 +96,41 @@ fn the_line_of_each_file_is_ended(rt: HostRuntime) {
 }
 
 #[test]
+fn the_lines_of_a_file_are_taken_next(rt: HostRuntime) {
+    run(
+        &rt,
+        "WRITE A.CMD INF VER^M^J
+        TAKE A.CMD|Take
+        7:0#TAKE A.CMD|Take
+        TAKE B.CMD|Take
+        FILES|<OPERATOR>A.CMD.1
+        HOLDS|0 INF VER^M^J",
+    );
+}
+
+#[test]
+fn a_command_file_is_read_whole(rt: HostRuntime) {
+    run(
+        &rt,
+        "BUILD SMITH 0|Ok
+        WRITE A.CMD.1 old
+        WRITE A.CMD.2 INF VER^M^Jlast
+        WRITE <SMITH>A.CMD.3 three
+        WRITE <SMITH>A.CMD.4 four
+        WRITE <SMITH>B.CMD ^@^J
+        READS A.CMD|INF VER^M^Jlast
+        READS A.CMD.2|INF VER^M^Jlast
+        READS A.CMD.1|
+        READS -A.CMD.1|old
+        READS <SMITH>A.CMD|four
+        READS <SMITH>A.CMD.3|three
+        READS <SMITH>B.CMD|^@^J
+        READS <SMITH>*.CMD|four
+        READS <SMITH>C.CMD|",
+    );
+}
+
+#[test]
 fn files_are_renamed(rt: HostRuntime) {
     run(
         &rt,

@@ -59,7 +59,6 @@ fn nodes(alloc: Global, grammar: &Grammar) -> Result<String, AllocError> {
     Ok(text)
 }
 
-// The nodes of TAKE, which is not built yet, take the end of the line alone.
 #[test]
 fn each_node_has_its_blocks(rt: HostRuntime) -> Result<(), Fail> {
     let grammar = grammar(rt.alloc())?;
@@ -88,8 +87,8 @@ fn each_node_has_its_blocks(rt: HostRuntime) -> Result<(), Fail> {
 18 User Files 5; Directory Files 5; default <OPERATOR>
 19 Noise(FILES) None 20;
 20 InFile w Files 5;
-21 Confirm None 5;
-22 Confirm None 5;
+21 Noise(COMMANDS FROM) None 22;
+22 InFile Files 5;
 23 Noise(OF FILES) None 24;
 24 Comma Sub 5; AnyFile wae Files 25; default *.*.*
 25 Comma Sub 5; Confirm None 5;
@@ -159,7 +158,8 @@ LOGOUT Plain 10 5
 PRINT Plain 11 37
 REMARK Plain 12 45
 RENAME Plain 13 10
-T Short(17) 0 5
+T Short(18) 0 5
+TAKE Plain 14 21
 TYPE Plain 15 19
 UNDELETE Plain 16 15"
     );

@@ -83,7 +83,7 @@ fn is_one_file(to: &Place, parts: &Parts<'_>) -> bool
 }
 
 // Whether there is a directory of this name.
-fn has(store: &Store, name: &Name) -> bool
+pub(crate) fn has(store: &Store, name: &Name) -> bool
     ensures { result ≡ has_directory name.now store.now.state.directories }
 {
     store.parts().has_directory(name.as_str())
@@ -187,6 +187,7 @@ pub(crate) fn may_act(store: &Store, command: &Command) -> bool
         } => has(store, &files.directory) && may_ask(*form, *after, job, note),
         Command::Remark => true,
         Command::Rename { from, to } => has(store, &from.directory) && takes(store, to),
+        Command::Take { file } => has(store, &file.directory),
         Command::TypeOut { files } => has(store, &files.directory),
         Command::Undelete { files } => has(store, &files.directory),
     }

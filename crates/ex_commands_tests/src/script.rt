@@ -1,12 +1,12 @@
 // Scripts: lines that are done one after the other on a store that has nothing yet.
 use crate::bytes::{are_bytes, bytes_of, cut, number, word};
 use crate::keys::press;
-use crate::places::{may_act, takes};
+use crate::places::{has, may_act, takes};
 use cm_fields::Gen;
 use cm_files::Flags;
 use cm_io::MemSink;
 use cm_text::{NAME_LIMIT, Name};
-use ex_commands::{Acted, Command, Data, act, write_data};
+use ex_commands::{Acted, Command, Data, act, file_bytes, write_data};
 use ex_generations::Bytes;
 use ex_store::{Parts, Place, Plan, RETENTION_LIMIT, RowView, Store};
 use std::alloc::{AllocError, Global};
@@ -138,6 +138,7 @@ fn command(text: &str) -> Command {
             from: place(first),
             to: place(second),
         },
+        "TAKE" => Command::Take { file: place(first) },
         "TYPE" => Command::TypeOut {
             files: place(first),
         },
@@ -264,6 +265,13 @@ fn holds(rt: &(impl Abort + AllocGlobal), store: &Store, wanted: &str) {
     are_bytes(rt, row.file.bytes.as_slice(), bytes);
 }
 
+// What TAKE reads of a place.
+fn reads(rt: &(impl Abort + AllocGlobal), store: &Store, text: &str, wanted: &str) {
+    let file = place(text);
+    assert!(rt; has(store, &file.directory), "the directory is not there");
+    are_bytes(rt, file_bytes(store, &file), wanted);
+}
+
 // The connected directory, and how many directories there are.
 fn is_connected(rt: &(impl Abort + AllocGlobal), store: &Store, wanted: &str) {
     let parts = store.parts();
@@ -294,6 +302,7 @@ fn do_line(rt: &(impl Abort + AllocGlobal), store: &mut Store, line: &str) {
         "TYPE-IN" => type_in(rt, store, rest, moment, wanted),
         "FILES" => has_files(rt, store, wanted),
         "HOLDS" => holds(rt, store, wanted),
+        "READS" => reads(rt, store, rest, wanted),
         "CONNECTED" => is_connected(rt, store, wanted),
         _ => does(
             rt,

@@ -181,6 +181,7 @@ fn places(command: &Command) -> (Option<&Place>, Option<&Place>) {
         Command::Delete { files } => (Some(files), None),
         Command::Directory { files, .. } => (Some(files), None),
         Command::Print { files, .. } => (Some(files), None),
+        Command::Take { file } => (Some(file), None),
         Command::TypeOut { files } => (Some(files), None),
         Command::Undelete { files } => (Some(files), None),
         _ => (None, None),
@@ -209,6 +210,7 @@ fn kind(command: &Command) -> (&'static str, &str) {
         Command::Print { .. } => ("Print", ""),
         Command::Remark => ("Remark", ""),
         Command::Rename { .. } => ("Rename", ""),
+        Command::Take { .. } => ("Take", ""),
         Command::TypeOut { .. } => ("TypeOut", ""),
         Command::Undelete { .. } => ("Undelete", ""),
     }
@@ -367,6 +369,15 @@ fn a_line_means_files_and_names(rt: HostRuntime) -> Result<(), Fail> {
         append a.txt.2 <operator>b.0|Append <OPERATOR>A.TXT Number(2) w <OPERATOR>B.0 Missing
         RENAME A.TXT B.FOR|Rename <OPERATOR>A.TXT Missing w <OPERATOR>B.FOR Missing ws
         rename a.* *.bak.-1|Rename <OPERATOR>A.* Missing w <OPERATOR>*.BAK Next ws
+        TAKE A.TXT|Take <OPERATOR>A.TXT Missing
+        ta (commands from) a.txt.2|Take <OPERATOR>A.TXT Number(2)
+        TAKE ps:<operator>a.txt.0|Take <OPERATOR>A.TXT Highest
+        TAKE A.TXT.-2|Take <OPERATOR>A.TXT Lowest
+        TAKE A.*|?
+        TAKE A.TXT.*|?
+        TAKE A.TXT.-1|?
+        TAKE B.TXT|?
+        TAKE|?
         T A.TXT|TypeOut <OPERATOR>A.TXT Missing w
         type *.txt.2|TypeOut <OPERATOR>*.TXT Number(2) w";
     try_lines::<Brand, _>(&rt, &rt, Blank::new(1), &store, cases.as_bytes())

@@ -9,7 +9,7 @@ use Rattle.cm_blocks.specs.Words.{no_flags}
 use Rattle.ex_grammar.specs.declared.node.TheConstants.{LINE_END, SWITCHES}
 use Rattle.ex_grammar.specs.declared.tables.TheConstants.{BUILD_TABLE, COMMAND_TABLE, DIRECTORY_TABLE, SWITCH_TABLE, TOPIC_TABLE}
 use Rattle.ex_grammar.specs.Tables.{exec_tables}
-use Rattle.ex_grammar.specs.Words.{any_file, comma, confirm, directory, either, either_or, guide, hook, in_file, keyword, later, new_directory, only, out_file, remark, source_token, switch, token, user, value, wild, wild_all, wild_deleted, wild_from_source, wild_generations}
+use Rattle.ex_grammar.specs.Words.{any_file, comma, confirm, directory, either, either_or, guide, hook, in_file, keyword, new_directory, only, out_file, remark, source_token, switch, token, user, value, wild, wild_all, wild_deleted, wild_from_source, wild_generations}
 
 -- nodes 0 to 2: where a command begins, and what COPY reads
 unfoldable pub source_nodes : List Node
@@ -54,8 +54,8 @@ unfoldable pub type_blocks : List Block
 type_blocks =
     guide (codes "FILES") 20
     ∷ in_file wild Files LINE_END
-    ∷ later
-    ∷ later
+    ∷ guide (codes "COMMANDS FROM") 22
+    ∷ in_file no_flags Files LINE_END
     ∷ guide (codes "OF FILES") 24
     ∷ []
 

@@ -1,5 +1,5 @@
--- The keyword tables of the EXEC: the commands that are built, what INFORMATION tells about, and the subcommands and
--- switches of commands.
+-- The keyword tables of the EXEC: the commands, what INFORMATION tells about, and the subcommands and switches of
+-- commands.
 use Rattle.std.specs.Prelude.{List, [], ◌∷◌, codes}
 use Rattle.cm_tables.specs.declared.entry.Entry.{Entry}
 use Rattle.cm_tables.specs.declared.entry.Flag.{Flag}
@@ -7,7 +7,7 @@ use Rattle.cm_tables.specs.declared.entry.Flag.TheVariants.{Invisible, NoRecogni
 use Rattle.cm_tables.specs.Words.{entry, value_entry}
 use Rattle.ex_grammar.specs.declared.node.TheConstants.{LINE_END}
 use Rattle.ex_grammar.specs.declared.tables.TheConstants.{TYPE_POSITION}
-use Rattle.ex_grammar.specs.declared.code.TheConstants.{AFTER, APPEND, BEFORE, BUILD, CONNECT, COPIES, COPY, DEFINE, DELETE, DELETED, DIRECTORY, DIRECTORY_TOPIC, EXPUNGE, FORMS, GENERATIONS, INFORMATION, JOBNAME, LOGICAL_NAMES, LOGOUT, NO_KEYWORD, NOTE, OUTPUT_REQUESTS, PRINT, REMARK, RENAME, SINCE, TYPE, UNDELETE, VERSION}
+use Rattle.ex_grammar.specs.declared.code.TheConstants.{AFTER, APPEND, BEFORE, BUILD, CONNECT, COPIES, COPY, DEFINE, DELETE, DELETED, DIRECTORY, DIRECTORY_TOPIC, EXPUNGE, FORMS, GENERATIONS, INFORMATION, JOBNAME, LOGICAL_NAMES, LOGOUT, NO_KEYWORD, NOTE, OUTPUT_REQUESTS, PRINT, REMARK, RENAME, SINCE, TAKE, TYPE, UNDELETE, VERSION}
 
 -- the same keyword, which takes part in the look-up in this way
 abbrev pub flagged : Entry → Flag → Entry
@@ -32,6 +32,7 @@ command_entries =
     ∷ entry (codes "REMARK") REMARK 45
     ∷ entry (codes "RENAME") RENAME 10
     ∷ flagged (entry (codes "T") NO_KEYWORD LINE_END) (Short TYPE_POSITION)
+    ∷ entry (codes "TAKE") TAKE 21
     ∷ entry (codes "TYPE") TYPE 19
     ∷ entry (codes "UNDELETE") UNDELETE 15
     ∷ []

@@ -14,10 +14,6 @@ use Rattle.ex_grammar.specs.declared.node.TheConstants.{LINE_END}
 abbrev pub confirm : Block
 confirm = block Confirm roles.None LINE_END
 
--- what a node takes whose command is not built yet
-abbrev pub later : Block
-later = confirm
-
 -- a keyword of this table
 abbrev pub keyword : ℕ → Role → Block
 keyword table role = block (Key table) role LINE_END

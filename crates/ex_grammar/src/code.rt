@@ -39,6 +39,9 @@ pub const REMARK: u16 = 12;
 /// The code of RENAME.
 pub const RENAME: u16 = 13;
 
+/// The code of TAKE.
+pub const TAKE: u16 = 14;
+
 /// The code of TYPE, and of T.
 pub const TYPE: u16 = 15;
 

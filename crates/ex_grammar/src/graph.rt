@@ -9,8 +9,7 @@ use cm_io::NoMemory;
 use std::alloc::Global;
 
 /// The grammar of the EXEC: 51 nodes, at the numbers that the log gives, and the keyword tables of the commands, of
-/// what INFORMATION tells about, of the subcommands of DIRECTORY and of BUILD, and of the switches of PRINT. A node
-/// whose command is not built takes only the end of the line.
+/// what INFORMATION tells about, of the subcommands of DIRECTORY and of BUILD, and of the switches of PRINT.
 #[tactic(auto, using(crate::proofs::Faultless::graph_has_no_fault), unfolding(crate::specs::Graph::exec_graph))]
 pub fn grammar(alloc: Global) -> Result<Grammar, NoMemory>
     ensures { IfOk result (λ grammar. grammar ≡ exec_graph) }

@@ -2,7 +2,7 @@
 ghost use Rattle.std.specs.Prelude.{◌≡◌, ◌<◌, None, length};
 ghost use Rattle.cm_blocks.specs.Fault.{grammar_fault};
 ghost use Rattle.cm_blocks.specs.Grammar.{hook_count};
-ghost use Rattle.ex_grammar.specs.declared.code.TheConstants.{AFTER, APPEND, BEFORE, BUILD, CONNECT, COPIES, COPY, DEFINE, DELETE, DELETED, DIRECTORY, DIRECTORY_TOPIC, EXPUNGE, FORMS, GENERATIONS, INFORMATION, JOBNAME, LOGICAL_NAMES, LOGOUT, NO_KEYWORD, NOTE, OUTPUT_REQUESTS, PRINT, REMARK, RENAME, SINCE, TYPE, UNDELETE, VERSION};
+ghost use Rattle.ex_grammar.specs.declared.code.TheConstants.{AFTER, APPEND, BEFORE, BUILD, CONNECT, COPIES, COPY, DEFINE, DELETE, DELETED, DIRECTORY, DIRECTORY_TOPIC, EXPUNGE, FORMS, GENERATIONS, INFORMATION, JOBNAME, LOGICAL_NAMES, LOGOUT, NO_KEYWORD, NOTE, OUTPUT_REQUESTS, PRINT, REMARK, RENAME, SINCE, TAKE, TYPE, UNDELETE, VERSION};
 ghost use Rattle.ex_grammar.specs.declared.node.TheConstants.{BUILD_SUBCOMMANDS, COMMANDS, DIRECTORY_SUBCOMMANDS, LINE_END, SWITCHES};
 ghost use Rattle.ex_grammar.specs.declared.retention.TheConstants.{MOST_KEPT};
 ghost use Rattle.ex_grammar.specs.declared.tables.TheConstants.{BUILD_TABLE, COMMAND_TABLE, DIRECTORY_TABLE, SWITCH_TABLE, TOPIC_TABLE, TYPE_POSITION};
@@ -44,6 +44,7 @@ pub fn these_are_the_codes_of_commands()
     ensures print { PRINT ≡ 11 }
     ensures remark { REMARK ≡ 12 }
     ensures rename { RENAME ≡ 13 }
+    ensures take { TAKE ≡ 14 }
     ensures type_out { TYPE ≡ 15 }
     ensures undelete { UNDELETE ≡ 16 }
     ensures no_keyword { NO_KEYWORD ≡ 0 }
@@ -79,6 +80,6 @@ pub fn these_are_the_numbers()
     ensures directory_table { DIRECTORY_TABLE ≡ 2 }
     ensures build_table { BUILD_TABLE ≡ 3 }
     ensures switch_table { SWITCH_TABLE ≡ 4 }
-    ensures type_position { TYPE_POSITION ≡ 17 }
+    ensures type_position { TYPE_POSITION ≡ 18 }
     ensures most_kept { MOST_KEPT ≡ 63 }
 {}

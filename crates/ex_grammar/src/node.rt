@@ -1,6 +1,6 @@
 // The small words in which nodes are written, and the nodes that are named.
 ghost use Rattle.std.specs.Prelude.{◌≡◌, ◌≤◌, IfOk, length};
-ghost use Rattle.ex_grammar.specs.Words.{any_file, comma, confirm, directory, either, either_or, guide, hook, in_file, keyword, later, new_directory, only, out_file, remark, rest_of_line, source_token, switch, token, user, value, wild, wild_all, wild_deleted, wild_from_source, wild_generations};
+ghost use Rattle.ex_grammar.specs.Words.{any_file, comma, confirm, directory, either, either_or, guide, hook, in_file, keyword, new_directory, only, out_file, remark, rest_of_line, source_token, switch, token, user, value, wild, wild_all, wild_deleted, wild_from_source, wild_generations};
 
 use cm_blocks::{Block, Function, Node, Role};
 use cm_files::Flags;
@@ -28,13 +28,6 @@ pub(crate) fn confirm() -> Block
     ensures { result ≡ confirm }
 {
     Block::new(Function::Confirm, Role::None, LINE_END)
-}
-
-// What a node takes whose command is not built yet.
-pub(crate) fn later() -> Block
-    ensures { result ≡ later }
-{
-    confirm()
 }
 
 // A keyword of this table.

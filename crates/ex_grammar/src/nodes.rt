@@ -5,8 +5,8 @@ ghost use Rattle.ex_grammar.specs.Words.{only};
 
 use crate::node::{
     LINE_END, SWITCHES, any_file, comma, confirm, directory, either, either_or, guide, hook,
-    in_file, keyword, later, new_directory, only, out_file, remark, source_token, switch, token,
-    user, value, wild, wild_all, wild_deleted, wild_from_source, wild_generations,
+    in_file, keyword, new_directory, only, out_file, remark, source_token, switch, token, user,
+    value, wild, wild_all, wild_deleted, wild_from_source, wild_generations,
 };
 use crate::tables::{BUILD_TABLE, COMMAND_TABLE, DIRECTORY_TABLE, SWITCH_TABLE, TOPIC_TABLE};
 use cm_blocks::{Block, Function, Node, Role};
@@ -141,8 +141,8 @@ fn type_blocks(alloc: Global) -> Result<Vec<Block>, NoMemory>
     Ok(vec![in alloc;
         guide("FILES", 20),
         in_file(wild(), Role::Files, LINE_END),
-        later(),
-        later(),
+        guide("COMMANDS FROM", 22),
+        in_file(Flags::default(), Role::Files, LINE_END),
         guide("OF FILES", 24),
     ]?)
 }

@@ -5,7 +5,7 @@ ghost use Rattle.ex_grammar.specs.Tables.{build_entries, command_entries, direct
 use crate::code::{
     AFTER, APPEND, BEFORE, BUILD, CONNECT, COPIES, COPY, DEFINE, DELETE, DELETED, DIRECTORY,
     DIRECTORY_TOPIC, EXPUNGE, FORMS, GENERATIONS, INFORMATION, JOBNAME, LOGICAL_NAMES, LOGOUT,
-    NO_KEYWORD, NOTE, OUTPUT_REQUESTS, PRINT, REMARK, RENAME, SINCE, TYPE, UNDELETE, VERSION,
+    NO_KEYWORD, NOTE, OUTPUT_REQUESTS, PRINT, REMARK, RENAME, SINCE, TAKE, TYPE, UNDELETE, VERSION,
 };
 use crate::node::LINE_END;
 use cm_io::NoMemory;
@@ -16,7 +16,7 @@ use std::alloc::Global;
 pub(crate) const COMMAND_TABLE: u16 = 0;
 
 // Where TYPE stands in the table of the commands.
-pub(crate) const TYPE_POSITION: u16 = 17;
+pub(crate) const TYPE_POSITION: u16 = 18;
 
 // The table of what INFORMATION tells about.
 pub(crate) const TOPIC_TABLE: u16 = 1;
@@ -102,6 +102,7 @@ fn command_entries(alloc: Global) -> Result<Vec<Entry>, NoMemory>
             Entry::new("T", NO_KEYWORD, LINE_END),
             Flag::Short(TYPE_POSITION)
         ),
+        Entry::new("TAKE", TAKE, 21),
         Entry::new("TYPE", TYPE, 19),
         Entry::new("UNDELETE", UNDELETE, 15),
     ]?)

@@ -1,0 +1,5 @@
+use Rattle.ex_commands.proofs.Coming.{begins_by_take}
+use Rattle.ex_commands.proofs.laws.only_take_begins_a_command_file.Goals as goal
+
+pub returns : goal.returns
+returns c = begins_by_take
