@@ -91,7 +91,14 @@ fn run_exec<H: Host, K: Source, S: Sink, W: Sink, C: Clock, L: Ledger>(
     let stop = run_application(
         form.logs, taker, grammar, hooks, keys, screen, log, clock, steps,
     );
-    close(stop, taker.has_ended(), taker.store(), form.out, host, screen)
+    close(
+        stop,
+        taker.has_ended(),
+        taker.store(),
+        form.out,
+        host,
+        screen,
+    )
 }
 
 /// The program `exec20`: takes the keys in turn, shows what they come to, logs the parse that is held after

@@ -138,7 +138,16 @@ fn stops_at_a_refusal(rt: HostRuntime) -> Result<(), Fail> {
     try_cases(&rt, STOPS_AT_A_REFUSAL)
 }
 
-const ADDS_SUBCOMMANDS_FROM_A_FILE: &str = "# The end of the file is an empty line of them.
+const ADDS_SUBCOMMANDS_FROM_A_FILE: &str = "# The example of the list of commands.
+words IN,OUT
+in {HEAD}F OPERATOR A.TXT.1 U 0 0{LF}{LF}F OPERATOR DAILY.CMD.1 U 0 55{LF}
+in BUILD <SRC>,{LF}GENERATIONS 3{LF}{LF}COPY *.TXT <SRC>*.*{LF}INF VER{LF}E{LF}
+clock 0
+keys TAKE DAILY.CMD{CR}
+screen @TAKE DAILY.CMD{EOL} <OPERATOR>A.TXT.1 => <SRC>A.TXT.1 [OK]{EOL} EXEC20 1{EOL}@{EOL}
+out ..F SRC A.TXT.1 U 0 0{LF}{LF}E{LF}
+
+# The end of the file is an empty line of them.
 words IN,OUT
 in {HEAD}F OPERATOR B.CMD.1 U 0 17{LF}BUILD <X>,{LF}GEN 3{LF}{LF}E{LF}
 clock 0

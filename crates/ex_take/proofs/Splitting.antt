@@ -28,8 +28,8 @@ at_feed bytes at end begun within is ends short =
     let rest : drop at bytes ≡ get_or bytes at 0 ∷ drop (suc at) bytes = drop-cons bytes at 0 within in
     let next : suc at ≡ at + 1 = omega arith in (
       sym begun ∙ ap (λ (it : List ℕ). lines_behind (take at bytes) it) rest ∙ feeds (take at bytes) (get_or bytes at 0) (drop (suc at) bytes) is
-      ∙ ap (λ (it : List ℕ). it ∷ lines_behind [] (drop (suc at) bytes)) (sym line)
-      ∙ ap (λ (n : ℕ). take end bytes ∷ lines_behind [] (drop n bytes)) next,
+          ∙ ap (λ (it : List ℕ). it ∷ lines_behind [] (drop (suc at) bytes)) (sym line)
+          ∙ ap (λ (n : ℕ). take end bytes ∷ lines_behind [] (drop n bytes)) next,
       omega (arith, within, inside),
       omega (arith, within),
     )
@@ -52,7 +52,7 @@ one_left bytes at begun is some =
     let all : take at bytes ≡ bytes = ap (λ n. take n bytes) is ∙ take_all (length bytes) bytes (omega arith) in
     let none : drop at bytes ≡ [] = ap (λ n. drop n bytes) is ∙ drop-length bytes in (
       sym begun ∙ ap (λ it. lines_behind it (drop at bytes)) all ∙ ap (λ it. lines_behind bytes it) none ∙ some_line bytes some
-      ∙ ap (λ it. it ∷ []) (sym (take_all (length bytes) bytes (omega arith))) ∙ ap (λ it. take (length bytes) bytes ∷ lines_behind [] it) (sym (drop-length bytes)),
+          ∙ ap (λ it. it ∷ []) (sym (take_all (length bytes) bytes (omega arith))) ∙ ap (λ it. take (length bytes) bytes ∷ lines_behind [] it) (sym (drop-length bytes)),
       omega arith,
       omega arith,
     )
@@ -61,7 +61,7 @@ one_left bytes at begun is some =
 pub passes : (bytes : List ℕ) (at : ℕ) (first : LineEnd) → BeginsLines (drop at bytes) (Some first)
     → lines (drop (at + first.next) bytes) ≡ drop 1 (lines (drop at bytes))
 passes bytes at first begins =
-    ap lines (sym (drop-drop first.next at bytes) )
+    ap lines (sym (drop-drop first.next at bytes))
     ∙ sym (ap (λ it. drop 1 it) begins.0)
 
 pub passes_within : (bytes : List ℕ) (at : ℕ) (first : LineEnd) → BeginsLines (drop at bytes) (Some first) → at ≤ length bytes
