@@ -47,7 +47,7 @@ pub record Past (told : Type 0) (form : Form) (a b : Scene) (before now : Disk) 
   pub loaded : Disk
   pub begins : IsLoaded form.input before loaded × (loaded.faults ≡ before.faults) × Began before form.input start
   pub ran : Ran told form start left a b result
-  pub saves : Saves loaded now form.out left.state result
+  pub saves : Saves loaded now form.out left.exec.state result
 
 -- what stands at the end, with what keys and clock have told
 abbrev pub Stands : Type 0 → Option Form → Scene → Scene → Disk → Disk → Status → Type 0

@@ -1,5 +1,6 @@
 // Command files.
 use crate::case::try_cases;
+use crate::given::{Given, outcome_of, words_of};
 use std::test::Fail;
 
 const TAKES_LINE_BY_LINE: &str = "# A file that takes itself is taken four times.
@@ -175,6 +176,28 @@ out {HEAD}F OPERATOR B.CMD.1 U 0 18{LF}BUILD <X>,{LF}GEN 64{LF}{LF}E{LF}";
 #[test]
 fn adds_subcommands_from_a_file(rt: HostRuntime) -> Result<(), Fail> {
     try_cases(&rt, ADDS_SUBCOMMANDS_FROM_A_FILE)
+}
+
+const NUL_AND_200: &[u8] = b"EXEC20 1\nD OPERATOR 1\nC OPERATOR\nF OPERATOR A.CMD.1 U 0 9\nINF VER\x00\n\nF OPERATOR B.CMD.1 U 0 9\nINF VER\xc8\n\nE\n";
+
+#[test]
+fn refuses_bytes_that_are_no_text(rt: HostRuntime) -> Result<(), Fail> {
+    let given = Given {
+        keys: b"TAKE A.CMD\rTAKE B.CMD\r",
+        input: Some(NUL_AND_200),
+        has_moments: false,
+        failing_get: None,
+        failing_call: None,
+        screen_room: 256,
+        log_room: 0,
+        file_room: 256,
+    };
+    let outcome = outcome_of(&rt, &words_of(&["IN", "OUT"]), &given)?;
+    let screen = b"@TAKE A.CMD\r\n?Invalid line in command file\r\n@TAKE B.CMD\r\n?Invalid line in command file\r\n@\r\n";
+    if outcome.screen.bytes() != screen {
+        return Err(Fail::new(format_args!("{:?}", outcome.screen.bytes())));
+    }
+    Ok(())
 }
 
 const TAKES_10000_LINES: &str = "words IN,OUT
