@@ -1,6 +1,7 @@
 // Command files.
 use crate::case::try_cases;
 use crate::given::{Given, outcome_of, words_of};
+use crate::notation::push_said;
 use std::test::Fail;
 
 const TAKES_LINE_BY_LINE: &str = "# A file that takes itself is taken four times.
@@ -178,7 +179,14 @@ fn adds_subcommands_from_a_file(rt: HostRuntime) -> Result<(), Fail> {
     try_cases(&rt, ADDS_SUBCOMMANDS_FROM_A_FILE)
 }
 
-const NUL_AND_200: &[u8] = b"EXEC20 1\nD OPERATOR 1\nC OPERATOR\nF OPERATOR A.CMD.1 U 0 9\nINF VER\x00\n\nF OPERATOR B.CMD.1 U 0 9\nINF VER\xc8\n\nE\n";
+// Two command files, each with a byte that no line has: 0 and 200.
+const NUL_AND_200: &[u8] =
+    b"EXEC20 1\nD OPERATOR 1\nC OPERATOR\nF OPERATOR A.CMD.1 U 0 9\nINF VER\x00\n
+F OPERATOR B.CMD.1 U 0 9\nINF VER\xc8\n
+E\n";
+
+const REFUSED_TWICE: &str = "@TAKE A.CMD{EOL}?Invalid line in command file{EOL}@TAKE B.CMD{EOL}
+?Invalid line in command file{EOL}@{EOL}";
 
 #[test]
 fn refuses_bytes_that_are_no_text(rt: HostRuntime) -> Result<(), Fail> {
@@ -193,8 +201,11 @@ fn refuses_bytes_that_are_no_text(rt: HostRuntime) -> Result<(), Fail> {
         file_room: 256,
     };
     let outcome = outcome_of(&rt, &words_of(&["IN", "OUT"]), &given)?;
-    let screen = b"@TAKE A.CMD\r\n?Invalid line in command file\r\n@TAKE B.CMD\r\n?Invalid line in command file\r\n@\r\n";
-    if outcome.screen.bytes() != screen {
+    let mut screen = String::new(rt.alloc());
+    for line in REFUSED_TWICE.lines() {
+        push_said(line, &mut screen)?;
+    }
+    if outcome.screen.bytes() != screen.as_bytes() {
         return Err(Fail::new(format_args!("{:?}", outcome.screen.bytes())));
     }
     Ok(())

@@ -177,7 +177,9 @@ line_deeds at session moment = line_by at session moment at.exec.pending
 
 -- the next line is taken off its file
 abbrev pub passed_in : List (List (List ℕ)) → List (List (List ℕ))
-passed_in files = take (length files - 1) files ++ option_map_or (λ (file : List (List ℕ)). drop 1 file ∷ []) (innermost files) []
+passed_in files =
+    take (length files - 1) files
+    ++ option_map_or (λ (file : List (List ℕ)). drop 1 file ∷ []) (innermost files) []
 
 abbrev pub passed : TakerState → TakerState
 passed at = record at { files = passed_in at.files; taken = next_count at.taken }
