@@ -14,7 +14,7 @@ use Rattle.ex_system.specs.Trying.{Tried}
 use Rattle.ex_system.specs.declared.status.Status.{Status}
 use Rattle.ex_system.specs.declared.status.Status.TheVariants as status
 use Rattle.ex_program.specs.Form.{Form}
-use Rattle.ex_program.specs.Run.{exec_trace}
+use Rattle.ex_summary.specs.Run.{exec_trace}
 use Rattle.ex_program.specs.Scene.{Scene, seen, with_screen}
 use Rattle.ex_program.specs.declared.program.TheConstants.{KEY_LIMIT}
 

@@ -17,7 +17,7 @@ ghost use Rattle.ex_system.specs.Saving.{HostCause, Saves};
 ghost use Rattle.ex_system.specs.Start.{IsRun};
 ghost use Rattle.ex_program.specs.Asked.{form_view};
 ghost use Rattle.ex_program.specs.Form.{Form, form_of};
-ghost use Rattle.ex_program.specs.Run.{exec_left, exec_trace, run_shown};
+ghost use Rattle.ex_summary.specs.Run.{exec_left, exec_trace, run_shown};
 ghost use Rattle.ex_program.specs.Scene.{scene};
 ghost use Rattle.ex_program.specs.Stands.{Asks, Ran, Stands, StartCause, logs};
 

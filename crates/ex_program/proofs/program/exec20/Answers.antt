@@ -8,7 +8,7 @@ use Rattle.ex_take.specs.TakerState.{TakerState, taker_start}
 use Rattle.ex_store.specs.State.{State}
 use Rattle.ex_program.specs.Asked.{form_view}
 use Rattle.ex_program.specs.Form.{Form}
-use Rattle.ex_program.specs.Run.{exec_left, exec_trace, run_shown}
+use Rattle.ex_summary.specs.Run.{exec_left, exec_trace, run_shown}
 use Rattle.ex_program.specs.Scene.{scene}
 use Rattle.ex_system.specs.Disk.{disk_of}
 use Rattle.ex_system.specs.Start.{Began}
