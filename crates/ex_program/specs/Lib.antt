@@ -1,4 +1,5 @@
 pub mod Asked
 pub mod Form
+pub mod Generates
 pub mod Scene
 pub mod Stands

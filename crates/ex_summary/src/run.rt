@@ -34,6 +34,7 @@ pub fn summarize<L: Ledger>(
     // The counter has risen by what the trials of all keys cost ..
     ensures counted { IfOk result (λ summary. steps.new ≡ steps.old + trials_of (generated_trace lines)) }
     // .. and where memory is wanting, by those of the keys before.
+    ensures rises { steps.old ≤ steps.new }
     ensures within { steps.new ≤ steps.old + trials_of (generated_trace lines) }
 {
     let grammar = grammar(alloc)?;
