@@ -26,6 +26,8 @@ mod printing;
 #[cfg(test)]
 mod subcommands;
 #[cfg(test)]
+mod taking;
+#[cfg(test)]
 mod whole;
 #[cfg(test)]
 mod words;

@@ -1,5 +1,5 @@
-// Bytes as a case writes them: `{CR}` and the like are bytes by their names, `{5*A}` is a text five times over, and
-// `{5*~}` a rubout, and all else is itself.
+// Bytes as a case writes them: `{CR}` and the like are bytes by their names, `{5*A}` is a text five times over, `{5*LF}`
+// what a name stands for, and `{5*~}` a rubout, and all else is itself.
 use std::alloc::AllocError;
 
 const NAMES: [(&str, &str); 17] = [
@@ -44,18 +44,32 @@ fn push_part(part: &str, said: &mut String) -> Result<(), AllocError> {
 }
 
 fn push_times(count: u32, byte: &str, said: &mut String) -> Result<(), AllocError> {
+    let piece = piece_of(byte);
     for _time in 0..count {
-        said.push_str(if byte == "~" { "\x08 \x08" } else { byte })?;
+        said.push_str(piece)?;
     }
     Ok(())
 }
 
+// What a text stands for that is put several times.
+fn piece_of(text: &str) -> &str {
+    match (text, bytes_of(text)) {
+        ("~", _) => "\x08 \x08",
+        (_, Some(bytes)) => bytes,
+        _ => text,
+    }
+}
+
 // The bytes of a name, or a question mark where it is none.
 fn named(name: &str) -> &'static str {
+    bytes_of(name).unwrap_or("?")
+}
+
+fn bytes_of(name: &str) -> Option<&'static str> {
     for (known, bytes) in &NAMES {
         if *known == name {
-            return bytes;
+            return Some(bytes);
         }
     }
-    "?"
+    None
 }

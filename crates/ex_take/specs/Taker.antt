@@ -55,17 +55,18 @@ closed at =
     let files = open_files at.files in record at { files = files; taken = taken_by files at.taken }
 
 -- a line was refused, and is counted; the command that waits is dropped, and all files are closed
-abbrev pub stopped : TakerState → TakerState
-stopped at = record {
+abbrev pub stopped : Code → TakerState → TakerState
+stopped code at = record {
   exec = record at.exec { pending = None };
   files = [];
   taken = 0;
   refused = next_count at.refused;
+  stop = Some code;
 }
 
 -- a line of a file is refused: why is shown
 abbrev pub refuses : Code → TakerState → Deed TakerState
-refuses code at = record { may_allocate = false; state = stopped at; reply = refusal code }
+refuses code at = record { may_allocate = false; state = stopped code at; reply = refusal code }
 
 -- the file that is taken now
 abbrev pub innermost : List (List (List ℕ)) → Option (List (List ℕ))
@@ -95,7 +96,7 @@ closes at = silent (closed at) ∷ looks_ahead (closed at)
 
 -- behind the end of its file a command that waited has acted; a refusal closes all files
 unfoldable pub behind_end : TakerState → Acted → List (Deed TakerState)
-behind_end at (answers.Refused code) = silent (stopped at) ∷ []
+behind_end at (answers.Refused code) = silent (stopped code at) ∷ []
 behind_end at answer = closes at
 
 -- no command waits any more
@@ -124,7 +125,7 @@ settles at = if is_over (innermost at.files) then end_deeds at at.exec.pending e
 -- what follows an act that was answered so: a refusal closes all files, behind LOGOUT there is nothing, and behind each
 -- other the files that are open go on
 unfoldable pub follows : TakerState → Acted → List (Deed TakerState)
-follows at (answers.Refused code) = silent (stopped at) ∷ []
+follows at (answers.Refused code) = silent (stopped code at) ∷ []
 follows at answers.Logout = []
 follows at answer = settles at
 
@@ -139,7 +140,7 @@ acts at moment command =
 
 -- a file is opened: its lines are those that it has now
 abbrev pub opened : TakerState → Place → TakerState
-opened at file = record at { files = at.files ++ lines (bytes_of file at.exec.state) ∷ [] }
+opened at file = record at { files = at.files ++ lines (bytes_of file at.exec.state) ∷ []; stop = None }
 
 abbrev pub opens : TakerState → Place → Deed TakerState
 opens at file = record { may_allocate = true; state = opened at file; reply = [] }

@@ -1,16 +1,18 @@
 -- What the EXEC goes on from, with the command files that it takes.
-use Rattle.std.specs.Prelude.{ℕ, List, []}
+use Rattle.std.specs.Prelude.{ℕ, List, [], Option, None}
+use Rattle.cm_fields.specs.declared.code.Code.{Code}
 use Rattle.ex_store.specs.State.{State}
 use Rattle.ex_exec.specs.ExecState.{ExecState, exec_start}
 
 -- the EXEC; the files that are open, each as the lines of it that are left, the one that is taken now at the end; how
--- many of their lines were taken; and how many lines were refused
+-- many of their lines were taken; how many lines were refused; and why the last files were closed before their ends
 pub record TakerState : Type 0 where
   pub exec : ExecState
   pub files : List (List (List ℕ))
   pub taken : ℕ
   pub refused : ℕ
+  pub stop : Option Code
 
 -- a run begins at a typed line, in this state
 abbrev pub taker_start : State → TakerState
-taker_start state = record { exec = exec_start state; files = []; taken = 0; refused = 0 }
+taker_start state = record { exec = exec_start state; files = []; taken = 0; refused = 0; stop = None }

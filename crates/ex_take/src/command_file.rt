@@ -1,5 +1,5 @@
 // A command file that is open.
-ghost use Rattle.std.specs.Prelude.{◌≡◌, ◌≤◌, drop, length, slice_get, take, IfOk};
+ghost use Rattle.std.specs.Prelude.{◌≡◌, ◌≤◌, ◌==◌, drop, length, slice_get, take, IfOk};
 ghost use Rattle.std.specs.Option.{option_copied};
 ghost use Rattle.ex_take.specs.Lines.{BeginsLines, is_line, lines, without_return};
 
@@ -8,22 +8,30 @@ use cm_text::{LINE_LIMIT, is_text};
 use std::alloc::Global;
 use std::marker::Model;
 
-/// A command file that is open: its bytes, and how many of them were taken. Contracts see the lines that are left.
+/// A command file that is open: its bytes, and how many of them were taken; none where nothing is left. Contracts see
+/// the lines that are left.
 #[derive(Drop)]
 pub(crate) struct CommandFile {
-    bytes: Vec<u8>,
+    bytes: Option<Vec<u8>>,
     at: usize,
 }
 
 impl Model for CommandFile {
-    ghost use Rattle.std.specs.Prelude.{◌≤◌, ℕ, List, drop, length};
+    ghost use Rattle.std.specs.Prelude.{◌≤◌, ℕ, List, [], drop, length};
+    ghost use Rattle.std.specs.Option.{option_map_or};
     ghost use Rattle.ex_take.specs.Lines.{lines};
 
     ghost Value = { List (List ℕ) };
 
-    ghost view = { λ it. lines (drop it.at it.bytes.items) };
+    ghost view = { λ it. lines (drop it.at (option_map_or (λ bytes. bytes.items) it.bytes [])) };
 
-    ghost invariant = { λ it. it.at ≤ length it.bytes.items };
+    ghost invariant = { λ it. it.at ≤ length (option_map_or (λ bytes. bytes.items) it.bytes []) };
+}
+
+impl Default for CommandFile {
+    fn default() -> CommandFile {
+        CommandFile { bytes: None, at: 0 }
+    }
 }
 
 // Where the first line of some bytes ends, and where the next begins.
@@ -39,16 +47,26 @@ impl CommandFile {
         ensures { IfOk result (λ file. file ≡ lines bytes.now) }
     {
         Ok(CommandFile {
-            bytes: bytes.to_vec(alloc)?,
+            bytes: Some(bytes.to_vec(alloc)?),
             at: 0,
         })
+    }
+
+    // What is left of the bytes.
+    fn rest(&self) -> &[u8]
+        ensures { lines result.now ≡ self.now }
+    {
+        match &self.bytes {
+            Some(bytes) => &bytes[self.at..],
+            None => b"",
+        }
     }
 
     /// The next line, if one is left.
     pub(crate) fn line(&self) -> Option<&[u8]>
         ensures { option_copied result ≡ slice_get self.now 0 }
     {
-        let rest = &self.bytes[self.at..];
+        let rest = self.rest();
         match first_line(rest) {
             Some(first) => Some(&rest[..first.end]),
             None => None,
@@ -66,7 +84,7 @@ impl CommandFile {
     pub(crate) fn pass(&mut self)
         ensures { self.new ≡ drop 1 self.old }
     {
-        if let Some(first) = first_line(&self.bytes[self.at..]) {
+        if let Some(first) = first_line(self.rest()) {
             self.at += first.next;
         }
     }

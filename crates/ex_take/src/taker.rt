@@ -45,6 +45,7 @@ pub struct Taker {
     files: ArrayVec<CommandFile, MOST_FILES>,
     taken: u64,
     refused: u64,
+    stop: Option<Code>,
 }
 
 impl Model for Taker {
@@ -57,6 +58,7 @@ impl Model for Taker {
       files = it.files.items;
       taken = it.taken;
       refused = it.refused;
+      stop = it.stop;
     } };
 }
 
@@ -71,6 +73,7 @@ impl Taker {
             files: ArrayVec::new(),
             taken: 0,
             refused: 0,
+            stop: None,
         }
     }
 
@@ -96,13 +99,14 @@ impl Taker {
     }
 
     // Closes all files behind a refusal, and drops the command that waits.
-    fn stop(&mut self)
-        ensures { self.new ≡ stopped self.old }
+    fn stop_taking(&mut self, code: Code)
+        ensures { self.new ≡ stopped code self.old }
     {
         self.exec.abandon();
         self.files.clear();
         self.taken = 0;
         self.refused = self.refused.saturating_add(1);
+        self.stop = Some(code);
     }
 
     // Refuses a line of a file.
@@ -112,7 +116,7 @@ impl Taker {
         ensures later { S.faults screen.old ≤ S.faults screen.new }
         ensures cause { ObeyCause (S.faults screen.old) (S.faults screen.new) result }
     {
-        self.stop();
+        self.stop_taking(code);
         let mut out = Writer::new(screen);
         put_refusal(code, &mut out);
         match out.went() {
@@ -186,8 +190,8 @@ impl Taker {
         ensures cause { ObeyCause (S.faults screen.old) (S.faults screen.new) result }
     {
         match answer {
-            Acted::Refused(_) => {
-                self.stop();
+            Acted::Refused(code) => {
+                self.stop_taking(code);
                 Ok(())
             }
             _ => self.close_files(screen),
@@ -235,8 +239,8 @@ impl Taker {
         ensures cause { ObeyCause (S.faults screen.old) (S.faults screen.new) result }
     {
         match answer {
-            Acted::Refused(_) => {
-                self.stop();
+            Acted::Refused(code) => {
+                self.stop_taking(code);
                 Ok(())
             }
             Acted::Logout => Ok(()),
@@ -276,6 +280,7 @@ impl Taker {
             return Err(Stop::Memory);
         };
         self.files.push(file);
+        self.stop = None;
         self.settle(screen)
     }
 
