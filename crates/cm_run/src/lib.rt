@@ -13,6 +13,7 @@ mod stop;
 
 pub use application::Application;
 pub use engine::{FILE_LINES, run};
+pub use line::run_lines;
 pub use mode::Mode;
 pub use no_clock::NoClock;
 pub use stop::Stop;

@@ -11,7 +11,7 @@ ghost use Rattle.cm_run.specs.Cause.{ObeyCause};
 ghost use Rattle.cm_run.specs.Cut.{Traces};
 ghost use Rattle.cm_run.specs.Meaning.{IsLineAt, IsSparing, setting_of};
 ghost use Rattle.cm_run.specs.Observed.{observed};
-ghost use Rattle.cm_run.specs.Ready.{IsReadyIn, ServesWell};
+ghost use Rattle.cm_run.specs.Ready.{IsReadyIn, Serves, ServesWell};
 ghost use Rattle.cm_run.specs.Trace.{line_trace, file_session, file_trace, file_line_trace, next_line, node_of, line_start, opening};
 
 use crate::{Application, FILE_LINES, Mode, Stop};
@@ -141,6 +141,29 @@ fn take_lines<A: Application, S: Sink, L: Ledger>(
         }
     }
     Ok(())
+}
+
+/// Takes the lines of command files that wait, one after the other and at most 10,000, as a run does behind a line that
+/// is confirmed: each is parsed under the state that it finds, its trials are counted, and it does what it comes to.
+pub fn run_lines<A: Application, S: Sink, L: Ledger>(
+    app: &mut A,
+    grammar: &Grammar,
+    hooks: &Hooks<A::Rules>,
+    moment: u64,
+    screen: &mut S,
+    steps: &mut Steps<L>,
+) -> Result<(), Stop>
+    requires serves { Serves A.means grammar.now A.Rules.meanings hooks.now }
+    ensures traces { (log : Told) → (keys : List ℕ) → (gets : ℕ) → (moments : List ℕ) → Traces
+        (observed (S.told screen.old) log keys gets moments steps.old app.old)
+        (observed (S.told screen.new) log keys gets moments steps.new app.new)
+        (file_trace A.means FILE_LINES moment app.old) result }
+    ensures later { S.faults screen.old ≤ S.faults screen.new }
+    ensures cause { ObeyCause (S.faults screen.old) (S.faults screen.new) result }
+    ensures spares { IsSparing A.means → result ≢ Err Stop.Memory }
+{
+    grammar.has_no_fault();
+    take_lines(app, grammar, hooks, moment, screen, steps)
 }
 
 /// Does what a confirmed line commands, and then takes the lines of the command files that it names.

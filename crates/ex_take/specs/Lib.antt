@@ -1,3 +1,4 @@
 pub mod Lines
 pub mod Taker
 pub mod TakerState
+pub mod Taking

@@ -3,6 +3,8 @@
 
 mod command_file;
 pub mod laws;
+mod take;
 mod taker;
 
+pub use take::{Took, take};
 pub use taker::{MOST_FILES, Taker};

@@ -1,0 +1,92 @@
+// A command file that is taken without keys.
+ghost use Rattle.std.specs.Prelude.{◌≡◌, ◌≤◌, ℕ, List, Ok};
+ghost use Rattle.cm_io.specs.Told.{Told};
+ghost use Rattle.cm_run.specs.Cause.{ObeyCause};
+ghost use Rattle.cm_run.specs.Cut.{Traces};
+ghost use Rattle.cm_run.specs.Observed.{observed};
+ghost use Rattle.cm_run.specs.Ready.{Serves};
+ghost use Rattle.ex_grammar.specs.ExecRules.{exec_meanings};
+ghost use Rattle.ex_store.specs.Plan.{IsSource};
+ghost use Rattle.ex_take.specs.Taker.{taker_meaning};
+ghost use Rattle.ex_take.specs.Taking.{outcome_of, take_trace, took_by, took_of};
+
+use crate::Taker;
+use cm_blocks::{Grammar, Steps};
+use cm_fields::Code;
+use cm_hooks::Hooks;
+use cm_io::Sink;
+use cm_run::{Stop, run_lines};
+use ex_grammar::ExecRules;
+use ex_store::Place;
+use std::sync::ledger::Ledger;
+
+/// What came of a command file.
+#[derive(Clone, Copy, Debug, PartialEq, Eq)]
+pub enum Took {
+    /// All its lines were taken, and those of the files that they take.
+    Ok,
+    /// A line of it was LOGOUT.
+    Logout,
+    /// A line of it was refused: why is shown, no other line is taken, and what the lines before have done stands.
+    Stopped(Code),
+    /// There was no memory for a file that was to be taken, or for what a line commands. The lines before have acted.
+    NoMemory,
+    /// The sink failed.
+    Failed,
+}
+
+/// Takes a file's lines as commands, one after the other, as a typed TAKE of it does at this moment: each is parsed
+/// under the state that it finds, and what its trials cost is counted. Nothing but replies and refusals is shown.
+pub fn take<S: Sink, L: Ledger>(
+    taker: &mut Taker,
+    file: &Place,
+    moment: u64,
+    grammar: &Grammar,
+    hooks: &Hooks<ExecRules>,
+    screen: &mut S,
+    steps: &mut Steps<L>,
+) -> Took
+    requires source { IsSource file.now taker.old.exec.state }
+    requires serves { Serves taker_meaning grammar.now exec_meanings hooks.now }
+    // What stands is the trace of the file, or a cut of it.
+    ensures traces { (log : Told) → (keys : List ℕ) → (gets : ℕ) → (moments : List ℕ) → Traces
+        (observed (S.told screen.old) log keys gets moments steps.old taker.old)
+        (observed (S.told screen.new) log keys gets moments steps.new taker.new)
+        (take_trace taker.old file.now moment) (outcome_of result) }
+    // Where it was not cut, it is told by what it left.
+    ensures outcome { outcome_of result ≡ Ok tt → result ≡ took_of taker.new }
+    ensures later { S.faults screen.old ≤ S.faults screen.new }
+    ensures cause { ObeyCause (S.faults screen.old) (S.faults screen.new) (outcome_of result) }
+{
+    match taker.take(file, screen) {
+        Ok(()) => {
+            let stop = run_lines(taker, grammar, hooks, moment, screen, steps);
+            took_by(taker, stop)
+        }
+        Err(stop) => took_by(taker, Err(stop)),
+    }
+}
+
+// What came of a file whose lines went so.
+fn took_by(taker: &Taker, went: Result<(), Stop>) -> Took
+    ensures { result ≡ took_by taker.now went }
+{
+    match went {
+        Ok(()) => took_of(taker),
+        Err(Stop::Memory) => Took::NoMemory,
+        Err(_) => Took::Failed,
+    }
+}
+
+// What came of one whose lines were not cut short.
+fn took_of(taker: &Taker) -> Took
+    ensures { result ≡ took_of taker.now }
+{
+    if taker.has_ended() {
+        return Took::Logout;
+    }
+    match taker.stop() {
+        Some(code) => Took::Stopped(code),
+        None => Took::Ok,
+    }
+}
