@@ -1,6 +1,8 @@
-use Rattle.std.proofs.Common.{sym, ◌∙◌, refl}
+use Rattle.std.proofs.Common.{ap, sym, ◌∙◌, refl}
+use Rattle.ex_commands.specs.Act.{writes}
 use Rattle.ex_commands.specs.declared.acted.Acted.TheVariants as answers
 use Rattle.ex_commands.specs.declared.data.DataTurn.TheVariants as turns
+use Rattle.ex_exec.specs.ExecState.{ExecState}
 use Rattle.ex_exec.specs.Outcome.{outcome_of}
 use Rattle.ex_exec.proofs.TypedKeys.{dropped, more, raw_answers, written_out}
 use Rattle.ex_exec.proofs.exec.Exec.obey_raw.Goals as goal
@@ -34,4 +36,5 @@ returns-in-Dropped-clause-answer g c = λ went. raw_answers c.self.inside.store.
 
 pub returns-in-Write-clause-answer : goal.returns-in-Write-clause-answer
 returns-in-Write-clause-answer g c = λ went. raw_answers c.self.inside.store.state c.self.inside.typing c.self.inside.has_ended c.self.inside.pending c.args.self.now c.args.key c.in-Some.typing
-    (g.S.Sink.told c.args.screen.now) c.self.view_is (sym c.take.ensures.value ∙ c.in-Some.is) c.take-2.new.self c.take-2.ensures.bytes turns.Write (sym c.take-2.ensures.turn ∙ c.in-Write.is) c.write.result (c.write.ensures.answer went)
+    (g.S.Sink.told c.args.screen.now) c.self.view_is (sym c.take.ensures.value ∙ c.in-Some.is) c.take-2.new.self c.take-2.ensures.bytes turns.Write (sym c.take-2.ensures.turn ∙ c.in-Write.is) c.write.result
+    (c.write.ensures.answer went ∙ ap (λ (it : ExecState). (writes c.in-Some.typing.to c.take-2.new.self c.in-Some.typing.moment it.state).answer) c.self.view_is)
