@@ -1,7 +1,6 @@
 pub mod Beginning
 mod Early
 pub mod Ending
-pub mod Hooking
 pub mod Quieting
 pub mod Running
 pub mod Showing

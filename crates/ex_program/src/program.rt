@@ -120,7 +120,7 @@ fn generate<S: Sink, L: Ledger>(
 ///
 /// `hooks` answer the EXEC's rules. `steps` counts the trials: a key costs those of its line behind the
 /// fields that the unchanged front of the line decides.
-#[tactic(auto, using(crate::proofs::Hooking::serves_exec))]
+#[tactic(auto, using(ex_summary::proofs::Hooking::serves_exec))]
 pub fn exec20<H: Host, K: Source, S: Sink, W: Sink, C: Clock, L: Ledger>(
     alloc: Global,
     words: &Words,

@@ -1,16 +1,18 @@
 // A generated run.
-ghost use Rattle.std.specs.Prelude.{◌≡◌, ◌≤◌, ◌+◌, IfOk, Err};
+ghost use Rattle.std.specs.Prelude.{◌≡◌, ◌≤◌, ◌+◌, IfOk};
+ghost use Rattle.cm_io.specs.Told.{Number, add};
 ghost use Rattle.cm_hooks.specs.Ties.{Ties, count};
 ghost use Rattle.cm_run.specs.Event.{trials_of};
 ghost use Rattle.ex_grammar.specs.ExecRules.{exec_meanings};
 ghost use Rattle.ex_generator.specs.declared.progress.TheConstants.{GENERATED_LINES};
+ghost use Rattle.ex_summary.specs.Run.{closing};
 ghost use Rattle.ex_summary.specs.Summary.{generated_trace, summary_of};
 
 use crate::Summary;
 use cm_blocks::Steps;
 use cm_hooks::Hooks;
 use cm_io::{CountSink, NoMemory, Sink};
-use cm_run::{NoClock, run};
+use cm_run::{NoClock, Stop, run};
 use cm_text::end_of_line;
 use ex_generator::{GENERATED_KEYS, Generator};
 use ex_grammar::{ExecRules, grammar};
@@ -19,8 +21,26 @@ use ex_take::Taker;
 use std::alloc::Global;
 use std::sync::ledger::Ledger;
 
+// The error of a run that was cut short: want of memory is all that cuts one short here.
+fn error_of(_why: Stop) -> NoMemory
+    requires { _why ≡ Stop.Memory }
+{
+    NoMemory
+}
+
+// Ends the line that is open, where LOGOUT has not ended the run.
+#[tactic(auto, using(cm_io::proofs::Adding::add_none))]
+fn end_line(ended: bool, screen: &mut CountSink)
+    ensures { Number screen.new ≡ add (Number screen.old) (closing ended) }
+{
+    if !ended {
+        screen.put(end_of_line());
+    }
+}
+
 /// Runs the EXEC over the keys of so many generated lines, from the first store, without a log, at the moment 0 for
 /// each line, and sums up what came of it. `steps` counts the trials. NoMemory where memory is wanting.
+#[tactic(auto, using(crate::proofs::Hooking::serves_exec))]
 pub fn summarize<L: Ledger>(
     alloc: Global,
     lines: u32,
@@ -54,11 +74,9 @@ pub fn summarize<L: Ledger>(
         &mut NoClock,
         steps,
     );
-    if stop.is_err() {
-        return Err(NoMemory);
-    }
-    if !taker.has_ended() {
-        screen.put(end_of_line());
+    match stop {
+        Ok(()) => end_line(taker.has_ended(), &mut screen),
+        Err(why) => return Err(error_of(why)),
     }
     Ok(Summary {
         lines,
