@@ -78,9 +78,11 @@ shown first middle last bytes more none run close =
     let other = ap number_in close in
     omega (arith, none, one, other, length-append bytes more)
 
-same_summary : (lines a b c d e f g h : ℕ) → a ≡ e → b ≡ f → c ≡ g → d ≡ h
-    → record { lines = lines; refused = a; keys = b; shown = c; generations = d }
-    ≡ (record { lines = lines; refused = e; keys = f; shown = g; generations = h } : Summary)
+abbrev summary_with : ℕ → ℕ → ℕ → ℕ → ℕ → Summary
+summary_with lines refused keys put generations =
+    record { lines = lines; refused = refused; keys = keys; shown = put; generations = generations }
+
+same_summary : (lines a b c d e f g h : ℕ) → a ≡ e → b ≡ f → c ≡ g → d ≡ h → summary_with lines a b c d ≡ summary_with lines e f g h
 same_summary lines a b c d e f g h one two three four = cc
 
 -- the figures of the run that begins so
@@ -103,7 +105,7 @@ module _ (start : TakerState) (keys : List ℕ) where
   pub sums_up : (lines refused count put generations : ℕ) (ended : Bool) (at : TakerState) → at ≡ left → refused ≡ at.refused
       → count ≡ length (keys_of trace) → ended ≡ at.exec.ended → put ≡ min (length (screen_bytes trace ++ closing ended)) last_count
       → generations ≡ length at.exec.state.rows
-      → record { lines = lines; refused = refused; keys = count; shown = put; generations = generations } ≡ figures lines
+      → summary_with lines refused count put generations ≡ figures lines
   sums_up lines refused count put generations ended at leads of_refused of_keys of_ended of_put of_generations =
       let closed : put ≡ min (length (screen_bytes trace ++ closing left.exec.ended)) last_count =
           of_put ∙ ap (λ it. min (length (screen_bytes trace ++ closing it)) last_count) (of_ended ∙ ap (λ (it : TakerState). it.exec.ended) leads) in
