@@ -95,8 +95,8 @@ module _ (told : Type 0) (form : Form) (start : State) (left : TakerState) (a b 
   pub done_counted : told → b.trials ≡ a.trials + trials_of (exec_trace form.logs start a.moments a.keys)
   done_counted tells = ap (λ (it : Scene). it.trials) ran.rest ∙ (done_between tells).trials
 
-  pub done_saved : (before now : Disk) → told → IsTrue before.tells → Saves before now form.out left.state result
+  pub done_saved : (before now : Disk) → told → IsTrue before.tells → Saves before now form.out left.exec.state result
       → now.files form.out ≡ Some (image_text (exec_left form.logs start a.moments a.keys).exec.state)
   done_saved before now tells tell saves =
-      subst (λ (it : Status). Keeps (image_text left.state) (before.files form.out) (now.files form.out) it) done (saves.file tell)
+      subst (λ (it : Status). Keeps (image_text left.exec.state) (before.files form.out) (now.files form.out) it) done (saves.file tell)
       ∙ ap (λ (it : TakerState). Some (image_text it.exec.state)) (done_between tells).state

@@ -48,7 +48,7 @@ pub record Past (told : Type 0) (form : Form) (a b : Scene) (before now : Disk) 
   pub loaded : Disk
   pub begins : IsLoaded form.input before loaded × (loaded.faults ≡ before.faults) × Began before form.input start
   pub ran : Ran told form start left a b result
-  pub saves : Saves loaded now form.out left.state result
+  pub saves : Saves loaded now form.out left.exec.state result
 
 -- the keys of so many lines were generated and run over, and nothing but the screen and the counter is touched
 pub record Generated (lines : ℕ) (a b : Scene) (result : Status) : Type 0 where

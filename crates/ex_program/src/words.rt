@@ -4,7 +4,7 @@ ghost use Rattle.std.specs.Str.{bytes_eq};
 ghost use Rattle.std.specs.Option.{option_map};
 ghost use Rattle.ex_program.specs.Asked.{form_view};
 ghost use Rattle.ex_generator.specs.declared.progress.TheConstants.{GENERATED_LINES};
-ghost use Rattle.ex_program.specs.Form.{files_of, form_of, form_of_words, is_name, lines_in, lines_of, lines_of_words, with_word};
+ghost use Rattle.ex_program.specs.Form.{files_of, form_of, form_of_words, is_name, is_number, lines_in, lines_of, lines_of_words, with_word};
 
 use arrayvec::{ArrayString, ArrayVec};
 use cm_fields::{are_digits, value_of};
@@ -165,6 +165,13 @@ fn form_of_words(words: &[Word]) -> Option<Form<'_>>
     }
 }
 
+// Whether bytes are one to six digits.
+fn is_number(bytes: &[u8]) -> bool
+    ensures { result ≡ is_number bytes.now }
+{
+    !bytes.is_empty() && bytes.len() <= MOST_DIGITS && are_digits(bytes)
+}
+
 // How many lines a word says: one to six digits, of a value from 1 to the most lines of a generated run.
 #[tactic(auto, unfolding(crate::specs::Form::lines_in))]
 fn lines_in(word: &Word) -> Option<u32>
@@ -172,7 +179,7 @@ fn lines_in(word: &Word) -> Option<u32>
     ensures few { IfSome result (λ lines. lines ≤ GENERATED_LINES) }
 {
     let digits = word.text.as_str().as_bytes();
-    if digits.is_empty() || digits.len() > MOST_DIGITS || !are_digits(digits) {
+    if !is_number(digits) {
         return None;
     }
     match value_of(digits, u64::from(GENERATED_LINES)) {

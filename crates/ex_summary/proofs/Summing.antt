@@ -1,9 +1,8 @@
 -- What a run that only counts comes to, and its summary.
-use Rattle.std.proofs.Common.{◌≡◌, ◌≤◌, ◌<◌, ◌+◌, ◌-◌, ◌⊎◌, ℕ, Bool, true, false, List, [], ◌∷◌, ◌++◌, length, min, Result, Ok, Err, refl, sym, ap, ◌∙◌, subst, inl, inr, arith, length-append}
+use Rattle.std.proofs.Common.{◌≡◌, ◌≤◌, ◌<◌, ◌+◌, ◌-◌, ℕ, Bool, false, List, [], ◌∷◌, ◌++◌, length, min, Result, Ok, Err, refl, sym, ap, ◌∙◌, arith, length-append}
 use Rattle.std.proofs.lemmas.List.Sums.{sum_by-append}
 use Rattle.cm_io.specs.Fault.{Rose, last_count}
 use Rattle.cm_io.specs.Told.{Told, Number, add}
-use Rattle.cm_io.proofs.Adding.{add_append}
 use Rattle.cm_run.specs.Cause.{KeyCount, RunCause, counts}
 use Rattle.cm_run.specs.Cut.{Cut, MemoryCut, ScreenCut, LogCut, KeyCut, EndCut, LimitCut, Traces, event_of, part_of}
 use Rattle.cm_run.specs.Event.{Event, event_trials, keys_of, screen_bytes, state_behind, trials_of}

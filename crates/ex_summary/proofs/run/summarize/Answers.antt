@@ -1,4 +1,4 @@
-use Rattle.std.proofs.Common.{◌≡◌, ◌<◌, ◌≤◌, ◌+◌, ℕ, length, ap, ◌∙◌, subst, refl}
+use Rattle.std.proofs.Common.{◌<◌, ◌≤◌, ◌+◌, length, ap, ◌∙◌, subst, refl}
 use Rattle.cm_run.specs.Trace.{is_ended}
 use Rattle.ex_store.specs.State.{State}
 use Rattle.ex_take.specs.Taker.{taker_meaning}
