@@ -67,6 +67,11 @@ abbrev pub reads_one : Function → Flags → Bool
 reads_one AnyFile flags = not (flags.wild || flags.default_all || flags.from_source)
 reads_one function flags = false
 
+-- one file that is there, without wildcards
+abbrev pub reads_single : Function → Flags → Bool
+reads_single InFile flags = not (flags.wild || flags.all_generations || flags.default_all)
+reads_single function flags = false
+
 -- what a command works on: files, users or directories
 abbrev pub reads_files : Function → Bool
 reads_files InFile = true

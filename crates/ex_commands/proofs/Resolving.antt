@@ -100,6 +100,13 @@ pub record IsResolved (c : Catalogue) (kind : FileKind) (flags : Flags) (atom : 
   pub generation : is_bad_generation kind spec.generation ≡ false
   pub wild : has_bad_wild kind flags atom spec ≡ false
   pub within : directory < length c.directories
+  pub reads : is_in kind ≡ true → selects (wanted_by flags atom spec) (rows_of c directory) ≡ true
+
+-- what is not refused where it is read
+found_there : (read found : Bool) → (read && not found) ≡ false → read ≡ true → found ≡ true
+found_there true true none reads = refl
+found_there true false none reads = cc
+found_there false found none reads = cc
 
 pub resolves : (c : Catalogue) → IsCatalogue c → (kind : FileKind) (flags : Flags) (atom : List ℕ) (spec : Spec) (directory : ℕ)
     → resolve c kind flags atom spec ≡ Ok directory → IsResolved c kind flags atom spec directory
@@ -118,6 +125,8 @@ resolves c is_catalogue kind flags atom spec directory is =
       wild = third.0;
       within = subst (λ (n : ℕ). n < length c.directories) same
           (device_directory_within c is_catalogue atom spec.device spec.directory device.0 named.0 device.1 named.1);
+      reads = λ reads. subst (λ (n : ℕ). selects (wanted_by flags atom spec) (rows_of c n) ≡ true) same
+          (found_there (is_in kind) (selects (wanted_by flags atom spec) (rows_of c named.0)) last.0 reads);
     }
 
 -- a directory of the catalogue is one of the state

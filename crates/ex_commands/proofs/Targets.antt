@@ -52,7 +52,7 @@ run_text is_part rest = take (prefix_len is_part rest) rest
 abbrev pub SaysParts : List ℕ → ℕ → List ℕ → Type 0
 SaysParts text at run = (place : Span) → place.start ≤ place.end → place.end ≤ length run → part text (moved at place) ≡ part run place
 
-run_says : (c : Catalogue) (text : List ℕ) (field : FieldView) (tried : IsTried (setting exec_graph c exec_meanings) text field)
+pub run_says : (c : Catalogue) (text : List ℕ) (field : FieldView) (tried : IsTried (setting exec_graph c exec_meanings) text field)
     → (prefix_len is_file (drop tried.at tried.said) == length (drop tried.at tried.said)) ≡ false
     → SaysParts (said_of exec_graph text field) tried.at (run_text is_file (drop tried.at tried.said))
 run_says c text field tried ends place order within =
@@ -374,7 +374,7 @@ one_number All all fits = cc
 one_number (Number number) all fits = fits
 
 -- what a name is asked for, and no wildcard is allowed
-right_is : (first second : Bool) → first ≡ false → (not first && second) ≡ false → second ≡ false
+pub right_is : (first second : Bool) → first ≡ false → (not first && second) ≡ false → second ≡ false
 right_is true second is both = cc
 right_is false second is both = both
 

@@ -1,4 +1,4 @@
--- The block whose trial took a field, and the text that it was tried on.
+-- The block whose trial took a field, or the end of the line, and the text that it was tried on.
 use Rattle.std.proofs.Common.{◌≡◌, ℕ, suc, ◌+◌, max, Bool, true, false, if◌then◌else◌, List, [], ◌∷◌, drop, Option, Some, None, slice_get, refl, ap, sym, subst, ◌∙◌, arith}
 use Rattle.std.specs.List.{find}
 use Rattle.cm_text.specs.Text.{finished}
@@ -14,7 +14,7 @@ use Rattle.cm_blocks.specs.declared.field.Chain.TheVariants as chain
 use Rattle.cm_blocks.specs.declared.function.Role.{Role}
 use Rattle.cm_blocks.specs.declared.node.Block.{Block}
 use Rattle.cm_blocks.specs.declared.node.Node.{Node}
-use Rattle.cm_blocks.specs.Chain.{at_node, by_default, chain_at, default_place, default_rest, defaulted, is_confirm, is_line_end, on_default, on_text, past_skip, typed, walk}
+use Rattle.cm_blocks.specs.Chain.{answered, at_node, by_default, chain_at, default_place, default_rest, defaulted, is_confirm, is_line_end, on_default, on_text, past_skip, typed, walk}
 use Rattle.cm_blocks.specs.Parse.{Follow}
 use Rattle.cm_blocks.specs.Setting.{Setting}
 use Rattle.cm_blocks.specs.FieldView.{FieldView}
@@ -267,3 +267,107 @@ first_tried s text node at test (first ∷ fields) field follow is =
         let same : first ≡ field = cc in
         subst (λ (it : FieldView). IsTried s text it × (test it ≡ true)) same (chain_tried s node text at first follow.0, passes)
     by false passes is later = later is
+
+-- the end of a line that a walk took
+record IsEnd (walked : Walk) : Type 0 where
+  taken : ℕ
+  role : Role
+  next : ℕ
+  value : Value
+  looked : ℕ
+  end : ℕ
+  is : walked ≡ Takes taken role next value looked end
+  ends : is_confirm value ≡ true
+
+end_of : (on_default : Bool) (number start : ℕ) (walked : Walk) (place : ℕ)
+    → answered on_default number start walked ≡ chain.Done place → IsEnd walked
+end_of on_default number start (Takes block role next value looked end) place is = by (is_confirm value) _ _ refl is
+  where
+    by : (test : Bool) (at : ℕ) (field : FieldView) → is_confirm value ≡ test
+        → (if test then chain.Done at else chain.Field field) ≡ chain.Done place
+        → IsEnd (Takes block role next value looked end)
+    by true at field ends is = record {
+      taken = block;
+      role = role;
+      next = next;
+      value = value;
+      looked = looked;
+      end = end;
+      is = refl;
+      ends = ends;
+    }
+    by false at field ends is = cc
+end_of on_default number start (Wants block) place is = cc
+end_of on_default number start (Fails code) place is = cc
+
+-- the block of a node that took the end of a line
+pub record IsEnded (s : Setting) (number : ℕ) : Type 0 where
+  pub node : Node
+  pub place : ℕ
+  pub block : Block
+  pub rest : List ℕ
+  pub at : ℕ
+  pub value : Value
+  pub looked : ℕ
+  pub end : ℕ
+  pub node_is : slice_get s.graph.nodes number ≡ Some node
+  pub block_is : slice_get node.chain place ≡ Some block
+  pub accepts : trial s block.function block.flags rest at ≡ Accept value looked end
+  pub ends : is_confirm value ≡ true
+
+ended : (s : Setting) (number : ℕ) (node : Node) (rest : List ℕ) (at : ℕ) → slice_get s.graph.nodes number ≡ Some node
+    → IsEnd (walk s rest at 0 0 NotConfirmed node.chain) → IsEnded s number
+ended s number node rest at node_is it =
+    let found = walk_found s rest at 0 0 NotConfirmed node.chain it.taken it.role it.next it.value it.looked it.end
+    it.is in
+    record {
+      node = node;
+      place = found.place;
+      block = found.block;
+      rest = rest;
+      at = at;
+      value = it.value;
+      looked = found.looked;
+      end = it.end;
+      node_is = node_is;
+      block_is = found.block_is;
+      accepts = found.accepts;
+      ends = it.ends;
+    }
+
+choice_ended : (s : Setting) (number : ℕ) (node : Node) (rest : List ℕ) (start : ℕ) (default : Option (List ℕ))
+    (place : ℕ) → slice_get s.graph.nodes number ≡ Some node
+    → (by_default s number node rest start default).chain ≡ chain.Done place → IsEnded s number
+choice_ended s number node rest start None place node_is is =
+    ended s number node rest start node_is
+    (end_of false number start (walk s rest start 0 0 NotConfirmed node.chain) place is)
+choice_ended s number node rest start (Some word) place node_is is = by (is_line_end rest) is
+  where
+    by : (test : Bool)
+        → (if test then on_default s number node start word else on_text s number node rest start).chain
+        ≡ chain.Done place → IsEnded s number
+    by true is =
+        ended s number node (default_rest node.raw word) (default_place node.raw word) node_is
+        (end_of true number start
+        (walk s (default_rest node.raw word) (default_place node.raw word) 0 0 NotConfirmed node.chain) place is)
+    by false is =
+        ended s number node rest start node_is
+        (end_of false number start (walk s rest start 0 0 NotConfirmed node.chain) place is)
+
+skip_ended : (s : Setting) (number : ℕ) (node : Node) (text : List ℕ) (at : ℕ) (found : Option ℕ) (place : ℕ)
+    → slice_get s.graph.nodes number ≡ Some node → (past_skip s number node text at found).chain ≡ chain.Done place
+    → IsEnded s number
+skip_ended s number node text at None place node_is is = cc
+skip_ended s number node text at (Some start) place node_is is =
+    choice_ended s number node (drop start text) start node.default place node_is is
+
+-- the end of a line that a chain takes
+pub chain_ended : (s : Setting) (number : ℕ) (text : List ℕ) (at place : ℕ)
+    → (chain_at s number text at).chain ≡ chain.Done place → IsEnded s number
+unfolding chain_at
+chain_ended s number text at place is = by (slice_get s.graph.nodes number) refl is
+  where
+    by : (found : Option Node) → slice_get s.graph.nodes number ≡ found
+        → (at_node s number text at found).chain ≡ chain.Done place → IsEnded s number
+    by None found is = cc
+    by (Some node) found is = skip_ended s number node text at (skip node.raw text at) place found is

@@ -30,15 +30,15 @@ use Rattle.ex_grammar.specs.ExecRules.{exec_meanings}
 use Rattle.ex_grammar.specs.Graph.{append_blocks, build_blocks, define_blocks, delete_blocks, directory_nodes, exec_graph, exec_nodes, first_nodes, last_nodes, listing_nodes, print_blocks, retention_nodes, source_nodes, switch_blocks, target_blocks, type_blocks}
 use Rattle.ex_grammar.specs.Tables.{build_entries, command_entries, directory_entries, exec_tables, switch_entries, topic_entries}
 use Rattle.ex_grammar.specs.Words.{confirm, either, keyword}
-use Rattle.ex_grammar.specs.declared.code.TheConstants.{APPEND, CONNECT, COPY, DEFINE, EXPUNGE, RENAME}
+use Rattle.ex_grammar.specs.declared.code.TheConstants.{APPEND, CONNECT, COPY, DEFINE, EXPUNGE, RENAME, TAKE}
 use Rattle.ex_grammar.specs.declared.node.TheConstants.{COMMANDS}
 use Rattle.ex_commands.specs.Line.{keyword_code}
-use Rattle.ex_commands.proofs.Fitting.{all_pass_at, reads_made, reads_one}
+use Rattle.ex_commands.proofs.Fitting.{all_pass_at, reads_made, reads_one, reads_single}
 use Rattle.ex_commands.proofs.Saying.{run_of}
 use Rattle.ex_commands.proofs.Trying.{IsTried, chain_number, chain_tried}
 
 -- the table of the commands
-abbrev command_table : ℕ
+abbrev pub command_table : ℕ
 command_table = 0
 
 -- some commands by their codes, the nodes behind them, and the blocks that read the fields of a role there
@@ -49,7 +49,7 @@ pub record Branch : Type 0 where
   pub reads : Block → Bool
 
 -- a function whose block alone says what follows
-abbrev is_plain : Function → Bool
+abbrev pub is_plain : Function → Bool
 is_plain (functions.Key table) = false
 is_plain (functions.Switch table) = false
 is_plain function = true
@@ -59,15 +59,15 @@ abbrev stays : Branch → Block → Bool
 stays branch block =
     is_plain block.function && branch.inside block.next && (not (is_role branch.role block.role) || branch.reads block)
 
-abbrev node_stays : Branch → ℕ → Node → Bool
+abbrev pub node_stays : Branch → ℕ → Node → Bool
 node_stays branch number node = not (branch.inside number) || list_all (stays branch) node.chain
 
-abbrev all_from : (ℕ → Node → Bool) → ℕ → List Node → Bool
+abbrev pub all_from : (ℕ → Node → Bool) → ℕ → List Node → Bool
 all_from test number [] = true
 all_from test number (node ∷ nodes) = test number node && all_from test (number + 1) nodes
 
 -- such a command leads to such a node
-abbrev leads : Branch → Entry → Bool
+abbrev pub leads : Branch → Entry → Bool
 leads branch entry = not (branch.names entry.code) || branch.inside entry.next
 
 -- so it is in the grammar of the EXEC
@@ -83,7 +83,7 @@ first_node : slice_get exec_graph.nodes COMMANDS ≡ Some (either confirm (keywo
 unfolding exec_graph exec_nodes first_nodes source_nodes
 first_node = refl
 
-all_from_at : (test : ℕ → Node → Bool) (from : ℕ) (nodes : List Node) (place : ℕ) (node : Node) → all_from test from nodes ≡ true
+pub all_from_at : (test : ℕ → Node → Bool) (from : ℕ) (nodes : List Node) (place : ℕ) (node : Node) → all_from test from nodes ≡ true
     → slice_get nodes place ≡ Some node → test (from + place) node ≡ true
 all_from_at test from [] place node all is = cc
 all_from_at test from (first ∷ nodes) zero node all is =
@@ -94,7 +94,7 @@ all_from_at test from (first ∷ nodes) (suc place) node all is =
     let here : from + suc place ≡ from + 1 + place = omega arith in
     ap (λ (n : ℕ). test n node) here ∙ all_from_at test (from + 1) nodes place node (and_parts (test from first) _ all).1 is
 
-or_right : (a b : Bool) → a ≡ false → (a || b) ≡ true → b ≡ true
+pub or_right : (a b : Bool) → a ≡ false → (a || b) ≡ true → b ≡ true
 or_right true b is either = cc
 or_right false b is either = either
 
@@ -103,7 +103,7 @@ not_true true is = cc
 not_true false is = refl
 
 -- the node that such a code leads to
-entry_leads : (branch : Branch) → branch.names 0 ≡ false → (table : List Entry) (place : ℕ)
+pub entry_leads : (branch : Branch) → branch.names 0 ≡ false → (table : List Entry) (place : ℕ)
     → list_all (leads branch) table ≡ true → branch.names (code_at table place) ≡ true
     → branch.inside (entry_next table place) ≡ true
 entry_leads branch none [] place all named = cc
@@ -114,7 +114,7 @@ entry_leads branch none (entry ∷ more) (suc place) all named =
     entry_leads branch none more place (and_parts (leads branch entry) (list_all (leads branch) more) all).1 named
 
 -- the node that follows a plain function
-plain_next : (graph : Graph) (block : Block) (value : Value) → is_plain block.function ≡ true → next_of graph block value ≡ block.next
+pub plain_next : (graph : Graph) (block : Block) (value : Value) → is_plain block.function ≡ true → next_of graph block value ≡ block.next
 plain_next graph block value plain = by value
   where
     by_function : (function : Function) (place : ℕ) → is_plain function ≡ true → keyword_next graph function block.next place ≡ block.next
@@ -133,15 +133,15 @@ record IsInside (branch : Branch) (c : Catalogue) (text : List ℕ) (field : Fie
   read : (not (is_role branch.role tried.block.role) || branch.reads tried.block) ≡ true
   next : branch.inside field.next ≡ true
 
-stay_of : (branch : Branch) → IsBranch branch → (c : Catalogue) (text : List ℕ) (node at : ℕ) (field : FieldView)
-    → branch.inside node ≡ true
+stay_of : (branch : Branch) → all_from (node_stays branch) 0 exec_graph.nodes ≡ true → (c : Catalogue) (text : List ℕ)
+    (node at : ℕ) (field : FieldView) → branch.inside node ≡ true
     → (chain_at (setting exec_graph c exec_meanings) node text at).chain ≡ chain.Field field
     → IsInside branch c text field
-stay_of branch is_branch c text node at field inside is =
+stay_of branch nodes c text node at field inside is =
     let tried = chain_tried (setting exec_graph c exec_meanings) node text at field is in
     let number = chain_number (setting exec_graph c exec_meanings) node text at field is in
     let here : 0 + field.node ≡ field.node = omega arith in
-    let all = all_from_at (node_stays branch) 0 exec_graph.nodes field.node tried.node is_branch.nodes tried.node_is in
+    let all = all_from_at (node_stays branch) 0 exec_graph.nodes field.node tried.node nodes tried.node_is in
     let passes : node_stays branch field.node tried.node ≡ true =
     ap (λ (n : ℕ). node_stays branch n tried.node) (sym here) ∙ all in
     let within : branch.inside field.node ≡ true = ap branch.inside number ∙ inside in
@@ -163,14 +163,15 @@ pub record IsOf (c : Catalogue) (text : List ℕ) (reads : Block → Bool) (fiel
   pub read : reads tried.block ≡ true
 
 -- the first field of the role, from such a node on
-found_inside : (branch : Branch) → IsBranch branch → (c : Catalogue) (text : List ℕ) (node at : ℕ) (fields : List FieldView)
-    (field : FieldView) → branch.inside node ≡ true → Follow (setting exec_graph c exec_meanings) text node at fields
+pub found_inside : (branch : Branch) → all_from (node_stays branch) 0 exec_graph.nodes ≡ true → (c : Catalogue)
+    (text : List ℕ) (node at : ℕ) (fields : List FieldView) (field : FieldView) → branch.inside node ≡ true
+    → Follow (setting exec_graph c exec_meanings) text node at fields
     → field_of branch.role fields ≡ Some field → IsOf c text branch.reads field
-found_inside branch is_branch c text node at [] field inside follow is = cc
-found_inside branch is_branch c text node at (first ∷ fields) field inside follow is =
-    let stay = stay_of branch is_branch c text node at first inside follow.0 in
+found_inside branch nodes c text node at [] field inside follow is = cc
+found_inside branch nodes c text node at (first ∷ fields) field inside follow is =
+    let stay = stay_of branch nodes c text node at first inside follow.0 in
     by (is_role branch.role first.role) refl is stay
-    (found_inside branch is_branch c text first.next first.end fields field stay.next follow.1)
+    (found_inside branch nodes c text first.next first.end fields field stay.next follow.1)
   where
     by : (passes : Bool) → is_role branch.role first.role ≡ passes
         → (if passes then Some first else field_of branch.role fields) ≡ Some field → IsInside branch c text first
@@ -185,26 +186,34 @@ found_inside branch is_branch c text node at (first ∷ fields) field inside fol
         subst (IsOf c text branch.reads) same (record { tried = tried; read = read })
     by false passes is stay later = later is
 
+-- a keyword of a table: the entry that a run of bytes means
+pub record IsKeyword (table : ℕ) (value : Value) : Type 0 where
+  pub place : ℕ
+  pub run : List ℕ
+  pub value_is : value ≡ values.Key place (code_at (table_of exec_graph table) place)
+  pub meant : entry_position (table_of exec_graph table) run ≡ Ok place
+
 -- what a keyword's value says
 key_says : (c : Catalogue) (flags : Flags) (table : ℕ) (rest : List ℕ) (at : ℕ) (value : Value) (looked end : ℕ)
     → trial (setting exec_graph c exec_meanings) (functions.Key table) flags rest at ≡ Accept value looked end
-    → (place : ℕ) × (value ≡ values.Key place (code_at (table_of exec_graph table) place))
+    → IsKeyword table value
 unfolding trial
 key_says c flags table rest at value looked end is =
     let run = run_of is_word (λ run. key_value (table_of exec_graph table) (entry_position (table_of exec_graph table) run)) rest at value looked end is in
-    by (entry_position (table_of exec_graph table) (take (prefix_len is_word rest) rest)) run.decided
+    by (entry_position (table_of exec_graph table) (take (prefix_len is_word rest) rest)) refl run.decided
   where
-    by : (found : Result ℕ Code) → key_value (table_of exec_graph table) found ≡ Ok value
-        → (place : ℕ) × (value ≡ values.Key place (code_at (table_of exec_graph table) place))
-    by (Ok place) is = let same : values.Key place (code_at (table_of exec_graph table) place) ≡ value = cc in (place, sym same)
-    by (Err code) is = cc
+    by : (found : Result ℕ Code) → entry_position (table_of exec_graph table) (take (prefix_len is_word rest) rest) ≡ found
+        → key_value (table_of exec_graph table) found ≡ Ok value → IsKeyword table value
+    by (Ok place) meant is =
+        let same : values.Key place (code_at (table_of exec_graph table) place) ≡ value = cc in
+        record { place = place; run = take (prefix_len is_word rest) rest; value_is = sym same; meant = meant }
+    by (Err code) meant is = cc
 
 -- the first field of a line: it is of one of the first node's blocks
-first_field : (c : Catalogue) (text : List ℕ) (at : ℕ) (field : FieldView)
+pub first_field : (c : Catalogue) (text : List ℕ) (at : ℕ) (field : FieldView)
     → (chain_at (setting exec_graph c exec_meanings) COMMANDS text at).chain ≡ chain.Field field
     → (block : Block) × (field.role ≡ block.role) × (field.next ≡ next_of exec_graph block field.value)
-    × (((block ≡ confirm) ⊎ ((block ≡ keyword command_table roles.Verb)
-    × ((place : ℕ) × (field.value ≡ values.Key place (code_at (table_of exec_graph command_table) place))))))
+    × ((block ≡ confirm) ⊎ ((block ≡ keyword command_table roles.Verb) × IsKeyword command_table field.value))
 first_field c text at field is =
     let tried = chain_tried (setting exec_graph c exec_meanings) COMMANDS text at field is in
     let number = chain_number (setting exec_graph c exec_meanings) COMMANDS text at field is in
@@ -222,8 +231,7 @@ first_field c text at field is =
     by : (place : ℕ) (block : Block) (flags : Flags) (rest : List ℕ) (at looked end : ℕ)
         → slice_get (confirm ∷ keyword command_table roles.Verb ∷ []) place ≡ Some block
         → trial (setting exec_graph c exec_meanings) block.function flags rest at ≡ Accept field.value looked end
-        → (block ≡ confirm) ⊎ ((block ≡ keyword command_table roles.Verb)
-        × ((place : ℕ) × (field.value ≡ values.Key place (code_at (table_of exec_graph command_table) place))))
+        → (block ≡ confirm) ⊎ ((block ≡ keyword command_table roles.Verb) × IsKeyword command_table field.value)
     by zero block flags rest at looked end found accepts = let same : confirm ≡ block = cc in inl (sym same)
     by (suc zero) block flags rest at looked end found accepts =
         let same : keyword command_table roles.Verb ≡ block = cc in
@@ -233,7 +241,7 @@ first_field c text at field is =
     by (suc (suc place)) block flags rest at looked end found accepts = cc
 
 -- what finds none of the first field goes on behind it
-behind_first : (test : FieldView → Bool) (first : FieldView) (fields : List FieldView) (found : Option FieldView) → test first ≡ false
+pub behind_first : (test : FieldView → Bool) (first : FieldView) (fields : List FieldView) (found : Option FieldView) → test first ≡ false
     → find test (first ∷ fields) ≡ found → find test fields ≡ found
 behind_first test first fields found other is = rw other at is
 
@@ -249,12 +257,11 @@ behind_verb branch is_branch c text (first ∷ fields) ends verb field parse ver
   where
     behind : branch.inside first.next ≡ true → is_role branch.role first.role ≡ false → IsOf c text branch.reads field
     behind next other =
-        found_inside branch is_branch c text first.next first.end fields field next parse.follow.1
+        found_inside branch is_branch.nodes c text first.next first.end fields field next parse.follow.1
         (behind_first (λ (it : FieldView). is_role branch.role it.role) first fields (Some field) other is)
 
     by : (block : Block) → first.role ≡ block.role → first.next ≡ next_of exec_graph block first.value
-        → (block ≡ confirm) ⊎ ((block ≡ keyword command_table roles.Verb)
-        × ((place : ℕ) × (first.value ≡ values.Key place (code_at (table_of exec_graph command_table) place))))
+        → (block ≡ confirm) ⊎ ((block ≡ keyword command_table roles.Verb) × IsKeyword command_table first.value)
         → IsOf c text branch.reads field
     by block role next (inl same) =
         behind (ap branch.inside (next ∙ ap (λ (it : Block). next_of exec_graph it first.value) same
@@ -265,13 +272,14 @@ behind_verb branch is_branch c text (first ∷ fields) ends verb field parse ver
         let test : is_role roles.Verb first.role ≡ true = ap (is_role roles.Verb) is_verb in
         let found : find (λ (field : FieldView). is_role roles.Verb field.role) (first ∷ fields) ≡ Some first = rw test refl in
         let same : first ≡ verb = (let both = sym found ∙ verb_is in cc) in
-        let code : branch.names (code_at (table_of exec_graph command_table) said.1.0) ≡ true =
-        ap (λ (value : Value). branch.names (keyword_code value)) (sym said.1.1 ∙ ap (λ (it : FieldView). it.value) same)
+        let code : branch.names (code_at (table_of exec_graph command_table) said.1.place) ≡ true =
+        ap (λ (value : Value). branch.names (keyword_code value)) (sym said.1.value_is ∙ ap (λ (it : FieldView). it.value) same)
         ∙ named in
-        let leads_to : next_of exec_graph block first.value ≡ entry_next (table_of exec_graph command_table) said.1.0 =
-        ap (λ (it : Block). next_of exec_graph it first.value) said.0 ∙ ap (next_of exec_graph (keyword command_table roles.Verb)) said.1.1 in
+        let leads_to : next_of exec_graph block first.value ≡ entry_next (table_of exec_graph command_table) said.1.place =
+        ap (λ (it : Block). next_of exec_graph it first.value) said.0
+        ∙ ap (next_of exec_graph (keyword command_table roles.Verb)) said.1.value_is in
         behind (ap branch.inside (next ∙ leads_to)
-        ∙ entry_leads branch is_branch.none (table_of exec_graph command_table) said.1.0 is_branch.commands code)
+        ∙ entry_leads branch is_branch.none (table_of exec_graph command_table) said.1.place is_branch.commands code)
         (ap (is_role branch.role) is_verb ∙ is_branch.other)
 
 -- CONNECT, EXPUNGE and DEFINE: a directory that is there
@@ -350,3 +358,28 @@ pub grown_target : (c : Catalogue) (text : List ℕ) (fields : List FieldView) (
     → names_grown (keyword_code verb.value) ≡ true → field_of roles.Target fields ≡ Some field
     → IsOf c text is_one field
 grown_target = behind_verb grown_branch grown_is
+
+-- TAKE: one file that is there
+abbrev pub names_take : ℕ → Bool
+names_take code = code == TAKE
+
+abbrev pub is_single : Block → Bool
+is_single block = reads_single block.function block.flags
+
+abbrev take_branch : Branch
+take_branch = record {
+  names = names_take;
+  inside = λ (node : ℕ). node == 5 || node == 21 || node == 22;
+  role = roles.Files;
+  reads = is_single;
+}
+
+take_is : IsBranch take_branch
+unfolding exec_graph exec_nodes first_nodes source_nodes target_blocks append_blocks delete_blocks type_blocks listing_nodes define_blocks build_blocks last_nodes print_blocks switch_blocks directory_nodes retention_nodes exec_tables command_entries topic_entries directory_entries build_entries switch_entries
+take_is = record { none = refl; ends = refl; nodes = refl; commands = refl; some = refl; other = refl }
+
+pub take_file : (c : Catalogue) (text : List ℕ) (fields : List FieldView) (ends : Ending) (verb field : FieldView)
+    → IsParse (setting exec_graph c exec_meanings) COMMANDS text fields ends → field_of roles.Verb fields ≡ Some verb
+    → names_take (keyword_code verb.value) ≡ true → field_of roles.Files fields ≡ Some field
+    → IsOf c text is_single field
+take_file = behind_verb take_branch take_is

@@ -1,18 +1,22 @@
 //! Laws of commands. Each is a function that does nothing, whose contract is the law.
-ghost use Rattle.std.specs.Prelude.{ℕ, List, [], true, ◌≡◌, ◌↔◌};
+ghost use Rattle.std.specs.Prelude.{ℕ, List, [], ◌∷◌, None, Some, true, ◌≡◌, ◌≢◌, ◌↔◌};
 ghost use Rattle.cm_text.specs.Text.{IsLine};
 ghost use Rattle.cm_blocks.specs.declared.field.Ending.TheVariants as ending;
+ghost use Rattle.cm_blocks.specs.declared.function.Role.TheVariants as roles;
 ghost use Rattle.cm_blocks.specs.Parse.{IsParse};
 ghost use Rattle.cm_blocks.specs.Setting.{setting};
 ghost use Rattle.cm_blocks.specs.FieldView.{FieldView};
 ghost use Rattle.cm_fields.specs.declared.code.Code.{Code};
 ghost use Rattle.cm_files.specs.Catalogue.{Catalogue, IsCatalogue};
 ghost use Rattle.cm_state.specs.Echo.{refusal};
+ghost use Rattle.cm_state.specs.Roles.{field_of};
 ghost use Rattle.cm_state.specs.SessionState.{SessionState, text_of};
 ghost use Rattle.ex_grammar.specs.declared.node.TheConstants.{COMMANDS};
 ghost use Rattle.ex_grammar.specs.ExecRules.{exec_meanings};
 ghost use Rattle.ex_grammar.specs.Graph.{exec_graph};
 ghost use Rattle.ex_store.specs.declared.place.Place.{Place};
+ghost use Rattle.ex_store.specs.declared.row.Row.{Row};
+ghost use Rattle.ex_store.specs.Plan.{sources};
 ghost use Rattle.ex_store.specs.State.{State, catalogue_of};
 ghost use Rattle.ex_store.specs.WellFormed.{IsWellFormed};
 ghost use Rattle.ex_commands.specs.declared.acted.Acted.TheVariants as answers;
@@ -25,6 +29,7 @@ ghost use Rattle.ex_commands.specs.declared.lines.TheConstants.{DAY_SECONDS};
 ghost use Rattle.ex_commands.specs.Act.{act_of, writes};
 ghost use Rattle.ex_commands.specs.Answer.{MayAct};
 ghost use Rattle.ex_commands.specs.Command.{added, command_of, is_pending, subcommand_node};
+ghost use Rattle.ex_commands.specs.Line.{Line};
 ghost use Rattle.ex_commands.specs.Replies.{ends_line};
 
 /// What a line commands can be done: the directories are there, and names and numbers have their forms.
@@ -38,6 +43,15 @@ pub fn a_line_may_act()
           text = text_of session;
           fields = session.fields;
         })) state }
+{}
+
+/// A line that has a verb commands something, and a line that has none commands nothing.
+pub fn a_line_with_a_verb_commands_something()
+    ensures verb { (c : Catalogue) (text : List ℕ) (fields : List FieldView) (verb : FieldView)
+        → IsParse (setting exec_graph c exec_meanings) COMMANDS text fields ending.Done
+        → field_of roles.Verb fields ≡ Some verb
+        → command_of (record { graph = exec_graph; catalogue = c; text = text; fields = fields }) ≢ commands.Empty }
+    ensures none { (line : Line) → field_of roles.Verb line.fields ≡ None → command_of line ≡ commands.Empty }
 {}
 
 /// What may be done may be done with a subcommand more.
@@ -77,6 +91,20 @@ pub fn a_command_that_waits_changes_nothing()
 pub fn only_logout_ends_the_run()
     ensures { (command : Command) (moment : ℕ) (state : State)
         → ((act_of command moment state).answer ≡ answers.Logout) ↔ (command ≡ commands.Logout) }
+{}
+
+/// A line of TAKE means one file.
+pub fn a_line_takes_one_file()
+    ensures { (state : State) (session : SessionState) (file : Place) → IsWellFormed state
+        → IsParse (setting exec_graph (catalogue_of state) exec_meanings) COMMANDS (text_of session) session.fields
+        ending.Done
+        → command_of (record {
+          graph = exec_graph;
+          catalogue = catalogue_of state;
+          text = text_of session;
+          fields = session.fields;
+        }) ≡ commands.Take file
+        → (row : Row) × (sources file state ≡ row ∷ []) }
 {}
 
 /// A file is typed in behind COPY TTY: alone.

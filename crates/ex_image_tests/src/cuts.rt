@@ -7,7 +7,7 @@ use std::process::Abort;
 use std::test::Fail;
 
 // The records of an image, a line each.
-const RECORDS: &str = "\
+const ONE_OF_EACH: &str = "\
 EXEC20 1|
 D OPERATOR 0|
 D SMITH 2|
@@ -16,6 +16,16 @@ L HOME SMITH|
 F OPERATOR A.TXT.7 U 5 9|one||E|F||
 F SMITH B..1 D 0 0||
 Q SMITH B..1 2 WIDE - JOB a note|
+E|";
+
+const TWO_DIRECTORIES: &str = "\
+EXEC20 1|
+D OPERATOR 1|
+D SMITH 2|
+D SMITH.SRC 0|
+C OPERATOR|
+F SMITH LOGIN.CMD.1 U 86400 9|INF VER^||
+F SMITH REPORT.TXT.3 U 946684800 7|HELLO^||
 E|";
 
 // Puts a record behind those before it, byte by byte: as long as a byte of it is wanting, it is the one that is cut.
@@ -33,12 +43,18 @@ fn push_record(
     Ok(())
 }
 
+// Each beginning of an image but the whole is one that is cut.
+fn is_cut_everywhere(rt: &(impl Abort + AllocGlobal), records: &str) -> Result<(), Fail> {
+    let mut image = Vec::new(rt.alloc());
+    for record in records.lines() {
+        push_record(rt, &mut image, record)?;
+    }
+    assert_eq!(rt; fault(rt, &image), None);
+    Ok(())
+}
+
 #[test]
 fn the_record_that_ends_early_is_cut(rt: HostRuntime) -> Result<(), Fail> {
-    let mut image = Vec::new(rt.alloc());
-    for record in RECORDS.lines() {
-        push_record(&rt, &mut image, record)?;
-    }
-    assert_eq!(rt; fault(&rt, &image), None);
-    Ok(())
+    is_cut_everywhere(&rt, ONE_OF_EACH)?;
+    is_cut_everywhere(&rt, TWO_DIRECTORIES)
 }

@@ -6,7 +6,6 @@ use Rattle.cm_io.specs.declared.sink.Sink
 use Rattle.cm_io.specs.declared.source.Source
 use Rattle.cm_run.specs.Cause.{Counts, counts}
 use Rattle.cm_run.specs.Observed.{Observed, observed}
-use Rattle.ex_take.specs.TakerState.{TakerState}
 
 -- the screen and the log; the keys that are left, and how often they were asked for; the moments to come; the counter;
 -- and how often each has failed
@@ -31,8 +30,8 @@ scene s screen w log k keys c clock trials = record {
   faults = counts (s.faults screen) (w.faults log) (k.faults keys);
 }
 
--- what is observed where the EXEC is in this state
-abbrev pub seen : Scene → TakerState → Observed TakerState
+-- what is observed where an application is in this state
+abbrev pub seen : {S : Type 0} → Scene → S → Observed S
 seen at state = observed at.screen at.log at.keys at.gets at.moments at.trials state
 
 -- the screen alone has changed

@@ -19,6 +19,7 @@ ghost use Rattle.ex_program.specs.Asked.{form_view};
 ghost use Rattle.ex_generator.specs.declared.progress.TheConstants.{GENERATED_LINES};
 ghost use Rattle.ex_program.specs.Form.{Form, form_of, lines_of};
 ghost use Rattle.ex_program.specs.Generates.{Rises, Shows, Sums};
+ghost use Rattle.ex_program.specs.Runs.{Runs};
 ghost use Rattle.ex_summary.specs.Run.{exec_left, exec_trace, run_shown};
 ghost use Rattle.ex_summary.specs.Summary.{summary_text};
 ghost use Rattle.ex_program.specs.Scene.{scene};
@@ -28,7 +29,7 @@ use crate::{Status, Words, words};
 use cm_blocks::{Grammar, Steps};
 use cm_hooks::Hooks;
 use cm_io::{Clock, Host, NoMemory, Put, Sink, Source, Writer};
-use cm_run::run;
+use cm_run::{Application, Stop, run};
 use ex_grammar::{ExecRules, grammar};
 use ex_summary::{Summary, summarize};
 use ex_system::{close, refuse, start};
@@ -38,6 +39,30 @@ use std::sync::ledger::Ledger;
 
 /// The most keys that a run takes.
 pub const KEY_LIMIT: u64 = 16_777_216;
+
+// Runs an application over the keys to the end. What is known of the run is one fact, so that a caller that names the
+// application has one clause of it.
+fn run_application<A: Application, K: Source, S: Sink, W: Sink, C: Clock, L: Ledger>(
+    logging: bool,
+    app: &mut A,
+    grammar: &Grammar,
+    hooks: &Hooks<A::Rules>,
+    keys: &mut K,
+    screen: &mut S,
+    log: &mut W,
+    clock: &mut C,
+    steps: &mut Steps<L>,
+) -> Result<(), Stop>
+    requires { Serves A.means grammar.now A.Rules.meanings hooks.now }
+    ensures { Runs A.means logging (IsTrue K.tells × IsTrue C.tells) app.old app.new
+        (scene S.Sink screen.old W.Sink log.old K.Source keys.old C.Clock clock.old steps.old)
+        (scene S.Sink screen.new W.Sink log.new K.Source keys.new C.Clock clock.new steps.new)
+        result }
+{
+    run(
+        KEY_LIMIT, logging, app, grammar, hooks, keys, screen, log, clock, steps,
+    )
+}
 
 // Runs over the keys to the end, writes the image, and shows the message of the status.
 fn run_exec<H: Host, K: Source, S: Sink, W: Sink, C: Clock, L: Ledger>(
@@ -68,10 +93,17 @@ fn run_exec<H: Host, K: Source, S: Sink, W: Sink, C: Clock, L: Ledger>(
         → (taken ++ rest) ++ K.left keys.new ≡ K.left keys.old
         → KeepsLine taker_meaning (taker_start taker.old.exec.state) (C.left clock.old) taken }
 {
-    let stop = run(
-        KEY_LIMIT, form.logs, taker, grammar, hooks, keys, screen, log, clock, steps,
+    let stop = run_application(
+        form.logs, taker, grammar, hooks, keys, screen, log, clock, steps,
     );
-    close(stop, taker.has_ended(), taker.store(), form.out, host, screen)
+    close(
+        stop,
+        taker.has_ended(),
+        taker.store(),
+        form.out,
+        host,
+        screen,
+    )
 }
 
 // Shows a summary.

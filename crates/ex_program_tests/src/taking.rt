@@ -1,5 +1,6 @@
 // Command files.
 use crate::case::try_cases;
+use crate::given::{Given, outcome_of, words_of};
 use std::test::Fail;
 
 const TAKES_LINE_BY_LINE: &str = "# A file that takes itself is taken four times.
@@ -138,7 +139,16 @@ fn stops_at_a_refusal(rt: HostRuntime) -> Result<(), Fail> {
     try_cases(&rt, STOPS_AT_A_REFUSAL)
 }
 
-const ADDS_SUBCOMMANDS_FROM_A_FILE: &str = "# The end of the file is an empty line of them.
+const ADDS_SUBCOMMANDS_FROM_A_FILE: &str = "# The example of the list of commands.
+words IN,OUT
+in {HEAD}F OPERATOR A.TXT.1 U 0 0{LF}{LF}F OPERATOR DAILY.CMD.1 U 0 55{LF}
+in BUILD <SRC>,{LF}GENERATIONS 3{LF}{LF}COPY *.TXT <SRC>*.*{LF}INF VER{LF}E{LF}
+clock 0
+keys TAKE DAILY.CMD{CR}
+screen @TAKE DAILY.CMD{EOL} <OPERATOR>A.TXT.1 => <SRC>A.TXT.1 [OK]{EOL} EXEC20 1{EOL}@{EOL}
+out ..F SRC A.TXT.1 U 0 0{LF}{LF}E{LF}
+
+# The end of the file is an empty line of them.
 words IN,OUT
 in {HEAD}F OPERATOR B.CMD.1 U 0 17{LF}BUILD <X>,{LF}GEN 3{LF}{LF}E{LF}
 clock 0
@@ -166,6 +176,28 @@ out {HEAD}F OPERATOR B.CMD.1 U 0 18{LF}BUILD <X>,{LF}GEN 64{LF}{LF}E{LF}";
 #[test]
 fn adds_subcommands_from_a_file(rt: HostRuntime) -> Result<(), Fail> {
     try_cases(&rt, ADDS_SUBCOMMANDS_FROM_A_FILE)
+}
+
+const NUL_AND_200: &[u8] = b"EXEC20 1\nD OPERATOR 1\nC OPERATOR\nF OPERATOR A.CMD.1 U 0 9\nINF VER\x00\n\nF OPERATOR B.CMD.1 U 0 9\nINF VER\xc8\n\nE\n";
+
+#[test]
+fn refuses_bytes_that_are_no_text(rt: HostRuntime) -> Result<(), Fail> {
+    let given = Given {
+        keys: b"TAKE A.CMD\rTAKE B.CMD\r",
+        input: Some(NUL_AND_200),
+        has_moments: false,
+        failing_get: None,
+        failing_call: None,
+        screen_room: 256,
+        log_room: 0,
+        file_room: 256,
+    };
+    let outcome = outcome_of(&rt, &words_of(&["IN", "OUT"]), &given)?;
+    let screen = b"@TAKE A.CMD\r\n?Invalid line in command file\r\n@TAKE B.CMD\r\n?Invalid line in command file\r\n@\r\n";
+    if outcome.screen.bytes() != screen {
+        return Err(Fail::new(format_args!("{:?}", outcome.screen.bytes())));
+    }
+    Ok(())
 }
 
 const TAKES_10000_LINES: &str = "words IN,OUT

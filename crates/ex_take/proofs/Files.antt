@@ -1,5 +1,8 @@
 -- Files that are open, the one that is taken now at the end.
-use Rattle.std.proofs.Common.{◌≡◌, ℕ, ◌+◌, ◌-◌, ◌==◌, ◌&&◌, Bool, true, false, cond, List, [], ◌∷◌, ◌++◌, length, take, slice_get, Option, None, Some, refl, sym, ap, ◌∙◌, subst, arith, length-append}
+use Rattle.std.proofs.Common.{◌≡◌, ℕ, zero, suc, get_or, ◌+◌, ◌-◌, ◌<◌, ◌==◌, ◌&&◌, Bool, true, false, cond, List, [], ◌∷◌, ◌++◌, length, take, slice_get, Option, None, Some, refl, sym, ap, ◌∙◌, subst, arith, length-append}
+use Rattle.std.proofs.lemmas.Bool.Decides.{nat_tests}
+use Rattle.std.proofs.lemmas.List.{length-take-le}
+use Rattle.std.proofs.lemmas.Option.{slice_get-get_or, slice_get_within}
 use Rattle.ex_take.specs.Taker.{innermost, is_over, open_files}
 
 -- one at the end that is over is none of those that go on
@@ -10,9 +13,8 @@ open_over (one ∷ files) file over =
     ap (λ others. cond (length others == 0 && length one == 0) [] (one ∷ others)) (open_over files file over)
 
 some_left : (files : List (List (List ℕ))) (file : List (List ℕ)) → (length (files ++ file ∷ []) == 0) ≡ false
-some_left files file = rw (length-append files (file ∷ [])) (by (length files)) where
-  by : (n : ℕ) → (n + 1 == 0) ≡ false
-  by n = grind arith
+some_left files file =
+    let size : length (file ∷ []) ≡ 1 = refl in grind (arith, nat_tests, length-append files (file ∷ []), size)
 
 -- and where it is not over all go on
 open_on : (files : List (List (List ℕ))) (file : List (List ℕ)) → (length file == 0) ≡ false
@@ -21,3 +23,48 @@ open_on [] file on = rw on refl
 open_on (one ∷ files) file on =
     ap (λ others. cond (length others == 0 && length one == 0) [] (one ∷ others)) (open_on files file on)
     ∙ rw (some_left files file) refl
+
+-- a list with an element at its end
+last_at : {X : Type 0} (xs : List X) (n : ℕ) (x : X) → slice_get xs n ≡ Some x → n + 1 ≡ length xs → xs ≡ take n xs ++ x ∷ []
+last_at [] n x is size = absurd (cc)
+last_at (one ∷ []) zero x is size = let same : one ≡ x = cc in ap (λ it. it ∷ []) same
+last_at (one ∷ other ∷ xs) zero x is size = absurd (omega (arith, size))
+last_at (one ∷ xs) (suc n) x is size = ap (λ it. one ∷ it) (last_at xs n x is (omega (arith, size)))
+
+last_split : {X : Type 0} (xs : List X) (x : X) → slice_get xs (length xs - 1) ≡ Some x → xs ≡ take (length xs - 1) xs ++ x ∷ []
+last_split xs x is = last_at xs (length xs - 1) x is (omega (arith, slice_get_within xs (length xs - 1) x is))
+
+-- where the file that is taken now is over, it is taken away
+pub over_less : (files others : List (List (List ℕ))) → is_over (innermost files) ≡ true → others ≡ take (length files - 1) files
+    → length others < length files
+over_less [] others over less = absurd (cc)
+over_less (file ∷ files) others over less =
+    let size : length (file ∷ files) ≡ suc (length files) = refl in
+    omega (arith, ap length less, size, length-take-le (length (file ∷ files) - 1) (file ∷ files) (omega arith))
+
+by_last : (files : List (List (List ℕ))) (last : Option (List (List ℕ))) → innermost files ≡ last → is_over last ≡ true
+    → open_files (take (length files - 1) files) ≡ open_files files
+by_last files None is over = absurd (cc)
+by_last files (Some file) is over =
+    sym (ap open_files (last_split files file is) ∙ open_over (take (length files - 1) files) file over)
+
+pub open_less : (files others : List (List (List ℕ))) → is_over (innermost files) ≡ true → others ≡ take (length files - 1) files
+    → open_files others ≡ open_files files
+open_less files others over less = ap open_files less ∙ by_last files (innermost files) refl over
+
+-- else all go on
+some_last : (file : List (List ℕ)) (files : List (List (List ℕ))) → innermost (file ∷ files) ≡ None → ⊥
+some_last file files is =
+    let size : length (file ∷ files) ≡ suc (length files) = refl in
+    let there : slice_get (file ∷ files) (length (file ∷ files) - 1) ≡ Some (get_or (file ∷ files) (length (file ∷ files) - 1) file)
+    = slice_get-get_or (file ∷ files) (length (file ∷ files) - 1) file (omega (arith, size)) in cc
+
+on_last : (files : List (List (List ℕ))) (last : Option (List (List ℕ))) → innermost files ≡ last → is_over last ≡ false
+    → files ≡ open_files files
+on_last [] None is on = refl
+on_last (file ∷ files) None is on = absurd (some_last file files is)
+on_last files (Some file) is on =
+    last_split files file is ∙ sym (open_on (take (length files - 1) files) file on) ∙ ap open_files (sym (last_split files file is))
+
+pub open_all : (files : List (List (List ℕ))) → is_over (innermost files) ≡ false → files ≡ open_files files
+open_all files on = on_last files (innermost files) refl on

@@ -1,17 +1,38 @@
 -- Acts of the EXEC's, and what follows them.
-use Rattle.std.proofs.Common.{◌≡◌, ℕ, Bool, true, false, List, [], ◌∷◌, ◌++◌, map, Option, None, Some, Result, Ok, Err, refl, sym, ap, ◌∙◌, subst}
+use Rattle.std.proofs.Common.{◌≡◌, ℕ, ◌==◌, length, Bool, true, false, List, [], ◌∷◌, ◌++◌, map, Option, None, Some, Result, Ok, Err, refl, sym, ap, ◌∙◌, subst}
 use Rattle.cm_io.specs.Told.{Told, AddsPart, add}
 use Rattle.cm_io.proofs.Adding.{add_none}
+use Rattle.cm_io.specs.Fault.{PutCause}
+use Rattle.cm_io.specs.Told.{Adds}
+use Rattle.cm_io.specs.declared.sink.Put.{Put}
+use Rattle.cm_io.specs.declared.sink.Put.TheVariants.{Done, Failed}
+use Rattle.cm_fields.specs.declared.code.Code.{Code}
+use Rattle.cm_fields.specs.declared.code.Code.TheVariants.{NotInTake, TakeDepth}
+use Rattle.cm_state.specs.Echo.{refusal}
+use Rattle.cm_run.specs.Cause.{ObeyCause}
 use Rattle.cm_run.specs.Meaning.{Deed}
 use Rattle.cm_run.specs.Obey.{Obeys, Stage, behind, left_by, replies, stage}
 use Rattle.cm_run.specs.declared.stop.Stop.{Stop}
 use Rattle.cm_run.specs.declared.stop.Stop.TheVariants as stop
-use Rattle.cm_run.proofs.Obeying.{obeys_done, obeys_on, obeys_short}
+use Rattle.cm_run.proofs.Causes.{obey_cause_on}
+use Rattle.cm_run.proofs.Obeying.{obeys_cut, obeys_done, obeys_nothing, obeys_on, obeys_short, obeys_wanting}
 use Rattle.ex_commands.specs.declared.acted.Acted.{Acted}
+use Rattle.ex_commands.specs.declared.acted.Acted.TheVariants as answers
+use Rattle.ex_commands.specs.declared.command.Command.{Command}
+use Rattle.ex_commands.specs.declared.command.Command.TheVariants as commands
+use Rattle.ex_store.specs.declared.place.Place.{Place}
+use Rattle.cm_blocks.specs.declared.field.Ending.{Ending}
+use Rattle.cm_blocks.specs.declared.field.Ending.TheVariants as endings
+use Rattle.cm_blocks.specs.declared.field.Fault.{Fault}
+use Rattle.cm_blocks.specs.declared.field.Open.{Open}
+use Rattle.cm_state.specs.SessionState.{SessionState}
+use Rattle.ex_exec.specs.Exec.{command_at, completion_answer, pending_complete, subcommand_deeds}
 use Rattle.ex_exec.specs.ExecState.{ExecState}
+use Rattle.ex_exec.specs.declared.pending.Pending.{Pending}
 use Rattle.ex_exec.specs.Outcome.{outcome_of}
-use Rattle.ex_take.specs.Taker.{lifted, silent}
+use Rattle.ex_take.specs.Taker.{acts, behind_end, closed, closes, command_deeds, completion_deeds, counted, counted_by, counts, end_deeds, ending_deeds, fault_deeds, file_line_deeds, follows, innermost, is_over, lifted, line_by, line_deeds, looks_ahead, next_fault, opened, opens, passed, pending_deeds, refuses, settles, silent, stopped, take_deeds, typing_deeds, unwaiting}
 use Rattle.ex_take.specs.TakerState.{TakerState}
+use Rattle.ex_take.specs.declared.taker.TheConstants.{MOST_FILES}
 
 module _ (at : TakerState) where
   -- the state with this EXEC
@@ -108,3 +129,283 @@ module _ (at : TakerState) where
 
   pub silent_alone : (told : Told) (before : TakerState) → Obeys (stage told before) (stage told at) (silent at ∷ []) (Ok tt)
   silent_alone told before = obeys_done (silent at) told told before at (sym (add_none told)) refl
+
+-- a refusal is shown, whole or in part
+module _ (at left : TakerState) (code : Code) (told now : Told) (put : Put) (adds : Adds told now (refusal code) put) (stops : left ≡ stopped code at) where
+  pub refusal_done : put ≡ Done → Obeys (stage told at) (stage now left) (refuses code at ∷ []) (Ok tt)
+  refusal_done is = obeys_done (refuses code at) told now at left (subst (λ it. Adds told now (refusal code) it) is adds) stops
+
+  pub refusal_cut : put ≡ Failed → Obeys (stage told at) (stage now left) (refuses code at ∷ []) (Err stop.Screen)
+  refusal_cut is = obeys_cut (refuses code at) told now at left (subst (λ it. Adds told now (refusal code) it) is adds) stops
+
+pub cause_done : (f g : ℕ) (put : Put) → put ≡ Done → PutCause f g put → ObeyCause f g (Ok tt)
+unfolding ObeyCause
+cause_done f g put is cause = subst (λ it. PutCause f g it) is cause
+
+pub cause_cut : (f g : ℕ) (put : Put) → put ≡ Failed → PutCause f g put → ObeyCause f g (Err stop.Screen)
+unfolding ObeyCause
+cause_cut f g put is cause = subst (λ it. PutCause f g it) is cause
+
+-- the next line is looked at
+pub looks_none : (at : TakerState) (told : Told) (fault : Option Code) → fault ≡ next_fault at.taken (innermost at.files) → fault ≡ None
+    → Obeys (stage told at) (stage told at) (looks_ahead at) (Ok tt)
+unfolding looks_ahead
+looks_none at told fault is none =
+    subst (λ (it : Option Code). Obeys (stage told at) (stage told at) (fault_deeds at it) (Ok tt)) (sym none ∙ is) (obeys_nothing told at)
+
+pub looks_some : (at left : TakerState) (told then : Told) (fault : Option Code) (code : Code) (result : Result Unit Stop)
+    → fault ≡ next_fault at.taken (innermost at.files) → fault ≡ Some code
+    → Obeys (stage told at) (stage then left) (refuses code at ∷ []) result → Obeys (stage told at) (stage then left) (looks_ahead at) result
+unfolding looks_ahead
+looks_some at left told then fault code result is some obeys =
+    subst (λ (it : Option Code). Obeys (stage told at) (stage then left) (fault_deeds at it) result) (sym some ∙ is) obeys
+
+pub closes_obey : (at middle left : TakerState) (told then : Told) (result : Result Unit Stop) → middle ≡ closed at
+    → Obeys (stage told middle) (stage then left) (looks_ahead middle) result → Obeys (stage told at) (stage then left) (closes at) result
+unfolding closes
+closes_obey at middle left told then result is obeys =
+    silent_first (closed at) told then at left (looks_ahead (closed at)) result
+    (subst (λ (it : TakerState). Obeys (stage told it) (stage then left) (looks_ahead it) result) is obeys)
+
+-- behind an answer that is no refusal files are closed
+pub end_refused : (at left : TakerState) (told : Told) (answer : Acted) (code : Code) → answer ≡ answers.Refused code → left ≡ stopped code at
+    → Obeys (stage told at) (stage told left) (behind_end at answer) (Ok tt)
+unfolding behind_end
+end_refused at left told answer code is stops =
+    subst (λ (it : Acted). Obeys (stage told at) (stage told left) (behind_end at it) (Ok tt)) (sym is)
+    (subst (λ (it : TakerState). Obeys (stage told at) (stage told it) (silent (stopped code at) ∷ []) (Ok tt)) (sym stops)
+    (silent_alone (stopped code at) told at))
+
+closes_behind : (at : TakerState) (answer : Acted) → ((code : Code) → answer ≡ answers.Refused code → ⊥) → closes at ≡ behind_end at answer
+unfolding behind_end
+closes_behind at (answers.Refused code) other = absurd (other code refl)
+closes_behind at answer other = refl
+
+pub end_other : (at left : TakerState) (told then : Told) (answer : Acted) (result : Result Unit Stop)
+    → ((code : Code) → answer ≡ answers.Refused code → ⊥)
+    → Obeys (stage told at) (stage then left) (closes at) result → Obeys (stage told at) (stage then left) (behind_end at answer) result
+end_other at left told then answer result other obeys =
+    subst (λ deeds. Obeys (stage told at) (stage then left) deeds result) (closes_behind at answer other) obeys
+
+-- where a file is at its end it ends, and else the next line is looked at
+module _ (at left : TakerState) (told then : Told) (result : Result Unit Stop) where
+  pub settles_over : is_over (innermost at.files) ≡ true → Obeys (stage told at) (stage then left) (end_deeds at at.exec.pending) result
+      → Obeys (stage told at) (stage then left) (settles at) result
+  unfolding settles
+  settles_over over obeys = rw over obeys
+
+  pub settles_on : is_over (innermost at.files) ≡ false → Obeys (stage told at) (stage then left) (looks_ahead at) result
+      → Obeys (stage told at) (stage then left) (settles at) result
+  unfolding settles
+  settles_on on obeys = rw on obeys
+
+-- what follows an answer
+pub follows_refused : (at left : TakerState) (told : Told) (answer : Acted) (code : Code) → answer ≡ answers.Refused code → left ≡ stopped code at
+    → Obeys (stage told at) (stage told left) (follows at answer) (Ok tt)
+unfolding follows
+follows_refused at left told answer code is stops =
+    subst (λ (it : Acted). Obeys (stage told at) (stage told left) (follows at it) (Ok tt)) (sym is)
+    (subst (λ (it : TakerState). Obeys (stage told at) (stage told it) (silent (stopped code at) ∷ []) (Ok tt)) (sym stops)
+    (silent_alone (stopped code at) told at))
+
+pub follows_logout : (at : TakerState) (told : Told) (answer : Acted) → answer ≡ answers.Logout
+    → Obeys (stage told at) (stage told at) (follows at answer) (Ok tt)
+unfolding follows
+follows_logout at told answer is =
+    subst (λ (it : Acted). Obeys (stage told at) (stage told at) (follows at it) (Ok tt)) (sym is) (obeys_nothing told at)
+
+settles_behind : (at : TakerState) (answer : Acted) → ((code : Code) → answer ≡ answers.Refused code → ⊥) → (answer ≡ answers.Logout → ⊥)
+    → settles at ≡ follows at answer
+unfolding follows
+settles_behind at (answers.Refused code) other on = absurd (other code refl)
+settles_behind at answers.Logout other on = absurd (on refl)
+settles_behind at answer other on = refl
+
+pub follows_other : (at left : TakerState) (told then : Told) (answer : Acted) (result : Result Unit Stop)
+    → ((code : Code) → answer ≡ answers.Refused code → ⊥) → (answer ≡ answers.Logout → ⊥)
+    → Obeys (stage told at) (stage then left) (settles at) result → Obeys (stage told at) (stage then left) (follows at answer) result
+follows_other at left told then answer result other on obeys =
+    subst (λ deeds. Obeys (stage told at) (stage then left) deeds result) (settles_behind at answer other on) obeys
+
+-- a file is opened, unless too many are
+module _ (at left : TakerState) (file : Place) (told then : Told) (result : Result Unit Stop) where
+  pub take_full : (n : ℕ) → (n == MOST_FILES) ≡ true → n ≡ length at.files
+      → Obeys (stage told at) (stage then left) (refuses TakeDepth at ∷ []) result → Obeys (stage told at) (stage then left) (take_deeds at file) result
+  take_full n full size obeys = rw (ap (λ it. it == MOST_FILES) (sym size) ∙ full) obeys
+
+  pub take_wants : (n : ℕ) → (n == MOST_FILES) ≡ false → n ≡ length at.files
+      → Obeys (stage told at) (stage told at) (take_deeds at file) (Err stop.Memory)
+  take_wants n room size =
+      rw (ap (λ it. it == MOST_FILES) (sym size) ∙ room)
+      (obeys_short (stage told at) (stage told at) (opens at file ∷ []) (settles (opened at file)) stop.Memory
+      (obeys_wanting (opens at file) told told at at refl refl refl))
+
+  pub take_opens : (n : ℕ) → (n == MOST_FILES) ≡ false → n ≡ length at.files → (middle : TakerState) → middle ≡ opened at file
+      → Obeys (stage told middle) (stage then left) (settles middle) result → Obeys (stage told at) (stage then left) (take_deeds at file) result
+  take_opens n room size middle is obeys =
+      rw (ap (λ it. it == MOST_FILES) (sym size) ∙ room)
+      (obeys_on (stage told at) (stage told (opened at file)) (stage then left) (opens at file ∷ []) (settles (opened at file)) result
+      (obeys_done (opens at file) told told at (opened at file) (sym (add_none told)) refl)
+      (subst (λ (it : TakerState). Obeys (stage told it) (stage then left) (settles it) result) is obeys))
+
+  pub typing_first : (moment : ℕ) (to : Place) → (length at.files == 0) ≡ true
+      → Obeys (stage told at) (stage then left) (acts at moment (commands.CopyTty to)) result
+      → Obeys (stage told at) (stage then left) (typing_deeds at moment to) result
+  typing_first moment to none obeys = rw none obeys
+
+  pub typing_barred : (moment : ℕ) (to : Place) → (length at.files == 0) ≡ false
+      → Obeys (stage told at) (stage then left) (refuses NotInTake at ∷ []) result
+      → Obeys (stage told at) (stage then left) (typing_deeds at moment to) result
+  typing_barred moment to some obeys = rw some obeys
+
+-- what a command does
+acts_as : (at : TakerState) (moment : ℕ) (command : Command) → ((file : Place) → command ≡ commands.Take file → ⊥)
+    → ((to : Place) → command ≡ commands.CopyTty to → ⊥) → acts at moment command ≡ command_deeds at moment command
+unfolding command_deeds
+acts_as at moment (commands.Take file) takes types = absurd (takes file refl)
+acts_as at moment (commands.CopyTty to) takes types = absurd (types to refl)
+acts_as at moment command takes types = refl
+
+module _ (at left : TakerState) (told then : Told) (result : Result Unit Stop) (moment : ℕ) (command : Command) where
+  pub command_takes : (file : Place) → command ≡ commands.Take file → Obeys (stage told at) (stage then left) (take_deeds at file) result
+      → Obeys (stage told at) (stage then left) (command_deeds at moment command) result
+  unfolding command_deeds
+  command_takes file is obeys =
+      subst (λ (it : Command). Obeys (stage told at) (stage then left) (command_deeds at moment it) result) (sym is) obeys
+
+  pub command_types : (to : Place) → command ≡ commands.CopyTty to → Obeys (stage told at) (stage then left) (typing_deeds at moment to) result
+      → Obeys (stage told at) (stage then left) (command_deeds at moment command) result
+  unfolding command_deeds
+  command_types to is obeys =
+      subst (λ (it : Command). Obeys (stage told at) (stage then left) (command_deeds at moment it) result) (sym is) obeys
+
+  pub command_acts : ((file : Place) → command ≡ commands.Take file → ⊥) → ((to : Place) → command ≡ commands.CopyTty to → ⊥)
+      → Obeys (stage told at) (stage then left) (acts at moment command) result
+      → Obeys (stage told at) (stage then left) (command_deeds at moment command) result
+  command_acts takes types obeys =
+      subst (λ deeds. Obeys (stage told at) (stage then left) deeds result) (acts_as at moment command takes types) obeys
+
+-- a key of a file that is typed in
+pub raw_obeys : (at : TakerState) (told then : Told) (next : ExecState) (left : TakerState) (answer wanted : Acted) (deeds : List (Deed ExecState))
+    → Obeys (stage told at.exec) (stage then next) deeds (outcome_of answer) → (outcome_of answer ≡ Ok tt → answer ≡ wanted)
+    → left ≡ counted_by (over at next) answer
+    → Obeys (stage told at) (stage then left) (map (lifted at) deeds ++ counts (over at (left_by at.exec deeds)) wanted) (outcome_of answer)
+raw_obeys at told then next left answer wanted deeds obeys is counts_it =
+    subst (λ (it : TakerState). Obeys (stage told at) (stage then it) (map (lifted at) deeds ++ counts (over at (left_by at.exec deeds)) wanted) (outcome_of answer))
+    (sym counts_it) (by answer obeys is)
+  where
+    by : (answer : Acted) → Obeys (stage told at.exec) (stage then next) deeds (outcome_of answer) → (outcome_of answer ≡ Ok tt → answer ≡ wanted)
+        → Obeys (stage told at) (stage then (counted_by (over at next) answer)) (map (lifted at) deeds ++ counts (over at (left_by at.exec deeds)) wanted) (outcome_of answer)
+    by (answers.Refused code) obeys is =
+        followed_on at told then at.exec next deeds (answers.Refused code) wanted counts then (counted (over at next)) (Ok tt) refl is obeys
+        (silent_alone (counted (over at next)) then (over at next))
+    by answers.Ok obeys is = followed_on at told then at.exec next deeds answers.Ok wanted counts then (over at next) (Ok tt) refl is obeys (obeys_nothing then (over at next))
+    by answers.Pending obeys is = followed_on at told then at.exec next deeds answers.Pending wanted counts then (over at next) (Ok tt) refl is obeys (obeys_nothing then (over at next))
+    by answers.Data obeys is = followed_on at told then at.exec next deeds answers.Data wanted counts then (over at next) (Ok tt) refl is obeys (obeys_nothing then (over at next))
+    by answers.Take obeys is = followed_on at told then at.exec next deeds answers.Take wanted counts then (over at next) (Ok tt) refl is obeys (obeys_nothing then (over at next))
+    by answers.Logout obeys is = followed_on at told then at.exec next deeds answers.Logout wanted counts then (over at next) (Ok tt) refl is obeys (obeys_nothing then (over at next))
+    by answers.NoMemory obeys is = followed_cut at told then at.exec next deeds answers.NoMemory wanted counts stop.Memory refl obeys
+    by answers.Failed obeys is = followed_cut at told then at.exec next deeds answers.Failed wanted counts stop.Screen refl obeys
+
+-- what a line of subcommands does, from whatever EXEC was met: its first act is silent
+module _ (at : TakerState) (one : ExecState) (told middle : Told) (exec next : ExecState) (pending : Pending) (answer wanted : Acted)
+    (follows : TakerState → Acted → List (Deed TakerState)) where
+  pub followed_from : (then : Told) (left : TakerState) (result : Result Unit Stop)
+      → outcome_of answer ≡ Ok tt → (outcome_of answer ≡ Ok tt → answer ≡ wanted)
+      → Obeys (stage told one) (stage middle next) (subcommand_deeds exec pending) (outcome_of answer)
+      → Obeys (stage middle (over at next)) (stage then left) (follows (over at next) answer) result
+      → Obeys (stage told (over at one)) (stage then left)
+      (map (lifted at) (subcommand_deeds exec pending) ++ follows (over at (left_by exec (subcommand_deeds exec pending))) wanted) result
+  followed_from then left result went is obeys more =
+      followed_on at told middle one next (subcommand_deeds exec pending) answer wanted follows then left result went is obeys more
+
+  pub followed_from_cut : (why : Stop) → outcome_of answer ≡ Err why
+      → Obeys (stage told one) (stage middle next) (subcommand_deeds exec pending) (outcome_of answer)
+      → Obeys (stage told (over at one)) (stage middle (over at next))
+      (map (lifted at) (subcommand_deeds exec pending) ++ follows (over at (left_by exec (subcommand_deeds exec pending))) wanted) (Err why)
+  followed_from_cut why went obeys = followed_cut at told middle one next (subcommand_deeds exec pending) answer wanted follows why went obeys
+
+-- by the counts
+pub cause_on : (a b c : ℕ) (answer : Acted) (result : Result Unit Stop) → outcome_of answer ≡ Ok tt → ObeyCause a b (outcome_of answer)
+    → ObeyCause b c result → ObeyCause a c result
+unfolding ObeyCause
+cause_on a b c answer result went first then =
+    obey_cause_on a b c result (subst (λ (it : Result Unit Stop). ObeyCause a b it) went first) then
+
+pub cause_kept : (a b : ℕ) (answer : Acted) (why : Stop) → outcome_of answer ≡ Err why → ObeyCause a b (outcome_of answer) → ObeyCause a b (Err why)
+cause_kept a b answer why went first = subst (λ (it : Result Unit Stop). ObeyCause a b it) went first
+
+-- at the end of a file a command that waited acts
+module _ (at : TakerState) (exec : ExecState) (pending : Pending) (told middle : Told) (next : ExecState) (answer : Acted)
+    (waits : at.exec.pending ≡ Some pending) (is : exec ≡ record at.exec { pending = None })
+    (answers_so : outcome_of answer ≡ Ok tt → answer ≡ completion_answer exec (pending_complete pending))
+    (obeys : (before : ExecState) → Obeys (stage told before) (stage middle next) (subcommand_deeds exec (pending_complete pending)) (outcome_of answer)) where
+  abbrev unwaited : over at exec ≡ unwaiting at
+  unwaited = ap (λ (it : ExecState). over at it) is
+
+  end_as : (left : TakerState) (then : Told) (result : Result Unit Stop)
+      → Obeys (stage told at) (stage then left) (completion_deeds (over at exec) (pending_complete pending)) result
+      → Obeys (stage told at) (stage then left) (end_deeds at at.exec.pending) result
+  end_as left then result obeys =
+      subst (λ (it : Option Pending). Obeys (stage told at) (stage then left) (end_deeds at it) result) (sym waits)
+      (subst (λ (it : TakerState). Obeys (stage told at) (stage then left) (completion_deeds it (pending_complete pending)) result) unwaited obeys)
+
+  pub end_ends : (left : TakerState) (then : Told) (result : Result Unit Stop) → outcome_of answer ≡ Ok tt
+      → Obeys (stage middle (over at next)) (stage then left) (behind_end (over at next) answer) result
+      → Obeys (stage told at) (stage then left) (end_deeds at at.exec.pending) result
+  end_ends left then result went more =
+      end_as left then result
+      (followed_on (over at exec) told middle at.exec next (subcommand_deeds exec (pending_complete pending)) answer
+      (completion_answer exec (pending_complete pending)) behind_end then left result went answers_so (obeys at.exec) more)
+
+  pub end_ends_cut : (why : Stop) → outcome_of answer ≡ Err why
+      → Obeys (stage told at) (stage middle (over at next)) (end_deeds at at.exec.pending) (Err why)
+  end_ends_cut why went =
+      end_as (over at next) middle (Err why)
+      (followed_cut (over at exec) told middle at.exec next (subcommand_deeds exec (pending_complete pending)) answer
+      (completion_answer exec (pending_complete pending)) behind_end why went (obeys at.exec))
+
+-- a line is for the command that waits, or commands itself
+module _ (at left : TakerState) (exec : ExecState) (session : SessionState) (moment : ℕ) (told then : Told) (result : Result Unit Stop)
+    (is : exec ≡ record at.exec { pending = None }) where
+  pub line_waits : (pending : Pending) → at.exec.pending ≡ Some pending
+      → ((one : ExecState) → Obeys (stage told (over at one)) (stage then left) (pending_deeds (over at exec) session pending) result)
+      → Obeys (stage told at) (stage then left) (line_deeds at session moment) result
+  unfolding line_deeds
+  line_waits pending waits obeys =
+      subst (λ (it : Option Pending). Obeys (stage told at) (stage then left) (line_by at session moment it) result) (sym waits)
+      (subst (λ (it : ExecState). Obeys (stage told at) (stage then left) (pending_deeds (over at it) session pending) result) is (obeys at.exec))
+
+  pub line_commands : (command : Command) → at.exec.pending ≡ None → command ≡ command_at exec session
+      → Obeys (stage told (over at exec)) (stage then left) (command_deeds (over at exec) moment command) result
+      → Obeys (stage told at) (stage then left) (line_deeds at session moment) result
+  unfolding line_deeds
+  line_commands command none said obeys =
+      let same : exec ≡ at.exec = is ∙ ap (λ (it : Option Pending). record at.exec { pending = it }) (sym none) in
+      subst (λ (it : Option Pending). Obeys (stage told at) (stage then left) (line_by at session moment it) result) (sym none)
+      (subst (λ (it : ExecState). Obeys (stage told (over at it)) (stage then left) (command_deeds (over at it) moment (command_at it session)) result) same
+      (subst (λ (it : Command). Obeys (stage told (over at exec)) (stage then left) (command_deeds (over at exec) moment it) result) said obeys))
+
+-- a line of a file
+module _ (at on left : TakerState) (session : SessionState) (moment : ℕ) (told then : Told) (result : Result Unit Stop) (is : on ≡ passed at) where
+  file_as : Obeys (stage told on) (stage then left) (ending_deeds on session moment session.ending) result
+      → Obeys (stage told at) (stage then left) (file_line_deeds at session moment) result
+  file_as obeys =
+      silent_first (passed at) told then at left (ending_deeds (passed at) session moment session.ending) result
+      (subst (λ (it : TakerState). Obeys (stage told it) (stage then left) (ending_deeds it session moment session.ending) result) is obeys)
+
+  pub file_done : session.ending ≡ endings.Done → Obeys (stage told on) (stage then left) (line_deeds on session moment) result
+      → Obeys (stage told at) (stage then left) (file_line_deeds at session moment) result
+  file_done ends obeys =
+      file_as (subst (λ (it : Ending). Obeys (stage told on) (stage then left) (ending_deeds on session moment it) result) (sym ends) obeys)
+
+  pub file_refused : (fault : Fault) → session.ending ≡ endings.Fault fault → Obeys (stage told on) (stage then left) (refuses fault.code on ∷ []) result
+      → Obeys (stage told at) (stage then left) (file_line_deeds at session moment) result
+  file_refused fault ends obeys =
+      file_as (subst (λ (it : Ending). Obeys (stage told on) (stage then left) (ending_deeds on session moment it) result) (sym ends) obeys)
+
+pub file_open : (at on : TakerState) (session : SessionState) (moment : ℕ) (told : Told) (place : Open) → on ≡ passed at
+    → session.ending ≡ endings.Open place → Obeys (stage told at) (stage told on) (file_line_deeds at session moment) (Ok tt)
+file_open at on session moment told place is ends =
+    file_as at on on session moment told told (Ok tt) is
+    (subst (λ (it : Ending). Obeys (stage told on) (stage told on) (ending_deeds on session moment it) (Ok tt)) (sym ends) (obeys_nothing told on))

@@ -1,4 +1,5 @@
 mod Files
 mod Following
 pub mod LineKeeping
+mod Outcomes
 mod Splitting

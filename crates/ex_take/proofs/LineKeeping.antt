@@ -126,9 +126,12 @@ subcommands_end exec pending = completion_ends exec pending (is_pending pending.
 file_ends : (at : TakerState) (pending : Option Pending) → EndsLine (replies (end_deeds at pending))
 file_ends at None = closes_end at
 file_ends at (Some pending) =
-    both_end (map (lifted (unwaiting at)) (subcommand_deeds (unwaiting at).exec (pending_complete pending))) _
-    (lifted_end (unwaiting at) _ (subcommands_end (unwaiting at).exec (pending_complete pending)))
-    (behind_ends _ (completion_answer (unwaiting at).exec (pending_complete pending)))
+    let on = unwaiting at in
+    let completed = pending_complete pending in
+    let deeds = subcommand_deeds on.exec completed in
+    both_end (map (lifted on) deeds) (behind_end (record on { exec = left_by on.exec deeds }) (completion_answer on.exec completed))
+    (lifted_end on deeds (subcommands_end on.exec completed))
+    (behind_ends (record on { exec = left_by on.exec deeds }) (completion_answer on.exec completed))
 
 settles_end : (at : TakerState) → EndsLine (replies (settles at))
 unfolding settles
@@ -149,7 +152,9 @@ follows_end at answers.NoMemory = settles_end at
 follows_end at answers.Failed = settles_end at
 
 followed_ends : (at : TakerState) (deeds : List (Deed ExecState)) (answer : Acted) → EndsLine (replies deeds) → EndsLine (replies (followed at deeds answer))
-followed_ends at deeds answer ends = both_end (map (lifted at) deeds) _ (lifted_end at deeds ends) (follows_end _ answer)
+followed_ends at deeds answer ends =
+    both_end (map (lifted at) deeds) (follows (record at { exec = left_by at.exec deeds }) answer) (lifted_end at deeds ends)
+    (follows_end (record at { exec = left_by at.exec deeds }) answer)
 
 acts_end : (at : TakerState) (moment : ℕ) (command : Command) → EndsLine (replies (acts at moment command))
 acts_end at moment command =

@@ -10,8 +10,8 @@ use Rattle.cm_run.specs.declared.stop.Stop.TheVariants as stop
 use Rattle.ex_store.specs.declared.place.Place.{Place}
 use Rattle.ex_take.specs.Taker.{take_deeds, taker_meaning}
 use Rattle.ex_take.specs.TakerState.{TakerState}
-use Rattle.ex_take.specs.declared.take.Took.{Took}
-use Rattle.ex_take.specs.declared.take.Took.TheVariants as took
+use Rattle.ex_take.specs.declared.taking.Took.{Took}
+use Rattle.ex_take.specs.declared.taking.Took.TheVariants as took
 
 -- the file is opened, and its lines are taken, as behind a typed line
 abbrev pub take_trace : TakerState → Place → ℕ → List (Event TakerState)

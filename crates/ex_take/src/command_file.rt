@@ -1,6 +1,9 @@
 // A command file that is open.
-ghost use Rattle.std.specs.Prelude.{◌≡◌, ◌≤◌, ◌==◌, drop, length, slice_get, take, IfOk};
+ghost use Rattle.std.specs.Prelude.{◌≡◌, ◌≤◌, ◌==◌, None, Some, drop, if◌then◌else◌, length, slice_get, take, IfOk, IfSome};
+ghost use Rattle.std.specs.List.{list_all};
 ghost use Rattle.std.specs.Option.{option_copied};
+ghost use Rattle.cm_text.specs.Bytes.{is_text};
+ghost use Rattle.cm_text.specs.Text.{IsLine};
 ghost use Rattle.ex_take.specs.Lines.{BeginsLines, is_line, lines, without_return};
 
 use cm_io::NoMemory;
@@ -81,11 +84,14 @@ impl CommandFile {
     }
 
     /// Passes the next line.
+    #[tactic(auto, using(crate::proofs::Splitting::passes, crate::proofs::Splitting::passes_within, crate::proofs::Splitting::passes_none))]
     pub(crate) fn pass(&mut self)
         ensures { self.new ≡ drop 1 self.old }
     {
-        if let Some(first) = first_line(self.rest()) {
-            self.at += first.next;
+        if let Some(bytes) = &self.bytes {
+            if let Some(first) = first_line(&bytes[self.at..]) {
+                self.at += first.next;
+            }
         }
     }
 }
@@ -123,9 +129,25 @@ fn first_line(bytes: &[u8]) -> Option<LineEnd>
     }
 }
 
+// A line has text bytes alone.
+fn is_plain(line: &[u8]) -> bool
+    ensures { result ≡ list_all is_text line.now }
+{
+    line.iter().all(|byte| is_text(*byte))
+}
+
 /// Whether a line can be parsed: it has text bytes alone, and not too many.
 pub(crate) fn is_line(line: &[u8]) -> bool
     ensures { result ≡ is_line line.now }
 {
-    line.len() <= LINE_LIMIT && line.iter().all(|byte| is_text(*byte))
+    line.len() <= LINE_LIMIT && is_plain(line)
+}
+
+/// A line, where it can be parsed.
+#[tactic(auto, using(crate::proofs::Splitting::line_holds))]
+pub(crate) fn parsable(line: &[u8]) -> Option<&[u8]>
+    ensures value { option_copied result ≡ (if is_line line.now then Some line.now else None) }
+    ensures line { IfSome (option_copied result) IsLine }
+{
+    if is_line(line) { Some(line) } else { None }
 }

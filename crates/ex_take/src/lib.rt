@@ -3,8 +3,8 @@
 
 mod command_file;
 pub mod laws;
-mod take;
 mod taker;
+mod taking;
 
-pub use take::{Took, take};
 pub use taker::{MOST_FILES, Taker};
+pub use taking::{Took, take};

@@ -1,9 +1,9 @@
 -- How a run of the program ends: what was read and shown, and when each status comes.
-use Rattle.std.specs.Prelude.{◌≡◌, ℕ, ◌<◌, ◌≤◌, List, [], ◌++◌, length, codes}
+use Rattle.std.specs.Prelude.{◌≡◌, ℕ, ◌+◌, ◌-◌, ◌<◌, ◌≤◌, List, [], ◌++◌, length, min, codes}
 use Rattle.cm_text.specs.Shown.{end_of_line}
 use Rattle.cm_io.specs.declared.sink.Put.{Put}
 use Rattle.cm_io.specs.Told.{Told, add, Adds, AddsPart}
-use Rattle.cm_io.specs.Fault.{PutCause, Rose}
+use Rattle.cm_io.specs.Fault.{PutCause, Rose, last_count}
 use Rattle.tt_screen.specs.declared.program.TheConstants.{KEY_LIMIT}
 use Rattle.tt_screen.specs.declared.program.Read.{Read}
 use Rattle.tt_screen.specs.declared.program.Read.TheVariants as reads
@@ -51,6 +51,16 @@ Reads before now WriteFault = TakesAll before now
 Reads before now ReadFault = TakesSome before now
 Reads before now KeyLimit = Takes before now KEY_LIMIT
 
+-- a count of gets behind so many more; it stays at its last value
+abbrev pub gets_behind : ℕ → ℕ → ℕ
+gets_behind gets more = min (gets + more) last_count
+
+-- how many gets it asks: one for each byte that it takes, and one more, which finds the end or fails; none behind the
+-- limit
+abbrev pub Asks : List ℕ → List ℕ → ℕ → ℕ → Status → Type 0
+Asks before now gets gets' KeyLimit = gets' ≡ gets_behind gets (length before - length now)
+Asks before now gets gets' result = gets' ≡ gets_behind gets (length before - length now + 1)
+
 -- what it shows of the bytes that it reads to their end
 abbrev pub PutsRows : List ℕ → Told → Told → Status → Type 0
 PutsRows bytes before now Done = now ≡ add before (screen_text bytes)
@@ -89,3 +99,7 @@ abbrev pub ReadCause : ℕ → ℕ → Read → Type 0
 ReadCause keys keys' reads.All = keys' ≡ keys
 ReadCause keys keys' reads.Failed = Rose keys keys'
 ReadCause keys keys' reads.TooMany = keys' ≡ keys
+
+abbrev pub ReadAsks : List ℕ → List ℕ → ℕ → ℕ → Read → Type 0
+ReadAsks before now gets gets' reads.TooMany = gets' ≡ gets_behind gets (length before - length now)
+ReadAsks before now gets gets' result = gets' ≡ gets_behind gets (length before - length now + 1)

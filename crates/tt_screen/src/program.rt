@@ -4,7 +4,7 @@ ghost use Rattle.cm_text.specs.Shown.{end_of_line};
 ghost use Rattle.cm_io.specs.Fault.{PutCause};
 ghost use Rattle.cm_io.specs.Told.{Adds};
 ghost use Rattle.cm_io.specs.Writer.{Writes};
-ghost use Rattle.tt_screen.specs.End.{Complains, EndCause, Feeds, PutsRows, ReadCause, Reads, Tries, message_of};
+ghost use Rattle.tt_screen.specs.End.{Asks, Complains, EndCause, Feeds, PutsRows, ReadAsks, ReadCause, Reads, Tries, message_of};
 ghost use Rattle.tt_screen.specs.Grid.{blank_grid};
 ghost use Rattle.tt_screen.specs.Kept.{kept_of};
 ghost use Rattle.tt_screen.specs.Shown.{row_line, rows_text};
@@ -31,6 +31,9 @@ pub enum Read {
 pub fn tt20<K: Source, S: Sink>(keys: &mut K, screen: &mut S) -> Status
     // What is taken, by the status.
     ensures keys { IsTrue K.tells → Reads (K.left keys.old) (K.left keys.new) result }
+    // How often the keys are asked: one get for each byte that is taken, and one more, which finds the end or fails.
+    ensures asks { IsTrue K.tells → Asks (K.left keys.old) (K.left keys.new)
+        (K.gets keys.old) (K.gets keys.new) result }
     // What is shown: the rows, or a part of them, or the line of a message, which may be cut too.
     ensures rows { IsTrue K.tells → PutsRows (K.left keys.old) (S.told screen.old) (S.told screen.new) result }
     ensures message { Complains (S.told screen.old) (S.told screen.new)
@@ -55,6 +58,8 @@ pub fn tt20<K: Source, S: Sink>(keys: &mut K, screen: &mut S) -> Status
 fn feed_all<K: Source>(keys: &mut K, shown: &mut Screen) -> Read
     requires { shown.old ≡ kept_of blank_grid }
     ensures feeds { IsTrue K.tells → Feeds (K.left keys.old) (K.left keys.new) shown.new result }
+    ensures asks { IsTrue K.tells → ReadAsks (K.left keys.old) (K.left keys.new)
+        (K.gets keys.old) (K.gets keys.new) result }
     ensures cause { ReadCause (K.faults keys.old) (K.faults keys.new) result }
 {
     for turn in 0..KEY_LIMIT {

@@ -3,7 +3,7 @@ ghost use Rattle.std.specs.Prelude.{◌≡◌};
 ghost use Rattle.ex_take.specs.Taker.{counted_by};
 
 use super::Taker;
-use crate::command_file::is_line;
+use crate::command_file::parsable;
 use cm_blocks::{Ending, Grammar};
 use cm_io::{Put, Sink};
 use cm_run::{Application, Mode, Stop};
@@ -71,7 +71,10 @@ impl Application for Taker {
 
     fn file_line(&self) -> Option<&[u8]> {
         match self.files.last() {
-            Some(file) => file.line().filter(|line| is_line(line)),
+            Some(file) => match file.line() {
+                Some(line) => parsable(line),
+                None => None,
+            },
             None => None,
         }
     }

@@ -1,8 +1,11 @@
 // What follows an act: files are closed, and the next line is looked at.
-ghost use Rattle.std.specs.Prelude.{◌≡◌, ◌≤◌, [], ◌∷◌};
+ghost use Rattle.std.specs.Prelude.{◌≡◌, ◌≤◌, [], ◌∷◌, if◌then◌else◌};
+ghost use Rattle.cm_io.specs.Fault.{PutCause};
+ghost use Rattle.cm_io.specs.Told.{Adds};
+ghost use Rattle.cm_state.specs.Echo.{refusal};
 ghost use Rattle.cm_run.specs.Cause.{ObeyCause};
 ghost use Rattle.cm_run.specs.Obey.{Obeys, stage};
-ghost use Rattle.ex_take.specs.Taker.{behind_end, closes, end_deeds, follows, innermost, is_over, line_fault, looks_ahead, next_fault, open_files, refuses, settles, stopped};
+ghost use Rattle.ex_take.specs.Taker.{behind_end, closed, closes, end_deeds, follows, innermost, is_over, line_fault, looks_ahead, next_fault, open_files, refuses, settles, stopped};
 
 use super::{MOST_FILES, Taker};
 use crate::command_file::{CommandFile, is_line};
@@ -33,9 +36,7 @@ impl Taker {
         ensures cause { ObeyCause (S.faults screen.old) (S.faults screen.new) result }
     {
         self.stop_taking(code);
-        let mut out = Writer::new(screen);
-        put_refusal(code, &mut out);
-        match out.went() {
+        match show_refusal(code, screen) {
             Put::Done => Ok(()),
             Put::Failed => Err(Stop::Screen),
         }
@@ -69,7 +70,6 @@ impl Taker {
     }
 
     // Looks at the next line: one that is none is refused.
-    #[tactic(auto, unfolding(crate::specs::Taker::looks_ahead))]
     fn look_ahead<S: Sink>(&mut self, screen: &mut S) -> Result<(), Stop>
         ensures obeys { Obeys (stage (S.told screen.old) self.old) (stage (S.told screen.new) self.new)
             (looks_ahead self.old) result }
@@ -82,23 +82,26 @@ impl Taker {
         }
     }
 
+    // Closes the files that are at their end.
+    fn close(&mut self)
+        ensures { self.new ≡ closed self.old }
+    {
+        close_over(&mut self.files);
+        self.taken = taken_by(self.files.is_empty(), self.taken);
+    }
+
     // Closes the files that are at their end, and looks at the next line.
-    #[tactic(auto, unfolding(crate::specs::Taker::closes))]
     fn close_files<S: Sink>(&mut self, screen: &mut S) -> Result<(), Stop>
         ensures obeys { Obeys (stage (S.told screen.old) self.old) (stage (S.told screen.new) self.new)
             (closes self.old) result }
         ensures later { S.faults screen.old ≤ S.faults screen.new }
         ensures cause { ObeyCause (S.faults screen.old) (S.faults screen.new) result }
     {
-        close_over(&mut self.files);
-        if self.files.is_empty() {
-            self.taken = 0;
-        }
+        self.close();
         self.look_ahead(screen)
     }
 
     // Goes on behind a command that waited, and has acted at the end of its file.
-    #[tactic(auto, unfolding(crate::specs::Taker::behind_end))]
     fn follow_end<S: Sink>(&mut self, answer: Acted, screen: &mut S) -> Result<(), Stop>
         ensures obeys { Obeys (stage (S.told screen.old) self.old) (stage (S.told screen.new) self.new)
             (behind_end self.old answer) result }
@@ -132,7 +135,6 @@ impl Taker {
     }
 
     // Goes on behind an act: where a file is at its end, it ends, and else the next line is looked at.
-    #[tactic(auto, unfolding(crate::specs::Taker::settles))]
     pub(super) fn settle<S: Sink>(&mut self, screen: &mut S) -> Result<(), Stop>
         ensures obeys { Obeys (stage (S.told screen.old) self.old) (stage (S.told screen.new) self.new)
             (settles self.old) result }
@@ -147,7 +149,6 @@ impl Taker {
     }
 
     // Goes on behind an act that was answered so, and went to its end.
-    #[tactic(auto, unfolding(crate::specs::Taker::follows))]
     pub(super) fn follow<S: Sink>(&mut self, answer: Acted, screen: &mut S) -> Result<(), Stop>
         ensures obeys { Obeys (stage (S.told screen.old) self.old) (stage (S.told screen.new) self.new)
             (follows self.old answer) result }
@@ -165,6 +166,24 @@ impl Taker {
     }
 }
 
+// Shows why a line is refused.
+fn show_refusal<S: Sink>(code: Code, screen: &mut S) -> Put
+    ensures bytes { Adds (S.told screen.old) (S.told screen.new) (refusal code) result }
+    ensures later { S.faults screen.old ≤ S.faults screen.new }
+    ensures cause { PutCause (S.faults screen.old) (S.faults screen.new) result }
+{
+    let mut out = Writer::new(screen);
+    put_refusal(code, &mut out);
+    out.went()
+}
+
+// How many lines were taken, for the typed line whose files are open; where none is, none.
+fn taken_by(is_last: bool, taken: u64) -> u64
+    ensures { result ≡ (if is_last then 0 else taken) }
+{
+    if is_last { 0 } else { taken }
+}
+
 // The file that is taken now is at its end.
 fn is_over(files: &ArrayVec<CommandFile, MOST_FILES>) -> bool
     ensures { result ≡ is_over (innermost files.now.items) }
@@ -175,7 +194,8 @@ fn is_over(files: &ArrayVec<CommandFile, MOST_FILES>) -> bool
     }
 }
 
-// Closes the files that are at their end.
+// Takes away the files that are at their end.
+#[tactic(auto, using(crate::proofs::Files::over_less, crate::proofs::Files::open_less, crate::proofs::Files::open_all))]
 fn close_over(files: &mut ArrayVec<CommandFile, MOST_FILES>)
     ensures { files.new.items ≡ open_files files.old.items }
 {

@@ -14,8 +14,8 @@ ghost use Rattle.ex_grammar.specs.Graph.{exec_graph};
 ghost use Rattle.ex_store.specs.Plan.{IsSource};
 ghost use Rattle.ex_store.specs.State.{catalogue_of};
 ghost use Rattle.ex_exec.specs.Exec.{mode_of};
+ghost use Rattle.ex_exec.specs.ExecState.{ExecState};
 ghost use Rattle.ex_take.specs.Taker.{acts, command_deeds, line_deeds, passed, pending_deeds, take_deeds, typing_deeds};
-ghost use Rattle.ex_take.specs.TakerState.{TakerState};
 
 use super::{MOST_FILES, Taker};
 use crate::command_file::CommandFile;
@@ -84,7 +84,6 @@ impl Taker {
     }
 
     // Does what a line commands.
-    #[tactic(auto, unfolding(crate::specs::Taker::command_deeds))]
     fn obey_command<S: Sink>(
         &mut self,
         command: Command,
@@ -118,7 +117,7 @@ impl Taker {
             (subcommand_node pending.command) (text_of session.now) session.now.fields ending.Done }
         requires line { self.old.exec.typing ≡ None }
         requires free { self.old.exec.pending ≡ None }
-        ensures obeys { (before : TakerState) → Obeys (stage (S.told screen.old) before)
+        ensures obeys { (one : ExecState) → Obeys (stage (S.told screen.old) (record self.old { exec = one }))
             (stage (S.told screen.new) self.new) (pending_deeds self.old session.now pending) result }
         ensures later { S.faults screen.old ≤ S.faults screen.new }
         ensures cause { ObeyCause (S.faults screen.old) (S.faults screen.new) result }
@@ -131,7 +130,7 @@ impl Taker {
     }
 
     // Does what a line comes to whose parse is done.
-    #[tactic(auto, using(ex_exec::proofs::Waiting::main_line, ex_exec::proofs::Waiting::subcommand_line), unfolding(crate::specs::Taker::line_deeds))]
+    #[tactic(auto, using(ex_exec::proofs::Waiting::main_line, ex_exec::proofs::Waiting::subcommand_line))]
     pub(super) fn obey_done<S: Sink>(
         &mut self,
         session: &Session<ExecRules>,
@@ -161,9 +160,11 @@ impl Taker {
     pub(super) fn pass(&mut self)
         ensures { self.new ≡ passed self.old }
     {
-        if let Some(mut file) = self.files.pop() {
-            file.pass();
-            self.files.push(file);
+        if self.files.len() > 0 {
+            if let Some(mut file) = self.files.pop() {
+                file.pass();
+                self.files.push(file);
+            }
         }
         self.taken = self.taken.saturating_add(1);
     }

@@ -11,10 +11,11 @@ use Rattle.ex_program.specs.Form.{Form}
 use Rattle.ex_summary.specs.Run.{exec_left, exec_trace, run_shown}
 use Rattle.ex_program.specs.Scene.{scene}
 use Rattle.ex_system.specs.Disk.{disk_of}
+use Rattle.ex_system.specs.Saving.{HostCause}
 use Rattle.ex_system.specs.Start.{Began}
 use Rattle.ex_system.proofs.Beginning.{refused_causes}
-use Rattle.ex_program.proofs.Beginning.{as_asked, asked_memory, back_to_asked, quiet_since, stands_early, stands_past, started}
-use Rattle.ex_program.proofs.Early.{as_early, tried_refused}
+use Rattle.ex_program.proofs.Beginning.{as_asked, asked_memory, back_to_asked, quiet_since, stands_early, stands_past, started, without_log}
+use Rattle.ex_program.proofs.Early.{as_early, past_no_usage, tried_refused}
 use Rattle.ex_program.proofs.Ending.{done_counted, done_logged, done_saved, done_shown}
 use Rattle.ex_program.proofs.Generating.{stands_generated}
 use Rattle.ex_program.proofs.Quieting.{quiet_done, quiet_limit}
@@ -75,6 +76,22 @@ returns-clause-done_saved g c = λ keys clock host done form start asks.
     _ (disk_of g.H.Host c.args.host.now) (form_view c.in-Some.form) form c.new-taker.result.exec.state c.in-Ok.store.state start c.in-Some.ensures
     (ap (λ (it : TakerState). it.exec.state) c.new-taker.ensures) c.in-Ok.ensures.began asks
     (done_saved _ _ _ _ _ _ c.run_exec.result c.run_exec.ensures.ran done (disk_of g.H.Host c.start.new.host) (disk_of g.H.Host c.run_exec.new.host) (keys, clock) host c.run_exec.ensures.saves)
+
+pub returns-clause-usage : goal.returns-clause-usage
+returns-clause-usage g c =
+    past_no_usage _ _ (form_view c.in-Some.form) c.run_exec.result c.in-Some.ensures c.run_exec.ensures.past_the_prompt
+
+pub returns-clause-cause : goal.returns-clause-cause
+returns-clause-cause g c = c.run_exec.ensures.counts
+
+pub returns-clause-host_cause : goal.returns-clause-host_cause
+returns-clause-host_cause g c =
+    subst (λ count. HostCause count (g.H.Host.faults c.run_exec.new.host) c.run_exec.result) c.in-Ok.ensures.quiet
+    c.run_exec.ensures.saves.cause
+
+pub returns-clause-unlogged : goal.returns-clause-unlogged
+returns-clause-unlogged g c = λ none.
+    c.run_exec.ensures.unlogged (without_log _ (form_view c.in-Some.form) c.in-Some.ensures none)
 
 pub returns-clause-start : goal.returns-clause-start
 returns-clause-start g c =

@@ -1,4 +1,4 @@
-use Rattle.std.proofs.Common.{Bool, refl, subst, arith}
+use Rattle.std.proofs.Common.{Bool, refl, subst}
 use Rattle.ex_store.specs.State.{State}
 use Rattle.ex_system.specs.Closing.{Closes}
 use Rattle.ex_system.specs.Disk.{disk_of}
@@ -11,22 +11,22 @@ use Rattle.ex_program.proofs.program.run_exec.Goals as goal
 
 pub returns-clause-ran : goal.returns-clause-ran
 returns-clause-ran g c = record {
-  stop = c.run-stop.result;
-  at = scene g.S.Sink c.run-stop.new.screen g.W.Sink c.run-stop.new.log g.K.Source c.run-stop.new.keys g.C.Clock c.run-stop.new.clock c.run-stop.new.steps;
+  stop = c.run_application-stop.result;
+  at = scene g.S.Sink c.run_application-stop.new.screen g.W.Sink c.run_application-stop.new.log g.K.Source c.run_application-stop.new.keys g.C.Clock c.run_application-stop.new.clock c.run_application-stop.new.steps;
   traces = λ told. as_traces
       (scene g.S.Sink c.args.screen.now g.W.Sink c.args.log.now g.K.Source c.args.keys.now g.C.Clock c.args.clock.now c.args.steps.now)
-      (scene g.S.Sink c.run-stop.new.screen g.W.Sink c.run-stop.new.log g.K.Source c.run-stop.new.keys g.C.Clock c.run-stop.new.clock c.run-stop.new.steps)
-      c.args.taker.now c.run-stop.new.app c.args.form.now.logs c.run-stop.result c.requires.start (c.run-stop.ensures.traces told.0 told.1);
-  count = λ told. as_count _ _ c.run-stop.new.app c.run-stop.result (c.run-stop.ensures.count told.0);
-  cause = c.run-stop.ensures.cause;
-  closes = subst (λ (it : Bool). Closes c.run-stop.result it (g.S.Sink.told c.run-stop.new.screen) (g.S.Sink.told c.close.new.screen)
-      (g.S.Sink.faults c.run-stop.new.screen) (g.S.Sink.faults c.close.new.screen) c.close.result) c.has_ended.ensures c.close.ensures.closes;
+      (scene g.S.Sink c.run_application-stop.new.screen g.W.Sink c.run_application-stop.new.log g.K.Source c.run_application-stop.new.keys g.C.Clock c.run_application-stop.new.clock c.run_application-stop.new.steps)
+      c.args.taker.now c.run_application-stop.new.app c.args.form.now.logs c.run_application-stop.result c.requires.start (c.run_application-stop.ensures.traces told);
+  count = λ told. as_count _ _ c.run_application-stop.new.app c.run_application-stop.result (c.run_application-stop.ensures.count told);
+  cause = c.run_application-stop.ensures.cause;
+  closes = subst (λ (it : Bool). Closes c.run_application-stop.result it (g.S.Sink.told c.run_application-stop.new.screen) (g.S.Sink.told c.close.new.screen)
+      (g.S.Sink.faults c.run_application-stop.new.screen) (g.S.Sink.faults c.close.new.screen) c.close.result) c.has_ended.ensures c.close.ensures.closes;
   rest = refl;
 }
 
 pub returns-clause-counts : goal.returns-clause-counts
 returns-clause-counts g c =
-    closes_causes _ _ _ _ _ c.close.result c.close.ensures.quiet c.run-stop.result c.has_ended.result c.run-stop.ensures.cause c.close.ensures.closes
+    closes_causes _ _ _ _ _ c.close.result c.close.ensures.quiet c.run_application-stop.result c.has_ended.result c.run_application-stop.ensures.cause c.close.ensures.closes
 
 pub returns-clause-saves : goal.returns-clause-saves
 returns-clause-saves g c =
@@ -34,17 +34,11 @@ returns-clause-saves g c =
     c.store.ensures c.close.ensures.saved
 
 pub returns-clause-unlogged : goal.returns-clause-unlogged
-returns-clause-unlogged g c = c.run-stop.ensures.quiet
+returns-clause-unlogged g c = c.run_application-stop.ensures.quiet
 
 pub returns-clause-past_the_prompt : goal.returns-clause-past_the_prompt
-returns-clause-past_the_prompt g c = closes_run c.run-stop.result c.has_ended.result _ _ _ _ c.close.result c.close.ensures.closes
-
-pub run-stop-requires : goal.run-stop-requires
-run-stop-requires g c = (
-  omega arith,
-  c.requires.serves,
-)
+returns-clause-past_the_prompt g c = closes_run c.run_application-stop.result c.has_ended.result _ _ _ _ c.close.result c.close.ensures.closes
 
 pub returns-clause-on_screen : goal.returns-clause-on_screen
 returns-clause-on_screen g c = λ keys clock taken rest all.
-    some_taken c.args.taker.now _ taken c.requires.start (c.run-stop.ensures.sound keys clock taken rest all)
+    some_taken c.args.taker.now _ taken c.requires.start (c.run_application-stop.ensures.sound (keys, clock) taken rest all)

@@ -1,5 +1,5 @@
 use Rattle.std.proofs.Common.{◌∙◌}
-use Rattle.tt_screen.proofs.Reading.{Fed, fed_column, fed_more}
+use Rattle.tt_screen.proofs.Reading.{Fed, asked_more, asked_turn, fed_column, fed_more}
 use Rattle.tt_screen.proofs.program.feed_all.Goals as goal
 
 pub loop-turn-preserved : goal.loop-turn-preserved
@@ -10,5 +10,6 @@ loop-turn-preserved g c =
     record {
       fed = fed;
       column = fed_column _ _ _ _ _ fed;
+      gets = asked_turn _ _ _ (asked_more _ _ _ _ c.loop-turn.invariant.gets c.get.ensures.asked);
       keys = c.in-Byte.ensures.cause ∙ c.loop-turn.invariant.keys;
     }

@@ -1,0 +1,13 @@
+use Rattle.std.proofs.Common.{rules, arith}
+use Rattle.ex_take.proofs.Splitting.{at_feed, none_left, one_left}
+use Rattle.ex_take.proofs.command_file.first_line.Goals as goal
+
+pub returns-then-bytes-at-eq10 : goal.returns-then-bytes-at-eq10
+returns-then-bytes-at-eq10 c =
+    at_feed c.args.bytes.now c.loop-at.at c.end_of.result c.loop-at.invariant (search (rules, arith)) (search (rules, arith)) c.end_of.ensures.value c.end_of.ensures.within
+
+pub returns-then-is_empty : goal.returns-then-is_empty
+returns-then-is_empty c = none_left c.args.bytes.now (search (rules, arith))
+
+pub returns-else-is_empty : goal.returns-else-is_empty
+returns-else-is_empty c = one_left c.args.bytes.now c.loop-at.at c.loop-at.invariant (search (rules, arith)) (search (rules, arith))
