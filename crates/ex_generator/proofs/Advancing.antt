@@ -41,6 +41,6 @@ more_counted count size position number next zero all counted more is long = abs
 more_counted count size position number next (suc lines) all counted more is long =
     let less : suc lines - 1 ≡ lines = omega arith in
     let line : length (line_keys (position + 1) (next_number number) ++ keys_behind (position + 1) (next_number number) lines)
-        ≡ size + length (keys_behind (position + 1) next lines) =
-        rw (sym is, long) (length-append (line_keys (position + 1) next) (keys_behind (position + 1) next lines)) in
+    ≡ size + length (keys_behind (position + 1) next lines) =
+    rw (sym is, long) (length-append (line_keys (position + 1) next) (keys_behind (position + 1) next lines)) in
     rw less (omega (arith, counted, line))

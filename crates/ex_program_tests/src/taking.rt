@@ -178,7 +178,8 @@ fn adds_subcommands_from_a_file(rt: HostRuntime) -> Result<(), Fail> {
     try_cases(&rt, ADDS_SUBCOMMANDS_FROM_A_FILE)
 }
 
-const NUL_AND_200: &[u8] = b"EXEC20 1\nD OPERATOR 1\nC OPERATOR\nF OPERATOR A.CMD.1 U 0 9\nINF VER\x00\n\nF OPERATOR B.CMD.1 U 0 9\nINF VER\xc8\n\nE\n";
+const NUL_AND_200: &[u8] =
+    b"EXEC20 1\nD OPERATOR 1\nC OPERATOR\nF OPERATOR A.CMD.1 U 0 9\nINF VER\x00\n\nF OPERATOR B.CMD.1 U 0 9\nINF VER\xc8\n\nE\n";
 
 #[test]
 fn refuses_bytes_that_are_no_text(rt: HostRuntime) -> Result<(), Fail> {
@@ -193,7 +194,8 @@ fn refuses_bytes_that_are_no_text(rt: HostRuntime) -> Result<(), Fail> {
         file_room: 256,
     };
     let outcome = outcome_of(&rt, &words_of(&["IN", "OUT"]), &given)?;
-    let screen = b"@TAKE A.CMD\r\n?Invalid line in command file\r\n@TAKE B.CMD\r\n?Invalid line in command file\r\n@\r\n";
+    let screen =
+        b"@TAKE A.CMD\r\n?Invalid line in command file\r\n@TAKE B.CMD\r\n?Invalid line in command file\r\n@\r\n";
     if outcome.screen.bytes() != screen {
         return Err(Fail::new(format_args!("{:?}", outcome.screen.bytes())));
     }

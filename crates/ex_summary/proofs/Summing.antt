@@ -52,7 +52,7 @@ module _ {S : Type 0} where
   counted_within before now events (Err why) traces =
       let first = sum_by-append event_trials traces.done (part_of traces.cut) in
       let whole : trials_of events ≡ trials_of traces.done + trials_of (event_of traces.cut ∷ traces.rest) =
-          ap trials_of (sym traces.split) ∙ sum_by-append event_trials traces.done (event_of traces.cut ∷ traces.rest) in
+      ap trials_of (sym traces.split) ∙ sum_by-append event_trials traces.done (event_of traces.cut ∷ traces.rest) in
       (omega (arith, traces.stands.trials), omega (arith, traces.stands.trials, first, part_free S traces.cut, whole))
 
 -- of the keys that were left those were taken that are left no more
@@ -107,7 +107,7 @@ module _ (start : TakerState) (keys : List ℕ) where
       → summary_with lines refused count put generations ≡ figures lines
   sums_up lines refused count put generations ended at leads of_refused of_keys of_ended of_put of_generations =
       let closed : put ≡ min (length (screen_bytes trace ++ closing left.exec.ended)) last_count =
-          of_put ∙ ap (λ it. min (length (screen_bytes trace ++ closing it)) last_count) (of_ended ∙ ap (λ (it : TakerState). it.exec.ended) leads) in
+      of_put ∙ ap (λ it. min (length (screen_bytes trace ++ closing it)) last_count) (of_ended ∙ ap (λ (it : TakerState). it.exec.ended) leads) in
       same_summary lines refused count put generations _ _ _ _ (of_refused ∙ ap (λ (it : TakerState). it.refused) leads) of_keys closed
       (of_generations ∙ ap (λ (it : TakerState). length it.exec.state.rows) leads)
 

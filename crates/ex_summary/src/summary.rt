@@ -2,9 +2,7 @@
 ghost use Rattle.cm_io.specs.Writer.{Writes};
 ghost use Rattle.ex_summary.specs.Summary.{summary_text};
 
-use crate::figures::{
-    before_generations, before_keys, before_lines, before_refused, before_shown,
-};
+use crate::figures::{before_generations, before_keys, before_lines, before_refused, before_shown};
 use cm_io::{Sink, Writer};
 use cm_text::end_of_line;
 
