@@ -1,9 +1,9 @@
 // Keys that are computed one by one.
-ghost use Rattle.std.specs.Prelude.{◌≡◌, ◌≤◌, true, IsTrue};
+ghost use Rattle.std.specs.Prelude.{◌≡◌, ◌≤◌, ◌<◌, true, length, IsTrue};
 ghost use Rattle.cm_io.specs.Fault.{next_count};
 ghost use Rattle.cm_io.specs.Source.{GotCause, Takes};
 ghost use Rattle.ex_generator.specs.Generated.{generated_keys};
-ghost use Rattle.ex_generator.specs.declared.progress.TheConstants.{GENERATED_LINES};
+ghost use Rattle.ex_generator.specs.declared.progress.TheConstants.{GENERATED_KEYS, GENERATED_LINES};
 
 use crate::progress::Progress;
 use arrayvec::ArrayString;
@@ -45,6 +45,14 @@ impl Generator {
             },
             gets: 0,
         }
+    }
+
+    /// How many keys are left. They are fewer than GENERATED_KEYS.
+    pub fn count_left(&self) -> u64
+        ensures count { result ≡ length self.now.left }
+        ensures few { result < GENERATED_KEYS }
+    {
+        self.progress.count_left()
     }
 }
 

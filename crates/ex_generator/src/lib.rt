@@ -8,4 +8,4 @@ mod line;
 mod progress;
 
 pub use generator::Generator;
-pub use progress::GENERATED_LINES;
+pub use progress::{GENERATED_KEYS, GENERATED_LINES};

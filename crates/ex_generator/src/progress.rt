@@ -1,5 +1,6 @@
 // How far the lines of a generated run are taken.
 ghost use Rattle.std.specs.Prelude.{◌≡◌, ◌≤◌, ◌<◌, ◌∷◌, [], IfSome, None, length};
+ghost use Rattle.ex_generator.specs.Generated.{next_number};
 ghost use Rattle.ex_generator.specs.Progress.{IsProgress, keys_left};
 
 use crate::line::{LINE_ROOM, line_keys};
@@ -8,8 +9,20 @@ use arrayvec::ArrayString;
 /// The most lines of a generated run.
 pub const GENERATED_LINES: u32 = 100_000;
 
+/// More keys than any generated run has.
+pub const GENERATED_KEYS: u64 = 16_777_216;
+
 // Numbers of lines are below this.
 const NUMBER_LIMIT: u64 = 2_147_483_648;
+
+// The number of the next line.
+fn next_number(number: u64) -> u64
+    requires { number < NUMBER_LIMIT }
+    ensures number { result ≡ next_number number }
+    ensures within { result < NUMBER_LIMIT }
+{
+    (1_103_515_245 * number + 12_345) % NUMBER_LIMIT
+}
 
 /// How far the lines are taken.
 #[derive(Drop)]
@@ -38,7 +51,7 @@ impl Progress {
         }
         self.lines -= 1;
         self.position += 1;
-        self.number = (1_103_515_245 * self.number + 12_345) % NUMBER_LIMIT;
+        self.number = next_number(self.number);
         self.keys = line_keys(u64::from(self.position), self.number);
         self.taken = 0;
     }
@@ -59,5 +72,20 @@ impl Progress {
         let key = self.keys.as_str().as_bytes()[self.taken];
         self.taken += 1;
         Some(key)
+    }
+
+    /// How many keys are left.
+    pub(crate) fn count_left(&self) -> u64
+        requires { IsProgress self.now }
+        ensures count { result ≡ length (keys_left self.now) }
+        ensures few { result < GENERATED_KEYS }
+    {
+        let mut count = (self.keys.len() - self.taken) as u64;
+        let mut number = self.number;
+        for turn in 0..self.lines {
+            number = next_number(number);
+            count += line_keys(u64::from(self.position + turn + 1), number).len() as u64;
+        }
+        count
     }
 }

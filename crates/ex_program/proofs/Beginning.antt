@@ -40,14 +40,15 @@ pub started : (asked : Option Form) (disk : Disk) (form : Form) (start : State) 
 started asked disk form start result is began run = refused asked disk form result is (began_cause disk form.input start result began run)
 
 -- what stands before the first prompt, and past it
-pub stands_early : (told : Type 0) (asked : Option Form) (form : Form) (a b : Scene) (before now : Disk) (result : Status) → Some form ≡ asked
-    → IsEarly form.input result → Refused a b result → IsLoaded form.input before now → Stands told asked a b before now result
-stands_early told asked form a b before now result is early refuses loaded =
-    subst (λ (it : Option Form). Stands told it a b before now result) is (inl (early, refuses, loaded))
+pub stands_early : (told : Type 0) (asked : Option Form) (lines : Option ℕ) (form : Form) (a b : Scene) (before now : Disk) (result : Status) → Some form ≡ asked
+    → IsEarly form.input result → Refused a b result → IsLoaded form.input before now → Stands told asked lines a b before now result
+stands_early told asked lines form a b before now result is early refuses loaded =
+    subst (λ (it : Option Form). Stands told it lines a b before now result) is (inl (early, refuses, loaded))
 
-pub stands_past : (told : Type 0) (asked : Option Form) (form : Form) (a b : Scene) (before now : Disk) (result : Status) → Some form ≡ asked
-    → Past told form a b before now result → Stands told asked a b before now result
-stands_past told asked form a b before now result is past = subst (λ (it : Option Form). Stands told it a b before now result) is (inr past)
+pub stands_past : (told : Type 0) (asked : Option Form) (lines : Option ℕ) (form : Form) (a b : Scene) (before now : Disk) (result : Status) → Some form ≡ asked
+    → Past told form a b before now result → Stands told asked lines a b before now result
+stands_past told asked lines form a b before now result is past =
+    subst (λ (it : Option Form). Stands told it lines a b before now result) is (inr past)
 
 -- a run that began without a log
 pub without_log : (asked : Option Form) (form : Form) → Some form ≡ asked → logs asked ≡ false → form.logs ≡ false

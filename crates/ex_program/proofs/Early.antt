@@ -9,7 +9,7 @@ use Rattle.ex_system.specs.declared.status.Status.{Status}
 use Rattle.ex_system.specs.declared.status.Status.TheVariants as status
 use Rattle.ex_program.specs.Form.{Form}
 use Rattle.ex_program.specs.Scene.{Scene, with_screen}
-use Rattle.ex_program.specs.Stands.{Refused, StartCause, Stands}
+use Rattle.ex_program.specs.Stands.{Refused, StartCause, Stands, StandsBy}
 
 -- it is not Done, and not Usage
 early_is : (input : Option (List ℕ)) (result : Status) → IsEarly input result → (result ≡ status.Done → ⊥) × (result ≡ status.Usage → ⊥)
@@ -27,20 +27,21 @@ pub usage_not_done : (P : Type 0) (result : Status) → result ≡ status.Usage 
 usage_not_done P result same done = absurd (cc)
 
 -- a status that is not Usage, where the words have a form
-pub no_usage : (asked : Option Form) (form : Form) (result : Status) → Some form ≡ asked → (result ≡ status.Usage → ⊥)
-    → (result ≡ status.Usage) ↔ (asked ≡ None)
-no_usage asked form result is other = (λ same. absurd (other same), λ none. let wrong : Some form ≡ None = is ∙ none in absurd (cc))
+pub no_usage : (asked : Option Form) (lines : Option ℕ) (form : Form) (result : Status) → Some form ≡ asked → (result ≡ status.Usage → ⊥)
+    → (result ≡ status.Usage) ↔ ((asked ≡ None) × (lines ≡ None))
+no_usage asked lines form result is other = (λ same. absurd (other same), λ none. let wrong : Some form ≡ None = is ∙ none.0 in absurd (cc))
 
-pub early_no_usage : (asked : Option Form) (form : Form) (result why : Status) → Some form ≡ asked → result ≡ why → IsEarly form.input why
-    → (result ≡ status.Usage) ↔ (asked ≡ None)
-early_no_usage asked form result why is same early = no_usage asked form result is (λ usage. (early_is form.input why early).1 (sym same ∙ usage))
+pub early_no_usage : (asked : Option Form) (lines : Option ℕ) (form : Form) (result why : Status) → Some form ≡ asked → result ≡ why
+    → IsEarly form.input why → (result ≡ status.Usage) ↔ ((asked ≡ None) × (lines ≡ None))
+early_no_usage asked lines form result why is same early =
+    no_usage asked lines form result is (λ usage. (early_is form.input why early).1 (sym same ∙ usage))
 
 run_no_usage : (result : Status) → IsRun result → result ≡ status.Usage → ⊥
 run_no_usage result run usage = subst IsRun usage run
 
-pub past_no_usage : (asked : Option Form) (form : Form) (result : Status) → Some form ≡ asked → IsRun result
-    → (result ≡ status.Usage) ↔ (asked ≡ None)
-past_no_usage asked form result is run = no_usage asked form result is (run_no_usage result run)
+pub past_no_usage : (asked : Option Form) (lines : Option ℕ) (form : Form) (result : Status) → Some form ≡ asked → IsRun result
+    → (result ≡ status.Usage) ↔ ((asked ≡ None) × (lines ≡ None))
+past_no_usage asked lines form result is run = no_usage asked lines form result is (run_no_usage result run)
 
 -- memory may be wanting wherever a run is to begin
 memory_cause : (disk : Disk) (input : Option (List ℕ)) → InputCause disk input status.NoMemory
@@ -64,10 +65,11 @@ tried_refused a screen faults why result same tried = record {
   rest = refl;
 }
 
-pub stands_usage : (told : Type 0) (asked : Option Form) (a b : Scene) (disk : Disk) (result : Status) → None ≡ asked → result ≡ status.Usage
-    → Refused a b result → Stands told asked a b disk disk result
-stands_usage told asked a b disk result is usage refuses =
-    subst (λ (it : Option Form). Stands told it a b disk disk result) is (usage, refuses, refl)
+pub stands_usage : (told : Type 0) (asked : Option Form) (lines : Option ℕ) (a b : Scene) (disk : Disk) (result : Status) → None ≡ asked
+    → None ≡ lines → result ≡ status.Usage → Refused a b result → Stands told asked lines a b disk disk result
+stands_usage told asked lines a b disk result is none usage refuses =
+    subst (λ (it : Option Form). Stands told it lines a b disk disk result) is
+    (subst (λ (it : Option ℕ). StandsBy it a b result) none (usage, refuses), refl)
 
 pub as_early : (input : Option (List ℕ)) (result why : Status) → result ≡ why → IsEarly input why → IsEarly input result
 as_early input result why same early = subst (λ (it : Status). IsEarly input it) (sym same) early

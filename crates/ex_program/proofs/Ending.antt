@@ -20,7 +20,7 @@ use Rattle.ex_system.specs.Trying.{Tried}
 use Rattle.ex_system.specs.declared.status.Status.{Status}
 use Rattle.ex_system.specs.declared.status.Status.TheVariants as status
 use Rattle.ex_program.specs.Form.{Form}
-use Rattle.ex_program.specs.Run.{closing, exec_left, exec_trace, run_shown}
+use Rattle.ex_summary.specs.Run.{closing, exec_left, exec_trace, run_shown}
 use Rattle.ex_program.specs.Scene.{Scene, seen}
 use Rattle.ex_program.specs.Stands.{Ran}
 

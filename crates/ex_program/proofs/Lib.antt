@@ -1,7 +1,7 @@
 pub mod Beginning
 mod Early
 pub mod Ending
-pub mod Hooking
+pub mod Generating
 pub mod Quieting
 pub mod Running
 pub mod Showing

@@ -20,7 +20,7 @@ use Rattle.ex_system.specs.declared.status.Status.{Status}
 use Rattle.ex_system.specs.declared.status.Status.TheVariants as status
 use Rattle.ex_system.proofs.Causing.{not_quiet}
 use Rattle.ex_program.specs.Form.{Form}
-use Rattle.ex_program.specs.Run.{exec_left, exec_trace}
+use Rattle.ex_summary.specs.Run.{exec_left, exec_trace}
 use Rattle.ex_program.specs.Scene.{Scene, seen}
 use Rattle.ex_program.specs.Stands.{Ran}
 use Rattle.ex_program.specs.declared.program.TheConstants.{KEY_LIMIT}

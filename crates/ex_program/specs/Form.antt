@@ -1,7 +1,11 @@
 -- What the words of the program ask for.
 use Rattle.std.specs.Prelude.{ℕ, Bool, true, false, not, ◌&&◌, ◌==◌, List, [], ◌∷◌, ◌++◌, length, Option, Some, None, nat_lt, nat_le, codes, if◌then◌else◌}
+use Rattle.std.specs.Char.{is_ascii_digit}
+use Rattle.std.specs.List.{list_all}
 use Rattle.std.specs.Str.{bytes_eq}
-use Rattle.ex_program.specs.declared.words.TheConstants.{LONGEST_WORD, MOST_WORDS}
+use Rattle.std.specs.Str.Parse.{digits_value}
+use Rattle.ex_generator.specs.declared.progress.TheConstants.{GENERATED_LINES}
+use Rattle.ex_program.specs.declared.words.TheConstants.{LONGEST_WORD, MOST_DIGITS, MOST_WORDS}
 
 -- the words so far, or None where they are too many or one is too long
 abbrev pub Given : Type 0
@@ -41,3 +45,23 @@ form_of_words words = None
 unfoldable pub form_of : Given → Option Form
 form_of None = None
 form_of (Some words) = form_of_words words
+
+-- one to six digits
+abbrev pub is_number : List ℕ → Bool
+is_number word = nat_lt 0 (length word) && nat_le (length word) MOST_DIGITS && list_all is_ascii_digit word
+
+-- a generated run has a number of lines from 1 to the most
+abbrev pub lines_by : ℕ → Option ℕ
+lines_by value = if nat_lt 0 value && nat_le value GENERATED_LINES then Some value else None
+
+unfoldable pub lines_in : List ℕ → Option ℕ
+lines_in word = if is_number word then lines_by (digits_value 10 word) else None
+
+-- `-g N` asks for a run over the keys of so many generated lines
+abbrev pub lines_of_words : List (List ℕ) → Option ℕ
+lines_of_words (flag ∷ count ∷ []) = if bytes_eq flag (codes "-g") then lines_in count else None
+lines_of_words words = None
+
+unfoldable pub lines_of : Given → Option ℕ
+lines_of None = None
+lines_of (Some words) = lines_of_words words

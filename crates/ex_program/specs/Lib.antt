@@ -1,5 +1,6 @@
 pub mod Asked
 pub mod Form
-pub mod Run
+pub mod Generates
+pub mod Runs
 pub mod Scene
 pub mod Stands

@@ -37,3 +37,7 @@ seen at state = observed at.screen at.log at.keys at.gets at.moments at.trials s
 -- the screen alone has changed
 abbrev pub with_screen : Scene → Told → ℕ → Scene
 with_screen at screen faults = record at { screen = screen; faults = record at.faults { screen = faults } }
+
+-- the screen and the counter alone have changed
+abbrev pub with_count : Scene → Told → ℕ → ℕ → Scene
+with_count at screen faults trials = record (with_screen at screen faults) { trials = trials }

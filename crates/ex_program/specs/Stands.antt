@@ -1,5 +1,5 @@
 -- What stands at the end of a run.
-use Rattle.std.specs.Prelude.{◌≡◌, ◌⊎◌, Bool, false, [], length, Option, Some, None, Result}
+use Rattle.std.specs.Prelude.{◌≡◌, ◌⊎◌, ℕ, Bool, false, [], length, Option, Some, None, Result}
 use Rattle.cm_run.specs.Cause.{KeyCount, RunCause}
 use Rattle.cm_run.specs.Cut.{Traces}
 use Rattle.cm_run.specs.declared.stop.Stop.{Stop}
@@ -14,8 +14,9 @@ use Rattle.ex_system.specs.Trying.{Tried}
 use Rattle.ex_system.specs.declared.status.Status.{Status}
 use Rattle.ex_system.specs.declared.status.Status.TheVariants as status
 use Rattle.ex_program.specs.Form.{Form}
-use Rattle.ex_program.specs.Run.{exec_trace}
-use Rattle.ex_program.specs.Scene.{Scene, seen, with_screen}
+use Rattle.ex_program.specs.Generates.{Rises, Sums}
+use Rattle.ex_summary.specs.Run.{exec_trace}
+use Rattle.ex_program.specs.Scene.{Scene, seen, with_count, with_screen}
 use Rattle.ex_program.specs.declared.program.TheConstants.{KEY_LIMIT}
 
 -- the words ask for this form, under which a run begins in this state
@@ -49,10 +50,21 @@ pub record Past (told : Type 0) (form : Form) (a b : Scene) (before now : Disk) 
   pub ran : Ran told form start left a b result
   pub saves : Saves loaded now form.out left.exec.state result
 
+-- the keys of so many lines were generated and run over, and nothing but the screen and the counter is touched
+pub record Generated (lines : ℕ) (a b : Scene) (result : Status) : Type 0 where
+  pub screen : Sums lines a.screen b.screen a.faults.screen b.faults.screen result
+  pub counter : Rises lines a.trials b.trials result
+  pub rest : b ≡ with_count a b.screen b.faults.screen b.trials
+
+-- where the words ask for no run over keys: the usage, or a generated run
+abbrev pub StandsBy : Option ℕ → Scene → Scene → Status → Type 0
+StandsBy None a b result = (result ≡ status.Usage) × Refused a b result
+StandsBy (Some lines) a b result = Generated lines a b result
+
 -- what stands at the end, with what keys and clock have told
-abbrev pub Stands : Type 0 → Option Form → Scene → Scene → Disk → Disk → Status → Type 0
-Stands told None a b before now result = (result ≡ status.Usage) × Refused a b result × (now ≡ before)
-Stands told (Some form) a b before now result =
+abbrev pub Stands : Type 0 → Option Form → Option ℕ → Scene → Scene → Disk → Disk → Status → Type 0
+Stands told None lines a b before now result = StandsBy lines a b result × (now ≡ before)
+Stands told (Some form) lines a b before now result =
     (IsEarly form.input result × Refused a b result × IsLoaded form.input before now)
     ⊎ Past told form a b before now result
 

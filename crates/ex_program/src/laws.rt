@@ -1,14 +1,15 @@
 // Laws of a run, and of what can't stand at its end.
 ghost use Rattle.std.specs.Prelude.{◌≡◌, ◌^◌};
 ghost use Rattle.ex_program.specs.declared.program.TheConstants.{KEY_LIMIT};
-ghost use Rattle.ex_program.specs.declared.words.TheConstants.{LONGEST_WORD, MOST_WORDS};
+ghost use Rattle.ex_program.specs.declared.words.TheConstants.{LONGEST_WORD, MOST_DIGITS, MOST_WORDS};
 ghost use Rattle.ex_system.specs.declared.input.TheConstants.{IMAGE_LIMIT};
 
 /// The numbers of a run: the most keys that it takes, the most bytes of the file that it begins from, the most words
-/// that it is given, and the most bytes of a word.
+/// that it is given, the most bytes of a word, and the most digits of a number of lines.
 pub fn these_are_the_numbers()
     ensures keys { KEY_LIMIT ≡ 2 ^ 24 }
     ensures image { IMAGE_LIMIT ≡ 2 ^ 24 }
     ensures words { MOST_WORDS ≡ 4 }
     ensures word { LONGEST_WORD ≡ 255 }
+    ensures digits { MOST_DIGITS ≡ 6 }
 {}

@@ -16,17 +16,22 @@ ghost use Rattle.ex_system.specs.Disk.{disk_of};
 ghost use Rattle.ex_system.specs.Saving.{HostCause, Saves};
 ghost use Rattle.ex_system.specs.Start.{IsRun};
 ghost use Rattle.ex_program.specs.Asked.{form_view};
-ghost use Rattle.ex_program.specs.Form.{Form, form_of};
-ghost use Rattle.ex_program.specs.Run.{Runs, exec_left, exec_trace, run_shown};
+ghost use Rattle.ex_generator.specs.declared.progress.TheConstants.{GENERATED_LINES};
+ghost use Rattle.ex_program.specs.Form.{Form, form_of, lines_of};
+ghost use Rattle.ex_program.specs.Generates.{Rises, Shows, Sums};
+ghost use Rattle.ex_program.specs.Runs.{Runs};
+ghost use Rattle.ex_summary.specs.Run.{exec_left, exec_trace, run_shown};
+ghost use Rattle.ex_summary.specs.Summary.{summary_text};
 ghost use Rattle.ex_program.specs.Scene.{scene};
 ghost use Rattle.ex_program.specs.Stands.{Asks, Ran, Stands, StartCause, logs};
 
 use crate::{Status, Words, words};
 use cm_blocks::{Grammar, Steps};
 use cm_hooks::Hooks;
-use cm_io::{Clock, Host, Sink, Source};
+use cm_io::{Clock, Host, NoMemory, Put, Sink, Source, Writer};
 use cm_run::{Application, Stop, run};
 use ex_grammar::{ExecRules, grammar};
+use ex_summary::{Summary, summarize};
 use ex_system::{close, refuse, start};
 use ex_take::Taker;
 use std::alloc::Global;
@@ -101,18 +106,53 @@ fn run_exec<H: Host, K: Source, S: Sink, W: Sink, C: Clock, L: Ledger>(
     )
 }
 
+// Shows a summary.
+fn show_summary<S: Sink>(summary: &Summary, screen: &mut S) -> Status
+    ensures { Shows (summary_text summary.now) (S.told screen.old) (S.told screen.new)
+        (S.faults screen.old) (S.faults screen.new) result }
+{
+    let mut out = Writer::new(screen);
+    summary.put(&mut out);
+    match out.went() {
+        Put::Done => Status::Done,
+        Put::Failed => Status::WriteFault,
+    }
+}
+
+// Runs over the keys of so many generated lines, and shows the summary of that run.
+fn generate<S: Sink, L: Ledger>(
+    alloc: Global,
+    lines: u32,
+    screen: &mut S,
+    hooks: &Hooks<ExecRules>,
+    steps: &mut Steps<L>,
+) -> Status
+    requires lines { lines ≤ GENERATED_LINES }
+    requires hooks { Ties exec_meanings hooks.now }
+    requires three { 3 ≤ count hooks.now }
+    ensures screen { Sums lines (S.told screen.old) (S.told screen.new)
+        (S.faults screen.old) (S.faults screen.new) result }
+    ensures counter { Rises lines steps.old steps.new result }
+{
+    match summarize(alloc, lines, hooks, steps) {
+        Ok(summary) => show_summary(&summary, screen),
+        Err(NoMemory) => refuse(Status::NoMemory, screen),
+    }
+}
+
 /// The program `exec20`: takes the keys in turn, shows what they come to, logs the parse that is held after
 /// each where the words ask for it, does what confirmed lines command, and writes the image at the end.
 ///
 /// `words` are `IN OUT`, or `-n OUT` for a run that begins anew, with `-w` before them for a log. The run begins from
 /// the image in the file IN of `host`, and its own is written to the file OUT. A key edits the line on `screen`; a line
-/// that is confirmed acts, at a moment of `clock`. The status is Usage exactly where the words are none of these,
+/// that is confirmed acts, at a moment of `clock`. With `-g N` the program runs over the keys of N generated lines, in
+/// memory alone, and shows the summary of that run. The status is Usage exactly where the words are none of these,
 /// before anything else is touched, and NoMemory where memory is wanting, before the first prompt or at a line that
 /// needs it. The others are said of below, clause by clause.
 ///
 /// `hooks` answer the EXEC's rules. `steps` counts the trials: a key costs those of its line behind the
 /// fields that the unchanged front of the line decides.
-#[tactic(auto, using(crate::proofs::Hooking::serves_exec))]
+#[tactic(auto, using(ex_summary::proofs::Hooking::serves_exec))]
 pub fn exec20<H: Host, K: Source, S: Sink, W: Sink, C: Clock, L: Ledger>(
     alloc: Global,
     words: &Words,
@@ -155,10 +195,12 @@ pub fn exec20<H: Host, K: Source, S: Sink, W: Sink, C: Clock, L: Ledger>(
         → (taken rest : List ℕ) → (taken ++ rest) ++ K.left keys.new ≡ K.left keys.old
         → KeepsLine taker_meaning (taker_start start) (C.left clock.old) taken }
 
-    // What stands, whatever the status: before the first prompt the message alone is shown, IN is loaded once, if there
-    // is one, and OUT is not created. Past it the trace of the run stands, or a cut of it, and then how it was closed;
+    // What stands, whatever the status. With `-g N` nothing but the screen and the counter is touched: the summary of the
+    // run over the keys of so many lines is shown, and the counter has risen by what they cost; or memory is wanting.
+    // Before the first prompt of a run over `keys` the message alone is shown, IN is loaded once, if there is one, and
+    // OUT is not created. Past it the trace of the run stands, or a cut of it, and then how it was closed;
     // OUT is created once, is closed, and holds the image of the state that the run left. No other file changes.
-    ensures stands { Stands (IsTrue K.tells × IsTrue C.tells) (form_of words.now)
+    ensures stands { Stands (IsTrue K.tells × IsTrue C.tells) (form_of words.now) (lines_of words.now)
         (scene S.Sink screen.old W.Sink log.old K.Source keys.old C.Clock clock.old steps.old)
         (scene S.Sink screen.new W.Sink log.new K.Source keys.new C.Clock clock.new steps.new)
         (disk_of H.Host host.old) (disk_of H.Host host.new) result }
@@ -167,7 +209,7 @@ pub fn exec20<H: Host, K: Source, S: Sink, W: Sink, C: Clock, L: Ledger>(
         → (W.told log.new ≡ W.told log.old) × (W.faults log.new ≡ W.faults log.old) }
 
     // When each status may come.
-    ensures usage { (result ≡ Status.Usage) ↔ (form_of words.now ≡ None) }
+    ensures usage { (result ≡ Status.Usage) ↔ ((form_of words.now ≡ None) × (lines_of words.now ≡ None)) }
     ensures cause { StatusCause (counts (S.faults screen.old) (W.faults log.old) (K.faults keys.old))
         (counts (S.faults screen.new) (W.faults log.new) (K.faults keys.new)) result }
     ensures host_cause { HostCause (H.faults host.old) (H.faults host.new) result }
@@ -195,7 +237,10 @@ pub fn exec20<H: Host, K: Source, S: Sink, W: Sink, C: Clock, L: Ledger>(
         → (result ≡ Status.KeyLimit) ⊎ (result ≡ Status.NoMemory) }
 {
     let Some(form) = words.form() else {
-        return refuse(Status::Usage, screen);
+        let Some(lines) = words.lines() else {
+            return refuse(Status::Usage, screen);
+        };
+        return generate(alloc, lines, screen, hooks, steps);
     };
     let store = match start(alloc, form.input, host) {
         Ok(store) => store,

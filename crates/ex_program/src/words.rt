@@ -1,11 +1,14 @@
 // The words of the program, and what they ask for.
-ghost use Rattle.std.specs.Prelude.{◌≡◌, ℕ, List, [], length, Option, Some, None, nat_le, if◌then◌else◌};
+ghost use Rattle.std.specs.Prelude.{◌≡◌, ◌≤◌, ℕ, List, [], length, Option, Some, None, IfSome, nat_le, if◌then◌else◌};
 ghost use Rattle.std.specs.Str.{bytes_eq};
 ghost use Rattle.std.specs.Option.{option_map};
 ghost use Rattle.ex_program.specs.Asked.{form_view};
-ghost use Rattle.ex_program.specs.Form.{files_of, form_of, form_of_words, is_name, with_word};
+ghost use Rattle.ex_generator.specs.declared.progress.TheConstants.{GENERATED_LINES};
+ghost use Rattle.ex_program.specs.Form.{files_of, form_of, form_of_words, is_name, is_number, lines_in, lines_of, lines_of_words, with_word};
 
 use arrayvec::{ArrayString, ArrayVec};
+use cm_fields::{are_digits, value_of};
+use ex_generator::GENERATED_LINES;
 use std::marker::Model;
 
 // How many words are held.
@@ -13,6 +16,9 @@ const MOST_WORDS: usize = 4;
 
 // How many bytes a word may have.
 const LONGEST_WORD: usize = 255;
+
+// How many digits a number of lines may have.
+const MOST_DIGITS: usize = 6;
 
 // Contracts see the bytes of a word.
 #[derive(Drop)]
@@ -102,6 +108,18 @@ impl Words {
         }
         form_of_words(&self.words)
     }
+
+    /// How many lines of generated keys the words ask for. None where they ask for no generated run.
+    #[tactic(auto, unfolding(crate::specs::Form::lines_of))]
+    pub(crate) fn lines(&self) -> Option<u32>
+        ensures lines { result ≡ lines_of self.now }
+        ensures few { IfSome result (λ lines. lines ≤ GENERATED_LINES) }
+    {
+        if self.too_many {
+            return None;
+        }
+        lines_of_words(&self.words)
+    }
 }
 
 // A word, unless it is too long.
@@ -143,6 +161,40 @@ fn form_of_words(words: &[Word]) -> Option<Form<'_>>
     match words {
         [first, out] => files_of(false, first, out),
         [log, first, out] if is(log, "-w") => files_of(true, first, out),
+        _ => None,
+    }
+}
+
+// Whether bytes are one to six digits.
+fn is_number(bytes: &[u8]) -> bool
+    ensures { result ≡ is_number bytes.now }
+{
+    !bytes.is_empty() && bytes.len() <= MOST_DIGITS && are_digits(bytes)
+}
+
+// How many lines a word says: one to six digits, of a value from 1 to the most lines of a generated run.
+#[tactic(auto, unfolding(crate::specs::Form::lines_in))]
+fn lines_in(word: &Word) -> Option<u32>
+    ensures lines { result ≡ lines_in word.now }
+    ensures few { IfSome result (λ lines. lines ≤ GENERATED_LINES) }
+{
+    let digits = word.text.as_str().as_bytes();
+    if !is_number(digits) {
+        return None;
+    }
+    match value_of(digits, u64::from(GENERATED_LINES)) {
+        None | Some(0) => None,
+        Some(lines) => Some(lines as u32),
+    }
+}
+
+// How many lines a list of words asks for: `-g N`.
+fn lines_of_words(words: &[Word]) -> Option<u32>
+    ensures lines { result ≡ lines_of_words words.now }
+    ensures few { IfSome result (λ lines. lines ≤ GENERATED_LINES) }
+{
+    match words {
+        [flag, count] if is(flag, "-g") => lines_in(count),
         _ => None,
     }
 }

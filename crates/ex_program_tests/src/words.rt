@@ -24,7 +24,20 @@ IN,-n
 -w,A,A
 IN,OUT,-w
 IN,-n,OUT
--w,-n,OUT,X,Y";
+-w,-n,OUT,X,Y
+-g
+-g,
+-g,0
+-g,000000
+-g,100001
+-g,0000001
+-g,-1
+-g,+1
+-g,1a
+-g,1,2
+-w,-g,1
+-G,1
+1,-g";
 
 // Nothing else is touched.
 const REFUSED: &str = "keys LOG{CR}

@@ -8,15 +8,16 @@ use Rattle.ex_take.specs.TakerState.{TakerState, taker_start}
 use Rattle.ex_store.specs.State.{State}
 use Rattle.ex_program.specs.Asked.{form_view}
 use Rattle.ex_program.specs.Form.{Form}
-use Rattle.ex_program.specs.Run.{exec_left, exec_trace, run_shown}
+use Rattle.ex_summary.specs.Run.{exec_left, exec_trace, run_shown}
 use Rattle.ex_program.specs.Scene.{scene}
 use Rattle.ex_system.specs.Disk.{disk_of}
 use Rattle.ex_system.specs.Saving.{HostCause}
 use Rattle.ex_system.specs.Start.{Began}
 use Rattle.ex_system.proofs.Beginning.{refused_causes}
 use Rattle.ex_program.proofs.Beginning.{as_asked, asked_memory, back_to_asked, quiet_since, stands_early, stands_past, started, without_log}
-use Rattle.ex_program.proofs.Early.{as_early, past_no_usage, stands_usage, tried_refused}
+use Rattle.ex_program.proofs.Early.{as_early, past_no_usage, tried_refused}
 use Rattle.ex_program.proofs.Ending.{done_counted, done_logged, done_saved, done_shown}
+use Rattle.ex_program.proofs.Generating.{stands_generated}
 use Rattle.ex_program.proofs.Quieting.{quiet_done, quiet_limit}
 use Rattle.ex_program.proofs.Showing.{none_taken}
 use Rattle.ex_program.proofs.program.exec20.Goals as goal
@@ -78,7 +79,7 @@ returns-clause-done_saved g c = λ keys clock host done form start asks.
 
 pub returns-clause-usage : goal.returns-clause-usage
 returns-clause-usage g c =
-    past_no_usage _ (form_view c.in-Some.form) c.run_exec.result c.in-Some.ensures c.run_exec.ensures.past_the_prompt
+    past_no_usage _ _ (form_view c.in-Some.form) c.run_exec.result c.in-Some.ensures c.run_exec.ensures.past_the_prompt
 
 pub returns-clause-cause : goal.returns-clause-cause
 returns-clause-cause g c = c.run_exec.ensures.counts
@@ -119,26 +120,26 @@ returns-clause-on_screen g c = λ keys clock form start asks taken rest all.
 -- what stands, by the way out
 pub returns-in_default-clause-stands : goal.returns-in_default-clause-stands
 returns-in_default-clause-stands g c =
-    stands_usage _ _ (scene g.S.Sink c.args.screen.now g.W.Sink c.args.log.now g.K.Source c.args.keys.now g.C.Clock c.args.clock.now c.args.steps.now)
-    _ (disk_of g.H.Host c.args.host.now) c.refuse.result c.in_default.ensures c.refuse.ensures.status
-    (tried_refused _ _ _ _ _ c.refuse.ensures.status c.refuse.ensures.shown)
+    stands_generated _ _ _ c.in-Some-lines.lines
+    (scene g.S.Sink c.args.screen.now g.W.Sink c.args.log.now g.K.Source c.args.keys.now g.C.Clock c.args.clock.now c.args.steps.now)
+    _ _ _ (disk_of g.H.Host c.args.host.now) c.generate.result c.in_default.ensures c.in-Some-lines.ensures.lines c.generate.ensures.screen c.generate.ensures.counter
 
 pub returns-in-Err-clause-stands : goal.returns-in-Err-clause-stands
 returns-in-Err-clause-stands g c =
-    stands_early _ _ (form_view c.in-Some.form) (scene g.S.Sink c.args.screen.now g.W.Sink c.args.log.now g.K.Source c.args.keys.now g.C.Clock c.args.clock.now c.args.steps.now)
+    stands_early _ _ _ (form_view c.in-Some.form) (scene g.S.Sink c.args.screen.now g.W.Sink c.args.log.now g.K.Source c.args.keys.now g.C.Clock c.args.clock.now c.args.steps.now)
     _ (disk_of g.H.Host c.args.host.now) (disk_of g.H.Host c.start.new.host) c.refuse-in-Err.result c.in-Some.ensures
     (as_early _ _ _ c.refuse-in-Err.ensures.status c.in-Err.ensures.early)
     (tried_refused _ _ _ _ _ c.refuse-in-Err.ensures.status c.refuse-in-Err.ensures.shown) c.in-Err.ensures.loaded
 
 pub returns-in_default-grammar-clause-stands : goal.returns-in_default-grammar-clause-stands
 returns-in_default-grammar-clause-stands g c =
-    stands_early _ _ (form_view c.in-Some.form) (scene g.S.Sink c.args.screen.now g.W.Sink c.args.log.now g.K.Source c.args.keys.now g.C.Clock c.args.clock.now c.args.steps.now)
+    stands_early _ _ _ (form_view c.in-Some.form) (scene g.S.Sink c.args.screen.now g.W.Sink c.args.log.now g.K.Source c.args.keys.now g.C.Clock c.args.clock.now c.args.steps.now)
     _ (disk_of g.H.Host c.args.host.now) (disk_of g.H.Host c.start.new.host) c.refuse-in_default-grammar.result c.in-Some.ensures
     (as_early _ _ _ c.refuse-in_default-grammar.ensures.status tt)
     (tried_refused _ _ _ _ _ c.refuse-in_default-grammar.ensures.status c.refuse-in_default-grammar.ensures.shown) c.in-Ok.ensures.loaded
 
 pub returns-clause-stands : goal.returns-clause-stands
-returns-clause-stands g c = stands_past _ _ (form_view c.in-Some.form) _ _ _ _ c.run_exec.result c.in-Some.ensures (record {
+returns-clause-stands g c = stands_past _ _ _ (form_view c.in-Some.form) _ _ _ _ c.run_exec.result c.in-Some.ensures (record {
   start = c.new-taker.result.exec.state;
   left = c.run_exec.new.taker;
   loaded = disk_of g.H.Host c.start.new.host;

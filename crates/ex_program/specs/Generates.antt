@@ -1,0 +1,26 @@
+-- What a generated run leaves of the screen and of the counter.
+use Rattle.std.specs.Prelude.{◌≡◌, ◌≤◌, ◌+◌, ℕ, List, []}
+use Rattle.cm_io.specs.Fault.{Rose}
+use Rattle.cm_io.specs.Told.{Told, AddsPart, add}
+use Rattle.cm_run.specs.Event.{trials_of}
+use Rattle.ex_summary.specs.Summary.{generated_trace, summary_of, summary_text}
+use Rattle.ex_system.specs.Messages.{message}
+use Rattle.ex_system.specs.Trying.{Tried}
+use Rattle.ex_system.specs.declared.status.Status.{Status}
+use Rattle.ex_system.specs.declared.status.Status.TheVariants as status
+
+-- a text is shown whole, and the count of faults stays; or a prefix of it, and the count rose
+abbrev pub Shows : List ℕ → Told → Told → ℕ → ℕ → Status → Type 0
+Shows text before now f g status.Done = (now ≡ add before text) × (g ≡ f)
+Shows text before now f g status.WriteFault = AddsPart before now text × Rose f g
+Shows text before now f g result = ⊥
+
+-- the summary is shown; or memory is wanting, and its message is tried
+abbrev pub Sums : ℕ → Told → Told → ℕ → ℕ → Status → Type 0
+Sums lines before now f g status.NoMemory = Tried before now f g [] (message status.NoMemory)
+Sums lines before now f g result = Shows (summary_text (summary_of lines)) before now f g result
+
+-- the counter rises by what the trials of all keys cost; where memory is wanting, by those of the keys before
+abbrev pub Rises : ℕ → ℕ → ℕ → Status → Type 0
+Rises lines before now status.NoMemory = (before ≤ now) × (now ≤ before + trials_of (generated_trace lines))
+Rises lines before now result = now ≡ before + trials_of (generated_trace lines)

@@ -1,0 +1,2 @@
+pub mod Hooking
+mod Summing
