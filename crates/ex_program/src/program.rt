@@ -85,7 +85,8 @@ fn run_exec<H: Host, K: Source, S: Sink, W: Sink, C: Clock, L: Ledger>(
         result }
     ensures counts { StatusCause (counts (S.faults screen.old) (W.faults log.old) (K.faults keys.old))
         (counts (S.faults screen.new) (W.faults log.new) (K.faults keys.new)) result }
-    ensures saves { Saves (disk_of H.Host host.old) (disk_of H.Host host.new) form.now.out.now taker.new.exec.state result }
+    ensures saves { Saves (disk_of H.Host host.old) (disk_of H.Host host.new) form.now.out.now taker.new.exec.state
+        result }
     ensures unlogged { form.now.logs ≡ false
         → (W.told log.new ≡ W.told log.old) × (W.faults log.new ≡ W.faults log.old) }
     ensures past_the_prompt { IsRun result }
