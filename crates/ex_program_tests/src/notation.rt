@@ -1,5 +1,5 @@
-// Bytes as a case writes them: `{CR}` and the like are bytes by their names, `{5*A}` is a text five times over, `{5*LF}`
-// what a name stands for, and `{5*~}` a rubout, and all else is itself.
+// Bytes as a case writes them: `{CR}` and the like are bytes by their names, `{5*A}` is a text five times over,
+// `{5*LF}` what a name stands for, and `{5*~}` a rubout, and all else is itself.
 use std::alloc::AllocError;
 
 const NAMES: [(&str, &str); 17] = [
