@@ -9,6 +9,8 @@ mod dates;
 #[cfg(test)]
 mod fields;
 #[cfg(test)]
+mod halving;
+#[cfg(test)]
 mod hooks;
 #[cfg(test)]
 mod lines;

@@ -6,16 +6,7 @@ use std::time::{SystemTime, UNIX_EPOCH};
 
 /// The system's clock. It gives 0 where the clock cannot be read or stands before 1970.
 #[derive(Drop)]
-pub struct StdClock {
-    rt: HostRuntime,
-}
-
-impl StdClock {
-    /// The clock of this system.
-    pub fn new(rt: &HostRuntime) -> StdClock {
-        StdClock { rt: *rt }
-    }
-}
+pub struct StdClock(pub HostRuntime);
 
 impl Clock for StdClock {
     ghost tells = { false };
@@ -23,7 +14,7 @@ impl Clock for StdClock {
     ghost left = { λ _. [] };
 
     fn now(&mut self) -> u64 {
-        let Ok(moment) = SystemTime::now(&self.rt) else {
+        let Ok(moment) = SystemTime::now(&self.0) else {
             return 0;
         };
         match moment.duration_since(UNIX_EPOCH) {

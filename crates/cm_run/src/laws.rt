@@ -16,8 +16,8 @@ ghost use Rattle.cm_run.specs.declared.engine.TheConstants.{FILE_LINES};
 
 use crate::{Application, Stop};
 
-/// Nothing acts before confirmation: a line that goes on does nothing and takes no moment, and one that is refused takes
-/// none, and does no more than what the application means by a refusal, which shows nothing and takes no memory.
+/// Nothing acts before confirmation: a line that goes on does nothing and takes no moment, and one that is refused
+/// takes none, and does no more than what the application means by a refusal, which shows nothing and takes no memory.
 pub fn only_a_line_that_is_done_acts<A: Application>()
     ensures going_on { (m : Meaning A) → (state : A) → (session : SessionState) → (moment : ℕ) → (it : Turn)
         → (turn_outcome m state session moment it).begins ≡ false

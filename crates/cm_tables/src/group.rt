@@ -1,21 +1,10 @@
 // The entries that begin with an atom, found by halving.
-ghost use Rattle.std.specs.Prelude.{◌≡◌, ◌+◌, ◌≤◌, Bool, true, false, length};
-ghost use Rattle.std.specs.Fn.{ComputesKey};
-ghost use Rattle.std.specs.List.Sorted.{IsPartitionedBy, IsPartitionPoint};
+ghost use Rattle.std.specs.Prelude.{◌≡◌, ◌+◌, ◌≤◌, length};
 ghost use Rattle.cm_tables.specs.Search.{Ascends, IsGroup, place};
 
 use crate::Entry;
+use cm_text::seek;
 use std::cmp::Ordering;
-
-// How many elements a test passes, where those that it passes come first.
-pub(crate) fn seek<T, F: FnMut(&T) -> bool>(items: &[T], is_before: F) -> usize
-    requires { F.IsAlwaysCallable is_before }
-    ensures bound { result ≤ length items.now }
-    ensures parted { (test : T → Bool) → ComputesKey F.FnMut test is_before → IsPartitionedBy test items.now
-        → IsPartitionPoint (λ item. test item ≡ true) (λ item. test item ≡ false) items.now result }
-{
-    items.partition_point(is_before)
-}
 
 // Whether a text stands below those that begin with an atom, among them or above them.
 pub(crate) fn place(text: &[u8], atom: &[u8]) -> Ordering
@@ -43,30 +32,4 @@ pub(crate) fn group_of<'a>(entries: &'a [Entry], atom: &[u8]) -> (usize, &'a [En
     let (_, behind) = entries.split_at(start);
     let size = seek(behind, |entry| place(entry.text.as_bytes(), atom).is_le());
     (start, behind.split_at(size).0)
-}
-
-#[cfg(test)]
-mod tests {
-    use super::*;
-
-    // How many elements a search looks at.
-    fn probes(items: &[u16], wanted: u16) -> u32 {
-        let mut probes = 0_u32;
-        seek(items, |item| {
-            probes = probes.saturating_add(1);
-            *item < wanted
-        });
-        probes
-    }
-
-    #[test]
-    fn a_search_of_1024_entries_looks_at_11(rt: HostRuntime) {
-        let mut items = [0; 1024];
-        for (place, item) in items.iter_mut().enumerate() {
-            *item = place as u16;
-        }
-        for wanted in [0, 1, 511, 512, 513, 1023, 1024] {
-            assert!(rt; probes(&items, wanted) <= 11, "at {wanted}");
-        }
-    }
 }

@@ -1,5 +1,5 @@
-//! The words that every crate shares: classes of bytes, letters without case, names, decimal digits, and
-//! what a screen is given.
+//! The words that every crate shares: classes of bytes, letters without case, names, decimal digits, search by
+//! halving, and what a screen is given.
 #![tactic(auto)]
 
 mod alike;
@@ -8,6 +8,7 @@ mod case;
 mod digits;
 pub mod laws;
 mod name;
+mod search;
 mod shown;
 mod text;
 
@@ -16,5 +17,6 @@ pub use bytes::{is_blank, is_name, is_text, is_word};
 pub use case::{begins_with, equals};
 pub use digits::{DIGIT_LIMIT, decimal_digits};
 pub use name::{NAME_LIMIT, Name};
+pub use search::seek;
 pub use shown::{bell, control_c, end_of_line, question, rubout, screen_byte};
 pub use text::{LINE_LIMIT, TEXT_LIMIT};

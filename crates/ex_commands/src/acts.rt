@@ -26,10 +26,9 @@ use ex_store::Store;
 /// The answer is Refused(code) exactly where the command is refused with that code; the reason is put, and nothing
 /// changes. It is Pending exactly where the command waits for its subcommands, and nothing is put or changed. It is
 /// Data for COPY TTY: that is not refused, whose file is typed in next, Take for TAKE, whose lines are taken next, and
-/// Logout for LOGOUT. NoMemory comes only for APPEND, BUILD that waits for no subcommand, COPY, DEFINE with a directory,
-/// PRINT and RENAME, and nothing is put or changed. Failed comes only where the sink failed: a part of what is to be put
-/// is put, and the command has acted all the same. The memory for files is that of the store; none but that is taken
-/// today.
+/// Logout for LOGOUT. NoMemory comes only for APPEND, BUILD that waits for no subcommand, COPY, DEFINE with a
+/// directory, PRINT and RENAME, and nothing is put or changed. Failed comes only where the sink failed: a part of what
+/// is to be put is put, and the command has acted all the same. No memory is taken but through the store.
 pub fn act<S: Sink>(store: &mut Store, command: &Command, moment: u64, sink: &mut S) -> Acted
     requires { MayAct command.now store.old.state }
     ensures acts { Answers (S.told sink.old) (S.told sink.new) (act_of command.now moment store.old.state)

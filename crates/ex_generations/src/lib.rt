@@ -13,4 +13,3 @@ pub use bytes::Bytes;
 pub use errors::{GenFull, NoGen};
 pub use file::{FILE_LIMIT, File, GENERATION_LIMIT, PAGE_BYTES};
 pub use gens::Gens;
-pub use search::seek;

@@ -1,23 +1,11 @@
 // Searches through the generations of a file. A generation is found by halving.
-ghost use Rattle.std.specs.Prelude.{◌≡◌, ◌≤◌, ◌↔◌, Bool, true, false, length, Some, IfOk, IsErr, position, nat_lt};
-ghost use Rattle.std.specs.Fn.{ComputesKey};
+ghost use Rattle.std.specs.Prelude.{◌≡◌, ◌≤◌, ◌↔◌, false, length, Some, IfOk, IsErr, position, nat_lt};
 ghost use Rattle.std.specs.List.{prefix_len};
-ghost use Rattle.std.specs.List.Sorted.{IsPartitionedBy, IsPartitionPoint};
 ghost use Rattle.ex_generations.specs.Generations.{IsAscending, has, highest, is_generation, lowest, marked, next_generation, page_count, pages, with_mark};
 ghost use Rattle.ex_generations.specs.Retention.{live};
 
 use crate::{Bytes, FILE_LIMIT, File, GENERATION_LIMIT, GenFull, PAGE_BYTES};
-
-/// How many elements a test passes, where those that it passes come first. It is asked of about as many as the number
-/// of elements has binary digits.
-pub fn seek<T, F: FnMut(&T) -> bool>(items: &[T], is_before: F) -> usize
-    requires { F.IsAlwaysCallable is_before }
-    ensures bound { result ≤ length items.now }
-    ensures parted { (test : T → Bool) → ComputesKey F.FnMut test is_before → IsPartitionedBy test items.now
-        → IsPartitionPoint (λ item. test item ≡ true) (λ item. test item ≡ false) items.now result }
-{
-    items.partition_point(is_before)
-}
+use cm_text::seek;
 
 // How many files are of a lower generation.
 pub(crate) fn place(files: &[File], generation: u32) -> usize
@@ -117,30 +105,4 @@ pub(crate) fn marked_pages(files: &[File]) -> u32
         }
     }
     pages
-}
-
-#[cfg(test)]
-mod tests {
-    use super::*;
-
-    // How many elements a search looks at.
-    fn probes(items: &[u32], wanted: u32) -> u32 {
-        let mut probes = 0_u32;
-        seek(items, |item| {
-            probes = probes.saturating_add(1);
-            *item < wanted
-        });
-        probes
-    }
-
-    #[test]
-    fn a_search_of_4096_generations_looks_at_13(rt: HostRuntime) {
-        let mut items = [0; 4096];
-        for (place, item) in items.iter_mut().enumerate() {
-            *item = place as u32;
-        }
-        for wanted in [0, 1, 2047, 2048, 2049, 4095, 4096] {
-            assert!(rt; probes(&items, wanted) <= 13, "at {wanted}");
-        }
-    }
 }

@@ -8,8 +8,8 @@ ghost use Rattle.ex_store.specs.State.{catalogue_of, defined, rows_numbered};
 use crate::directory::number_of;
 use crate::{Row, RowView, Store};
 use cm_files::Names;
-use cm_text::equals;
-use ex_generations::{File, seek};
+use cm_text::{equals, seek};
+use ex_generations::File;
 
 // How many rows stand before those of a directory.
 pub(crate) fn first_of(rows: &[Row], directory: &[u8]) -> usize

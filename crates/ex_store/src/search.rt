@@ -10,7 +10,7 @@ ghost use Rattle.ex_store.specs.Rows.{by_full, by_key, by_row, files, files_of, 
 
 use crate::key::{full_cmp, key_cmp};
 use crate::{FullName, Key, Row};
-use ex_generations::seek;
+use cm_text::seek;
 
 // How many rows stand before those of a directory, name and type.
 fn first_of_key(rows: &[Row], key: &Key) -> usize
