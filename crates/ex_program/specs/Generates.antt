@@ -1,9 +1,9 @@
 -- What a generated run leaves of the screen and of the counter.
-use Rattle.std.specs.Prelude.{◌≡◌, ◌≤◌, ◌+◌, ℕ, List, []}
+use Rattle.std.specs.Prelude.{◌≡◌, ◌+◌, ℕ, List, []}
 use Rattle.cm_io.specs.Fault.{Rose}
 use Rattle.cm_io.specs.Told.{Told, AddsPart, add}
 use Rattle.cm_run.specs.Event.{trials_of}
-use Rattle.ex_summary.specs.Summary.{generated_trace, summary_of, summary_text}
+use Rattle.ex_summary.specs.Summary.{LacksMemory, generated_trace, summary_of, summary_text}
 use Rattle.ex_system.specs.Messages.{message}
 use Rattle.ex_system.specs.Trying.{Tried}
 use Rattle.ex_system.specs.declared.status.Status.{Status}
@@ -20,7 +20,7 @@ abbrev pub Sums : ℕ → Told → Told → ℕ → ℕ → Status → Type 0
 Sums lines before now f g status.NoMemory = Tried before now f g [] (message status.NoMemory)
 Sums lines before now f g result = Shows (summary_text (summary_of lines)) before now f g result
 
--- the counter rises by what the trials of all keys cost; where memory is wanting, by those of the keys before
+-- the counter rises by what the trials of all keys cost; where memory is wanting, by those before
 abbrev pub Rises : ℕ → ℕ → ℕ → Status → Type 0
-Rises lines before now status.NoMemory = (before ≤ now) × (now ≤ before + trials_of (generated_trace lines))
+Rises lines before now status.NoMemory = LacksMemory lines before now
 Rises lines before now result = now ≡ before + trials_of (generated_trace lines)

@@ -196,8 +196,9 @@ pub fn exec20<H: Host, K: Source, S: Sink, W: Sink, C: Clock, L: Ledger>(
         → (taken rest : List ℕ) → (taken ++ rest) ++ K.left keys.new ≡ K.left keys.old
         → KeepsLine taker_meaning (taker_start start) (C.left clock.old) taken }
 
-    // What stands, whatever the status. With `-g N` nothing but the screen and the counter is touched: the summary of the
-    // run over the keys of so many lines is shown, and the counter has risen by what they cost; or memory is wanting.
+    // What stands, whatever the status. With `-g N` nothing but the screen and the counter is touched: the summary of
+    // the run over the keys of so many lines is shown, and the counter has risen by what they cost; or memory is
+    // wanting, and it has risen by what was tried before.
     // Before the first prompt of a run over `keys` the message alone is shown, IN is loaded once, if there is one, and
     // OUT is not created. Past it the trace of the run stands, or a cut of it, and then how it was closed;
     // OUT is created once, is closed, and holds the image of the state that the run left. No other file changes.

@@ -1,11 +1,11 @@
 -- What a run that only counts comes to, and its summary.
-use Rattle.std.proofs.Common.{◌≡◌, ◌≤◌, ◌<◌, ◌+◌, ◌-◌, ℕ, Bool, false, List, [], ◌∷◌, ◌++◌, length, min, Result, Ok, Err, refl, sym, ap, ◌∙◌, arith, length-append}
-use Rattle.std.proofs.lemmas.List.Sums.{sum_by-append}
+use Rattle.std.proofs.Common.{◌≡◌, ◌≤◌, ◌<◌, ◌+◌, ◌-◌, ℕ, Bool, false, List, [], ◌∷◌, ◌++◌, length, min, Result, Ok, Err, inr, refl, sym, ap, ◌∙◌, arith, length-append}
+use Rattle.std.proofs.lemmas.List.{append-nil}
 use Rattle.cm_io.specs.Fault.{Rose, last_count}
 use Rattle.cm_io.specs.Told.{Told, Number, add}
 use Rattle.cm_run.specs.Cause.{KeyCount, RunCause, counts}
-use Rattle.cm_run.specs.Cut.{Cut, MemoryCut, ScreenCut, LogCut, KeyCut, EndCut, LimitCut, Traces, event_of, part_of}
-use Rattle.cm_run.specs.Event.{Event, event_trials, keys_of, screen_bytes, state_behind, trials_of}
+use Rattle.cm_run.specs.Cut.{Cut, MemoryCut, ScreenCut, LogCut, KeyCut, EndCut, LimitCut, Traces, event_of, part_of, why_of}
+use Rattle.cm_run.specs.Event.{Event, keys_of, screen_bytes, state_behind, trials_of}
 use Rattle.cm_run.specs.Observed.{Between, Observed, Performs}
 use Rattle.cm_run.specs.declared.stop.Stop.{Stop}
 use Rattle.cm_run.specs.declared.stop.Stop.TheVariants as stop
@@ -16,7 +16,7 @@ use Rattle.ex_take.specs.TakerState.{TakerState, taker_start}
 use Rattle.ex_generator.specs.Generated.{generated_keys}
 use Rattle.ex_generator.specs.Waiting.{Waiting}
 use Rattle.ex_summary.specs.Run.{closing}
-use Rattle.ex_summary.specs.Summary.{generated_trace, summary_of}
+use Rattle.ex_summary.specs.Summary.{LacksMemory, generated_trace, summary_of}
 use Rattle.ex_summary.specs.declared.summary.Summary.{Summary}
 
 -- over fewer keys than the limit, with nothing outside that fails, a run is cut short by want of memory alone
@@ -29,14 +29,14 @@ memory_alone limit before now ended stop.Log cause count few = absurd (omega (ar
 memory_alone limit before now ended stop.Keys cause count few = absurd (omega (arith, cause.0))
 memory_alone limit before now ended stop.Limit cause count few = absurd (omega (arith, few, count.0))
 
--- of the part of a cut nothing is counted
-part_free : (S : Type 0) (cut : Cut) → trials_of (part_of {S = S} cut) ≡ 0
-part_free S (ScreenCut part rest) = refl
-part_free S (LogCut part rest) = refl
-part_free S (KeyCut key) = refl
-part_free S EndCut = refl
-part_free S MemoryCut = refl
-part_free S LimitCut = refl
+-- a cut for want of memory is one at an event that asks for it
+is_memory : (cut : Cut) → why_of cut ≡ stop.Memory → cut ≡ MemoryCut
+is_memory (ScreenCut part rest) why = absurd (cc)
+is_memory (LogCut part rest) why = absurd (cc)
+is_memory (KeyCut key) why = absurd (cc)
+is_memory EndCut why = absurd (cc)
+is_memory MemoryCut why = refl
+is_memory LimitCut why = absurd (cc)
 
 module _ {S : Type 0} where
   -- a run that went to its end
@@ -44,16 +44,21 @@ module _ {S : Type 0} where
   unfolding Traces Performs
   performed before now events traces = traces
 
-  -- the counter, also of one that was cut short
-  pub counted_within : (before now : Observed S) (events : List (Event S)) (result : Result Unit Stop) → Traces before now events result
-      → (before.trials ≤ now.trials) × (now.trials ≤ before.trials + trials_of events)
-  unfolding Traces Performs
-  counted_within before now events (Ok value) traces = (omega (arith, traces.trials), omega (arith, traces.trials))
-  counted_within before now events (Err why) traces =
-      let first = sum_by-append event_trials traces.done (part_of traces.cut) in
-      let whole : trials_of events ≡ trials_of traces.done + trials_of (event_of traces.cut ∷ traces.rest) =
-      ap trials_of (sym traces.split) ∙ sum_by-append event_trials traces.done (event_of traces.cut ∷ traces.rest) in
-      (omega (arith, traces.stands.trials), omega (arith, traces.stands.trials, first, part_free S traces.cut, whole))
+-- one that was cut short for memory
+pub cut_for_memory : (lines : ℕ) (before now : Observed TakerState) (events : List (Event TakerState)) (why : Stop)
+    → why ≡ stop.Memory → Traces before now events (Err why) → events ≡ generated_trace lines
+    → LacksMemory lines before.trials now.trials
+unfolding Traces Performs
+cut_for_memory lines before now events why is traces whole =
+    let at = is_memory traces.cut (traces.cause ∙ is) in
+    inr (record {
+      done = traces.done;
+      rest = traces.rest;
+      split = ap (λ (cut : Cut). traces.done ++ event_of cut ∷ traces.rest) (sym at) ∙ traces.split ∙ whole;
+      trials = traces.stands.trials
+        ∙ ap (λ (cut : Cut). before.trials + trials_of (traces.done ++ part_of cut)) at
+        ∙ ap (λ (events : List (Event TakerState)). before.trials + trials_of events) (append-nil traces.done);
+    })
 
 -- of the keys that were left those were taken that are left no more
 pub taken : (all left : ℕ) (front rest whole : List ℕ) → all ≡ length whole → left ≡ length rest → front ++ rest ≡ whole
@@ -118,8 +123,8 @@ from_first lines start store keys is first generated =
     ap (λ (it : TakerState). figures it keys.left lines) (is ∙ ap taker_start first)
     ∙ ap (λ (it : Waiting). figures (taker_start first_state) it.left lines) generated
 
-pub trials_from_first : (lines : ℕ) (start : TakerState) (store : State) (keys : Waiting) → start ≡ taker_start store → store ≡ first_state
-    → keys ≡ record { left = generated_keys lines; gets = 0 } → trials_of (trace start keys.left) ≡ trials_of (generated_trace lines)
-trials_from_first lines start store keys is first generated =
-    ap (λ (it : TakerState). trials_of (trace it keys.left)) (is ∙ ap taker_start first)
-    ∙ ap (λ (it : Waiting). trials_of (trace (taker_start first_state) it.left)) generated
+pub trace_from_first : (lines : ℕ) (start : TakerState) (store : State) (keys : Waiting) → start ≡ taker_start store → store ≡ first_state
+    → keys ≡ record { left = generated_keys lines; gets = 0 } → trace start keys.left ≡ generated_trace lines
+trace_from_first lines start store keys is first generated =
+    ap (λ (it : TakerState). trace it keys.left) (is ∙ ap taker_start first)
+    ∙ ap (λ (it : Waiting). trace (taker_start first_state) it.left) generated

@@ -1,9 +1,9 @@
 -- A generated run, and its summary.
-use Rattle.std.specs.Prelude.{ℕ, ◌++◌, false, List, [], length, min, codes}
+use Rattle.std.specs.Prelude.{ℕ, ◌≡◌, ◌⊎◌, ◌+◌, ◌++◌, false, List, [], ◌∷◌, length, min, codes}
 use Rattle.std.specs.Fmt.{decimal}
 use Rattle.cm_text.specs.Shown.{end_of_line}
 use Rattle.cm_io.specs.Fault.{last_count}
-use Rattle.cm_run.specs.Event.{Event, keys_of}
+use Rattle.cm_run.specs.Event.{Event, Memory, keys_of, trials_of}
 use Rattle.ex_store.specs.State.{first_state}
 use Rattle.ex_take.specs.TakerState.{TakerState}
 use Rattle.ex_generator.specs.Generated.{generated_keys}
@@ -30,6 +30,18 @@ summary_of lines = record {
   shown = min (length (generated_shown lines)) last_count;
   generations = length (generated_left lines).exec.state.rows;
 }
+
+-- a run over the keys of so many lines was cut short where an act of it asked for memory: the counter rose by the trials
+-- before
+pub record IsCutForMemory (lines before now : ℕ) : Type 0 where
+  pub done : List (Event TakerState)
+  pub rest : List (Event TakerState)
+  pub split : done ++ Memory ∷ rest ≡ generated_trace lines
+  pub trials : now ≡ before + trials_of done
+
+-- memory was wanting: before the run, and the counter stays, or at an act of it
+abbrev pub LacksMemory : ℕ → ℕ → ℕ → Type 0
+LacksMemory lines before now = (now ≡ before) ⊎ IsCutForMemory lines before now
 
 -- what stands before each figure
 unfoldable pub before_lines : List ℕ

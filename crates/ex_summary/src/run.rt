@@ -1,12 +1,12 @@
 // A generated run.
-ghost use Rattle.std.specs.Prelude.{◌≡◌, ◌≤◌, ◌+◌, IfOk};
+ghost use Rattle.std.specs.Prelude.{◌≡◌, ◌≤◌, ◌+◌, IfOk, OnErr};
 ghost use Rattle.cm_io.specs.Told.{Number, add};
 ghost use Rattle.cm_hooks.specs.Ties.{Ties, count};
 ghost use Rattle.cm_run.specs.Event.{trials_of};
 ghost use Rattle.ex_grammar.specs.ExecRules.{exec_meanings};
 ghost use Rattle.ex_generator.specs.declared.progress.TheConstants.{GENERATED_LINES};
 ghost use Rattle.ex_summary.specs.Run.{closing};
-ghost use Rattle.ex_summary.specs.Summary.{generated_trace, summary_of};
+ghost use Rattle.ex_summary.specs.Summary.{LacksMemory, generated_trace, summary_of};
 
 use crate::Summary;
 use cm_blocks::Steps;
@@ -21,9 +21,10 @@ use ex_take::Taker;
 use std::alloc::Global;
 use std::sync::ledger::Ledger;
 
-// The error of a run that was cut short: want of memory is all that cuts one short here.
+// The error of a run that was cut short: want of memory is all that cuts one short here. A proof is told so.
 fn error_of(_why: Stop) -> NoMemory
     requires { _why ≡ Stop.Memory }
+    ensures { _why ≡ Stop.Memory }
 {
     NoMemory
 }
@@ -53,9 +54,8 @@ pub fn summarize<L: Ledger>(
     ensures summary { IfOk result (λ summary. summary ≡ summary_of lines) }
     // The counter has risen by what the trials of all keys cost ..
     ensures counted { IfOk result (λ summary. steps.new ≡ steps.old + trials_of (generated_trace lines)) }
-    // .. and where memory is wanting, by those of the keys before.
-    ensures rises { steps.old ≤ steps.new }
-    ensures within { steps.new ≤ steps.old + trials_of (generated_trace lines) }
+    // .. and where memory is wanting, before the run or at an act of it, by those before.
+    ensures wanting { OnErr result (LacksMemory lines steps.old steps.new) }
 {
     let grammar = grammar(alloc)?;
     let mut taker = Taker::new(alloc, Store::new(alloc)?);
