@@ -69,7 +69,7 @@ kept_own count key (row ∷ rows) all =
     (ap (λ rest. cond (nat_le count (live (files rows))) (with_mark true row) row ∷ rest) (kept_own count key rows parts.1))
 
 -- a part of a list that gives way to another as long
-put_mid_is : {X : Type 0} (at size : ℕ) (xs ys : List X) → at ≤ length xs → length ys ≡ size
+pub put_mid_is : {X : Type 0} (at size : ℕ) (xs ys : List X) → at ≤ length xs → length ys ≡ size
     → put_mid at size xs ys ≡ (take at xs ++ ys) ++ drop (at + size) xs
 put_mid_is at size xs ys within long =
     sym (take-append-drop (at + size) (put_mid at size xs ys))

@@ -6,8 +6,9 @@ ghost use Rattle.ex_store.specs.Ready.{IsFor, applied, are_doable, is_doable, mo
 ghost use Rattle.ex_store.specs.Rows.{by_row};
 
 use crate::build::make;
-use crate::change::{add, fill, reinsert, remove};
+use crate::change::{add, fill};
 use crate::define::define;
+use crate::shift::move_row;
 use crate::{NamePair, QueueEntry, Ready, Row, RowChange, Store};
 
 // A file goes to another name.
@@ -18,8 +19,7 @@ fn rename_row(rows: &mut Vec<Row>, pair: &NamePair, retention: u8)
     ensures len { vec_len rows.new ≤ vec_len rows.old }
     ensures capacity { vec_capacity rows.new ≡ vec_capacity rows.old }
 {
-    let row = remove(rows, &pair.source);
-    reinsert(rows, &pair.target, row, retention);
+    move_row(rows, pair, retention);
 }
 
 // One change, in a vector that has room for it.

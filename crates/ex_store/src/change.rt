@@ -61,7 +61,7 @@ fn keep_newest(rows: &mut [Row], key: &Key, retention: usize)
 }
 
 // Keeps so many unmarked generations of a directory, name and type, or all where the number is 0.
-fn retain(rows: &mut [Row], key: &Key, retention: u8)
+pub(crate) fn retain(rows: &mut [Row], key: &Key, retention: u8)
     requires { ascends by_row rows.old ≡ true }
     ensures { rows.new ≡ retained retention key.now rows.old }
 {

@@ -29,6 +29,7 @@ mod rename;
 mod row;
 mod search;
 mod selection;
+mod shift;
 mod simulation;
 mod store;
 mod write;

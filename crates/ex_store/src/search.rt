@@ -57,7 +57,7 @@ pub(crate) fn place(rows: &[Row], row: &Row) -> usize
 }
 
 // How many rows stand before the place of a full name.
-fn full_place(rows: &[Row], full: &FullName) -> usize
+pub(crate) fn full_place(rows: &[Row], full: &FullName) -> usize
     requires { ascends by_row rows.now ≡ true }
     ensures { result ≡ prefix_len (λ row. is_lt (by_full (full_of row) full.now)) rows.now }
 {
