@@ -13,7 +13,7 @@ use Rattle.ex_store.specs.declared.key.FullName.{FullName}
 use Rattle.ex_store.specs.declared.key.Key.{Key}
 use Rattle.ex_store.specs.declared.row.Row.{Row}
 use Rattle.ex_store.specs.Ready.{reinserted, with_name}
-use Rattle.ex_store.specs.Rows.{added, by_key, by_row, files_of, inserted, is_full, is_in_either, is_of, kept_newest, retained, row_at, touched, with_mark, without}
+use Rattle.ex_store.specs.Rows.{added, by_key, by_row, files_of, inserted, is_full, is_in_either, is_of, kept_newest, row_at, touched, with_mark, without}
 use Rattle.ex_store.proofs.AscendsLaws.{all_above, all_filter, ascends_filter, is_less, is_sorted, less_is, sorted_ascends}
 use Rattle.ex_store.proofs.AreRowsLaws.{by_row_total}
 use Rattle.ex_store.proofs.CatalogueLaws.{text_itself}

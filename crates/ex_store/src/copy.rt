@@ -67,7 +67,7 @@ impl Simulation {
     }
 }
 
-// The sources at these places are copied, one after the other.
+// The sources at these places are copied, one after the other. This touches the rows of the target's directory alone.
 fn copies(
     alloc: Global,
     directories: &[Directory],
@@ -99,7 +99,14 @@ fn copies(
         let source = &rows[usize::from(*at)];
         let key = to.key_from(&source.key);
         let size = source.file.bytes.len();
-        let generation = match admitted(&simulation.simulated, files, bytes, &key, to.generation, size) {
+        let generation = match admitted(
+            &simulation.simulated,
+            files,
+            bytes,
+            &key,
+            to.generation,
+            size,
+        ) {
             Ok(generation) => generation,
             Err(code) => return Err(Refusal::Code(code)),
         };

@@ -63,7 +63,8 @@ impl Simulation {
     }
 }
 
-// The sources at these places, which stand in one directory, are given other names, one after the other.
+// The sources at these places, which stand in one directory, are given other names, one after the other. This touches
+// the rows of that directory and of the target's.
 fn renames(
     alloc: Global,
     directories: &[Directory],
