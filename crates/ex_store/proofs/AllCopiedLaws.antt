@@ -1,5 +1,5 @@
 -- Files are copied one after the other: where the walk over the sources stands.
-use Rattle.std.proofs.Common.{◌≡◌, ◌||◌, ℕ, suc, ◌+◌, nat_le, Bool, true, false, not, cond, List, [], ◌∷◌, ◌++◌, length, map, Result, Ok, Err, Option, Some, None, refl, ap, arith, ◌∙◌, sym}
+use Rattle.std.proofs.Common.{◌≡◌, ◌||◌, ℕ, ◌+◌, nat_le, Bool, true, false, not, cond, List, [], ◌∷◌, ◌++◌, length, map, Result, Ok, Err, Option, Some, None, refl, ap, arith, ◌∙◌, sym}
 use Rattle.std.proofs.lemmas.Bool.{and_from, and_parts}
 use Rattle.std.proofs.lemmas.Bool.Decides.{nat_tests}
 use Rattle.std.proofs.lemmas.List.Sums.{fold-append}
@@ -20,14 +20,15 @@ use Rattle.ex_store.specs.Adding.{Outcome, admitted, and_then, each_in_turn, lim
 use Rattle.ex_store.specs.Copying.{copied, is_star, key_from, moment_of, part_from}
 use Rattle.ex_store.specs.Plan.{IsTarget, may_be}
 use Rattle.ex_store.specs.Ready.{are_doable, rows_after_all, rows_after}
-use Rattle.ex_store.specs.Rows.{added, blank, by_row, files_of, full_of, total}
+use Rattle.ex_store.specs.Rows.{added, blank, by_row, files_of, full_of, total, touched}
 use Rattle.ex_store.specs.State.{has_directory}
 use Rattle.ex_store.specs.WellFormed.{AreRows, is_file_name, is_file_type, is_numbered, is_row_among}
 use Rattle.ex_store.proofs.AdmittedLaws.{admitted_is, and_then_ok, counted_target, is_counted, limited_roomy, numbered_free, rows_added}
 use Rattle.ex_store.proofs.AscendsLaws.{ascends_map}
 use Rattle.ex_store.proofs.BlankLaws.{added_blank, numbered_blank}
 use Rattle.ex_store.proofs.DoableLaws.{doable_more}
-use Rattle.ex_store.proofs.TotalLaws.{total_added}
+use Rattle.ex_store.proofs.TotalLaws.{length_added, total_added}
+use Rattle.ex_store.proofs.TouchedLaws.{added_touched, ascends_touched, either_target, files_touched, is_either}
 
 -- what a plan has come to
 abbrev pub outcome_at : ℕ → List Row → List RowChange → List NamePair → Outcome
@@ -38,23 +39,20 @@ pub rows_after_more : (retention : ℕ) (rows : List Row) (done : List RowChange
     → rows_after_all retention rows (done ++ change ∷ []) ≡ rows_after retention (rows_after_all retention rows done) change
 rows_after_more retention rows done change = fold-append (rows_after retention) rows done (change ∷ [])
 
-pub length_blank : (rows : List Row) → length (map blank rows) ≡ length rows
-length_blank [] = refl
-length_blank (row ∷ rows) = ap (λ n. suc n) (length_blank rows)
-
--- the walk goes on from here as it goes from the start, and what has come of it are rows of a store
-pub record IsUnderWay (step : Row → Outcome → Result Outcome Code) (directories : List Directory) (retention : ℕ) (rows whole left : List Row)
-    (done : List RowChange) (pairs : List NamePair) (simulated : List Row) : Type 0 where
+-- the walk goes on from here as it goes from the start, and what has come of it are rows of a store; those of two
+-- directories are simulated, without their bytes
+pub record IsUnderWay (step : Row → Outcome → Result Outcome Code) (directories : List Directory) (retention : ℕ) (from to : List ℕ)
+    (rows whole left : List Row) (done : List RowChange) (pairs : List NamePair) (simulated : List Row) : Type 0 where
   pub walk : each_in_turn step left (outcome_at retention rows done pairs)
       ≡ each_in_turn step whole (record { rows = rows; pairs = [] })
   pub sound : AreRows directories (rows_after_all retention rows done)
   pub doable : are_doable retention rows done ≡ true
-  pub simulated_are : simulated ≡ map blank (rows_after_all retention rows done)
+  pub simulated_are : simulated ≡ map blank (touched from to (rows_after_all retention rows done))
 
-pub way_start : (step : Row → Outcome → Result Outcome Code) (directories : List Directory) (retention : ℕ) (rows whole : List Row)
-    → AreRows directories rows
-    → IsUnderWay step directories retention rows whole whole [] [] (map blank rows)
-way_start step directories retention rows whole are = record { walk = refl; sound = are; doable = refl; simulated_are = refl }
+pub way_start : (step : Row → Outcome → Result Outcome Code) (directories : List Directory) (retention : ℕ) (from to : List ℕ)
+    (rows whole : List Row) → AreRows directories rows
+    → IsUnderWay step directories retention from to rows whole whole [] [] (map blank (touched from to rows))
+way_start step directories retention from to rows whole are = record { walk = refl; sound = are; doable = refl; simulated_are = refl }
 
 -- the form of a name that a target gives
 name_from : (test : List ℕ → Bool) (part : Option (List ℕ)) (own : List ℕ) → may_be test part ≡ true → test own ≡ true
@@ -110,57 +108,69 @@ from_formed directories to source moment generation target is within number =
       short = parts.short;
     })
 
--- rows without their bytes ascend as the rows do
-pub ascends_blank : (rows simulated : List Row) → simulated ≡ map blank rows → ascends by_row rows ≡ true
-    → ascends by_row simulated ≡ true
-ascends_blank rows simulated is ascend = rw is (ascends_map by_row by_row blank (λ row other. refl) rows ∙ ascend)
+-- rows of two directories without their bytes ascend as the rows do
+pub ascends_blank : (from to : List ℕ) (rows simulated : List Row) → simulated ≡ map blank (touched from to rows)
+    → ascends by_row rows ≡ true → ascends by_row simulated ≡ true
+ascends_blank from to rows simulated is ascend =
+    rw is (ascends_map by_row by_row blank (λ row other. refl) (touched from to rows) ∙ ascends_touched from to rows ascend)
 
 -- a number that is admitted is one that none has
-pub admitted_new : (key : Key) (generation : Gen) (size bytes : ℕ) (rows : List Row) (number : ℕ) → is_counted generation ≡ true
-    → and_then (limited (length rows) bytes size) (numbered generation (files_of key rows)) ≡ Ok number
+pub admitted_new : (key : Key) (generation : Gen) (size files bytes : ℕ) (rows : List Row) (number : ℕ) → is_counted generation ≡ true
+    → and_then (limited files bytes size) (numbered generation (files_of key rows)) ≡ Ok number
     → has number (files_of key rows) ≡ false
-admitted_new key generation size bytes rows number counted is =
-    let parts = and_then_ok (limited (length rows) bytes size) (numbered generation (files_of key rows)) number is in
-    let room = limited_roomy (length rows) bytes size parts.0 number parts.2 in
+admitted_new key generation size files bytes rows number counted is =
+    let parts = and_then_ok (limited files bytes size) (numbered generation (files_of key rows)) number is in
+    let room = limited_roomy files bytes size parts.0 number parts.2 in
     (numbered_free generation (files_of key rows) number counted (parts.1 ∙ ap (λ n. Ok n) room.1)).absent
 
--- what the code asks of the rows without their bytes is what is asked of the rows
-pub simulated_admitted : (key : Key) (generation : Gen) (size bytes : ℕ) (rows simulated : List Row) → simulated ≡ map blank rows
-    → bytes ≡ total rows
-    → and_then (limited (length simulated) bytes size) (numbered generation (files_of key simulated)) ≡ admitted key generation size rows
-simulated_admitted key generation size bytes rows simulated is all =
-    rw (is, all, length_blank rows, numbered_blank generation key rows)
+-- what the code asks of the rows that it simulates is what is asked of all rows
+pub simulated_admitted : (from to : List ℕ) (key : Key) (generation : Gen) (size files bytes : ℕ) (rows simulated : List Row)
+    → is_either from to key.directory ≡ true → simulated ≡ map blank (touched from to rows) → files ≡ length rows → bytes ≡ total rows
+    → and_then (limited files bytes size) (numbered generation (files_of key simulated)) ≡ admitted key generation size rows
+simulated_admitted from to key generation size files bytes rows simulated here is counted all =
+    rw (is, counted, all, numbered_blank generation key (touched from to rows), files_touched from to key rows here)
 
--- the walk over the sources of a copy
+-- the walk over the sources of a copy, which touches the directory of the target alone
 pub record IsCopying (directories : List Directory) (retention moment : ℕ) (to : Place) (rows whole left : List Row)
-    (done : List RowChange) (pairs : List NamePair) (simulated : List Row) (bytes : ℕ) : Type 0 where
-  pub on : IsUnderWay (copied retention moment to) directories retention rows whole left done pairs simulated
+    (done : List RowChange) (pairs : List NamePair) (simulated : List Row) (files bytes : ℕ) : Type 0 where
+  pub on : IsUnderWay (copied retention moment to) directories retention to.directory to.directory rows whole left done pairs simulated
+  pub files_are : files ≡ length (rows_after_all retention rows done)
   pub bytes_are : bytes ≡ total (rows_after_all retention rows done)
 
+-- what is asked for a source
+pub copies_asked : (directories : List Directory) (retention moment : ℕ) (to : Place) (rows whole left : List Row) (source : Row)
+    (done : List RowChange) (pairs : List NamePair) (simulated : List Row) (files bytes : ℕ) (answer : Result ℕ Code)
+    → IsCopying directories retention moment to rows whole left done pairs simulated files bytes
+    → and_then (limited files bytes (length source.file.bytes)) (numbered to.generation (files_of (key_from to source.key) simulated)) ≡ answer
+    → admitted (key_from to source.key) to.generation (length source.file.bytes) (rows_after_all retention rows done) ≡ answer
+copies_asked directories retention moment to rows whole left source done pairs simulated files bytes answer is asks =
+    sym (simulated_admitted to.directory to.directory (key_from to source.key) to.generation (length source.file.bytes) files bytes
+    (rows_after_all retention rows done) simulated (either_target to.directory to.directory) is.on.simulated_are is.files_are is.bytes_are)
+    ∙ asks
+
 pub copies_refused : (directories : List Directory) (retention moment : ℕ) (to : Place) (rows whole more : List Row) (source : Row)
-    (done : List RowChange) (pairs : List NamePair) (simulated : List Row) (bytes : ℕ) (code : Code)
-    → IsCopying directories retention moment to rows whole (source ∷ more) done pairs simulated bytes
-    → and_then (limited (length simulated) bytes (length source.file.bytes)) (numbered to.generation (files_of (key_from to source.key) simulated)) ≡ Err code
+    (done : List RowChange) (pairs : List NamePair) (simulated : List Row) (files bytes : ℕ) (code : Code)
+    → IsCopying directories retention moment to rows whole (source ∷ more) done pairs simulated files bytes
+    → and_then (limited files bytes (length source.file.bytes)) (numbered to.generation (files_of (key_from to source.key) simulated)) ≡ Err code
     → each_in_turn (copied retention moment to) whole (record { rows = rows; pairs = [] }) ≡ Err code
-copies_refused directories retention moment to rows whole more source done pairs simulated bytes code is refused =
-    let asked = sym (simulated_admitted (key_from to source.key) to.generation (length source.file.bytes) bytes (rows_after_all retention rows done) simulated is.on.simulated_are is.bytes_are) ∙ refused in
+copies_refused directories retention moment to rows whole more source done pairs simulated files bytes code is refused =
+    let asked = copies_asked directories retention moment to rows whole (source ∷ more) source done pairs simulated files bytes (Err code) is refused in
     sym is.on.walk ∙ rw asked refl
 
 pub copies_more : (directories : List Directory) (retention moment : ℕ) (to : Place) (rows whole more : List Row) (source : Row)
-    (done : List RowChange) (pairs : List NamePair) (simulated : List Row) (bytes generation : ℕ)
+    (done : List RowChange) (pairs : List NamePair) (simulated : List Row) (files bytes generation : ℕ)
     → IsTarget to directories → is_row_among directories source ≡ true
-    → IsCopying directories retention moment to rows whole (source ∷ more) done pairs simulated bytes
-    → and_then (limited (length simulated) bytes (length source.file.bytes)) (numbered to.generation (files_of (key_from to source.key) simulated)) ≡ Ok generation
+    → IsCopying directories retention moment to rows whole (source ∷ more) done pairs simulated files bytes
+    → and_then (limited files bytes (length source.file.bytes)) (numbered to.generation (files_of (key_from to source.key) simulated)) ≡ Ok generation
     → (let row = new_row (key_from to source.key) (moment_of moment) source.file.bytes generation in
     IsCopying directories retention moment to rows whole more (done ++ changes.Add row ∷ [])
     (pairs ++ (record { source = full_of source; target = full_of row }) ∷ []) (added retention (blank row) simulated)
-    (bytes + length source.file.bytes))
-copies_more directories retention moment to rows whole more source done pairs simulated bytes generation target form is admits =
+    (files + 1) (bytes + length source.file.bytes))
+copies_more directories retention moment to rows whole more source done pairs simulated files bytes generation target form is admits =
     let so_far = rows_after_all retention rows done in
     let key = key_from to source.key in
     let row = new_row key (moment_of moment) source.file.bytes generation in
-    let asked : admitted key to.generation (length source.file.bytes) so_far ≡ Ok generation =
-    sym (simulated_admitted key to.generation (length source.file.bytes) bytes so_far simulated is.on.simulated_are is.bytes_are) ∙ admits in
+    let asked = copies_asked directories retention moment to rows whole (source ∷ more) source done pairs simulated files bytes (Ok generation) is admits in
     let known = admitted_is key to.generation (length source.file.bytes) so_far generation (counted_target to.generation target.generation) asked in
     let next : rows_after_all retention rows (done ++ changes.Add row ∷ []) ≡ added retention row so_far = rows_after_more retention rows done (changes.Add row) in
     let shape = from_formed directories to source (moment_of moment) generation target form (moment_within moment) known.free.within in
@@ -169,8 +179,11 @@ copies_more directories retention moment to rows whole more source done pairs si
         walk = rw next (step_on asked is.on.walk);
         sound = rw next (rows_added directories retention row so_far is.on.sound known shape);
         doable = doable_more retention rows done (changes.Add row) is.on.doable (ap not known.free.absent);
-        simulated_are = rw (next, is.on.simulated_are) (added_blank retention row so_far);
+        simulated_are = rw (next, is.on.simulated_are)
+            (added_blank retention row (touched to.directory to.directory so_far)
+            ∙ ap (map blank) (added_touched to.directory to.directory retention row so_far (either_target to.directory to.directory) is.on.sound.ascend));
       };
+      files_are = rw (next, is.files_are) (sym (length_added retention row so_far ∙ omega arith));
       bytes_are = rw (next, is.bytes_are) (sym (total_added retention row so_far ∙ omega arith));
     }
   where

@@ -1,5 +1,5 @@
 -- The files that a place means, among the rows of its directory.
-use Rattle.std.proofs.Common.{◌≡◌, ℕ, zero, suc, ◌+◌, ◌<◌, ◌≤◌, Bool, true, false, ◌&&◌, cond, List, [], ◌∷◌, ◌++◌, length, map, drop, Some, None, refl, ap, arith, ◌∙◌, sym}
+use Rattle.std.proofs.Common.{◌≡◌, ℕ, zero, suc, ◌+◌, ◌<◌, ◌≤◌, Bool, true, false, ◌&&◌, cond, List, [], ◌∷◌, ◌++◌, length, map, filter, drop, Some, None, refl, ap, arith, ◌∙◌, sym}
 use Rattle.std.specs.List.{list_all, position_from}
 use Rattle.std.specs.Cmp.{Equal-is}
 use Rattle.std.proofs.lemmas.Bool.{and_parts, both_ways}
@@ -16,6 +16,7 @@ use Rattle.ex_store.specs.Rows.{end_in, first_in, is_in, rows_in}
 use Rattle.ex_store.specs.Selection.{is_meant, wanted_of}
 use Rattle.ex_store.specs.State.{State, catalogue_of, file_row, has_directory, number_of}
 use Rattle.ex_store.specs.WellFormed.{IsWellFormed, is_row_among}
+use Rattle.ex_store.proofs.BuiltLaws.{all_more}
 use Rattle.ex_store.proofs.CatalogueLaws.{directory_there}
 use Rattle.ex_store.proofs.RowsInLaws.{block, block_within, kept_pass, positions_within, rows_by_number, rows_of_catalogue}
 
@@ -52,6 +53,13 @@ pub meant_in : (deleted : Bool) (place : Place) (state : State) (row : Row) → 
     → is_in place.directory row ≡ true
 unfolding is_meant
 meant_in deleted place state row is = (and_parts _ _ is).0
+
+-- all rows that a place means stand in its directory
+pub all_meant_in : (deleted : Bool) (place : Place) (state : State) (rows : List Row)
+    → list_all (is_in place.directory) (filter (is_meant deleted place state) rows) ≡ true
+all_meant_in deleted place state rows =
+    all_more (is_meant deleted place state) (is_in place.directory) (filter (is_meant deleted place state) rows)
+    (meant_in deleted place state) (kept_pass (is_meant deleted place state) rows)
 
 -- a walk over the catalogue's rows of the directory finds the first that is meant
 pub walk_meant : (state : State) → IsWellFormed state → (deleted : Bool) (place : Place) (from n : ℕ) (text : List ℕ)

@@ -1,7 +1,10 @@
 -- A source that is taken out and added under another name: one step of a renaming.
 use Rattle.std.proofs.Common.{◌≡◌, ℕ, ◌+◌, nat_lt, nat_le, true, false, not, List, [], ◌∷◌, ◌++◌, length, map, Result, Ok, Err, Some, refl, ap, arith, ◌∙◌, sym, subst}
 use Rattle.std.specs.Option.{option_map}
+use Rattle.std.specs.List.{list_all}
+use Rattle.std.proofs.lemmas.Bool.{and_parts}
 use Rattle.std.proofs.lemmas.Bool.Decides.{nat_tests}
+use Rattle.cm_files.specs.Catalogue.{ascends}
 use Rattle.cm_fields.specs.declared.code.Code.{Code}
 use Rattle.ex_generations.specs.declared.file.TheConstants.{FILE_LIMIT}
 use Rattle.ex_store.specs.declared.directory.Directory.{Directory}
@@ -18,7 +21,7 @@ use Rattle.ex_store.specs.Plan.{IsTarget}
 use Rattle.ex_store.specs.Positions.{elements_at}
 use Rattle.ex_store.specs.Ready.{rows_after_all, moved, reinserted, with_name}
 use Rattle.ex_store.specs.Renaming.{AreDistinct, renamed}
-use Rattle.ex_store.specs.Rows.{added, blank, files_of, full_of, row_at, total, without}
+use Rattle.ex_store.specs.Rows.{added, blank, by_row, files_of, full_of, is_in, row_at, total, touched, without}
 use Rattle.ex_store.specs.WellFormed.{AreRows, is_row_among}
 use Rattle.ex_store.proofs.AdmittedLaws.{IsRoomy, and_then_ok, counted_target, numbered_free, rows_added}
 use Rattle.ex_store.proofs.AscendsLaws.{sorted_ascends}
@@ -27,7 +30,7 @@ use Rattle.ex_store.proofs.DoableLaws.{doable_more}
 use Rattle.ex_store.proofs.AllCopiedLaws.{IsUnderWay, way_start, formed, from_formed, outcome_at, rows_after_more}
 use Rattle.ex_store.proofs.AllRenamedLaws.{AreThere, length_without, plain, rows_without, some_of, there_elements, there_moved, total_without}
 use Rattle.ex_store.proofs.AreRowsLaws.{absent_has, by_row_total}
-use Rattle.ex_store.specs.Rows.{by_row}
+use Rattle.ex_store.proofs.TouchedLaws.{either_source, either_target, files_touched, is_either, reinserted_touched, row_at_touched, without_touched}
 
 roomy_limited : (files bytes size generation : ℕ) → IsRoomy files bytes size → limited files bytes size generation ≡ Ok generation
 roomy_limited files bytes size generation room =
@@ -82,37 +85,44 @@ pair_for to source rows =
       target = record { key = key_from to source.key; generation = generation };
     })) (numbered to.generation (files_of (key_from to source.key) (without (full_of source) rows)))
 
--- the walk over the sources of a renaming
-pub record IsRenaming (directories : List Directory) (retention : ℕ) (to : Place) (rows whole left : List Row)
+-- the walk over the sources of a renaming, which stand in one directory
+pub record IsRenaming (directories : List Directory) (retention : ℕ) (from : List ℕ) (to : Place) (rows whole left : List Row)
     (done : List RowChange) (pairs : List NamePair) (simulated : List Row) : Type 0 where
-  pub on : IsUnderWay (renamed retention to) directories retention rows whole left done pairs simulated
+  pub on : IsUnderWay (renamed retention to) directories retention from to.directory rows whole left done pairs simulated
   pub there : AreThere (rows_after_all retention rows done) left
   pub distinct : AreDistinct left
+  pub inside : list_all (is_in from) left ≡ true
 
-pub renaming_start : (directories : List Directory) (retention : ℕ) (to : Place) (rows : List Row) (positions : List ℕ) → AreRows directories rows
-    → AreDistinct (elements_at rows positions)
-    → IsRenaming directories retention to rows (elements_at rows positions) (elements_at rows positions) [] [] (map blank rows)
-renaming_start directories retention to rows positions are distinct = record {
-  on = way_start (renamed retention to) directories retention rows (elements_at rows positions) are;
+pub renaming_start : (directories : List Directory) (retention : ℕ) (from : List ℕ) (to : Place) (rows : List Row) (positions : List ℕ)
+    → AreRows directories rows → AreDistinct (elements_at rows positions) → list_all (is_in from) (elements_at rows positions) ≡ true
+    → IsRenaming directories retention from to rows (elements_at rows positions) (elements_at rows positions) [] []
+    (map blank (touched from to.directory rows))
+renaming_start directories retention from to rows positions are distinct inside = record {
+  on = way_start (renamed retention to) directories retention from to.directory rows (elements_at rows positions) are;
   there = there_elements rows positions (sorted_ascends by_row by_row_total rows are.ascend);
   distinct = distinct;
+  inside = inside;
 }
 
--- the code asks the rows without their bytes
-simulated_pair : (to : Place) (source : Row) (rows simulated : List Row) → simulated ≡ map blank rows → pair_for to source simulated ≡ pair_for to source rows
-simulated_pair to source rows simulated is =
-    rw (is, without_blank (full_of source) rows, numbered_blank to.generation (key_from to source.key) (without (full_of source) rows)) refl
+-- the code asks the rows that it simulates
+simulated_pair : (from : List ℕ) (to : Place) (source : Row) (rows simulated : List Row) → is_in from source ≡ true
+    → simulated ≡ map blank (touched from to.directory rows) → pair_for to source simulated ≡ pair_for to source rows
+simulated_pair from to source rows simulated inside is =
+    let full = full_of source in
+    let key = key_from to source.key in
+    let here = either_source from to.directory source.key.directory inside in
+    rw (is, without_blank full (touched from to.directory rows), without_touched from to.directory full rows here, numbered_blank to.generation key (touched from to.directory (without full rows)), files_touched from to.directory key (without full rows) (either_target from to.directory)) refl
 
-pub renames_refused : (directories : List Directory) (retention : ℕ) (to : Place) (rows whole more : List Row) (source : Row)
+pub renames_refused : (directories : List Directory) (retention : ℕ) (from : List ℕ) (to : Place) (rows whole more : List Row) (source : Row)
     (done : List RowChange) (pairs : List NamePair) (simulated : List Row) (code : Code) → is_row_among directories source ≡ true
-    → IsRenaming directories retention to rows whole (source ∷ more) done pairs simulated → pair_for to source simulated ≡ Err code
+    → IsRenaming directories retention from to rows whole (source ∷ more) done pairs simulated → pair_for to source simulated ≡ Err code
     → each_in_turn (renamed retention to) whole (record { rows = rows; pairs = [] }) ≡ Err code
-renames_refused directories retention to rows whole more source done pairs simulated code form is refused =
+renames_refused directories retention from to rows whole more source done pairs simulated code form is refused =
     let so_far = rows_after_all retention rows done in
     let key = key_from to source.key in
     let known = taken directories to so_far source is.on.sound form is.there.0 in
     let none : numbered to.generation (files_of key (without (full_of source) so_far)) ≡ Err code =
-    asked_none (numbered to.generation (files_of key (without (full_of source) so_far))) (sym (simulated_pair to source so_far simulated is.on.simulated_are) ∙ refused) in
+    asked_none (numbered to.generation (files_of key (without (full_of source) so_far))) (sym (simulated_pair from to source so_far simulated (and_parts _ _ is.inside).0 is.on.simulated_are) ∙ refused) in
     let asked : admitted key to.generation (length source.file.bytes) (without (full_of source) so_far) ≡ Err code =
     roomy_then _ _ _ (numbered to.generation (files_of key (without (full_of source) so_far))) known.room ∙ none in
     sym is.on.walk ∙ rw asked refl
@@ -124,29 +134,34 @@ renames_refused directories retention to rows whole more source done pairs simul
     asked_none (Ok number) is = absurd (cc)
     asked_none (Err other) is = cc
 
-simulated_moved : (retention : ℕ) (full target : FullName) (rows simulated : List Row) → simulated ≡ map blank rows
+simulated_moved : (from to : List ℕ) (retention : ℕ) (full target : FullName) (rows simulated : List Row)
+    → is_either from to full.key.directory ≡ true → is_either from to target.key.directory ≡ true → ascends by_row (without full rows) ≡ true
+    → simulated ≡ map blank (touched from to rows)
     → reinserted retention target (without full simulated) (row_at full simulated)
-    ≡ map blank (reinserted retention target (without full rows) (row_at full rows))
-simulated_moved retention full target rows simulated is =
-    rw (is, without_blank full rows, row_at_blank full rows) (reinserted_blank retention target (without full rows) (row_at full rows))
+    ≡ map blank (touched from to (reinserted retention target (without full rows) (row_at full rows)))
+simulated_moved from to retention full target rows simulated goes comes ascend is =
+    rw (is, without_blank full (touched from to rows), row_at_blank full (touched from to rows), without_touched from to full rows goes, row_at_touched from to full rows goes)
+    (reinserted_blank retention target (touched from to (without full rows)) (row_at full rows)
+    ∙ ap (map blank) (reinserted_touched from to retention target (without full rows) (row_at full rows) comes ascend))
 
 -- the names that a source had and has under a number
 abbrev named : Place → Row → ℕ → NamePair
 named to source number =
     record { source = full_of source; target = record { key = key_from to source.key; generation = number } }
 
-renames_step : (directories : List Directory) (retention : ℕ) (to : Place) (rows whole more : List Row) (source : Row)
+renames_step : (directories : List Directory) (retention : ℕ) (from : List ℕ) (to : Place) (rows whole more : List Row) (source : Row)
     (done : List RowChange) (pairs : List NamePair) (simulated : List Row) (number : ℕ) → IsTarget to directories
     → is_row_among directories source ≡ true
-    → IsRenaming directories retention to rows whole (source ∷ more) done pairs simulated
+    → IsRenaming directories retention from to rows whole (source ∷ more) done pairs simulated
     → numbered to.generation (files_of (key_from to source.key) (without (full_of source) (rows_after_all retention rows done))) ≡ Ok number
-    → IsRenaming directories retention to rows whole more (done ++ changes.Move (named to source number) ∷ [])
+    → IsRenaming directories retention from to rows whole more (done ++ changes.Move (named to source number) ∷ [])
     (pairs ++ named to source number ∷ [])
     (moved retention (named to source number) simulated)
-renames_step directories retention to rows whole more source done pairs simulated number target form is numbers =
+renames_step directories retention from to rows whole more source done pairs simulated number target form is numbers =
     let so_far = rows_after_all retention rows done in
     let key = key_from to source.key in
     let left = without (full_of source) so_far in
+    let inside = and_parts _ _ is.inside in
     let known = taken directories to so_far source is.on.sound form is.there.0 in
     let new = new_row key source.file.moment source.file.bytes number in
     let asked : admitted key to.generation (length source.file.bytes) left ≡ Ok number =
@@ -163,10 +178,14 @@ renames_step directories retention to rows whole more source done pairs simulate
         walk = rw next (step_on asked is.on.walk);
         sound = rw next (rows_added directories retention new left known.left (record { free = free; roomy = known.room }) shape);
         doable = doable_more retention rows done (changes.Move (named to source number)) is.on.doable (ap not free.absent);
-        simulated_are = rw next (simulated_moved retention (full_of source) (named to source number).target so_far simulated is.on.simulated_are ∙ ap (map blank) put);
+        simulated_are = rw next
+            (simulated_moved from to.directory retention (full_of source) (named to source number).target so_far simulated
+            (either_source from to.directory source.key.directory inside.0) (either_target from to.directory) known.left.ascend is.on.simulated_are
+            ∙ ap (λ (after : List Row). map blank (touched from to.directory after)) put);
       };
       there = rw next (there_moved retention source new so_far more (absent_has key number left free.absent) is.distinct.0 is.there.1);
       distinct = is.distinct.1;
+      inside = inside.1;
     }
   where
     step_on : admitted (key_from to source.key) to.generation (length source.file.bytes) (without (full_of source) (rows_after_all retention rows done)) ≡ Ok number
@@ -177,17 +196,17 @@ renames_step directories retention to rows whole more source done pairs simulate
         }) ≡ each_in_turn (renamed retention to) whole (record { rows = rows; pairs = [] })
     step_on asked walk = rw asked at walk
 
-pub renames_more : (directories : List Directory) (retention : ℕ) (to : Place) (rows whole more : List Row) (source : Row)
+pub renames_more : (directories : List Directory) (retention : ℕ) (from : List ℕ) (to : Place) (rows whole more : List Row) (source : Row)
     (done : List RowChange) (pairs : List NamePair) (simulated : List Row) (pair : NamePair) → IsTarget to directories
     → is_row_among directories source ≡ true
-    → IsRenaming directories retention to rows whole (source ∷ more) done pairs simulated → pair_for to source simulated ≡ Ok pair
-    → IsRenaming directories retention to rows whole more (done ++ changes.Move pair ∷ []) (pairs ++ pair ∷ [])
+    → IsRenaming directories retention from to rows whole (source ∷ more) done pairs simulated → pair_for to source simulated ≡ Ok pair
+    → IsRenaming directories retention from to rows whole more (done ++ changes.Move pair ∷ []) (pairs ++ pair ∷ [])
     (moved retention pair simulated)
-renames_more directories retention to rows whole more source done pairs simulated pair target form is names =
+renames_more directories retention from to rows whole more source done pairs simulated pair target form is names =
     let parts = and_then_ok (λ number. Ok (named to source number))
     (numbered to.generation (files_of (key_from to source.key) (without (full_of source) (rows_after_all retention rows done)))) pair
-    (sym (simulated_pair to source (rows_after_all retention rows done) simulated is.on.simulated_are) ∙ names) in
+    (sym (simulated_pair from to source (rows_after_all retention rows done) simulated (and_parts _ _ is.inside).0 is.on.simulated_are) ∙ names) in
     let same : named to source parts.0 ≡ pair = cc in
-    subst (λ (pair : NamePair). IsRenaming directories retention to rows whole more (done ++ changes.Move pair ∷ []) (pairs ++ pair ∷ [])
+    subst (λ (pair : NamePair). IsRenaming directories retention from to rows whole more (done ++ changes.Move pair ∷ []) (pairs ++ pair ∷ [])
     (moved retention pair simulated)) same
-    (renames_step directories retention to rows whole more source done pairs simulated parts.0 target form is parts.1)
+    (renames_step directories retention from to rows whole more source done pairs simulated parts.0 target form is parts.1)

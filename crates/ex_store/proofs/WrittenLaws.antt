@@ -24,11 +24,11 @@ use Rattle.ex_store.proofs.PlannedLaws.{changes_files}
 use Rattle.ex_store.proofs.RemarkedLaws.{well_formed_with_rows}
 
 -- what is asked of the rows that the code has is what is asked of those of the state
-pub asked_is : (key given : Key) (generation : Gen) (size count all : ℕ) (rows before : List Row) (answer : Result ℕ Code) → given ≡ key → before ≡ rows
-    → all ≡ total rows → count ≡ size → answer ≡ and_then (limited (length before) all count) (numbered generation (files_of given before))
+pub asked_is : (key given : Key) (generation : Gen) (size count files all : ℕ) (rows before : List Row) (answer : Result ℕ Code) → given ≡ key → before ≡ rows
+    → files ≡ length rows → all ≡ total rows → count ≡ size → answer ≡ and_then (limited files all count) (numbered generation (files_of given before))
     → answer ≡ admitted key generation size rows
-asked_is key given generation size count all rows before answer same from sum sized is =
-    rw (is, same, from, sum, sized) refl
+asked_is key given generation size count files all rows before answer same from counted sum sized is =
+    rw (is, same, from, counted, sum, sized) refl
 
 -- the row that is written
 abbrev pub written_row : Place → ℕ → List ℕ → ℕ → Row

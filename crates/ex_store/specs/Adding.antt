@@ -40,15 +40,15 @@ limited files bytes size generation =
     else (if nat_lt FILE_LIMIT size then Err FileSize
     else (if nat_lt STORE_LIMIT (bytes + size) then Err StoreSize else Ok generation))
 
--- the generation under which a file of this size is added to these rows, where all files have so many bytes; or the
--- first refusal
-abbrev pub admitted_beside : ℕ → Key → Gen → ℕ → List Row → Result ℕ Code
-admitted_beside bytes key generation size rows =
-    and_then (limited (length rows) bytes size) (numbered generation (files_of key rows))
+-- the generation under which a file of this size is added to these rows, where there are so many files in all, of so
+-- many bytes; or the first refusal
+abbrev pub admitted_beside : ℕ → ℕ → Key → Gen → ℕ → List Row → Result ℕ Code
+admitted_beside files bytes key generation size rows =
+    and_then (limited files bytes size) (numbered generation (files_of key rows))
 
 -- the same where these are all files
 abbrev pub admitted : Key → Gen → ℕ → List Row → Result ℕ Code
-admitted key generation size rows = admitted_beside (total rows) key generation size rows
+admitted key generation size rows = admitted_beside (length rows) (total rows) key generation size rows
 
 -- a new file, unmarked, of this moment
 abbrev pub new_row : Key → ℕ → List ℕ → ℕ → Row

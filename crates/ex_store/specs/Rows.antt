@@ -1,5 +1,5 @@
 -- The files of a store: one flat list of rows, in ascending order of directory, name, type and generation.
-use Rattle.std.specs.Prelude.{ℕ, ◌==◌, ◌&&◌, nat_le, if◌then◌else◌, Bool, true, not, List, [], ◌∷◌, length, map, filter, find, sum_by, Option}
+use Rattle.std.specs.Prelude.{ℕ, ◌==◌, ◌&&◌, ◌||◌, nat_le, if◌then◌else◌, Bool, true, not, List, [], ◌∷◌, length, map, filter, find, sum_by, Option}
 use Rattle.std.specs.List.{prefix_len}
 use Rattle.std.specs.Ordering.{is_eq, is_le, is_lt, nat_cmp, on, then_cmp}
 use Rattle.std.specs.declared.cmp.Ordering.{Ordering}
@@ -101,6 +101,13 @@ is_in directory row = is_eq (by_bytes row.key.directory directory)
 
 abbrev pub rows_in : List ℕ → List Row → List Row
 rows_in directory rows = filter (is_in directory) rows
+
+-- the rows of one of two directories
+abbrev pub is_in_either : List ℕ → List ℕ → Row → Bool
+is_in_either first second row = is_in first row || is_in second row
+
+abbrev pub touched : List ℕ → List ℕ → List Row → List Row
+touched from to rows = filter (is_in_either from to) rows
 
 -- the pages of a directory's files, those that are marked too
 abbrev pub pages_in : List ℕ → List Row → ℕ

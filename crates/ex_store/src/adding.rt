@@ -52,10 +52,11 @@ pub(crate) fn limited(files: usize, bytes: usize, size: usize, generation: u32) 
     }
 }
 
-// The generation under which a row of this size is added to these, where all files have so many bytes; or the first
-// refusal.
+// The generation under which a row of this size is added to these, where there are so many files in all, of so many
+// bytes; or the first refusal.
 pub(crate) fn admitted(
     rows: &[Row],
+    files: usize,
     bytes: usize,
     key: &Key,
     generation: Gen,
@@ -63,10 +64,10 @@ pub(crate) fn admitted(
 ) -> Result<u32, Code>
     requires rows { ascends by_row rows.now ≡ true }
     requires bytes { bytes ≤ STORE_LIMIT }
-    ensures { result ≡ admitted_beside bytes key.now generation size rows.now }
+    ensures { result ≡ admitted_beside files bytes key.now generation size rows.now }
 {
     match numbered(rows, key, generation) {
-        Ok(number) => limited(rows.len(), bytes, size, number),
+        Ok(number) => limited(files, bytes, size, number),
         Err(code) => Err(code),
     }
 }

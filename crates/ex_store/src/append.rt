@@ -140,7 +140,7 @@ fn opened(
             };
             return Ok(Opening { target, new: None });
         }
-        Ok(None) => match admitted(rows, total(rows), &key, generation, 0) {
+        Ok(None) => match admitted(rows, rows.len(), total(rows), &key, generation, 0) {
             Ok(number) => number,
             Err(code) => return Err(code),
         },

@@ -67,7 +67,7 @@ impl Simulation {
     }
 }
 
-// The sources at these places are copied, one after the other.
+// The sources at these places are copied, one after the other. This touches the rows of the target's directory alone.
 fn copies(
     alloc: Global,
     directories: &[Directory],
@@ -87,22 +87,34 @@ fn copies(
         IfErr result (IsRefused
         (all_copied (retention_of to.now.directory directories.now) moment to.now sources rows.now)) }
 {
-    let retention = retention_of(directories, to.directory.as_bytes());
-    let mut simulation = match Simulation::new(alloc, rows) {
+    let directory = to.directory.as_bytes();
+    let retention = retention_of(directories, directory);
+    let mut simulation = match Simulation::new(alloc, rows, directory, directory) {
         Ok(simulation) => simulation,
         Err(NoMemory) => return Err(Refusal::NoMemory),
     };
+    let mut files = rows.len();
     let mut bytes = total(rows);
     for at in positions {
         let source = &rows[usize::from(*at)];
         let key = to.key_from(&source.key);
         let size = source.file.bytes.len();
-        let generation = match admitted(&simulation.simulated, bytes, &key, to.generation, size) {
+        let generation = match admitted(
+            &simulation.simulated,
+            files,
+            bytes,
+            &key,
+            to.generation,
+            size,
+        ) {
             Ok(generation) => generation,
             Err(code) => return Err(Refusal::Code(code)),
         };
         match simulation.copy(alloc, source, key, generation, moment_of(moment), retention) {
-            Ok(()) => bytes += size,
+            Ok(()) => {
+                files += 1;
+                bytes += size;
+            }
             Err(NoMemory) => return Err(Refusal::NoMemory),
         }
     }

@@ -9,7 +9,7 @@ ghost use Rattle.ex_store.specs.Plan.{IsRefused, IsTarget, MayPlan, may_number, 
 ghost use Rattle.ex_store.specs.Positions.{elements_at};
 ghost use Rattle.ex_store.specs.Ready.{IsMade, applied, are_doable, done_on, moved};
 ghost use Rattle.ex_store.specs.Renaming.{AreDistinct, all_renamed, pair_for};
-ghost use Rattle.ex_store.specs.Rows.{by_row};
+ghost use Rattle.ex_store.specs.Rows.{by_row, is_in};
 ghost use Rattle.ex_store.specs.State.{retention_of};
 ghost use Rattle.ex_store.specs.WellFormed.{AreRows, IsWellFormed};
 
@@ -63,17 +63,20 @@ impl Simulation {
     }
 }
 
-// The sources at these places are given other names, one after the other.
+// The sources at these places, which stand in one directory, are given other names, one after the other. This touches
+// the rows of that directory and of the target's.
 fn renames(
     alloc: Global,
     directories: &[Directory],
     rows: &[Row],
     positions: &[u16],
+    from: &[u8],
     to: &Place,
 ) -> Result<Ready, Refusal>
     requires rows { AreRows directories.now rows.now }
     requires within { list_all (λ at. nat_lt at (length rows.now)) positions.now ≡ true }
     requires few { length positions.now ≤ ROW_LIMIT }
+    requires inside { list_all (is_in from.now) (elements_at rows.now positions.now) ≡ true }
     requires distinct { AreDistinct (elements_at rows.now positions.now) }
     requires target { IsTarget to.now directories.now }
     ensures made { let sources = elements_at rows.now positions.now in
@@ -82,8 +85,9 @@ fn renames(
     ensures refused { let sources = elements_at rows.now positions.now in
         IfErr result (IsRefused (all_renamed (retention_of to.now.directory directories.now) to.now sources rows.now)) }
 {
-    let retention = retention_of(directories, to.directory.as_bytes());
-    let mut simulation = match Simulation::new(alloc, rows) {
+    let directory = to.directory.as_bytes();
+    let retention = retention_of(directories, directory);
+    let mut simulation = match Simulation::new(alloc, rows, from, directory) {
         Ok(simulation) => simulation,
         Err(NoMemory) => return Err(Refusal::NoMemory),
     };
@@ -118,6 +122,13 @@ impl Store {
             → IfErr result (IsRefused (planned (plans.Rename from.now to.now) moment self.now.state)) }
     {
         let positions = self.positions(from, from.flags.deleted);
-        renames(self.alloc, &self.directories, &self.rows, &positions, to)
+        renames(
+            self.alloc,
+            &self.directories,
+            &self.rows,
+            &positions,
+            from.directory.as_bytes(),
+            to,
+        )
     }
 }

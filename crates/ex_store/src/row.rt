@@ -2,7 +2,7 @@
 ghost use Rattle.std.specs.Prelude.{◌≡◌};
 ghost use Rattle.ex_store.specs.Adding.{new_row};
 ghost use Rattle.ex_store.specs.Lent.{row_of_view};
-ghost use Rattle.ex_store.specs.Rows.{blank, by_row, full_of, is_full, is_in};
+ghost use Rattle.ex_store.specs.Rows.{blank, by_row, full_of, is_full, is_in, is_in_either};
 
 use crate::key::{full_cmp, key_cmp};
 use crate::{FullName, Key};
@@ -98,6 +98,13 @@ impl Row {
         ensures { result ≡ is_in directory.now self.now }
     {
         self.key.directory.as_bytes().cmp(directory).is_eq()
+    }
+
+    // Whether it is one of either directory.
+    pub(crate) fn is_in_either(&self, first: &[u8], second: &[u8]) -> bool
+        ensures { result ≡ is_in_either first.now second.now self.now }
+    {
+        self.is_in(first) || self.is_in(second)
     }
 
     // Which of two comes first.

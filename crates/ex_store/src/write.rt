@@ -47,8 +47,9 @@ impl Store {
             return Err(Refusal::Code(Code::NameNeeded));
         }
         let key = to.own_key();
+        let files = self.rows.len();
         let all = total(&self.rows);
-        let generation = match admitted(&self.rows, all, &key, to.generation, bytes.len()) {
+        let generation = match admitted(&self.rows, files, all, &key, to.generation, bytes.len()) {
             Ok(generation) => generation,
             Err(code) => return Err(Refusal::Code(code)),
         };

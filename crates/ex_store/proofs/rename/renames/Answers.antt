@@ -13,34 +13,34 @@ use Rattle.ex_store.proofs.rename.renames.Goals as goal
 
 pub loop-at-init : goal.loop-at-init
 loop-at-init c = record {
-  renaming = rw (c.in-Ok.ensures.row_changes, c.in-Ok.ensures.pairs, c.in-Ok.ensures.simulated)
-      (renaming_start c.args.directories.now c.retention_of-retention.result c.args.to.now c.args.rows.now c.args.positions.now c.requires.rows c.requires.distinct);
+  renaming = rw (c.in-Ok.ensures.row_changes, c.in-Ok.ensures.pairs, c.in-Ok.ensures.simulated, c.as_bytes-directory.ensures.value)
+      (renaming_start c.args.directories.now c.retention_of-retention.result c.args.from.now c.args.to.now c.args.rows.now c.args.positions.now c.requires.rows c.requires.distinct c.requires.inside);
   count = ap length c.in-Ok.ensures.pairs;
 }
 
 pub simulate-requires-clause-rows : goal.simulate-requires-clause-rows
 simulate-requires-clause-rows c =
-    ascends_blank _ _ c.loop-at.invariant.renaming.on.simulated_are c.loop-at.invariant.renaming.on.sound.ascend
+    ascends_blank c.args.from.now c.args.to.now.directory _ _ c.loop-at.invariant.renaming.on.simulated_are c.loop-at.invariant.renaming.on.sound.ascend
 
 pub returns-in-Err-simulate-clause-refused : goal.returns-in-Err-simulate-clause-refused
 returns-in-Err-simulate-clause-refused c =
     let at = source_at c.args.rows.now c.args.positions.now c.loop-at.at-index c.from.result c.index-rows-from.result c.requires.within c.loop-at-test.true c.from.ensures c.index-rows-from.is in
-    let renaming = subst (λ (left : List Row). IsRenaming c.args.directories.now c.retention_of-retention.result c.args.to.now c.args.rows.now (elements_at c.args.rows.now c.args.positions.now) left c.loop-at.simulation.row_changes.items c.loop-at.simulation.pairs.items c.loop-at.simulation.simulated.items) at.more c.loop-at.invariant.renaming in
+    let renaming = subst (λ (left : List Row). IsRenaming c.args.directories.now c.retention_of-retention.result c.args.from.now c.args.to.now c.args.rows.now (elements_at c.args.rows.now c.args.positions.now) left c.loop-at.simulation.row_changes.items c.loop-at.simulation.pairs.items c.loop-at.simulation.simulated.items) at.more c.loop-at.invariant.renaming in
     let form = all_at (is_row_among c.args.directories.now) c.args.rows.now at.there.0 c.index-rows-from.result c.requires.rows.within at.there.1 in
-    let retention_is : c.retention_of-retention.result ≡ retention_of c.args.to.now.directory c.args.directories.now = c.retention_of-retention.ensures ∙ ap (λ (name : List ℕ). retention_of name c.args.directories.now) c.as_bytes.ensures.value in
+    let retention_is : c.retention_of-retention.result ≡ retention_of c.args.to.now.directory c.args.directories.now = c.retention_of-retention.ensures ∙ ap (λ (name : List ℕ). retention_of name c.args.directories.now) c.as_bytes-directory.ensures.value in
     subst (λ (retention : ℕ). each_in_turn (renamed retention c.args.to.now) (elements_at c.args.rows.now c.args.positions.now) (record { rows = c.args.rows.now; pairs = [] }) ≡ Err c.in-Err-simulate.code) retention_is
-    (renames_refused c.args.directories.now c.retention_of-retention.result c.args.to.now c.args.rows.now (elements_at c.args.rows.now c.args.positions.now) _ c.index-rows-from.result _ _ _ c.in-Err-simulate.code form renaming
+    (renames_refused c.args.directories.now c.retention_of-retention.result c.args.from.now c.args.to.now c.args.rows.now (elements_at c.args.rows.now c.args.positions.now) _ c.index-rows-from.result _ _ _ c.in-Err-simulate.code form renaming
     (sym c.simulate.ensures.pair ∙ c.in-Err-simulate.is))
 
 pub loop-at-preserved : goal.loop-at-preserved
 loop-at-preserved c =
     let at = source_at c.args.rows.now c.args.positions.now c.loop-at.at-index c.from.result c.index-rows-from.result c.requires.within c.loop-at-test.true c.from.ensures c.index-rows-from.is in
-    let renaming = subst (λ (left : List Row). IsRenaming c.args.directories.now c.retention_of-retention.result c.args.to.now c.args.rows.now (elements_at c.args.rows.now c.args.positions.now) left c.loop-at.simulation.row_changes.items c.loop-at.simulation.pairs.items c.loop-at.simulation.simulated.items) at.more c.loop-at.invariant.renaming in
+    let renaming = subst (λ (left : List Row). IsRenaming c.args.directories.now c.retention_of-retention.result c.args.from.now c.args.to.now c.args.rows.now (elements_at c.args.rows.now c.args.positions.now) left c.loop-at.simulation.row_changes.items c.loop-at.simulation.pairs.items c.loop-at.simulation.simulated.items) at.more c.loop-at.invariant.renaming in
     let form = all_at (is_row_among c.args.directories.now) c.args.rows.now at.there.0 c.index-rows-from.result c.requires.rows.within at.there.1 in
     let count : length c.rename.new.self.pairs.items ≡ c.loop-at.at-index + 1 = rw c.in-Ok-rename.ensures.pairs (length-append _ _ ∙ ap (λ n. n + 1) c.loop-at.invariant.count) in
     record {
       renaming = rw (c.in-Ok-rename.ensures.row_changes, c.in-Ok-rename.ensures.pairs, c.in-Ok-rename.ensures.simulated, c.in-Ok-simulate.ensures.simulated)
-          (renames_more c.args.directories.now c.retention_of-retention.result c.args.to.now c.args.rows.now (elements_at c.args.rows.now c.args.positions.now) _ c.index-rows-from.result _ _ _ c.in-Ok-simulate.pair c.requires.target form renaming
+          (renames_more c.args.directories.now c.retention_of-retention.result c.args.from.now c.args.to.now c.args.rows.now (elements_at c.args.rows.now c.args.positions.now) _ c.index-rows-from.result _ _ _ c.in-Ok-simulate.pair c.requires.target form renaming
           (sym c.simulate.ensures.pair ∙ c.in-Ok-simulate.is));
       count = count;
     }

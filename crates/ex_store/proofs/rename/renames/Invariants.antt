@@ -5,7 +5,7 @@ use Rattle.ex_store.proofs.rename.renames.Given as goal
 
 abbrev pub invariant-loop-at : goal.invariant-loop-at
 invariant-loop-at l = record {
-  renaming : IsRenaming l.directories l.retention l.to l.rows (elements_at l.rows l.positions)
+  renaming : IsRenaming l.directories l.retention l.from l.to l.rows (elements_at l.rows l.positions)
       (elements_at l.rows (drop l.at-index l.positions)) l.simulation.row_changes.items l.simulation.pairs.items l.simulation.simulated.items;
   count : length l.simulation.pairs.items ≡ l.at-index;
 }

@@ -14,11 +14,12 @@ use Rattle.ex_store.specs.Renaming.{all_renamed}
 use Rattle.ex_store.specs.Rows.{by_row}
 use Rattle.ex_store.specs.Selection.{is_meant}
 use Rattle.ex_store.specs.State.{StoreWithRoom, retention_of}
+use Rattle.ex_store.proofs.MeantLaws.{all_meant_in}
 use Rattle.ex_store.proofs.RemarkedLaws.{positions_fit}
 use Rattle.ex_store.proofs.PlannedLaws.{IsOver, is_over, made_by, refused_by}
 use Rattle.ex_store.proofs.AllRenamedLaws.{distinct_meant}
 use Rattle.ex_store.proofs.store.Store.rename.Goals as goal
-use Rattle.ex_store.proofs.store.Store.rename.Goals.{After-deref-3}
+use Rattle.ex_store.proofs.store.Store.rename.Goals.{After-as_bytes}
 
 pub renames-requires-clause-within : goal.renames-requires-clause-within
 renames-requires-clause-within c =
@@ -26,11 +27,16 @@ renames-requires-clause-within c =
     c.deref-2.result.now c.deref-3.result.now c.positions-positions.result.items
     (c.deref-2.ensures.value ∙ ap (λ (held : StoreWithRoom). held.state.rows) c.self.view_is) c.deref-3.ensures.0 c.positions-positions.ensures
 
-over : (c : After-deref-3) → IsOver c.args.self.now.state c.args.from.now c.deref.result.now (elements_at c.deref-2.result.now c.deref-3.result.now) c.deref-2.result.now
+over : (c : After-as_bytes) → IsOver c.args.self.now.state c.args.from.now c.deref.result.now (elements_at c.deref-2.result.now c.deref-3.result.now) c.deref-2.result.now
 over c =
     is_over c.args.self.now.state c.args.from.now c.deref.result.now c.deref-2.result.now c.deref-3.result.now c.positions-positions.result.items
     (c.deref.ensures.value ∙ ap (λ (held : StoreWithRoom). held.state.directories) c.self.view_is)
     (c.deref-2.ensures.value ∙ ap (λ (held : StoreWithRoom). held.state.rows) c.self.view_is) c.deref-3.ensures.0 c.positions-positions.ensures
+
+pub renames-requires-clause-inside : goal.renames-requires-clause-inside
+renames-requires-clause-inside c =
+    rw ((over c).sources_are, c.as_bytes.ensures.value)
+    (all_meant_in c.args.from.now.flags.deleted c.args.from.now c.args.self.now.state c.args.self.now.state.rows)
 
 pub renames-requires-clause-distinct : goal.renames-requires-clause-distinct
 renames-requires-clause-distinct c =
@@ -46,19 +52,19 @@ pub returns-clause-ready : goal.returns-clause-ready
 unfolding planned
 returns-clause-ready c =
     IfOk-weaker c.renames.result _ _ (λ (ready : Change) made moment.
-    made_by (rename c.args.to.now) c.args.self.now.state c.args.from.now c.deref.result.now _ c.deref-2.result.now ready (over (goal.at.returns-clause-ready c).After-deref-3) made)
+    made_by (rename c.args.to.now) c.args.self.now.state c.args.from.now c.deref.result.now _ c.deref-2.result.now ready (over (goal.at.returns-clause-ready c).After-as_bytes) made)
     c.renames.ensures.made
 
 pub returns-clause-refused : goal.returns-clause-refused
 unfolding planned
 returns-clause-refused c = λ moment.
     IfErr-weaker c.renames.result _ _ (λ (refusal : Refusal) refused.
-    refused_by (rename c.args.to.now) c.args.self.now.state c.args.from.now c.deref.result.now _ c.deref-2.result.now refusal (over (goal.at.returns-clause-refused c).After-deref-3) refused)
+    refused_by (rename c.args.to.now) c.args.self.now.state c.args.from.now c.deref.result.now _ c.deref-2.result.now refusal (over (goal.at.returns-clause-refused c).After-as_bytes) refused)
     c.renames.ensures.refused
 
 pub returns-clause-doable : goal.returns-clause-doable
 returns-clause-doable c =
     IfOk-weaker c.renames.result _ _ (λ (ready : Change) made.
     subst (λ (rows : List Row). are_doable ready.retention rows ready.row_changes ≡ true)
-    (over (goal.at.returns-clause-doable c).After-deref-3).rows_are made.doable)
+    (over (goal.at.returns-clause-doable c).After-as_bytes).rows_are made.doable)
     c.renames.ensures.made

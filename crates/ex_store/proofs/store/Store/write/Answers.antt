@@ -1,4 +1,5 @@
-use Rattle.std.proofs.Common.{◌≡◌, ℕ, List, length, Ok, ap, sym, subst, ◌∙◌}
+use Rattle.std.proofs.Common.{◌≡◌, ℕ, List, length, Ok, ap, arith, sym, subst, ◌∙◌}
+use Rattle.std.proofs.lemmas.Grind.{common_steps}
 use Rattle.ex_store.specs.Adding.{admitted}
 use Rattle.ex_store.specs.Copying.{own_key}
 use Rattle.ex_store.specs.Plan.{retention_at}
@@ -15,10 +16,12 @@ returns-then-lacks_name-clause-refused c =
 pub returns-in-Err-clause-refused : goal.returns-in-Err-clause-refused
 returns-in-Err-clause-refused c =
     let rows = ap (λ (held : StoreWithRoom). held.state.rows) c.self.view_is in
+    let items = ap (λ (held : StoreWithRoom). length held.state.rows) c.self.view_is in
+    let files : c.len-files.result ≡ length c.args.self.now.state.rows = grind (arith, common_steps, items, c.len-files.ensures) in
     let asked : c.admitted.result ≡ admitted (own_key c.args.to.now) c.args.to.now.generation (length c.args.bytes) c.args.self.now.state.rows =
-    asked_is (own_key c.args.to.now) c.own_key-key.result c.args.to.now.generation (length c.args.bytes) c.len.result c.total-all.result
+    asked_is (own_key c.args.to.now) c.own_key-key.result c.args.to.now.generation (length c.args.bytes) c.len.result c.len-files.result c.total-all.result
     c.args.self.now.state.rows c.deref-2.result.now c.admitted.result c.own_key-key.ensures (c.deref-2.ensures.value ∙ rows)
-    (c.total-all.ensures ∙ ap total (c.deref.ensures.value ∙ rows)) c.len.ensures c.admitted.ensures in
+    files (c.total-all.ensures ∙ ap total (c.deref.ensures.value ∙ rows)) c.len.ensures c.admitted.ensures in
     write_refused c.args.self.now.state c.args.to.now c.args.bytes c.args.moment c.in-Err.code (sym c.lacks_name.ensures ∙ c.if-lacks_name.false)
     (sym asked ∙ c.in-Err.is)
 
@@ -26,10 +29,12 @@ returns-in-Err-clause-refused c =
 admits : (c : goal.In-Ok-one_add) → admitted (own_key c.args.to.now) c.args.to.now.generation (length c.args.bytes) c.args.self.now.state.rows ≡ Ok c.in-Ok.generation
 admits c =
     let rows = ap (λ (held : StoreWithRoom). held.state.rows) c.self.view_is in
+    let items = ap (λ (held : StoreWithRoom). length held.state.rows) c.self.view_is in
+    let files : c.len-files.result ≡ length c.args.self.now.state.rows = grind (arith, common_steps, items, c.len-files.ensures) in
     let asked : c.admitted.result ≡ admitted (own_key c.args.to.now) c.args.to.now.generation (length c.args.bytes) c.args.self.now.state.rows =
-    asked_is (own_key c.args.to.now) c.own_key-key.result c.args.to.now.generation (length c.args.bytes) c.len.result c.total-all.result
+    asked_is (own_key c.args.to.now) c.own_key-key.result c.args.to.now.generation (length c.args.bytes) c.len.result c.len-files.result c.total-all.result
     c.args.self.now.state.rows c.deref-2.result.now c.admitted.result c.own_key-key.ensures (c.deref-2.ensures.value ∙ rows)
-    (c.total-all.ensures ∙ ap total (c.deref.ensures.value ∙ rows)) c.len.ensures c.admitted.ensures in
+    files (c.total-all.ensures ∙ ap total (c.deref.ensures.value ∙ rows)) c.len.ensures c.admitted.ensures in
     sym asked ∙ c.in-Ok.is
 
 -- and it is what is added
