@@ -20,7 +20,7 @@ use Rattle.ex_store.specs.Adding.{Outcome, admitted, and_then, each_in_turn, lim
 use Rattle.ex_store.specs.Copying.{copied, is_star, key_from, moment_of, part_from}
 use Rattle.ex_store.specs.Plan.{IsTarget, may_be}
 use Rattle.ex_store.specs.Ready.{are_doable, rows_after_all, rows_after}
-use Rattle.ex_store.specs.Rows.{added, blank, by_row, files_of, full_of, total, touched}
+use Rattle.ex_store.specs.Rows.{added, blank, by_row, files_of, full_of, total, rows_in_either}
 use Rattle.ex_store.specs.State.{has_directory}
 use Rattle.ex_store.specs.WellFormed.{AreRows, is_file_name, is_file_type, is_numbered, is_row_among}
 use Rattle.ex_store.proofs.AdmittedLaws.{admitted_is, and_then_ok, counted_target, is_counted, limited_roomy, numbered_free, rows_added}
@@ -28,7 +28,7 @@ use Rattle.ex_store.proofs.AscendsLaws.{ascends_map}
 use Rattle.ex_store.proofs.BlankLaws.{added_blank, numbered_blank}
 use Rattle.ex_store.proofs.DoableLaws.{doable_more}
 use Rattle.ex_store.proofs.TotalLaws.{length_added, total_added}
-use Rattle.ex_store.proofs.TouchedLaws.{added_touched, ascends_touched, either_target, files_touched, is_either}
+use Rattle.ex_store.proofs.RowsInEitherLaws.{added_either, ascends_either, either_target, files_either, is_either}
 
 -- what a plan has come to
 abbrev pub outcome_at : ℕ → List Row → List RowChange → List NamePair → Outcome
@@ -47,11 +47,11 @@ pub record IsUnderWay (step : Row → Outcome → Result Outcome Code) (director
       ≡ each_in_turn step whole (record { rows = rows; pairs = [] })
   pub sound : AreRows directories (rows_after_all retention rows done)
   pub doable : are_doable retention rows done ≡ true
-  pub simulated_are : simulated ≡ map blank (touched from to (rows_after_all retention rows done))
+  pub simulated_are : simulated ≡ map blank (rows_in_either from to (rows_after_all retention rows done))
 
 pub way_start : (step : Row → Outcome → Result Outcome Code) (directories : List Directory) (retention : ℕ) (from to : List ℕ)
     (rows whole : List Row) → AreRows directories rows
-    → IsUnderWay step directories retention from to rows whole whole [] [] (map blank (touched from to rows))
+    → IsUnderWay step directories retention from to rows whole whole [] [] (map blank (rows_in_either from to rows))
 way_start step directories retention from to rows whole are = record { walk = refl; sound = are; doable = refl; simulated_are = refl }
 
 -- the form of a name that a target gives
@@ -109,10 +109,10 @@ from_formed directories to source moment generation target is within number =
     })
 
 -- rows of two directories without their bytes ascend as the rows do
-pub ascends_blank : (from to : List ℕ) (rows simulated : List Row) → simulated ≡ map blank (touched from to rows)
+pub ascends_blank : (from to : List ℕ) (rows simulated : List Row) → simulated ≡ map blank (rows_in_either from to rows)
     → ascends by_row rows ≡ true → ascends by_row simulated ≡ true
 ascends_blank from to rows simulated is ascend =
-    rw is (ascends_map by_row by_row blank (λ row other. refl) (touched from to rows) ∙ ascends_touched from to rows ascend)
+    rw is (ascends_map by_row by_row blank (λ row other. refl) (rows_in_either from to rows) ∙ ascends_either from to rows ascend)
 
 -- a number that is admitted is one that none has
 pub admitted_new : (key : Key) (generation : Gen) (size files bytes : ℕ) (rows : List Row) (number : ℕ) → is_counted generation ≡ true
@@ -125,10 +125,10 @@ admitted_new key generation size files bytes rows number counted is =
 
 -- what the code asks of the rows that it simulates is what is asked of all rows
 pub simulated_admitted : (from to : List ℕ) (key : Key) (generation : Gen) (size files bytes : ℕ) (rows simulated : List Row)
-    → is_either from to key.directory ≡ true → simulated ≡ map blank (touched from to rows) → files ≡ length rows → bytes ≡ total rows
+    → is_either from to key.directory ≡ true → simulated ≡ map blank (rows_in_either from to rows) → files ≡ length rows → bytes ≡ total rows
     → and_then (limited files bytes size) (numbered generation (files_of key simulated)) ≡ admitted key generation size rows
 simulated_admitted from to key generation size files bytes rows simulated here is counted all =
-    rw (is, counted, all, numbered_blank generation key (touched from to rows), files_touched from to key rows here)
+    rw (is, counted, all, numbered_blank generation key (rows_in_either from to rows), files_either from to key rows here)
 
 -- the walk over the sources of a copy, which touches the directory of the target alone
 pub record IsCopying (directories : List Directory) (retention moment : ℕ) (to : Place) (rows whole left : List Row)
@@ -180,8 +180,8 @@ copies_more directories retention moment to rows whole more source done pairs si
         sound = rw next (rows_added directories retention row so_far is.on.sound known shape);
         doable = doable_more retention rows done (changes.Add row) is.on.doable (ap not known.free.absent);
         simulated_are = rw (next, is.on.simulated_are)
-            (added_blank retention row (touched to.directory to.directory so_far)
-            ∙ ap (map blank) (added_touched to.directory to.directory retention row so_far (either_target to.directory to.directory) is.on.sound.ascend));
+            (added_blank retention row (rows_in_either to.directory to.directory so_far)
+            ∙ ap (map blank) (added_either to.directory to.directory retention row so_far (either_target to.directory to.directory) is.on.sound.ascend));
       };
       files_are = rw (next, is.files_are) (sym (length_added retention row so_far ∙ omega arith));
       bytes_are = rw (next, is.bytes_are) (sym (total_added retention row so_far ∙ omega arith));

@@ -35,7 +35,7 @@ abbrev pub AreThere : List Row → List Row → Type 0
 AreThere rows [] = Unit
 AreThere rows (row ∷ more) = IsHere rows row × AreThere rows more
 
-equal_is : (o : Ordering) → is_eq o ≡ true → o ≡ Equal
+pub equal_is : (o : Ordering) → is_eq o ≡ true → o ≡ Equal
 equal_is Less is = absurd (cc)
 equal_is Equal is = refl
 equal_is Greater is = absurd (cc)

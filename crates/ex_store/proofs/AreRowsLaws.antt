@@ -112,7 +112,7 @@ ascends_added retention row rows absent ascend = ascends_sorted by_row (added re
 same_number : (a b : ℕ) → is_eq (nat_cmp a b) ≡ (a == b)
 same_number a b = grind (arith, nat_tests)
 
-full_parts : (key : Key) (number : ℕ) (row : Row)
+pub full_parts : (key : Key) (number : ℕ) (row : Row)
     → is_full (record { key = key; generation = number }) row ≡ (is_of key row && is_generation number row.file)
 full_parts key number row = by (by_key row.key key)
   where

@@ -20,8 +20,8 @@ use Rattle.ex_store.specs.Copying.{key_from}
 use Rattle.ex_store.specs.Plan.{IsTarget}
 use Rattle.ex_store.specs.Positions.{elements_at}
 use Rattle.ex_store.specs.Ready.{rows_after_all, moved, reinserted, with_name}
-use Rattle.ex_store.specs.Renaming.{AreDistinct, renamed}
-use Rattle.ex_store.specs.Rows.{added, blank, by_row, files_of, full_of, is_in, row_at, total, touched, without}
+use Rattle.ex_store.specs.Renaming.{AreDistinct, pair_for, renamed}
+use Rattle.ex_store.specs.Rows.{added, blank, by_row, files_of, full_of, is_in, row_at, total, rows_in_either, without}
 use Rattle.ex_store.specs.WellFormed.{AreRows, is_row_among}
 use Rattle.ex_store.proofs.AdmittedLaws.{IsRoomy, and_then_ok, counted_target, numbered_free, rows_added}
 use Rattle.ex_store.proofs.AscendsLaws.{sorted_ascends}
@@ -30,7 +30,7 @@ use Rattle.ex_store.proofs.DoableLaws.{doable_more}
 use Rattle.ex_store.proofs.AllCopiedLaws.{IsUnderWay, way_start, formed, from_formed, outcome_at, rows_after_more}
 use Rattle.ex_store.proofs.AllRenamedLaws.{AreThere, length_without, plain, rows_without, some_of, there_elements, there_moved, total_without}
 use Rattle.ex_store.proofs.AreRowsLaws.{absent_has, by_row_total}
-use Rattle.ex_store.proofs.TouchedLaws.{either_source, either_target, files_touched, is_either, reinserted_touched, row_at_touched, without_touched}
+use Rattle.ex_store.proofs.RowsInEitherLaws.{either_source, either_target, files_either, is_either, reinserted_either, row_at_either, without_either}
 
 roomy_limited : (files bytes size generation : ℕ) → IsRoomy files bytes size → limited files bytes size generation ≡ Ok generation
 roomy_limited files bytes size generation room =
@@ -77,14 +77,6 @@ taken directories to rows source are form here =
       };
     }
 
--- the names that a source had and has
-abbrev pub pair_for : Place → Row → List Row → Result NamePair Code
-pair_for to source rows =
-    and_then (λ generation. Ok (record {
-      source = full_of source;
-      target = record { key = key_from to source.key; generation = generation };
-    })) (numbered to.generation (files_of (key_from to source.key) (without (full_of source) rows)))
-
 -- the walk over the sources of a renaming, which stand in one directory
 pub record IsRenaming (directories : List Directory) (retention : ℕ) (from : List ℕ) (to : Place) (rows whole left : List Row)
     (done : List RowChange) (pairs : List NamePair) (simulated : List Row) : Type 0 where
@@ -96,7 +88,7 @@ pub record IsRenaming (directories : List Directory) (retention : ℕ) (from : L
 pub renaming_start : (directories : List Directory) (retention : ℕ) (from : List ℕ) (to : Place) (rows : List Row) (positions : List ℕ)
     → AreRows directories rows → AreDistinct (elements_at rows positions) → list_all (is_in from) (elements_at rows positions) ≡ true
     → IsRenaming directories retention from to rows (elements_at rows positions) (elements_at rows positions) [] []
-    (map blank (touched from to.directory rows))
+    (map blank (rows_in_either from to.directory rows))
 renaming_start directories retention from to rows positions are distinct inside = record {
   on = way_start (renamed retention to) directories retention from to.directory rows (elements_at rows positions) are;
   there = there_elements rows positions (sorted_ascends by_row by_row_total rows are.ascend);
@@ -106,12 +98,12 @@ renaming_start directories retention from to rows positions are distinct inside 
 
 -- the code asks the rows that it simulates
 simulated_pair : (from : List ℕ) (to : Place) (source : Row) (rows simulated : List Row) → is_in from source ≡ true
-    → simulated ≡ map blank (touched from to.directory rows) → pair_for to source simulated ≡ pair_for to source rows
+    → simulated ≡ map blank (rows_in_either from to.directory rows) → pair_for to source simulated ≡ pair_for to source rows
 simulated_pair from to source rows simulated inside is =
     let full = full_of source in
     let key = key_from to source.key in
     let here = either_source from to.directory source.key.directory inside in
-    rw (is, without_blank full (touched from to.directory rows), without_touched from to.directory full rows here, numbered_blank to.generation key (touched from to.directory (without full rows)), files_touched from to.directory key (without full rows) (either_target from to.directory)) refl
+    rw (is, without_blank full (rows_in_either from to.directory rows), without_either from to.directory full rows here, numbered_blank to.generation key (rows_in_either from to.directory (without full rows)), files_either from to.directory key (without full rows) (either_target from to.directory)) refl
 
 pub renames_refused : (directories : List Directory) (retention : ℕ) (from : List ℕ) (to : Place) (rows whole more : List Row) (source : Row)
     (done : List RowChange) (pairs : List NamePair) (simulated : List Row) (code : Code) → is_row_among directories source ≡ true
@@ -136,13 +128,13 @@ renames_refused directories retention from to rows whole more source done pairs 
 
 simulated_moved : (from to : List ℕ) (retention : ℕ) (full target : FullName) (rows simulated : List Row)
     → is_either from to full.key.directory ≡ true → is_either from to target.key.directory ≡ true → ascends by_row (without full rows) ≡ true
-    → simulated ≡ map blank (touched from to rows)
+    → simulated ≡ map blank (rows_in_either from to rows)
     → reinserted retention target (without full simulated) (row_at full simulated)
-    ≡ map blank (touched from to (reinserted retention target (without full rows) (row_at full rows)))
+    ≡ map blank (rows_in_either from to (reinserted retention target (without full rows) (row_at full rows)))
 simulated_moved from to retention full target rows simulated goes comes ascend is =
-    rw (is, without_blank full (touched from to rows), row_at_blank full (touched from to rows), without_touched from to full rows goes, row_at_touched from to full rows goes)
-    (reinserted_blank retention target (touched from to (without full rows)) (row_at full rows)
-    ∙ ap (map blank) (reinserted_touched from to retention target (without full rows) (row_at full rows) comes ascend))
+    rw (is, without_blank full (rows_in_either from to rows), row_at_blank full (rows_in_either from to rows), without_either from to full rows goes, row_at_either from to full rows goes)
+    (reinserted_blank retention target (rows_in_either from to (without full rows)) (row_at full rows)
+    ∙ ap (map blank) (reinserted_either from to retention target (without full rows) (row_at full rows) comes ascend))
 
 -- the names that a source had and has under a number
 abbrev named : Place → Row → ℕ → NamePair
@@ -181,7 +173,7 @@ renames_step directories retention from to rows whole more source done pairs sim
         simulated_are = rw next
             (simulated_moved from to.directory retention (full_of source) (named to source number).target so_far simulated
             (either_source from to.directory source.key.directory inside.0) (either_target from to.directory) known.left.ascend is.on.simulated_are
-            ∙ ap (λ (after : List Row). map blank (touched from to.directory after)) put);
+            ∙ ap (λ (after : List Row). map blank (rows_in_either from to.directory after)) put);
       };
       there = rw next (there_moved retention source new so_far more (absent_has key number left free.absent) is.distinct.0 is.there.1);
       distinct = is.distinct.1;

@@ -1,23 +1,29 @@
 -- An element that is taken out at one place of a list and put in at another, and a row that is renamed so.
-use Rattle.std.proofs.Common.{◌≡◌, ℕ, suc, zero, ◌+◌, ◌-◌, ◌<◌, ◌≤◌, Bool, true, false, not, cond, if◌then◌else◌, nat_lt, List, [], ◌∷◌, ◌++◌, length, get_or, set, insert, remove, take, drop, position, Some, None, append_assoc, length-append, length-take, length-drop, refl, sym, ap, ◌∙◌, arith}
+use Rattle.std.proofs.Common.{◌≡◌, ℕ, suc, zero, ◌+◌, ◌-◌, ◌<◌, ◌≤◌, Bool, true, false, not, cond, if◌then◌else◌, nat_lt, List, [], ◌∷◌, ◌++◌, length, get_or, set, insert, remove, take, drop, position, filter, map, Ok, Err, Some, None, append_assoc, length-append, length-take, length-drop, refl, sym, ap, ◌∙◌, arith}
 use Rattle.std.specs.List.{list_all, prefix_len}
-use Rattle.std.specs.Ordering.{is_lt}
+use Rattle.std.specs.Ordering.{is_eq, is_lt}
 use Rattle.std.specs.declared.cmp.Ordering.{Ordering}
 use Rattle.std.specs.declared.cmp.Ordering.TheVariants.{Less, Equal, Greater}
 use Rattle.std.proofs.Math.Seq.{drop-append_seam, drop-cons, take-append_seam}
-use Rattle.std.proofs.lemmas.Bool.{and_parts, ltb-false, ltb-true, not-true}
+use Rattle.std.proofs.lemmas.Bool.{and_parts, ltb-false, ltb-true, not-true, not_from_false}
 use Rattle.std.proofs.lemmas.List.{get_or-drop, get_or-set_same, get_or_default, length-take-le, take-append-drop}
 use Rattle.std.proofs.lemmas.List.Quantifiers.{position-Some}
 use borrow.Rule.Slice.PartMut.{put_mid}
 use Rattle.cm_files.specs.Catalogue.{ascends}
+use Rattle.cm_fields.specs.declared.code.Code.{Code}
+use Rattle.cm_fields.specs.declared.value.Gen.{Gen}
+use Rattle.ex_generations.specs.Generations.{has}
 use Rattle.ex_store.specs.declared.key.FullName.{FullName}
+use Rattle.ex_store.specs.declared.key.Key.{Key}
 use Rattle.ex_store.specs.declared.key.NamePair.{NamePair}
 use Rattle.ex_store.specs.declared.ready.RowChange.TheVariants as changes
 use Rattle.ex_store.specs.declared.row.Row.{Row}
+use Rattle.ex_store.specs.Adding.{and_then, numbered}
+use Rattle.ex_store.specs.Renaming.{pair_to}
 use Rattle.ex_store.specs.Ready.{is_doable, moved, reinserted, with_name}
-use Rattle.ex_store.specs.Rows.{by_row, inserted, is_full, retained, without}
-use Rattle.ex_store.proofs.AllRenamedLaws.{ascends_without}
-use Rattle.ex_store.proofs.AreRowsLaws.{ascends_inserted}
+use Rattle.ex_store.specs.Rows.{by_key, by_row, files_of, inserted, is_full, is_of, retained, without}
+use Rattle.ex_store.proofs.AllRenamedLaws.{ascends_without, equal_is}
+use Rattle.ex_store.proofs.AreRowsLaws.{ascends_inserted, by_key_total, full_parts}
 use Rattle.ex_store.proofs.HalvingLaws.{full_place, fulls_rise}
 use Rattle.ex_store.proofs.KeptLaws.{put_mid_is}
 use Rattle.ex_store.proofs.RowAtLaws.{inserted_at, remove_is, row_is, row_none, without_none}
@@ -292,3 +298,52 @@ pub moved_none : (retention : ℕ) (pair : NamePair) (rows : List Row) → posit
     → rows ≡ moved retention pair rows
 moved_none retention pair rows none =
     sym (ap (reinserted retention pair.target (without pair.source rows)) (row_none pair.source rows none) ∙ without_none pair.source rows none)
+
+-- under another key no generation is taken by the row that goes
+files_apart : (full : FullName) (key : Key) (rows : List Row) → is_eq (by_key full.key key) ≡ false
+    → files_of key (without full rows) ≡ files_of key rows
+files_apart full key [] apart = refl
+files_apart full key (row ∷ rows) apart = by (is_full full row) refl (files_apart full key rows apart)
+  where
+    other : is_full full row ≡ true → is_of key row ≡ false
+    other is =
+        let same : is_eq (by_key row.key full.key) ≡ true = (and_parts _ _ (sym (full_parts full.key full.generation row) ∙ is)).0 in
+        ap is_eq (by_key_total.congr row.key full.key key (equal_is (by_key row.key full.key) same)) ∙ apart
+
+    step : (b : Bool) → files_of key (without full rows) ≡ files_of key rows
+        → map (λ (it : Row). it.file) (cond b (row ∷ filter (is_of key) (without full rows)) (filter (is_of key) (without full rows)))
+        ≡ map (λ (it : Row). it.file) (cond b (row ∷ filter (is_of key) rows) (filter (is_of key) rows))
+    step true rest = ap (λ files. row.file ∷ files) rest
+    step false rest = rest
+
+    by : (b : Bool) → is_full full row ≡ b → files_of key (without full rows) ≡ files_of key rows
+        → files_of key (cond b rows (row ∷ without full rows)) ≡ files_of key (row ∷ rows)
+    by true is rest = rw (other is) refl
+    by false is rest = step (is_of key row) rest
+
+pair_apart : (full : FullName) (key : Key) (generation : Gen) (rows : List Row) → is_eq (by_key full.key key) ≡ false
+    → pair_to full key generation rows
+    ≡ and_then {B = NamePair} (λ number. Ok (record { source = full; target = record { key = key; generation = number } }))
+    (numbered generation (files_of key rows))
+pair_apart full key generation rows apart =
+    ap (λ files. and_then {B = NamePair} (λ number. Ok (record { source = full; target = record { key = key; generation = number } })) (numbered generation files))
+    (files_apart full key rows apart)
+
+pub refused_apart : (full : FullName) (key : Key) (generation : Gen) (rows : List Row) (code : Code) → is_eq (by_key full.key key) ≡ false
+    → numbered generation (files_of key rows) ≡ Err code → Err code ≡ pair_to full key generation rows
+refused_apart full key generation rows code apart refused =
+    sym (pair_apart full key generation rows apart
+    ∙ ap (and_then {B = NamePair} (λ number. Ok (record { source = full; target = record { key = key; generation = number } }))) refused)
+
+pub made_apart : (full : FullName) (key : Key) (generation : Gen) (rows : List Row) (number : ℕ) → is_eq (by_key full.key key) ≡ false
+    → numbered generation (files_of key rows) ≡ Ok number
+    → Ok (record { source = full; target = record { key = key; generation = number } }) ≡ pair_to full key generation rows
+made_apart full key generation rows number apart made =
+    sym (pair_apart full key generation rows apart
+    ∙ ap (and_then {B = NamePair} (λ number. Ok (record { source = full; target = record { key = key; generation = number } }))) made)
+
+pub doable_apart : (full : FullName) (key : Key) (number : ℕ) (rows : List Row) → is_eq (by_key full.key key) ≡ false
+    → has number (files_of key rows) ≡ false
+    → is_doable rows (changes.Move (record { source = full; target = record { key = key; generation = number } })) ≡ true
+doable_apart full key number rows apart free =
+    not_from_false _ (ap (has number) (files_apart full key rows apart) ∙ free)

@@ -2,6 +2,9 @@
 use Rattle.std.specs.Prelude.{ℕ, ◌≡◌, true, not, List, [], ◌∷◌, length, Result, Ok}
 use Rattle.std.specs.List.{list_all}
 use Rattle.cm_fields.specs.declared.code.Code.{Code}
+use Rattle.cm_fields.specs.declared.value.Gen.{Gen}
+use Rattle.ex_store.specs.declared.key.FullName.{FullName}
+use Rattle.ex_store.specs.declared.key.Key.{Key}
 use Rattle.ex_store.specs.declared.key.NamePair.{NamePair}
 use Rattle.ex_store.specs.declared.place.Place.{Place}
 use Rattle.ex_store.specs.declared.row.Row.{Row}
@@ -23,13 +26,15 @@ abbrev pub all_renamed : ℕ → Place → List Row → List Row → Result Outc
 all_renamed retention to sources rows =
     each_in_turn (renamed retention to) sources (record { rows = rows; pairs = [] })
 
--- the names that a source had among these rows and has then, or the refusal of its generation
+-- the names that a file had among these rows and has then under another key, or the refusal of its generation
+abbrev pub pair_to : FullName → Key → Gen → List Row → Result NamePair Code
+pair_to full key generation rows =
+    and_then (λ number. Ok (record { source = full; target = record { key = key; generation = number } }))
+    (numbered generation (files_of key (without full rows)))
+
+-- the same of a source and the target's name
 abbrev pub pair_for : Place → Row → List Row → Result NamePair Code
-pair_for to source rows =
-    let key = key_from to source.key in
-    and_then (λ generation.
-    Ok (record { source = full_of source; target = record { key = key; generation = generation } }))
-    (numbered to.generation (files_of key (without (full_of source) rows)))
+pair_for to source rows = pair_to (full_of source) (key_from to source.key) to.generation rows
 
 -- no two of some rows have one full name
 abbrev pub AreDistinct : List Row → Type 0

@@ -106,8 +106,8 @@ rows_in directory rows = filter (is_in directory) rows
 abbrev pub is_in_either : List ℕ → List ℕ → Row → Bool
 is_in_either first second row = is_in first row || is_in second row
 
-abbrev pub touched : List ℕ → List ℕ → List Row → List Row
-touched from to rows = filter (is_in_either from to) rows
+abbrev pub rows_in_either : List ℕ → List ℕ → List Row → List Row
+rows_in_either from to rows = filter (is_in_either from to) rows
 
 -- the pages of a directory's files, those that are marked too
 abbrev pub pages_in : List ℕ → List Row → ℕ

@@ -1,6 +1,7 @@
 // Files are given other names.
-ghost use Rattle.std.specs.Prelude.{ℕ, ◌≡◌, ◌≤◌, true, [], ◌∷◌, ◌++◌, length, nat_lt, IfOk, IfErr, OnOk, Ok};
+ghost use Rattle.std.specs.Prelude.{ℕ, ◌≡◌, ◌≤◌, true, false, [], ◌∷◌, ◌++◌, length, nat_lt, IfOk, IfErr, OnOk, Ok};
 ghost use Rattle.std.specs.List.{list_all};
+ghost use Rattle.std.specs.Ordering.{is_eq};
 ghost use Rattle.cm_files.specs.Catalogue.{ascends};
 ghost use Rattle.ex_store.specs.declared.limits.TheConstants.{ROW_LIMIT};
 ghost use Rattle.ex_store.specs.declared.plan.Plan.TheVariants as plans;
@@ -8,21 +9,76 @@ ghost use Rattle.ex_store.specs.declared.ready.RowChange.TheVariants as changes;
 ghost use Rattle.ex_store.specs.Plan.{IsRefused, IsTarget, MayPlan, may_number, planned};
 ghost use Rattle.ex_store.specs.Positions.{elements_at};
 ghost use Rattle.ex_store.specs.Ready.{IsMade, applied, are_doable, done_on, moved};
-ghost use Rattle.ex_store.specs.Renaming.{AreDistinct, all_renamed, pair_for};
-ghost use Rattle.ex_store.specs.Rows.{by_row, is_in};
+ghost use Rattle.ex_store.specs.Renaming.{AreDistinct, all_renamed, pair_for, pair_to};
+ghost use Rattle.ex_store.specs.Rows.{by_key, by_row, is_in};
 ghost use Rattle.ex_store.specs.State.{retention_of};
 ghost use Rattle.ex_store.specs.WellFormed.{AreRows, IsWellFormed};
 
 use crate::adding::numbered;
 use crate::change::{reinsert, remove};
 use crate::directory::retention_of;
+use crate::key::key_cmp;
+use crate::shift::move_row;
 use crate::simulation::Simulation;
-use crate::{Directory, FullName, NamePair, Place, Ready, Refusal, Row, RowChange, Store};
-use cm_fields::Code;
+use crate::{Directory, FullName, Key, NamePair, Place, Ready, Refusal, Row, RowChange, Store};
+use cm_fields::{Code, Gen};
 use cm_io::NoMemory;
 use std::alloc::Global;
 
-// A source is renamed in a simulation: taken out, and added under the target's name. Which names it had and has.
+// A source is renamed in a simulation where its name and type stay: it is taken out, and added under another
+// generation.
+fn renumber(
+    simulated: &mut Vec<Row>,
+    full: FullName,
+    key: Key,
+    generation: Gen,
+    retention: u8,
+) -> Result<NamePair, Code>
+    requires rows { ascends by_row simulated.old.items ≡ true }
+    requires number { may_number generation ≡ true }
+    ensures pair { result ≡ pair_to full key generation simulated.old.items }
+    ensures simulated { IfOk result (λ pair. simulated.new.items ≡ moved retention pair simulated.old.items) }
+{
+    let row = remove(simulated, &full);
+    let generation = match numbered(simulated, &key, generation) {
+        Ok(generation) => generation,
+        Err(code) => return Err(code),
+    };
+    let pair = NamePair {
+        source: full,
+        target: FullName { key, generation },
+    };
+    reinsert(simulated, &pair.target, row, retention);
+    Ok(pair)
+}
+
+// The same where they do not: it moves to its place.
+fn relocate(
+    simulated: &mut Vec<Row>,
+    full: FullName,
+    key: Key,
+    generation: Gen,
+    retention: u8,
+) -> Result<NamePair, Code>
+    requires rows { ascends by_row simulated.old.items ≡ true }
+    requires number { may_number generation ≡ true }
+    requires apart { is_eq (by_key full.key key) ≡ false }
+    ensures pair { result ≡ pair_to full key generation simulated.old.items }
+    ensures simulated { IfOk result (λ pair. simulated.new.items ≡ moved retention pair simulated.old.items) }
+{
+    let generation = match numbered(simulated, &key, generation) {
+        Ok(generation) => generation,
+        Err(code) => return Err(code),
+    };
+    let pair = NamePair {
+        source: full,
+        target: FullName { key, generation },
+    };
+    move_row(simulated, &pair, retention);
+    Ok(pair)
+}
+
+// A source is renamed in a simulation. Which names it had and has.
 fn simulate(
     simulated: &mut Vec<Row>,
     source: &Row,
@@ -35,18 +91,12 @@ fn simulate(
     ensures simulated { IfOk result (λ pair. simulated.new.items ≡ moved retention pair simulated.old.items) }
 {
     let full = source.full_name();
-    let taken = remove(simulated, &full);
     let key = to.key_from(&source.key);
-    let generation = match numbered(simulated, &key, to.generation) {
-        Ok(generation) => generation,
-        Err(code) => return Err(code),
-    };
-    let pair = NamePair {
-        source: full,
-        target: FullName { key, generation },
-    };
-    reinsert(simulated, &pair.target, taken, retention);
-    Ok(pair)
+    if key_cmp(&full.key, &key).is_eq() {
+        renumber(simulated, full, key, to.generation, retention)
+    } else {
+        relocate(simulated, full, key, to.generation, retention)
+    }
 }
 
 impl Simulation {

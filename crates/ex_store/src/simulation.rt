@@ -2,7 +2,7 @@
 ghost use Rattle.std.specs.Prelude.{◌≡◌, ◌≤◌, [], length, map, IfOk};
 ghost use Rattle.ex_store.specs.declared.limits.TheConstants.{ROW_LIMIT};
 ghost use Rattle.ex_store.specs.Ready.{of_files};
-ghost use Rattle.ex_store.specs.Rows.{blank, touched};
+ghost use Rattle.ex_store.specs.Rows.{blank, rows_in_either};
 
 use crate::{NamePair, Ready, Row, RowChange};
 use cm_io::NoMemory;
@@ -19,7 +19,7 @@ pub(crate) struct Simulation {
 
 // The rows of two directories without their bytes.
 fn blanks(alloc: Global, rows: &[Row], from: &[u8], to: &[u8]) -> Result<Vec<Row>, NoMemory>
-    ensures { IfOk result (λ blanks. blanks.items ≡ map blank (touched from.now to.now rows.now)) }
+    ensures { IfOk result (λ blanks. blanks.items ≡ map blank (rows_in_either from.now to.now rows.now)) }
 {
     let mut blanks = Vec::new(alloc);
     for row in rows {
@@ -41,7 +41,7 @@ impl Simulation {
         ensures row_changes { IfOk result (λ simulation. simulation.row_changes.items ≡ []) }
         ensures pairs { IfOk result (λ simulation. simulation.pairs.items ≡ []) }
         ensures simulated { IfOk result (λ simulation.
-            simulation.simulated.items ≡ map blank (touched from.now to.now rows.now)) }
+            simulation.simulated.items ≡ map blank (rows_in_either from.now to.now rows.now)) }
     {
         Ok(Simulation {
             row_changes: Vec::new(alloc),

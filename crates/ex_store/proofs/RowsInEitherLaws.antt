@@ -13,7 +13,7 @@ use Rattle.ex_store.specs.declared.key.FullName.{FullName}
 use Rattle.ex_store.specs.declared.key.Key.{Key}
 use Rattle.ex_store.specs.declared.row.Row.{Row}
 use Rattle.ex_store.specs.Ready.{reinserted, with_name}
-use Rattle.ex_store.specs.Rows.{added, by_key, by_row, files_of, inserted, is_full, is_in_either, is_of, kept_newest, row_at, touched, with_mark, without}
+use Rattle.ex_store.specs.Rows.{added, by_key, by_row, files_of, inserted, is_full, is_in_either, is_of, kept_newest, row_at, rows_in_either, with_mark, without}
 use Rattle.ex_store.proofs.AscendsLaws.{all_above, all_filter, ascends_filter, is_less, is_sorted, less_is, sorted_ascends}
 use Rattle.ex_store.proofs.AreRowsLaws.{by_row_total}
 use Rattle.ex_store.proofs.CatalogueLaws.{text_itself}
@@ -173,33 +173,33 @@ added_filter keep retention row rows here all sorted =
     by false = kept_filter keep retention row.key (inserted row rows) all
 
 -- the generations of a name and type
-pub files_touched : (from to : List ℕ) (key : Key) (rows : List Row) → is_either from to key.directory ≡ true
-    → files_of key (touched from to rows) ≡ files_of key rows
-files_touched from to key rows here = files_filter (is_in_either from to) key rows (covers from to key here)
+pub files_either : (from to : List ℕ) (key : Key) (rows : List Row) → is_either from to key.directory ≡ true
+    → files_of key (rows_in_either from to rows) ≡ files_of key rows
+files_either from to key rows here = files_filter (is_in_either from to) key rows (covers from to key here)
 
 -- the row of a full name
-pub row_at_touched : (from to : List ℕ) (full : FullName) (rows : List Row) → is_either from to full.key.directory ≡ true
-    → row_at full (touched from to rows) ≡ row_at full rows
-row_at_touched from to full rows here =
+pub row_at_either : (from to : List ℕ) (full : FullName) (rows : List Row) → is_either from to full.key.directory ≡ true
+    → row_at full (rows_in_either from to rows) ≡ row_at full rows
+row_at_either from to full rows here =
     find_within (is_full full) (is_in_either from to) (λ row is. (covers from to full.key here).own row (full_own full row is)) rows
 
-pub without_touched : (from to : List ℕ) (full : FullName) (rows : List Row) → is_either from to full.key.directory ≡ true
-    → without full (touched from to rows) ≡ touched from to (without full rows)
-without_touched from to full rows here = without_filter (is_in_either from to) full rows (covers from to full.key here)
+pub without_either : (from to : List ℕ) (full : FullName) (rows : List Row) → is_either from to full.key.directory ≡ true
+    → without full (rows_in_either from to rows) ≡ rows_in_either from to (without full rows)
+without_either from to full rows here = without_filter (is_in_either from to) full rows (covers from to full.key here)
 
-pub added_touched : (from to : List ℕ) (retention : ℕ) (row : Row) (rows : List Row) → is_either from to row.key.directory ≡ true
-    → ascends by_row rows ≡ true → added retention row (touched from to rows) ≡ touched from to (added retention row rows)
-added_touched from to retention row rows here ascend =
+pub added_either : (from to : List ℕ) (retention : ℕ) (row : Row) (rows : List Row) → is_either from to row.key.directory ≡ true
+    → ascends by_row rows ≡ true → added retention row (rows_in_either from to rows) ≡ rows_in_either from to (added retention row rows)
+added_either from to retention row rows here ascend =
     added_filter (is_in_either from to) retention row rows here (covers from to row.key here)
     (sorted_ascends by_row by_row_total rows ascend)
 
 -- the same with a row that was taken out, where there is one
-pub reinserted_touched : (from to : List ℕ) (retention : ℕ) (target : FullName) (rows : List Row) (row : Option Row)
+pub reinserted_either : (from to : List ℕ) (retention : ℕ) (target : FullName) (rows : List Row) (row : Option Row)
     → is_either from to target.key.directory ≡ true → ascends by_row rows ≡ true
-    → reinserted retention target (touched from to rows) row ≡ touched from to (reinserted retention target rows row)
-reinserted_touched from to retention target rows None here ascend = refl
-reinserted_touched from to retention target rows (Some row) here ascend =
-    added_touched from to retention (with_name target row) rows here ascend
+    → reinserted retention target (rows_in_either from to rows) row ≡ rows_in_either from to (reinserted retention target rows row)
+reinserted_either from to retention target rows None here ascend = refl
+reinserted_either from to retention target rows (Some row) here ascend =
+    added_either from to retention (with_name target row) rows here ascend
 
-pub ascends_touched : (from to : List ℕ) (rows : List Row) → ascends by_row rows ≡ true → ascends by_row (touched from to rows) ≡ true
-ascends_touched from to rows ascend = ascends_filter by_row by_row_total (is_in_either from to) rows ascend
+pub ascends_either : (from to : List ℕ) (rows : List Row) → ascends by_row rows ≡ true → ascends by_row (rows_in_either from to rows) ≡ true
+ascends_either from to rows ascend = ascends_filter by_row by_row_total (is_in_either from to) rows ascend
