@@ -61,7 +61,8 @@ fn files_are_put_behind_one(rt: HostRuntime) {
         &rt,
         "WRITE A.TXT HI^M^J
         WRITE B.TXT YO^M^J
-        APPEND *.TXT C.TXT|Ok| <OPERATOR>A.TXT.1 => <OPERATOR>C.TXT.1 [OK]^M^J <OPERATOR>B.TXT.1 => <OPERATOR>C.TXT.1 [OK]^M^J
+        APPEND *.TXT C.TXT|Ok| <OPERATOR>A.TXT.1 => <OPERATOR>C.TXT.1 [OK]^M^J \
+            <OPERATOR>B.TXT.1 => <OPERATOR>C.TXT.1 [OK]^M^J
         TYPE C.TXT|Ok|HI^M^JYO^M^J
         FILES|<OPERATOR>A.TXT.1<OPERATOR>B.TXT.1<OPERATOR>C.TXT.1",
     );
@@ -136,7 +137,8 @@ fn files_are_renamed(rt: HostRuntime) {
         &rt,
         "WRITE A.FOR HI
         WRITE B.FOR YO
-        RENAME *.FOR *.OLD|Ok| <OPERATOR>A.FOR.1 => <OPERATOR>A.OLD.1 [OK]^M^J <OPERATOR>B.FOR.1 => <OPERATOR>B.OLD.1 [OK]^M^J
+        RENAME *.FOR *.OLD|Ok| <OPERATOR>A.FOR.1 => <OPERATOR>A.OLD.1 [OK]^M^J \
+            <OPERATOR>B.FOR.1 => <OPERATOR>B.OLD.1 [OK]^M^J
         FILES|<OPERATOR>A.OLD.1<OPERATOR>B.OLD.1",
     );
 }
@@ -221,7 +223,8 @@ fn pages_and_days_are_listed(rt: HostRuntime) {
         &rt,
         "WRITE A.TXT
         946684800:WRITE B.TXT X*2561
-        DIRECTORY *.*|Ok|   PS:<OPERATOR>^M^J A.TXT.1 0 0 1-JAN-1970^M^J B.TXT.1 2 2561 1-JAN-2000^M^J Total of 2 files^M^J
+        DIRECTORY *.*|Ok|   PS:<OPERATOR>^M^J A.TXT.1 0 0 1-JAN-1970^M^J \
+            B.TXT.1 2 2561 1-JAN-2000^M^J Total of 2 files^M^J
         DIRECTORY A.TXT|Ok|   PS:<OPERATOR>^M^J A.TXT.1 0 0 1-JAN-1970^M^J Total of 1 files^M^J",
     );
 }
@@ -235,7 +238,8 @@ fn files_of_some_days_are_listed(rt: HostRuntime) {
         86400:WRITE B.TXT
         172799:WRITE C.TXT
         172800:WRITE D.TXT
-        DIRECTORY *.* SINCE=1 BEFORE=2|Ok|   PS:<OPERATOR>^M^J B.TXT.1 0 0 2-JAN-1970^M^J C.TXT.1 0 0 2-JAN-1970^M^J Total of 2 files^M^J
+        DIRECTORY *.* SINCE=1 BEFORE=2|Ok|   PS:<OPERATOR>^M^J \
+            B.TXT.1 0 0 2-JAN-1970^M^J C.TXT.1 0 0 2-JAN-1970^M^J Total of 2 files^M^J
         DIRECTORY *.* SINCE=2|Ok|   PS:<OPERATOR>^M^J D.TXT.1 0 0 3-JAN-1970^M^J Total of 1 files^M^J
         DIRECTORY *.* BEFORE=1|Ok|   PS:<OPERATOR>^M^J A.TXT.1 0 0 1-JAN-1970^M^J Total of 1 files^M^J
         DIRECTORY *.* SINCE=3|Refused(NoMatch)|?No files match^M^J
