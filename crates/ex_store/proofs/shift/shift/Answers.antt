@@ -1,4 +1,4 @@
-use Rattle.std.proofs.Common.{refl, arith}
+use Rattle.std.proofs.Common.{refl}
 use Rattle.ex_store.proofs.ShiftLaws.{shifted_down, shifted_up}
 use Rattle.ex_store.proofs.shift.shift.Goals as goal
 
