@@ -31,8 +31,8 @@ summary_of lines = record {
   generations = length (generated_left lines).exec.state.rows;
 }
 
--- a run over the keys of so many lines was cut short where an act of it asked for memory: the counter rose by the trials
--- before
+-- a run over the keys of so many lines was cut short where an act of it asked for memory: the counter rose by the
+-- trials before
 pub record IsCutForMemory (lines before now : ℕ) : Type 0 where
   pub done : List (Event TakerState)
   pub rest : List (Event TakerState)
