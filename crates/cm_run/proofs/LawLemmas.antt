@@ -1,5 +1,5 @@
 -- What the laws of runs stand on.
-use Rattle.std.proofs.Common.{inl, inr, ◌≡◌, ◌≢◌, ℕ, ◌+◌, ◌-◌, ◌^◌, ◌<◌, List, [], ◌∷◌, ◌++◌, refl, ap, sym, ◌∙◌, arith}
+use Rattle.std.proofs.Common.{inl, inr, ◌≡◌, ℕ, ◌+◌, ◌-◌, ◌^◌, ◌<◌, List, [], ◌∷◌, ◌++◌, refl, ap, sym, ◌∙◌, arith}
 use Rattle.std.specs.Prelude.{Bool, true, false, Result, Ok, Err, ◌⊎◌}
 use Rattle.std.specs.List.{flat_map, fold, sum_by}
 use Rattle.std.proofs.lemmas.List.{append-nil}

@@ -1,14 +1,12 @@
 -- What a key does, by the mode that it meets.
 use Rattle.std.proofs.Common.{◌≡◌, ℕ, ap, sym, subst, ◌∙◌}
 use Rattle.std.specs.Prelude.{Bool, Result}
-use Rattle.cm_state.specs.SessionState.{SessionState}
 use Rattle.cm_state.specs.declared.prompt.Prompt.{Prompt}
 use Rattle.cm_run.specs.declared.mode.Mode.TheVariants as mode
 use Rattle.cm_run.specs.declared.stop.Stop.{Stop}
 use Rattle.cm_run.specs.Observed.{Observed}
 use Rattle.cm_run.specs.Cut.{Traces}
-use Rattle.cm_run.specs.Meaning.{IsLineAt, Meaning}
-use Rattle.cm_run.specs.Ready.{IsAtLine, IsReadyBy, IsReadyIn}
+use Rattle.cm_run.specs.Meaning.{Meaning}
 use Rattle.cm_run.specs.Trace.{RunState, key_trace, line_stroke, raw_stroke, step, step_by, stroke_by, stroke_trace}
 
 module _ {S : Type 0} (m : Meaning S) (logging : Bool) (at : RunState S) (key : ℕ) where
@@ -37,11 +35,3 @@ module _ {S : Type 0} (m : Meaning S) (logging : Bool) (at : RunState S) (key : 
 
   pub ended_step : (to : RunState S) → m.mode_of at.state ≡ mode.Ended → to ≡ step_by m at (raw_stroke m at key) → to ≡ step m at key
   ended_step to is leads = leads ∙ ap (λ it. step_by m at (stroke_by m at key it)) (sym is)
-
--- a line is edited where the mode says so
-pub line_ready : {S : Type 0} (m : Meaning S) (state : S) (session : SessionState) (node : ℕ) (prompt : Prompt) (takes : Bool)
-    → m.mode_of state ≡ mode.Line node prompt takes → IsReadyIn m state session → IsAtLine m state session
-unfolding IsReadyIn
-line_ready m state session node prompt takes is ready =
-    let now = subst (λ it. IsReadyBy m state session it) is ready in
-    record { ready = now.0; line = subst (λ it. IsLineAt it session.node) (sym is) (sym now.1) }

@@ -29,6 +29,7 @@ use cm_state::{Session, Turn};
 use std::sync::ledger::Ledger;
 
 /// Takes one key of a run that has not ended: shows its echo, logs it, and only then does what it came to.
+#[tactic(auto, unfolding(crate::specs::Ready::IsReadyIn))]
 pub(crate) fn handle_key<A: Application, S: Sink, W: Sink, C: Clock, L: Ledger>(
     logging: bool,
     key: u8,

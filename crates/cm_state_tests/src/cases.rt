@@ -1,6 +1,7 @@
 // How cases are written.
 use cm_blocks::{Ending, Fault, Open};
 use cm_fields::Code;
+use cm_io::MemSink;
 use cm_line::Line;
 use cm_text::is_text;
 use std::alloc::Global;
@@ -68,6 +69,11 @@ fn open(text: &str) -> Option<Open> {
         block: block.parse().ok(),
         at: at.parse().ok()?,
     })
+}
+
+// The text that a sink was given.
+pub(crate) fn text_of(alloc: Global, sink: &MemSink) -> Result<String, Fail> {
+    Ok(String::from_str(alloc, str::from_utf8(sink.bytes())?)?)
 }
 
 // A line of these bytes.

@@ -4,9 +4,9 @@ ghost use Rattle.cm_blocks.specs.Grammar.{hook_count};
 ghost use Rattle.cm_hooks.specs.Ties.{Ties, count};
 
 use crate::cabinet::Cabinet;
-use crate::cases::{ended, line};
-use crate::grammars::fields;
-use crate::judges::{Judges, hooks_of};
+use crate::cases::text_of;
+use crate::endings::{Question, tries};
+use crate::judges::Judges;
 use cm_blocks::{Ending, Grammar};
 use cm_help::help;
 use cm_hooks::{Hooks, Rules};
@@ -16,47 +16,21 @@ use std::alloc::Global;
 use std::process::Abort;
 use std::test::Fail;
 
-// Tries cases, parted by empty lines.
-fn tries(rt: &impl Abort, alloc: Global, cases: &str) -> Result<(), Fail> {
-    let grammar = fields(alloc)?;
-    let hooks = hooks_of(rt, alloc, &grammar)?;
-    for case in cases.split("\n\n") {
-        try_case(rt, alloc, case, &grammar, &hooks)?;
-    }
-    Ok(())
-}
-
-fn try_case(
-    rt: &impl Abort,
-    alloc: Global,
-    case: &str,
-    grammar: &Grammar,
-    hooks: &Hooks<Judges>,
-) -> Result<(), Fail>
-    requires ties { Ties ⟦<Judges as Rules>⟧.meanings hooks.now }
-    requires hooks { hook_count grammar.now ≤ count hooks.now }
-{
-    let (ending, text, wanted) = ended(case).ok_or("a case")?;
-    let screen = shown(rt, alloc, ending, &line(rt, text), grammar, hooks)?;
-    assert_eq!(rt; str::from_utf8(screen.bytes())?, wanted, "at {case}");
-    Ok(())
-}
-
-fn shown(
+pub(crate) fn shown(
     rt: &impl Abort,
     alloc: Global,
     ending: Ending,
     line: &Line,
     grammar: &Grammar,
     hooks: &Hooks<Judges>,
-) -> Result<MemSink, Fail>
+) -> Result<String, Fail>
     requires ties { Ties ⟦<Judges as Rules>⟧.meanings hooks.now }
     requires hooks { hook_count grammar.now ≤ count hooks.now }
 {
     let mut screen = MemSink::new(alloc, 4096)?;
     let put = help(grammar, ending, line.bytes(), &Cabinet, hooks, &mut screen);
     assert_eq!(rt; put, Put::Done);
-    Ok(screen)
+    text_of(alloc, &screen)
 }
 
 #[test]
@@ -134,7 +108,7 @@ fn lists_what_may_come(rt: HostRuntime) -> Result<(), Fail> {
  or input file\r
  or output file\r
  or file specification";
-    tries(&rt, rt.alloc(), cases)
+    tries(&rt, rt.alloc(), Question::Help, cases)
 }
 
 #[test]
@@ -153,5 +127,5 @@ done||
 99.0@0||
 
 20.0@2|A|";
-    tries(&rt, rt.alloc(), cases)
+    tries(&rt, rt.alloc(), Question::Help, cases)
 }

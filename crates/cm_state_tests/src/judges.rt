@@ -88,14 +88,24 @@ fn hook(id: u8, alloc: Global) -> Result<Hook<Judges>, Fail>
     ))
 }
 
+// Adds a hook behind the others.
+fn push(hooks: &mut Hooks<Judges>, hook: Hook<Judges>) -> Result<(), Fail>
+    requires hooks { Ties ⟦<Judges as Rules>⟧.meanings hooks.old }
+    requires hook { IsTied ⟦<Judges as Rules>⟧.meanings hook }
+    ensures { Ties ⟦<Judges as Rules>⟧.meanings hooks.new }
+{
+    hooks.push(hook).ok().ok_or("a hook")?;
+    Ok(())
+}
+
 fn hooks(alloc: Global) -> Result<Hooks<Judges>, Fail>
     ensures { IfOk result (λ hooks. Ties ⟦<Judges as Rules>⟧.meanings hooks) }
 {
     let mut hooks = Hooks::new();
-    hooks.push(hook(0, alloc)?).ok().ok_or("hook 0")?;
-    hooks.push(hook(1, alloc)?).ok().ok_or("hook 1")?;
-    hooks.push(hook(2, alloc)?).ok().ok_or("hook 2")?;
-    hooks.push(hook(3, alloc)?).ok().ok_or("hook 3")?;
+    push(&mut hooks, hook(0, alloc)?)?;
+    push(&mut hooks, hook(1, alloc)?)?;
+    push(&mut hooks, hook(2, alloc)?)?;
+    push(&mut hooks, hook(3, alloc)?)?;
     Ok(hooks)
 }
 

@@ -6,6 +6,8 @@ mod cabinet;
 #[cfg(test)]
 mod cases;
 #[cfg(test)]
+mod endings;
+#[cfg(test)]
 mod grammars;
 #[cfg(test)]
 mod help;

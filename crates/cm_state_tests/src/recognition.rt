@@ -4,9 +4,9 @@ ghost use Rattle.cm_blocks.specs.Grammar.{hook_count};
 ghost use Rattle.cm_hooks.specs.Ties.{Ties, count};
 
 use crate::cabinet::Cabinet;
-use crate::cases::{ended, line, repeat};
-use crate::grammars::fields;
-use crate::judges::{Judges, hooks_of};
+use crate::cases::repeat;
+use crate::endings::{Question, tries};
+use crate::judges::Judges;
 use cm_blocks::{Ending, Grammar};
 use cm_hooks::{Hooks, Rules};
 use cm_line::Line;
@@ -18,35 +18,8 @@ use std::alloc::Global;
 use std::process::Abort;
 use std::test::Fail;
 
-// Tries cases, one a line.
-fn tries(rt: &impl Abort, alloc: Global, mode: Mode, cases: &str) -> Result<(), Fail> {
-    let grammar = fields(alloc)?;
-    let hooks = hooks_of(rt, alloc, &grammar)?;
-    for case in cases.lines() {
-        try_case(rt, alloc, mode, case, &grammar, &hooks)?;
-    }
-    Ok(())
-}
-
-fn try_case(
-    rt: &impl Abort,
-    alloc: Global,
-    mode: Mode,
-    case: &str,
-    grammar: &Grammar,
-    hooks: &Hooks<Judges>,
-) -> Result<(), Fail>
-    requires ties { Ties ⟦<Judges as Rules>⟧.meanings hooks.now }
-    requires hooks { hook_count grammar.now ≤ count hooks.now }
-{
-    let (ending, text, wanted) = ended(case).ok_or("a case")?;
-    let found = answer(alloc, mode, ending, &line(rt, text), grammar, hooks)?;
-    assert_eq!(rt; found.as_str(), wanted, "at {case}");
-    Ok(())
-}
-
 // What goes in, a bar, and `bell` where it rings.
-fn answer(
+pub(crate) fn put_in(
     alloc: Global,
     mode: Mode,
     ending: Ending,
@@ -80,7 +53,7 @@ fn keywords_go_on(rt: HostRuntime) -> Result<(), Fail> {
 0.0@0|X||bell
 0.0@3|!x!CO|PY (FROM) |
 99.0@0|CO||bell";
-    tries(&rt, rt.alloc(), Mode::Escape, cases)
+    tries(&rt, rt.alloc(), Question::Completion(Mode::Escape), cases)
 }
 
 // The value of a switch follows its colon. The block behind it is asked where it cannot go on, and alone where the line
@@ -96,7 +69,7 @@ fn switches_go_on(rt: HostRuntime) -> Result<(), Fail> {
 3.0@0|CO|PY (FROM) |
 3.1@0|CO|PY (FROM) |
 3.2@0|CO||bell";
-    tries(&rt, rt.alloc(), Mode::Escape, cases)
+    tries(&rt, rt.alloc(), Question::Completion(Mode::Escape), cases)
 }
 
 // Of a token something has to be typed, and the rest of a line never ends.
@@ -111,7 +84,7 @@ fn phrases_go_on(rt: HostRuntime) -> Result<(), Fail> {
 5.0@0|||bell
 5.0@0|AX||bell
 5.1@0|A||bell";
-    tries(&rt, rt.alloc(), Mode::Escape, cases)
+    tries(&rt, rt.alloc(), Question::Completion(Mode::Escape), cases)
 }
 
 // A quoted text goes on where it is closed, and the default stands where nothing is typed. Hook 2 judges alone, and
@@ -129,7 +102,7 @@ fn values_go_on(rt: HostRuntime) -> Result<(), Fail> {
 6.0@0|ABC||bell
 7.0@0|AB|Z|bell
 7.0@0|||bell";
-    tries(&rt, rt.alloc(), Mode::Escape, cases)
+    tries(&rt, rt.alloc(), Question::Completion(Mode::Escape), cases)
 }
 
 // A date goes on where it is whole, and only where there is such a day. Of one that is begun nothing is certain.
@@ -149,7 +122,7 @@ fn dates_go_on(rt: HostRuntime) -> Result<(), Fail> {
 9.0@0|31-APR-1980||bell
 9.0@0|29-FEB-1981||bell
 19.1@0|5-JAN-1980||bell";
-    tries(&rt, rt.alloc(), Mode::Escape, cases)
+    tries(&rt, rt.alloc(), Question::Completion(Mode::Escape), cases)
 }
 
 #[test]
@@ -161,7 +134,7 @@ fn what_does_not_fit_is_not_put_in(rt: HostRuntime) -> Result<(), Fail> {
     tries(
         &rt,
         rt.alloc(),
-        Mode::Escape,
+        Question::Completion(Mode::Escape),
         &repeat(rt.alloc(), cases, 243)?,
     )
 }
@@ -173,7 +146,7 @@ done|CO||bell
 NotKeyword|CO||bell
 0@0|!CO||bell
 0.0@3|CO||bell";
-    tries(&rt, rt.alloc(), Mode::Escape, cases)
+    tries(&rt, rt.alloc(), Question::Completion(Mode::Escape), cases)
 }
 
 #[test]
@@ -182,7 +155,7 @@ fn a_part_is_asked_of_no_keyword_and_no_date(rt: HostRuntime) -> Result<(), Fail
 0.0@0|co||bell
 2.0@0|||bell
 9.0@0|5-JAN-1980||bell";
-    tries(&rt, rt.alloc(), Mode::Part, cases)
+    tries(&rt, rt.alloc(), Question::Completion(Mode::Part), cases)
 }
 
 // One name goes on with its one type and its highest generation. It rings at several names that share nothing more, at
@@ -205,7 +178,7 @@ fn names_go_on(rt: HostRuntime) -> Result<(), Fail> {
 10.0@0|TTY:A||bell
 10.0@0|NO:AB||bell
 10.0@0|<NO>AB||bell";
-    tries(&rt, rt.alloc(), Mode::Escape, cases)
+    tries(&rt, rt.alloc(), Question::Completion(Mode::Escape), cases)
 }
 
 // A generation that is typed is taken as it is, where there is such a file. With a wildcard nothing is certain, and
@@ -225,7 +198,7 @@ fn types_and_generations_go_on(rt: HostRuntime) -> Result<(), Fail> {
 10.0@0|Q.R.||bell
 10.0@0|A*||bell
 10.0@0|A.FOR.1.||bell";
-    tries(&rt, rt.alloc(), Mode::Escape, cases)
+    tries(&rt, rt.alloc(), Question::Completion(Mode::Escape), cases)
 }
 
 // Node 15 reads a file that may be there, 16 those that are marked deleted, 17 all generations, which none stands for,
@@ -242,7 +215,7 @@ fn flags_say_which_files_go_on(rt: HostRuntime) -> Result<(), Fail> {
 17.0@0|AB|.TXT.* |
 18.0@0|NEW.X| |
 18.0@0|A.FOR.| |";
-    tries(&rt, rt.alloc(), Mode::Escape, cases)
+    tries(&rt, rt.alloc(), Question::Completion(Mode::Escape), cases)
 }
 
 // Node 14 reads a directory that may be new, of which nothing is known. Behind a directory a file goes on.
@@ -261,7 +234,7 @@ fn directories_go_on(rt: HostRuntime) -> Result<(), Fail> {
 14.0@0|<O>| |
 10.0@0|<o|PERATOR>|
 10.0@0|<S|MITH|bell";
-    tries(&rt, rt.alloc(), Mode::Escape, cases)
+    tries(&rt, rt.alloc(), Question::Completion(Mode::Escape), cases)
 }
 
 // A directory with a point in its name is no user's.
@@ -274,7 +247,7 @@ fn users_go_on(rt: HostRuntime) -> Result<(), Fail> {
 12.0@0|SMITH.||bell
 12.0@0|X||bell
 12.0@0|||bell";
-    tries(&rt, rt.alloc(), Mode::Escape, cases)
+    tries(&rt, rt.alloc(), Question::Completion(Mode::Escape), cases)
 }
 
 // A generation and a directory are whole, for control-F too. It asks neither users nor files that are written.
@@ -292,7 +265,7 @@ fn one_part_goes_on(rt: HostRuntime) -> Result<(), Fail> {
 12.0@0|s||bell
 18.0@0|NEW.X||bell
 11.0@0|||bell";
-    tries(&rt, rt.alloc(), Mode::Part, cases)
+    tries(&rt, rt.alloc(), Question::Completion(Mode::Part), cases)
 }
 
 #[test]

@@ -1,18 +1,19 @@
 // Fields that are kept over a key.
-ghost use Rattle.std.specs.Prelude.{◌≡◌, ◌<◌, ◌≤◌, length};
+ghost use Rattle.std.specs.Prelude.{◌<◌, ◌≤◌, length};
 ghost use Rattle.cm_blocks.specs.Grammar.{hook_count};
 ghost use Rattle.cm_hooks.specs.Ties.{Ties, count};
 
-use super::run::{exec_and_hooks, run_of, tries};
+use super::question::{Question, tries};
+use super::run::{Run, run_of};
 use crate::cabinet::Cabinet;
 use crate::cases::{numbered, repeat};
+use crate::grammars::exec;
 use crate::judges::Judges;
 use cm_blocks::{Grammar, Steps};
 use cm_hooks::{Hooks, Rules};
 use std::alloc::Global;
-use std::marker::Brand;
 use std::process::Abort;
-use std::sync::ledger::{Blank, Ledger};
+use std::sync::ledger::Ledger;
 use std::test::Fail;
 
 // An edit may reach back into fields that were decided, and what follows is read anew.
@@ -65,11 +66,23 @@ LOGOUT\r \r|Confirmed|@LOGOUT\r
 0d 6 D 0.1k10@0-6
 20 1 O
 0d 1 D";
-    tries(&rt, &rt, cases)
+    tries(&rt, &rt, Question::Keys, exec(rt.alloc())?, cases)
 }
 
-// A session with a number of fields, and how its parse ends: PRINT of A with so many times a number of copies, and more
-// keys.
+// PRINT of A with so many times a number of copies, and more keys.
+fn keys_of(alloc: Global, times: u16, more: &str) -> Result<String, Fail> {
+    let mut keys = repeat(alloc, "P A[/C:1]", usize::from(times))?;
+    keys.push_str(more)?;
+    Ok(keys)
+}
+
+// How many fields are held, and how the parse ends.
+fn tell(alloc: Global, run: &Run<Judges>) -> Result<String, Fail> {
+    let session = &run.session;
+    Ok(format!(in alloc; "{} {:?}", session.held(), session.ending())?)
+}
+
+// The same of the run of such keys.
 fn held<L: Ledger>(
     rt: &impl Abort,
     alloc: Global,
@@ -83,13 +96,12 @@ fn held<L: Ledger>(
     requires hooks { hook_count grammar.now ≤ count hooks.now }
     requires nodes { 0 < length grammar.now.nodes }
 {
-    let mut keys = repeat(alloc, "P A[/C:1]", usize::from(times))?;
-    keys.push_str(more)?;
-    let session = run_of(rt, alloc, &keys, grammar, &Cabinet, hooks, steps)?.session;
-    Ok(format!(in alloc; "{} {:?}", session.held(), session.ending())?)
+    let keys = keys_of(alloc, times, more)?;
+    let run = run_of(rt, alloc, &keys, grammar, &Cabinet, hooks, steps)?;
+    tell(alloc, &run)
 }
 
-fn try_held<L: Ledger>(
+pub(crate) fn try_case<L: Ledger>(
     rt: &impl Abort,
     alloc: Global,
     case: &str,
@@ -107,25 +119,6 @@ fn try_held<L: Ledger>(
     Ok(())
 }
 
-fn tries_held<L: Ledger, A: Abort>(
-    rt: &A,
-    runtime: &HostRuntime,
-    blank: Blank,
-    cases: &[u8],
-) -> Result<(), Fail>
-    requires name { blank.name ≡ L.name }
-    requires parts { blank.parts ≡ L.parts }
-    requires some { 0 < L.parts }
-{
-    let alloc = runtime.alloc();
-    let (grammar, hooks) = exec_and_hooks(rt, alloc)?;
-    let mut steps: Steps<L> = Steps::new(runtime, blank);
-    for case in str::from_utf8(cases)?.lines() {
-        try_held(rt, alloc, case, &grammar, &hooks, &mut steps)?;
-    }
-    Ok(())
-}
-
 // A line has 64 fields; one more that would be taken is a fault at its place.
 #[test]
 fn holds_64_fields(rt: HostRuntime) -> Result<(), Fail> {
@@ -136,5 +129,5 @@ fn holds_64_fields(rt: HostRuntime) -> Result<(), Fail> {
 30| /C:1,|64 Fault(Fault { code: TooMany, node: 41, at: 127 })
 31|/|64 Fault(Fault { code: TooMany, node: 41, at: 126 })
 31|/\x7f|64 Open(Open { node: 41, block: Some(0), at: 126 })";
-    tries_held::<Brand, _>(&rt, &rt, Blank::new(1), cases.as_bytes())
+    tries(&rt, &rt, Question::Count, exec(rt.alloc())?, cases)
 }

@@ -1,20 +1,20 @@
 // Lines that are taken whole.
-ghost use Rattle.std.specs.Prelude.{◌≡◌, ◌<◌, ◌≤◌, length};
+ghost use Rattle.std.specs.Prelude.{◌≤◌};
 ghost use Rattle.cm_blocks.specs.Grammar.{hook_count};
 ghost use Rattle.cm_hooks.specs.Ties.{Ties, count};
 
+use super::question::{Question, tries};
 use crate::cabinet::Cabinet;
 use crate::cases::{line, numbered};
 use crate::grammars::{exec, fields};
-use crate::judges::{Judges, hooks_of};
+use crate::judges::Judges;
 use cm_blocks::{Grammar, Steps};
 use cm_hooks::{Hooks, Rules};
 use cm_io::{MemSink, Put};
-use cm_state::Session;
+use cm_state::{Session, Turn};
 use std::alloc::Global;
-use std::marker::Brand;
 use std::process::Abort;
-use std::sync::ledger::{Blank, Ledger};
+use std::sync::ledger::Ledger;
 use std::test::Fail;
 
 // What a line from a node on comes to, a bar, and its line of the log.
@@ -35,6 +35,15 @@ fn answer<L: Ledger>(
     let line = line(rt, text);
     let turn = session.whole(node, line.bytes(), grammar, &Cabinet, hooks, steps);
     assert_eq!(rt; session.text(), line.finished());
+    tell(rt, alloc, turn, session)
+}
+
+fn tell(
+    rt: &impl Abort,
+    alloc: Global,
+    turn: Turn,
+    session: &Session<Judges>,
+) -> Result<String, Fail> {
     let log = logged(rt, alloc, session)?;
     Ok(format!(in alloc; "{turn:?}|{}", str::from_utf8(log.bytes())?.trim_end())?)
 }
@@ -46,7 +55,8 @@ fn logged(rt: &impl Abort, alloc: Global, session: &Session<Judges>) -> Result<M
     Ok(log)
 }
 
-fn try_case<L: Ledger>(
+// A case is a node, a line, what it comes to, and its line of the log.
+pub(crate) fn try_case<L: Ledger>(
     rt: &impl Abort,
     alloc: Global,
     case: &str,
@@ -64,38 +74,6 @@ fn try_case<L: Ledger>(
     Ok(())
 }
 
-// The counter wants the runtime itself.
-fn tries_with<L: Ledger, A: Abort>(
-    rt: &A,
-    runtime: &HostRuntime,
-    blank: Blank,
-    grammar: &Grammar,
-    cases: &[u8],
-) -> Result<(), Fail>
-    requires name { blank.name ≡ L.name }
-    requires parts { blank.parts ≡ L.parts }
-    requires some { 0 < L.parts }
-{
-    let alloc = runtime.alloc();
-    let hooks = hooks_of(rt, alloc, grammar)?;
-    let mut steps: Steps<L> = Steps::new(runtime, blank);
-    let mut session = Session::new();
-    for case in str::from_utf8(cases)?.lines() {
-        try_case(rt, alloc, case, &mut session, grammar, &hooks, &mut steps)?;
-    }
-    Ok(())
-}
-
-// Tries cases, one a line: a node, a line, what it comes to, and its line of the log.
-fn tries(
-    rt: &impl Abort,
-    runtime: &HostRuntime,
-    grammar: Grammar,
-    cases: &str,
-) -> Result<(), Fail> {
-    tries_with::<Brand, _>(rt, runtime, Blank::new(1), &grammar, cases.as_bytes())
-}
-
 #[test]
 fn takes_whole_lines(rt: HostRuntime) -> Result<(), Fail> {
     let cases = "\
@@ -104,7 +82,7 @@ fn takes_whole_lines(rt: HostRuntime) -> Result<(), Fail> {
 0||Confirmed|0d 0 D
 0|LO|Refused(Fault { code: Ambiguous, node: 0, at: 0 })|0d 2 F2.0@0
 0|INF X|Refused(Fault { code: NotKeyword, node: 27, at: 4 })|0d 5 F1.27@4 0.1k9@0-3 26.0n0@4-4";
-    tries(&rt, &rt, exec(rt.alloc())?, cases)
+    tries(&rt, &rt, Question::Lines, exec(rt.alloc())?, cases)
 }
 
 #[test]
@@ -129,7 +107,7 @@ fn logs_each_kind_of_value(rt: HostRuntime) -> Result<(), Fail> {
 26|A|Confirmed|0d 1 D 26.0h3:18446744073709551615@0-1
 19|5-JAN-1980|Confirmed|0d 10 D 19.0d3656@0-10
 19|31-DEC-99|Confirmed|0d 9 D 19.0d10956@0-9";
-    tries(&rt, &rt, fields(rt.alloc())?, cases)
+    tries(&rt, &rt, Question::Lines, fields(rt.alloc())?, cases)
 }
 
 // First what is no date by its shape, its month or a day 0, then a year that is out of range, then a day past the end
@@ -142,5 +120,5 @@ fn refuses_dates_in_order(rt: HostRuntime) -> Result<(), Fail> {
 9|31-APR-1969|Refused(Fault { code: YearRange, node: 9, at: 0 })|0d 11 F14.9@0
 9|31-APR-1980|Refused(Fault { code: BadDate, node: 9, at: 0 })|0d 11 F13.9@0
 9| 5-JAN-2100|Refused(Fault { code: YearRange, node: 9, at: 1 })|0d 11 F14.9@1";
-    tries(&rt, &rt, fields(rt.alloc())?, cases)
+    tries(&rt, &rt, Question::Lines, fields(rt.alloc())?, cases)
 }

@@ -1,6 +1,7 @@
 // Lines that are typed, edited, confirmed and refused.
-use super::run::tries;
+use super::question::{Question, tries};
 use crate::cases::repeat;
+use crate::grammars::exec;
 use std::test::Fail;
 
 #[test]
@@ -49,7 +50,7 @@ P A/C:12/J:B-1/NOTE:\"say \"\"hi\"\"\"\r|Confirmed|@P A/C:12/J:B-1/NOTE:\"say \"
  \n|Confirmed|@ \r
 @|20 1 O
 0a 1 D";
-    tries(&rt, &rt, cases)
+    tries(&rt, &rt, Question::Keys, exec(rt.alloc())?, cases)
 }
 
 #[test]
@@ -95,7 +96,7 @@ L\r\x08\x08|Edited|@L\r
 ?Ambiguous keyword\r
 @\x07|08 0 O
 08 0 O";
-    tries(&rt, &rt, cases)
+    tries(&rt, &rt, Question::Keys, exec(rt.alloc())?, cases)
 }
 
 #[test]
@@ -135,7 +136,7 @@ CONN\x1b\x1b|Edited|@CONNECT (TO DIRECTORY) OPERATOR |1b 23 O 0.1k3@0-7 17.0n1@8
 1b 0 O
 06 0 O
 00 0 O";
-    tries(&rt, &rt, cases)
+    tries(&rt, &rt, Question::Keys, exec(rt.alloc())?, cases)
 }
 
 #[test]
@@ -187,7 +188,7 @@ INF X\r?\x08|Edited|@INF X\r
 @\x07|
 3f 0 O
 08 0 O";
-    tries(&rt, &rt, cases)
+    tries(&rt, &rt, Question::Keys, exec(rt.alloc())?, cases)
 }
 
 // Each key on a full line.
@@ -235,5 +236,11 @@ fn takes_keys_on_a_full_line(rt: HostRuntime) -> Result<(), Fail> {
 
 [A]\0|Edited|@[A]\x07|
 00 255 O";
-    tries(&rt, &rt, &repeat(rt.alloc(), cases, 255)?)
+    tries(
+        &rt,
+        &rt,
+        Question::Keys,
+        exec(rt.alloc())?,
+        &repeat(rt.alloc(), cases, 255)?,
+    )
 }

@@ -15,9 +15,8 @@ use cm_hooks::{Hooks, Rules};
 use cm_io::{MemSink, Put};
 use cm_state::{Prompt, Session, Turn};
 use std::alloc::Global;
-use std::marker::Brand;
 use std::process::Abort;
-use std::sync::ledger::{Blank, Ledger};
+use std::sync::ledger::Ledger;
 use std::test::Fail;
 
 // A session with what it has shown and logged, and what its last key came to.
@@ -146,7 +145,27 @@ fn parts(case: &str) -> Option<(&str, &str, &str)> {
     Some((keys, wanted, end))
 }
 
-fn try_case<L: Ledger>(
+// What the last of the keys comes to, and what is shown. The log has to end so.
+fn answer_of<L: Ledger>(
+    rt: &impl Abort,
+    alloc: Global,
+    keys: &str,
+    end: &str,
+    grammar: &Grammar,
+    hooks: &Hooks<Judges>,
+    steps: &mut Steps<L>,
+) -> Result<String, Fail>
+    requires ties { Ties ⟦<Judges as Rules>⟧.meanings hooks.now }
+    requires hooks { hook_count grammar.now ≤ count hooks.now }
+    requires nodes { 0 < length grammar.now.nodes }
+{
+    let run = run_of(rt, alloc, keys, grammar, &Cabinet, hooks, steps)?;
+    assert!(rt; run.logs(end), "the log ends otherwise than {end}");
+    run.answer(alloc)
+}
+
+// A case is keys, what the last comes to, what is shown, and how the log ends.
+pub(crate) fn try_case<L: Ledger>(
     rt: &impl Abort,
     alloc: Global,
     case: &str,
@@ -159,33 +178,7 @@ fn try_case<L: Ledger>(
     requires nodes { 0 < length grammar.now.nodes }
 {
     let (keys, wanted, end) = parts(case).ok_or("a case")?;
-    let run = run_of(rt, alloc, keys, grammar, &Cabinet, hooks, steps)?;
-    assert!(rt; run.logs(end), "the log ends otherwise than {end}");
-    assert_eq!(rt; run.answer(alloc)?.as_str(), wanted);
+    let found = answer_of(rt, alloc, keys, end, grammar, hooks, steps)?;
+    assert_eq!(rt; found.as_str(), wanted);
     Ok(())
-}
-
-// The counter wants the runtime itself.
-fn tries_with<L: Ledger, A: Abort>(
-    rt: &A,
-    runtime: &HostRuntime,
-    blank: Blank,
-    cases: &[u8],
-) -> Result<(), Fail>
-    requires name { blank.name ≡ L.name }
-    requires parts { blank.parts ≡ L.parts }
-    requires some { 0 < L.parts }
-{
-    let alloc = runtime.alloc();
-    let (grammar, hooks) = exec_and_hooks(rt, alloc)?;
-    let mut steps: Steps<L> = Steps::new(runtime, blank);
-    for case in str::from_utf8(cases)?.split("\n\n") {
-        try_case(rt, alloc, case, &grammar, &hooks, &mut steps)?;
-    }
-    Ok(())
-}
-
-// Tries cases, parted by empty lines: keys, what the last comes to, what is shown, and how the log ends.
-pub(crate) fn tries(rt: &impl Abort, runtime: &HostRuntime, cases: &str) -> Result<(), Fail> {
-    tries_with::<Brand, _>(rt, runtime, Blank::new(1), cases.as_bytes())
 }

@@ -54,12 +54,17 @@ fn first_of_two(rt: &impl Abort, alloc: Global, run: &Run<Judges>) -> Result<Str
     Ok(format!(in alloc; "{:?} at {places:?}", verb.value())?)
 }
 
+// And of the run of INF VER.
+fn tell_of_two(rt: &impl Abort, runtime: &HostRuntime) -> Result<String, Fail> {
+    let run = two_fields(rt, runtime)?;
+    first_of_two(rt, runtime.alloc(), &run)
+}
+
 // A session tells how many fields it holds, and finds each by its number, and the first by its role: INF and the guide
 // word, which is left out. VER is no field before the line goes on.
 #[test]
 fn tells_its_fields(rt: HostRuntime) -> Result<(), Fail> {
-    let run = two_fields(&rt, &rt)?;
-    let told = first_of_two(&rt, rt.alloc(), &run)?;
+    let told = tell_of_two(&rt, &rt)?;
     assert_eq!(rt;
         told.as_str(),
         "Key { entry: 8, code: 9 } at [0, 0, 3, 4, 26]"
@@ -67,22 +72,33 @@ fn tells_its_fields(rt: HostRuntime) -> Result<(), Fail> {
     Ok(())
 }
 
+// The nodes of the first fields of three roles.
+fn find_by_role(rt: &impl Abort, runtime: &HostRuntime) -> Result<[Option<u16>; 3], Fail> {
+    let run = two_fields(rt, runtime)?;
+    Ok([Role::Verb, Role::None, Role::What].map(|role| node_of(&run, role)))
+}
+
 #[test]
 fn finds_a_field_by_its_role(rt: HostRuntime) -> Result<(), Fail> {
-    let run = two_fields(&rt, &rt)?;
-    let found = [Role::Verb, Role::None, Role::What].map(|role| node_of(&run, role));
+    let found = find_by_role(&rt, &rt)?;
     assert_eq!(rt; found, [Some(0), Some(26), None]);
     Ok(())
 }
 
-// The run of INF VER, and then CR, which a sink with room for one byte does not show.
+// What the last key came to, the ending, and the text.
+fn told(alloc: Global, run: &Run<Judges>) -> Result<String, Fail> {
+    let text = str::from_utf8(run.session.text())?;
+    Ok(format!(in alloc; "{:?} {:?} {text}", run.turn, run.session.ending())?)
+}
+
+// What the run of INF VER comes to, and then CR, which a sink with room for one byte does not show.
 fn unshown<L: Ledger>(
     rt: &impl Abort,
     alloc: Global,
     grammar: &Grammar,
     hooks: &Hooks<Judges>,
     steps: &mut Steps<L>,
-) -> Result<Run<Judges>, Fail>
+) -> Result<String, Fail>
     requires ties { Ties ⟦<Judges as Rules>⟧.meanings hooks.now }
     requires hooks { hook_count grammar.now ≤ count hooks.now }
     requires nodes { 0 < length grammar.now.nodes }
@@ -92,14 +108,14 @@ fn unshown<L: Ledger>(
     run.turn = run
         .session
         .key(b'\r', grammar, &Cabinet, hooks, &mut full, steps);
-    Ok(run)
+    told(alloc, &run)
 }
 
 fn key_unshown<L: Ledger, A: Abort>(
     rt: &A,
     runtime: &HostRuntime,
     blank: Blank,
-) -> Result<Run<Judges>, Fail>
+) -> Result<String, Fail>
     requires name { blank.name ≡ L.name }
     requires parts { blank.parts ≡ L.parts }
     requires some { 0 < L.parts }
@@ -109,16 +125,10 @@ fn key_unshown<L: Ledger, A: Abort>(
     unshown(rt, runtime.alloc(), &grammar, &hooks, &mut steps)
 }
 
-// What the last key came to, the ending, and the text.
-fn told(alloc: Global, run: &Run<Judges>) -> Result<String, Fail> {
-    let text = str::from_utf8(run.session.text())?;
-    Ok(format!(in alloc; "{:?} {:?} {text}", run.turn, run.session.ending())?)
-}
-
 // Where a sink fails the session is where the key left it.
 #[test]
 fn takes_a_key_that_is_not_shown(rt: HostRuntime) -> Result<(), Fail> {
-    let run = key_unshown::<Brand, _>(&rt, &rt, Blank::new(1))?;
-    assert_eq!(rt; told(rt.alloc(), &run)?.as_str(), "Failed Done INF VER\r");
+    let found = key_unshown::<Brand, _>(&rt, &rt, Blank::new(1))?;
+    assert_eq!(rt; found.as_str(), "Failed Done INF VER\r");
     Ok(())
 }

@@ -1,16 +1,7 @@
-use Rattle.std.proofs.Common.{sym, arith}
+use Rattle.std.proofs.Common.{sym}
 use Rattle.cm_run.specs.Trace.{run_state}
-use Rattle.cm_run.proofs.Modes.{ended_key, ended_step, line_key, line_ready, line_step, raw_key, raw_step}
+use Rattle.cm_run.proofs.Modes.{ended_key, ended_step, line_key, line_step, raw_key, raw_step}
 use Rattle.cm_run.proofs.key.handle_key.Goals as goal
-
-pub handle_line_key-requires : goal.handle_line_key-requires
-handle_line_key-requires g c = (
-  omega arith,
-  (
-    c.requires.serves,
-    line_ready g.A.Application.means _ _ c.in-Line.node c.in-Line.prompt c.in-Line.takes_moment (sym c.in-Line.ensures.mode) c.requires.ready,
-  ),
-)
 
 pub returns-in-Line-clause-traces : goal.returns-in-Line-clause-traces
 returns-in-Line-clause-traces g c = λ tells keys gets.

@@ -1,4 +1,4 @@
-use Rattle.cm_state_tests.proofs.sessions.lines.tries.Given as goal
+use Rattle.cm_state_tests.proofs.sessions.question.tries.Given as goal
 
 -- the ledger that was just opened
 abbrev pub ghosts-tries_with : goal.ghosts-tries_with

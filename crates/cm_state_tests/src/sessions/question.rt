@@ -1,0 +1,107 @@
+// What is asked of a session.
+ghost use Rattle.std.specs.Prelude.{◌≡◌, ◌<◌, ◌≤◌, length};
+ghost use Rattle.cm_blocks.specs.Grammar.{hook_count};
+ghost use Rattle.cm_hooks.specs.Ties.{Ties, count};
+
+use super::{fields, lines, run};
+use crate::judges::{Judges, hooks_of};
+use cm_blocks::{Grammar, Steps};
+use cm_hooks::{Hooks, Rules};
+use cm_state::Session;
+use std::alloc::Global;
+use std::marker::Brand;
+use std::process::Abort;
+use std::sync::ledger::{Blank, Ledger};
+use std::test::Fail;
+
+// What the keys of a run come to, how many fields it holds, or what whole lines come to.
+#[derive(Clone, Copy)]
+pub(crate) enum Question {
+    Keys,
+    Count,
+    Lines,
+}
+
+impl Question {
+    // What parts its cases.
+    fn separator(self) -> &'static str {
+        match self {
+            Question::Keys => "\n\n",
+            Question::Count => "\n",
+            Question::Lines => "\n",
+        }
+    }
+}
+
+// All whole lines are lines of one session.
+fn try_case<L: Ledger>(
+    rt: &impl Abort,
+    alloc: Global,
+    question: Question,
+    case: &str,
+    session: &mut Session<Judges>,
+    grammar: &Grammar,
+    hooks: &Hooks<Judges>,
+    steps: &mut Steps<L>,
+) -> Result<(), Fail>
+    requires ties { Ties ⟦<Judges as Rules>⟧.meanings hooks.now }
+    requires hooks { hook_count grammar.now ≤ count hooks.now }
+    requires nodes { 0 < length grammar.now.nodes }
+{
+    match question {
+        Question::Keys => run::try_case(rt, alloc, case, grammar, hooks, steps),
+        Question::Count => fields::try_case(rt, alloc, case, grammar, hooks, steps),
+        Question::Lines => lines::try_case(rt, alloc, case, session, grammar, hooks, steps),
+    }
+}
+
+// The counter wants the runtime itself.
+fn tries_with<L: Ledger, A: Abort>(
+    rt: &A,
+    runtime: &HostRuntime,
+    blank: Blank,
+    question: Question,
+    grammar: &Grammar,
+    cases: &[u8],
+) -> Result<(), Fail>
+    requires name { blank.name ≡ L.name }
+    requires parts { blank.parts ≡ L.parts }
+    requires some { 0 < L.parts }
+{
+    let alloc = runtime.alloc();
+    let hooks = hooks_of(rt, alloc, grammar)?;
+    assert!(rt; grammar.nodes() > 0);
+    let mut steps: Steps<L> = Steps::new(runtime, blank);
+    let mut session = Session::new();
+    for case in str::from_utf8(cases)?.split(question.separator()) {
+        try_case(
+            rt,
+            alloc,
+            question,
+            case,
+            &mut session,
+            grammar,
+            &hooks,
+            &mut steps,
+        )?;
+    }
+    Ok(())
+}
+
+// Tries cases on a grammar.
+pub(crate) fn tries(
+    rt: &impl Abort,
+    runtime: &HostRuntime,
+    question: Question,
+    grammar: Grammar,
+    cases: &str,
+) -> Result<(), Fail> {
+    tries_with::<Brand, _>(
+        rt,
+        runtime,
+        Blank::new(1),
+        question,
+        &grammar,
+        cases.as_bytes(),
+    )
+}
