@@ -56,8 +56,8 @@ cut_for_memory lines before now events why is traces whole =
       rest = traces.rest;
       split = ap (λ (cut : Cut). traces.done ++ event_of cut ∷ traces.rest) (sym at) ∙ traces.split ∙ whole;
       trials = traces.stands.trials
-        ∙ ap (λ (cut : Cut). before.trials + trials_of (traces.done ++ part_of cut)) at
-        ∙ ap (λ (events : List (Event TakerState)). before.trials + trials_of events) (append-nil traces.done);
+          ∙ ap (λ (cut : Cut). before.trials + trials_of (traces.done ++ part_of cut)) at
+          ∙ ap (λ (events : List (Event TakerState)). before.trials + trials_of events) (append-nil traces.done);
     })
 
 -- of the keys that were left those were taken that are left no more
