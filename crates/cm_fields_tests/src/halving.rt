@@ -11,12 +11,18 @@ fn probes(items: &[u16], wanted: u16) -> u32 {
     probes
 }
 
-#[test]
-fn a_search_of_1024_elements_looks_at_11(rt: HostRuntime) {
-    let mut items = [0; 1024];
+// The numbers 0, 1, 2, .. in their order.
+fn numbers<const N: usize>() -> [u16; N] {
+    let mut items = [0; N];
     for (place, item) in items.iter_mut().enumerate() {
         *item = place as u16;
     }
+    items
+}
+
+#[test]
+fn a_search_of_1024_elements_looks_at_11(rt: HostRuntime) {
+    let items = numbers::<1024>();
     for wanted in [0, 1, 511, 512, 513, 1023, 1024] {
         assert!(rt; probes(&items, wanted) <= 11, "at {wanted}");
     }
@@ -24,10 +30,7 @@ fn a_search_of_1024_elements_looks_at_11(rt: HostRuntime) {
 
 #[test]
 fn a_search_of_4096_elements_looks_at_13(rt: HostRuntime) {
-    let mut items = [0; 4096];
-    for (place, item) in items.iter_mut().enumerate() {
-        *item = place as u16;
-    }
+    let items = numbers::<4096>();
     for wanted in [0, 1, 2047, 2048, 2049, 4095, 4096] {
         assert!(rt; probes(&items, wanted) <= 13, "at {wanted}");
     }

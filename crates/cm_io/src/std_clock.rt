@@ -6,7 +6,10 @@ use std::time::{SystemTime, UNIX_EPOCH};
 
 /// The system's clock. It gives 0 where the clock cannot be read or stands before 1970.
 #[derive(Drop)]
-pub struct StdClock(pub HostRuntime);
+pub struct StdClock(
+    /// The runtime whose clock is read.
+    pub HostRuntime,
+);
 
 impl Clock for StdClock {
     ghost tells = { false };
