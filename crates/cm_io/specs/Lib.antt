@@ -5,6 +5,7 @@ pub mod Clock
 pub mod Host
 pub mod Loading
 pub mod Pieces
+pub mod Display
 pub mod Memory
 pub mod HeldFiles
 pub mod Writer

@@ -1,6 +1,7 @@
 -- Bytes that are fed in turn.
 use Rattle.std.proofs.Common.{◌≡◌, ℕ, ◌+◌, ◌≤◌, ◌==◌, Bool, true, false, List, [], ◌∷◌, ◌++◌, length, if◌then◌else◌, refl, arith}
-use Rattle.tt_screen.specs.Grid.{Grid, feed, feed_byte, is_printed}
+use Rattle.cm_io.specs.Display.{is_printed}
+use Rattle.tt_screen.specs.Grid.{Grid, feed, feed_byte}
 
 -- bytes are fed in two parts as in one
 pub feed-append : (grid : Grid) (bytes more : List ℕ) → feed grid (bytes ++ more) ≡ feed (feed grid bytes) more

@@ -2,10 +2,11 @@
 use Rattle.std.proofs.Common.{◌≡◌, ℕ, zero, suc, ◌+◌, ◌-◌, true, List, [], ◌∷◌, ◌++◌, length, take, get_or, replicate, slice_set, ◌≤◌, refl, ap, sym, subst, ◌∙◌, arith, append_assoc, length-append}
 use Rattle.std.proofs.lemmas.List.{append-nil, take_all, take_more}
 use Rattle.cm_text.specs.Shown.{bell, end_of_line, rubout}
+use Rattle.cm_io.specs.Display.{ArePrinted, IsDisplay, is_printed}
 use Rattle.cm_io.specs.Pieces.{times}
 use Rattle.tt_screen.specs.declared.row.TheConstants.{WIDTH}
-use Rattle.tt_screen.specs.Grid.{Grid, blank_row, feed, feed_byte, is_printed}
-use Rattle.tt_screen.specs.Holds.{ArePrinted, Holds, cells_of, row_of}
+use Rattle.tt_screen.specs.Grid.{Grid, blank_row, feed, feed_byte}
+use Rattle.tt_screen.specs.Holds.{Holds, cells_of, row_of}
 use Rattle.tt_screen.proofs.Feeding.{feed-append}
 
 -- cells behind a text that are written on
@@ -96,3 +97,13 @@ pub holds_end : (grid : Grid) (bytes : List ℕ) → Holds (feed grid (bytes ++ 
 unfolding end_of_line
 holds_end grid bytes =
     subst (λ shown. Holds (feed grid shown) []) (append_assoc bytes (13 ∷ []) (10 ∷ [])) (holds_none grid (bytes ++ 13 ∷ []))
+
+-- so a plain screen is a display
+pub screen_is_a_display : IsDisplay feed Holds
+screen_is_a_display = record {
+  turns = feed-append;
+  texts = holds_bytes;
+  bells = holds_bell;
+  rubouts = holds_rubouts;
+  line_feeds = holds_none;
+}

@@ -1,5 +1,6 @@
 -- A plain screen: rows of cells, of which the last is written on at a column.
-use Rattle.std.specs.Prelude.{ℕ, ◌+◌, ◌-◌, ◌==◌, ◌&&◌, Bool, nat_le, if◌then◌else◌, List, [], ◌∷◌, ◌++◌, replicate, slice_set}
+use Rattle.std.specs.Prelude.{ℕ, ◌+◌, ◌-◌, ◌==◌, if◌then◌else◌, List, [], ◌∷◌, ◌++◌, replicate, slice_set}
+use Rattle.cm_io.specs.Display.{is_printed}
 use Rattle.tt_screen.specs.declared.row.TheConstants.{WIDTH}
 
 -- the rows above, the last row, and the column at which the next byte goes into it
@@ -19,10 +20,6 @@ blank_row = replicate WIDTH 32
 -- one blank row, at its start
 abbrev pub blank_grid : Grid
 blank_grid = record { above = []; last = blank_row; column = 0 }
-
--- from space to tilde
-unfoldable pub is_printed : ℕ → Bool
-is_printed byte = nat_le 32 byte && nat_le byte 126
 
 -- a byte goes into the cell at the column, and the column grows; past the last cell the byte is lost
 abbrev pub with_byte : Grid → ℕ → Grid

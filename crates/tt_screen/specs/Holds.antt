@@ -1,8 +1,7 @@
 -- A screen that holds a text at the start of its last row.
-use Rattle.std.specs.Prelude.{◌≡◌, ℕ, zero, suc, true, List, [], ◌∷◌, length}
-use Rattle.std.specs.List.{AllByRecursion}
+use Rattle.std.specs.Prelude.{◌≡◌, ℕ, zero, suc, List, [], ◌∷◌, length}
 use Rattle.tt_screen.specs.declared.row.TheConstants.{WIDTH}
-use Rattle.tt_screen.specs.Grid.{Grid, is_printed}
+use Rattle.tt_screen.specs.Grid.{Grid}
 
 -- so many cells, which begin with the text as far as it goes, and have spaces behind it
 abbrev pub cells_of : ℕ → List ℕ → List ℕ
@@ -18,6 +17,3 @@ row_of text = cells_of WIDTH text
 pub record Holds (grid : Grid) (text : List ℕ) : Type 0 where
   pub last : grid.last ≡ row_of text
   pub column : grid.column ≡ length text
-
-abbrev pub ArePrinted : List ℕ → Type 0
-ArePrinted text = AllByRecursion (λ byte. is_printed byte ≡ true) text

@@ -1,6 +1,7 @@
 //! Laws of the screen.
-ghost use Rattle.std.specs.Prelude.{◌≡◌, ◌^◌, List, ℕ, [], ◌∷◌, ◌++◌};
-ghost use Rattle.tt_screen.specs.Grid.{Grid, feed};
+ghost use Rattle.std.specs.Prelude.{◌≡◌, ◌^◌};
+ghost use Rattle.cm_io.specs.Display.{IsDisplay};
+ghost use Rattle.tt_screen.specs.Grid.{feed};
 ghost use Rattle.tt_screen.specs.Holds.{Holds};
 ghost use Rattle.tt_screen.specs.declared.program.TheConstants.{KEY_LIMIT};
 ghost use Rattle.tt_screen.specs.declared.row.TheConstants.{WIDTH};
@@ -14,7 +15,8 @@ pub fn these_are_the_numbers()
     ensures keys { KEY_LIMIT ≡ 2 ^ 24 }
 {}
 
-/// Behind a line feed the last row is blank, whatever stood before.
-pub fn a_line_feed_begins_a_row()
-    ensures { (grid : Grid) → (bytes : List ℕ) → Holds (feed grid (bytes ++ 10 ∷ [])) [] }
+/// The screen is a display: where its last row holds a text, printed bytes go behind it, a bell leaves it, and rubouts
+/// take bytes off its end, for texts of every length. So it shows prompt and line of whatever keeps them on displays.
+pub fn a_plain_screen_is_a_display()
+    ensures { IsDisplay feed Holds }
 {}

@@ -44,7 +44,7 @@ impl Screen {
     /// CR to the first cell, and LF to a new row. Any other byte does nothing.
     ///
     /// A contract speaks of any screen of which these rows are kept.
-    #[tactic(auto, unfolding(crate::specs::Grid::feed_byte, crate::specs::Grid::is_printed))]
+    #[tactic(auto, unfolding(crate::specs::Grid::feed_byte, cm_io::specs::Display::is_printed))]
     pub fn feed(&mut self, byte: u8)
         requires { self.old.column < 2 ^ 32 - 1 }
         ensures { (grid : Grid) → self.old ≡ kept_of grid → self.new ≡ kept_of (feed_byte grid byte) }

@@ -113,5 +113,5 @@ fn each_status_has_its_number(rt: HostRuntime) {
 #[test]
 fn the_laws_hold() {
     tt_screen::laws::these_are_the_numbers();
-    tt_screen::laws::a_line_feed_begins_a_row();
+    tt_screen::laws::a_plain_screen_is_a_display();
 }
