@@ -6,8 +6,11 @@ pub mod Deeds
 mod FileLines
 pub mod Fileless
 pub mod Joining
+pub mod Keeping
 mod Keys
 mod LawLemmas
+pub mod LineEnds
+mod Lines
 mod Modes
 pub mod Obeying
 mod Opening
@@ -16,6 +19,7 @@ pub mod Prefixes
 pub mod Progressing
 mod Running
 pub mod Screens
+pub mod Showing
 mod Sparing
 mod Strokes
 mod Waiting

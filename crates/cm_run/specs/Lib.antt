@@ -1,10 +1,12 @@
 pub mod Cause
 pub mod Cut
 pub mod Event
+pub mod Keeping
 pub mod Meaning
 pub mod Obey
 pub mod Observed
 pub mod Progress
 pub mod Ready
+pub mod Shows
 pub mod Sound
 pub mod Trace

@@ -3,6 +3,7 @@
 #![tactic(auto)]
 
 mod application;
+pub mod display;
 mod engine;
 mod key;
 pub mod laws;

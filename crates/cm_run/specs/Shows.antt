@@ -1,12 +1,11 @@
--- A screen that shows the prompt and the line of a session.
+-- A display that shows the prompt and the line of a session.
 use Rattle.std.specs.Prelude.{◌≡◌, ◌⊎◌, ℕ, List, [], ◌∷◌, ◌++◌, IfSome}
 use Rattle.cm_text.specs.Text.{IsLine}
+use Rattle.cm_io.specs.Display.{ArePrinted}
 use Rattle.cm_line.specs.declared.key.KeyClass.{KeyClass}
 use Rattle.cm_line.specs.declared.key.KeyClass.TheVariants.{End, Stop}
 use Rattle.cm_state.specs.Echo.{prompt_text, screen_line}
 use Rattle.cm_state.specs.SessionState.{SessionState, met_line}
-use Rattle.tt_screen.specs.Grid.{Grid}
-use Rattle.tt_screen.specs.Holds.{ArePrinted, Holds}
 
 -- a session whose prompt is printed bytes; its line and what control-H brings back are lines, and that is there only
 -- while the line is empty
@@ -20,15 +19,15 @@ pub record IsClear (held : SessionState) : Type 0 where
 abbrev pub prompt_and_line : SessionState → List ℕ
 prompt_and_line held = prompt_text held.prompt ++ screen_line (met_line held)
 
--- the last row is that of prompt and line, and the column is behind them
-abbrev pub Shows : Grid → SessionState → Type 0
-Shows grid held = Holds grid (prompt_and_line held)
+-- the display holds prompt and line
+abbrev pub Shows : {D : Type 0} → (D → List ℕ → Type 0) → D → SessionState → Type 0
+Shows Holds display held = Holds display (prompt_and_line held)
 
 -- what stands behind the echo of a key: nothing where it finishes or gives up the line, and else prompt and line
-abbrev pub ShowsBehind : KeyClass → Grid → SessionState → Type 0
-ShowsBehind End grid held = Holds grid []
-ShowsBehind Stop grid held = Holds grid []
-ShowsBehind class grid held = Shows grid held
+abbrev pub ShowsBehind : {D : Type 0} → (D → List ℕ → Type 0) → KeyClass → D → SessionState → Type 0
+ShowsBehind Holds End display held = Holds display []
+ShowsBehind Holds Stop display held = Holds display []
+ShowsBehind Holds class display held = Shows Holds display held
 
 -- some bytes, and a line feed
 pub record IsEnded (bytes : List ℕ) : Type 0 where

@@ -4,7 +4,7 @@ use Rattle.std.specs.List.{flat_map}
 use Rattle.cm_text.specs.Shown.{end_of_line}
 use Rattle.cm_run.specs.Meaning.{Deed}
 use Rattle.cm_run.specs.Obey.{replies}
-use Rattle.tt_laws.specs.Shows.{EndsLine, IsEnded}
+use Rattle.cm_run.specs.Shows.{EndsLine, IsEnded}
 
 -- the end of a line
 pub eol_ends : IsEnded end_of_line

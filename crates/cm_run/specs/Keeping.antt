@@ -1,5 +1,6 @@
--- Runs that keep prompt and line on the screen.
+-- Runs that keep prompt and line on a display.
 use Rattle.std.specs.Prelude.{◌≡◌, ℕ, Bool, true, false, List, [], ◌++◌}
+use Rattle.cm_io.specs.Display.{ArePrinted}
 use Rattle.cm_state.specs.Echo.{prompt_text}
 use Rattle.cm_state.specs.SessionState.{SessionState}
 use Rattle.cm_run.specs.declared.mode.Mode.{Mode}
@@ -9,9 +10,7 @@ use Rattle.cm_run.specs.Meaning.{Meaning}
 use Rattle.cm_run.specs.Obey.{left_by, replies}
 use Rattle.cm_run.specs.Progress.{progress}
 use Rattle.cm_run.specs.Trace.{RunState, run_trace, starting}
-use Rattle.tt_screen.specs.Grid.{Grid, feed}
-use Rattle.tt_screen.specs.Holds.{ArePrinted, Holds}
-use Rattle.tt_laws.specs.Shows.{EndsLine, IsEnded, Shows}
+use Rattle.cm_run.specs.Shows.{EndsLine, IsEnded, Shows}
 
 -- where the next key is for a line, its prompt is printed bytes
 abbrev pub HasPrintedPrompt : Mode → Type 0
@@ -37,18 +36,20 @@ pub record IsLineKeeping {S : Type 0} (m : Meaning S) : Type 0 where
       → is_line (m.mode_of (left_by state (m.raw_deeds state key))) ≡ true
       → IsEnded (m.raw_echo state key ++ replies (m.raw_deeds state key))
 
--- where the next key is for a line, the screen shows prompt and line
-abbrev pub ShowsIn : Mode → Grid → SessionState → Type 0
-ShowsIn (mode.Line node prompt takes_moment) grid session = Shows grid session
-ShowsIn mode.Raw grid session = Unit {0}
-ShowsIn mode.Ended grid session = Unit {0}
+-- where the next key is for a line, the display shows prompt and line
+abbrev pub ShowsIn : {D : Type 0} → (D → List ℕ → Type 0) → Mode → D → SessionState → Type 0
+ShowsIn Holds (mode.Line node prompt takes_moment) display session = Shows Holds display session
+ShowsIn Holds mode.Raw display session = Unit {0}
+ShowsIn Holds mode.Ended display session = Unit {0}
 
 -- behind these bytes, so many as a run has shown by then
-abbrev pub ShowsAt : {S : Type 0} → Meaning S → Grid → List ℕ → RunState S → Type 0
-ShowsAt m grid bytes at = ShowsIn (m.mode_of at.state) (feed grid bytes) at.session
+abbrev pub ShowsAt : {D S : Type 0} → (D → List ℕ → D) → (D → List ℕ → Type 0) → Meaning S → D → List ℕ → RunState S
+    → Type 0
+ShowsAt feed Holds m display bytes at = ShowsIn Holds (m.mode_of at.state) (feed display bytes) at.session
 
--- on a screen whose last row is blank, all that the run over these keys shows leaves prompt and line as they then are
-unfoldable pub KeepsLine : {S : Type 0} → Meaning S → S → List ℕ → List ℕ → Type 0
-KeepsLine m state moments keys = (logging : Bool) (grid : Grid) → Holds grid []
-    → ShowsAt m grid (screen_bytes (run_trace m logging state moments keys))
+-- on a display that holds nothing, all that the run over these keys shows leaves prompt and line as they then are
+unfoldable pub KeepsLine : {D S : Type 0} → (D → List ℕ → D) → (D → List ℕ → Type 0) → Meaning S → S → List ℕ → List ℕ
+    → Type 0
+KeepsLine {D = D} feed Holds m state moments keys = (logging : Bool) (display : D) → Holds display []
+    → ShowsAt feed Holds m display (screen_bytes (run_trace m logging state moments keys))
     (progress m (starting m state moments) keys)

@@ -4,9 +4,8 @@ use Rattle.std.specs.List.{AllByRecursion}
 use Rattle.cm_text.specs.Bytes.{is_text}
 use Rattle.cm_text.specs.Shown.{screen_byte}
 use Rattle.cm_text.specs.Text.{IsLine}
+use Rattle.cm_io.specs.Display.{ArePrinted, is_printed}
 use Rattle.cm_state.specs.Echo.{screen_line}
-use Rattle.tt_screen.specs.Grid.{is_printed}
-use Rattle.tt_screen.specs.Holds.{ArePrinted}
 
 -- a byte of a line is shown as a printed byte
 pub byte_is_printed : (byte : ℕ) → is_text byte ≡ true → is_printed (screen_byte byte) ≡ true

@@ -1,4 +1,0 @@
-pub mod Keeping
-pub mod LineEnds
-pub mod Showing
-mod Lines
