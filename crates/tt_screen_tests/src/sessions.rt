@@ -12,6 +12,7 @@ use cm_blocks::{Grammar, Steps};
 use cm_files::{Names, OneDirectory};
 use cm_hooks::{Hooks, Rules};
 use cm_io::{MemSink, MemSource, Put};
+use cm_run::display::Display;
 use cm_state::{Prompt, Session, Turn};
 use std::alloc::Global;
 use std::marker::Brand;
@@ -234,10 +235,27 @@ fn shows_prompt_and_line(rt: HostRuntime) -> Result<(), Fail> {
     tries(&rt, &rt, SHORT)
 }
 
+// The plain screen, as one of the displays.
+struct PlainScreen;
+
+impl Display for PlainScreen {
+    ghost use Rattle.tt_screen.specs.Grid as grid;
+    ghost use Rattle.tt_screen.specs.Holds as held;
+    ghost use Rattle.tt_screen.proofs.Holding.{screen_is_a_display};
+
+    ghost State = { grid.Grid };
+
+    ghost feed = { grid.feed };
+
+    ghost holds = { held.Holds };
+
+    ghost is_display = { screen_is_a_display };
+}
+
 #[test]
 fn the_laws_hold() {
-    tt_laws::laws::the_prompts_are_printed();
-    tt_laws::laws::a_prompt_begins_a_line();
-    tt_laws::laws::a_key_keeps_the_screen();
-    tt_laws::laws::a_reply_ends_its_line();
+    cm_run::display::the_prompts_are_printed();
+    cm_run::display::a_prompt_begins_a_line::<PlainScreen>();
+    cm_run::display::a_key_keeps_the_screen::<PlainScreen>();
+    cm_run::display::a_reply_ends_its_line::<PlainScreen>();
 }
