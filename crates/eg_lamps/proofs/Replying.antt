@@ -4,10 +4,10 @@ use Rattle.std.specs.Fmt.{decimal}
 use Rattle.cm_text.specs.Shown.{end_of_line}
 use Rattle.cm_state.specs.declared.prompt.Prompt.TheVariants.{Main}
 use Rattle.cm_run.specs.declared.mode.Mode.TheVariants as mode
-use Rattle.tt_laws.specs.Keeping.{HasPrintedPrompt, IsLineKeeping}
-use Rattle.tt_laws.specs.Shows.{EndsLine}
-use Rattle.tt_laws.proofs.LineEnds.{ended_behind, ends_deed, ends_each, eol_ends}
-use Rattle.tt_laws.proofs.Showing.{prompts_printed}
+use Rattle.cm_run.specs.Keeping.{HasPrintedPrompt, IsLineKeeping}
+use Rattle.cm_run.specs.Shows.{EndsLine}
+use Rattle.cm_run.proofs.LineEnds.{ended_behind, ends_deed, ends_each, eol_ends}
+use Rattle.cm_run.proofs.Showing.{prompts_printed}
 use Rattle.eg_lamps.specs.Command.{command_of}
 use Rattle.eg_lamps.specs.Lamps.{blank, lamp_line, lamp_lines, note_shown, refusal, reply, too_bright}
 use Rattle.eg_lamps.specs.Program.{deed_of, lamp_meaning}

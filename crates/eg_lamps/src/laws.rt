@@ -1,6 +1,6 @@
 // Laws of the lamps, and the numbers of the program.
 ghost use Rattle.std.specs.Prelude.{◌≡◌, ◌^◌, ◌-◌};
-ghost use Rattle.tt_laws.specs.Keeping.{IsLineKeeping};
+ghost use Rattle.cm_run.specs.Keeping.{IsLineKeeping};
 ghost use Rattle.eg_lamps.specs.Program.{lamp_meaning};
 ghost use Rattle.eg_lamps.specs.declared.command.TheConstants.{NO_ROOM, STEP};
 ghost use Rattle.eg_lamps.specs.declared.grammar.TheConstants.{COMMANDS, DIM, LINE_END, LIST, NAME, QUIT, SET};

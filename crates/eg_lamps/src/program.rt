@@ -2,8 +2,10 @@
 ghost use Rattle.std.specs.Prelude.{◌≡◌, ◌<◌, ◌++◌, ℕ, List, [], IsTrue};
 ghost use Rattle.cm_hooks.specs.Ties.{Ties, count};
 ghost use Rattle.cm_io.specs.Told.{Number};
+ghost use Rattle.cm_run.specs.Keeping.{KeepsLine};
 ghost use Rattle.cm_run.specs.Observed.{observed};
-ghost use Rattle.tt_laws.specs.Keeping.{KeepsLine};
+ghost use Rattle.tt_screen.specs.Grid.{feed};
+ghost use Rattle.tt_screen.specs.Holds.{Holds};
 ghost use Rattle.eg_lamps.specs.Graph.{lamp_graph};
 ghost use Rattle.eg_lamps.specs.Program.{EndCause, Ends, lamp_meaning, lamp_start, number_of, status_of};
 ghost use Rattle.eg_lamps.specs.Rooms.{room_meanings};
@@ -95,7 +97,8 @@ impl Program {
             result }
         // Behind each beginning of the keys taken the screen shows the prompt and the line, until QUIT.
         ensures screen { IsTrue K.tells → (taken rest : List ℕ)
-            → (taken ++ rest) ++ K.left keys.new ≡ K.left keys.old → KeepsLine lamp_meaning self.old [] taken }
+            → (taken ++ rest) ++ K.left keys.new ≡ K.left keys.old
+            → KeepsLine feed Holds lamp_meaning self.old [] taken }
         // When each status comes.
         ensures cause { EndCause (K.faults keys.old) (K.faults keys.new)
             (S.faults screen.old) (S.faults screen.new) result }

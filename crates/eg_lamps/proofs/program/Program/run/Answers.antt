@@ -1,6 +1,9 @@
 use Rattle.std.proofs.Common.{[], ap, arith, refl}
 use Rattle.cm_blocks.specs.Grammar.{hook_count}
-use Rattle.tt_laws.proofs.Keeping.{run_keeps}
+use Rattle.cm_run.proofs.Keeping.{run_keeps}
+use Rattle.tt_screen.specs.Grid.{feed}
+use Rattle.tt_screen.specs.Holds.{Holds}
+use Rattle.tt_screen.proofs.Holding.{screen_is_a_display}
 use Rattle.eg_lamps.specs.Program.{lamp_meaning}
 use Rattle.eg_lamps.proofs.Faultless.{graph_hooks}
 use Rattle.eg_lamps.proofs.Replying.{lamps_keep_lines}
@@ -21,4 +24,5 @@ run-went-requires g c = (
 -- each key that was taken met what is sound
 pub returns-clause-screen : goal.returns-clause-screen
 returns-clause-screen g c = λ tells taken rest all.
-    run_keeps lamp_meaning lamps_keep_lines c.args.self.now [] taken (c.run-went.ensures.sound tells refl taken rest all)
+    run_keeps lamp_meaning lamps_keep_lines feed Holds screen_is_a_display c.args.self.now [] taken
+    (c.run-went.ensures.sound tells refl taken rest all)
