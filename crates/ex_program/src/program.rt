@@ -4,8 +4,10 @@ ghost use Rattle.cm_io.specs.Told.{add};
 ghost use Rattle.cm_hooks.specs.Ties.{Ties, count};
 ghost use Rattle.cm_run.specs.Cause.{counts};
 ghost use Rattle.cm_run.specs.Event.{log_bytes, trials_of};
+ghost use Rattle.cm_run.specs.Keeping.{KeepsLine};
 ghost use Rattle.cm_run.specs.Ready.{Serves};
-ghost use Rattle.tt_laws.specs.Keeping.{KeepsLine};
+ghost use Rattle.tt_screen.specs.Grid.{feed};
+ghost use Rattle.tt_screen.specs.Holds.{Holds};
 ghost use Rattle.ex_grammar.specs.ExecRules.{exec_meanings};
 ghost use Rattle.ex_image.specs.Image.{image_text};
 ghost use Rattle.ex_store.specs.State.{State};
@@ -92,7 +94,7 @@ fn run_exec<H: Host, K: Source, S: Sink, W: Sink, C: Clock, L: Ledger>(
     ensures past_the_prompt { IsRun result }
     ensures on_screen { IsTrue K.tells → IsTrue C.tells → (taken rest : List ℕ)
         → (taken ++ rest) ++ K.left keys.new ≡ K.left keys.old
-        → KeepsLine taker_meaning (taker_start taker.old.exec.state) (C.left clock.old) taken }
+        → KeepsLine feed Holds taker_meaning (taker_start taker.old.exec.state) (C.left clock.old) taken }
 {
     let stop = run_application(
         form.logs, taker, grammar, hooks, keys, screen, log, clock, steps,
@@ -194,7 +196,7 @@ pub fn exec20<H: Host, K: Source, S: Sink, W: Sink, C: Clock, L: Ledger>(
     ensures on_screen { IsTrue K.tells → IsTrue C.tells → (form : Form) → (start : State)
         → Asks (form_of words.now) (disk_of H.Host host.old) form start
         → (taken rest : List ℕ) → (taken ++ rest) ++ K.left keys.new ≡ K.left keys.old
-        → KeepsLine taker_meaning (taker_start start) (C.left clock.old) taken }
+        → KeepsLine feed Holds taker_meaning (taker_start start) (C.left clock.old) taken }
 
     // What stands, whatever the status. With `-g N` nothing but the screen and the counter is touched: the summary of
     // the run over the keys of so many lines is shown, and the counter has risen by what they cost; or memory is

@@ -8,10 +8,10 @@ use Rattle.cm_run.specs.Meaning.{Deed}
 use Rattle.cm_run.specs.Obey.{left_by, replies}
 use Rattle.cm_run.specs.declared.mode.Mode.TheVariants as mode
 use Rattle.cm_run.proofs.Obeying.{left_append, replies_append}
-use Rattle.tt_laws.specs.Keeping.{HasPrintedPrompt, IsLineKeeping, is_line}
-use Rattle.tt_laws.specs.Shows.{EndsLine, IsEnded}
-use Rattle.tt_laws.proofs.LineEnds.{ended_then, ends_both, ends_deed}
-use Rattle.tt_laws.proofs.Showing.{prompts_printed}
+use Rattle.cm_run.specs.Keeping.{HasPrintedPrompt, IsLineKeeping, is_line}
+use Rattle.cm_run.specs.Shows.{EndsLine, IsEnded}
+use Rattle.cm_run.proofs.LineEnds.{ended_then, ends_both, ends_deed}
+use Rattle.cm_run.proofs.Showing.{prompts_printed}
 use Rattle.ex_store.specs.declared.place.Place.{Place}
 use Rattle.ex_commands.specs.Act.{act_of}
 use Rattle.ex_commands.specs.Typed.{bytes_behind, echo_of, echo_text, turn_of}

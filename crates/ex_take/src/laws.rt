@@ -1,6 +1,6 @@
 //! Laws of the EXEC with its command files. Each is a function that does nothing, whose contract is the law.
 ghost use Rattle.std.specs.Prelude.{◌≡◌};
-ghost use Rattle.tt_laws.specs.Keeping.{IsLineKeeping};
+ghost use Rattle.cm_run.specs.Keeping.{IsLineKeeping};
 ghost use Rattle.ex_take.specs.Taker.{taker_meaning};
 ghost use Rattle.ex_take.specs.TakerState.{TakerState};
 ghost use Rattle.ex_take.specs.declared.taker.TheConstants.{MOST_FILES};

@@ -1,8 +1,10 @@
 use Rattle.std.proofs.Common.{◌≡◌, ◌+◌, false, Some, inr, refl, sym, ap, subst, ◌∙◌}
 use Rattle.cm_io.specs.Told.{add}
 use Rattle.cm_run.specs.Event.{log_bytes, trials_of}
+use Rattle.cm_run.specs.Keeping.{KeepsLine}
+use Rattle.tt_screen.specs.Grid.{feed}
+use Rattle.tt_screen.specs.Holds.{Holds}
 use Rattle.ex_image.specs.Image.{image_text}
-use Rattle.tt_laws.specs.Keeping.{KeepsLine}
 use Rattle.ex_take.specs.Taker.{taker_meaning}
 use Rattle.ex_take.specs.TakerState.{TakerState, taker_start}
 use Rattle.ex_store.specs.State.{State}
@@ -112,7 +114,7 @@ returns-clause-limit g c = λ keys clock form start asks taken rest all count go
 
 pub returns-clause-on_screen : goal.returns-clause-on_screen
 returns-clause-on_screen g c = λ keys clock form start asks taken rest all.
-    as_asked (λ (it : Form) (at : State). KeepsLine taker_meaning (taker_start at) (g.C.Clock.left c.args.clock.now) taken)
+    as_asked (λ (it : Form) (at : State). KeepsLine feed Holds taker_meaning (taker_start at) (g.C.Clock.left c.args.clock.now) taken)
     _ (disk_of g.H.Host c.args.host.now) (form_view c.in-Some.form) form c.new-taker.result.exec.state c.in-Ok.store.state start c.in-Some.ensures
     (ap (λ (it : TakerState). it.exec.state) c.new-taker.ensures) c.in-Ok.ensures.began asks
     (c.run_exec.ensures.on_screen keys clock taken rest all)
