@@ -8,7 +8,7 @@ use Rattle.cm_run.specs.Trace.{RunState, is_ended, keys_trace}
 use Rattle.cm_run.specs.declared.stop.Stop.{Stop}
 use Rattle.cm_run.specs.declared.stop.Stop.TheVariants as stop
 use Rattle.cm_run.proofs.Prefixes.{GoesOn, runs_on}
-use Rattle.ex_exec.specs.Exec.{mode_of}
+use Rattle.ex_take.specs.Exec.{mode_of}
 use Rattle.ex_take.specs.Taker.{taker_meaning}
 use Rattle.ex_take.specs.TakerState.{TakerState, taker_start}
 use Rattle.ex_store.specs.State.{State}
