@@ -9,7 +9,7 @@ use Rattle.ex_take.specs.Taker.{taker_meaning}
 use Rattle.ex_take.specs.TakerState.{TakerState, taker_start}
 use Rattle.ex_take.specs.declared.pending.Pending.{Pending}
 use Rattle.ex_take.specs.declared.typing.Typing.{Typing}
-use Rattle.ex_summary.specs.Run.{exec_trace}
+use Rattle.ex_program.specs.ExecRun.{exec_trace}
 use Rattle.ex_program.specs.Scene.{Scene, seen}
 use Rattle.ex_program.specs.declared.program.TheConstants.{KEY_LIMIT}
 
