@@ -1,7 +1,7 @@
 use Rattle.std.proofs.Common.{◌≡◌}
 use Rattle.cm_hooks.specs.Ties.{Ties, count}
 use Rattle.ex_grammar.specs.ExecRules.{exec_meanings}
-use Rattle.ex_main.proofs.run_with_rules.Given as goal
+use Rattle.exec20.proofs.run_with_rules.Given as goal
 
 -- each rule so far has its hook
 abbrev pub invariant-loop-id : goal.invariant-loop-id

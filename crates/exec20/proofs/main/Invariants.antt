@@ -1,4 +1,4 @@
-use Rattle.ex_main.proofs.main.Given as goal
+use Rattle.exec20.proofs.main.Given as goal
 
 -- the ledger that was just opened
 abbrev pub ghosts-run_with_rules : goal.ghosts-run_with_rules

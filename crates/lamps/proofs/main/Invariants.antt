@@ -1,4 +1,4 @@
-use Rattle.eg_main.proofs.main.Given as goal
+use Rattle.lamps.proofs.main.Given as goal
 
 -- the ledger that was just opened
 abbrev pub ghosts-run_with_hook : goal.ghosts-run_with_hook
