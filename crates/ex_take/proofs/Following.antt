@@ -1,5 +1,5 @@
 -- Acts of the EXEC's, and what follows them.
-use Rattle.std.proofs.Common.{◌≡◌, ℕ, ◌==◌, length, Bool, true, false, List, [], ◌∷◌, ◌++◌, map, Option, None, Some, Result, Ok, Err, refl, sym, ap, ◌∙◌, subst}
+use Rattle.std.proofs.Common.{◌≡◌, ℕ, ◌==◌, length, true, false, List, [], ◌∷◌, ◌++◌, map, Option, None, Some, Result, Ok, Err, refl, sym, ap, ◌∙◌, subst}
 use Rattle.cm_io.specs.Told.{Told, AddsPart, add}
 use Rattle.cm_io.proofs.Adding.{add_none}
 use Rattle.cm_io.specs.Fault.{PutCause}

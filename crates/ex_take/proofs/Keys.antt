@@ -1,5 +1,5 @@
 -- What an act may do to the EXEC.
-use Rattle.std.proofs.Common.{◌≡◌, ◌≢◌, ℕ, Bool, true, false, cond, List, [], ◌∷◌, Option, None, Some, refl, sym, ◌∙◌}
+use Rattle.std.proofs.Common.{◌≡◌, ◌≢◌, ℕ, Bool, true, false, cond, [], ◌∷◌, Option, None, Some, refl, sym, ◌∙◌}
 use Rattle.cm_run.specs.Obey.{left_by}
 use Rattle.ex_commands.specs.Act.{act_of}
 use Rattle.ex_commands.specs.Typed.{bytes_behind, echo_of}

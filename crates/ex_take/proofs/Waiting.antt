@@ -1,5 +1,5 @@
 -- A command that waits for its subcommands.
-use Rattle.std.proofs.Common.{◌≡◌, ℕ, Bool, true, false, cond, List, [], ◌∷◌, ◌++◌, drop, Option, None, Some, Result, Ok, Err, refl, sym, ap, ◌∙◌, subst}
+use Rattle.std.proofs.Common.{◌≡◌, ℕ, Bool, true, false, List, [], ◌∷◌, ◌++◌, drop, Option, None, Some, Result, Ok, Err, refl, sym, ap, ◌∙◌, subst}
 use Rattle.std.specs.Option.{ForSome}
 use Rattle.cm_io.specs.Told.{Told, add}
 use Rattle.cm_io.proofs.Adding.{add_none}
@@ -10,7 +10,7 @@ use Rattle.cm_run.specs.declared.stop.Stop.{Stop}
 use Rattle.cm_run.specs.declared.stop.Stop.TheVariants as stop
 use Rattle.ex_grammar.specs.declared.node.TheConstants.{COMMANDS}
 use Rattle.ex_store.specs.State.{State}
-use Rattle.ex_commands.specs.Act.{Act, act_of}
+use Rattle.ex_commands.specs.Act.{act_of}
 use Rattle.ex_commands.specs.Answer.{MayAct}
 use Rattle.ex_commands.specs.Command.{complete, is_pending, subcommand_node}
 use Rattle.ex_store.specs.Plan.{IsTarget}
@@ -19,7 +19,7 @@ use Rattle.ex_commands.specs.declared.acted.Acted.TheVariants as answers
 use Rattle.ex_commands.specs.declared.command.Command.{Command}
 use Rattle.ex_commands.specs.declared.command.Command.TheVariants as commands
 use Rattle.ex_commands.proofs.Coming.{waiting_changes_nothing, waits_for_subcommands}
-use Rattle.ex_take.specs.Exec.{becomes, completion, completion_answer, deed_of, mode_by, silent, subcommand_deeds}
+use Rattle.ex_take.specs.Exec.{becomes, completion_answer, deed_of, mode_by, subcommand_deeds}
 use Rattle.ex_take.specs.Outcome.{lacks_memory}
 use Rattle.ex_take.specs.ExecState.{ExecState}
 use Rattle.ex_take.specs.declared.pending.Pending.{Pending}

@@ -1,7 +1,5 @@
-use Rattle.std.proofs.Common.{◌≡◌, true, Some, ap, sym, subst, ◌∙◌}
-use Rattle.ex_commands.specs.Answer.{MayAct}
+use Rattle.std.proofs.Common.{◌≡◌, Some, sym, ◌∙◌}
 use Rattle.ex_take.specs.Exec.{deed_of}
-use Rattle.ex_take.specs.ExecState.{ExecState}
 use Rattle.ex_take.specs.Outcome.{outcome_of}
 use Rattle.ex_take.proofs.Waiting.{lacking_same, obeys_from, waits_on, waits_sound}
 use Rattle.ex_take.proofs.exec.Exec.complete.Goals as goal

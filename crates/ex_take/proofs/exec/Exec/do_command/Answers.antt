@@ -1,4 +1,4 @@
-use Rattle.std.proofs.Common.{◌≡◌, None, refl, sym, ◌∙◌}
+use Rattle.std.proofs.Common.{◌≡◌, None, refl, ◌∙◌}
 use Rattle.cm_run.specs.Cause.{ObeyCause}
 use Rattle.ex_take.specs.Exec.{deed_of}
 use Rattle.ex_take.specs.Outcome.{outcome_of}
