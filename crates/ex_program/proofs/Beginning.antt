@@ -1,13 +1,13 @@
 -- What the words ask for, and what a run begins from.
 use Rattle.std.proofs.Common.{◌≡◌, ℕ, false, Option, Some, sym, ap, ◌∙◌, subst, inl, inr}
 use Rattle.ex_store.specs.State.{State}
-use Rattle.ex_system.specs.Cause.{IsQuiet}
-use Rattle.ex_system.specs.Disk.{Disk}
-use Rattle.ex_system.specs.Saving.{HostCause}
-use Rattle.ex_system.specs.Start.{Began, InputCause, IsEarly, IsLoaded, IsRun, Starts}
-use Rattle.ex_system.specs.declared.status.Status.{Status}
-use Rattle.ex_system.specs.declared.status.Status.TheVariants as status
-use Rattle.ex_system.proofs.Beginning.{began_cause, early_memory, one_start}
+use Rattle.ex_program.specs.Cause.{IsQuiet}
+use Rattle.ex_program.specs.Disk.{Disk}
+use Rattle.ex_program.specs.Saving.{HostCause}
+use Rattle.ex_program.specs.Start.{Began, InputCause, IsEarly, IsLoaded, IsRun, Starts}
+use Rattle.ex_program.specs.declared.status.Status.{Status}
+use Rattle.ex_program.specs.declared.status.Status.TheVariants as status
+use Rattle.ex_program.proofs.Starting.{began_cause, early_memory, one_start}
 use Rattle.ex_program.specs.Form.{Form}
 use Rattle.ex_program.specs.Scene.{Scene}
 use Rattle.ex_program.specs.Stands.{Asks, Past, Refused, StartCause, Stands, logs}

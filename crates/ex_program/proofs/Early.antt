@@ -1,12 +1,12 @@
 -- A run that does not begin: what its status is not, and why it came.
 use Rattle.std.proofs.Common.{◌≡◌, ◌↔◌, ℕ, List, [], Option, None, Some, refl, sym, ◌∙◌, subst, inr}
 use Rattle.cm_io.specs.Told.{Told}
-use Rattle.ex_system.specs.Disk.{Disk}
-use Rattle.ex_system.specs.Messages.{message}
-use Rattle.ex_system.specs.Start.{FileCause, InputCause, IsEarly, IsRun}
-use Rattle.ex_system.specs.Trying.{Tried}
-use Rattle.ex_system.specs.declared.status.Status.{Status}
-use Rattle.ex_system.specs.declared.status.Status.TheVariants as status
+use Rattle.ex_program.specs.Disk.{Disk}
+use Rattle.ex_program.specs.Messages.{message}
+use Rattle.ex_program.specs.Start.{FileCause, InputCause, IsEarly, IsRun}
+use Rattle.ex_program.specs.Trying.{Tried}
+use Rattle.ex_program.specs.declared.status.Status.{Status}
+use Rattle.ex_program.specs.declared.status.Status.TheVariants as status
 use Rattle.ex_program.specs.Form.{Form}
 use Rattle.ex_program.specs.Scene.{Scene, with_screen}
 use Rattle.ex_program.specs.Stands.{Refused, StartCause, Stands, StandsBy}

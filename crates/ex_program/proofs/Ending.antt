@@ -12,15 +12,15 @@ use Rattle.cm_run.specs.declared.stop.Stop.TheVariants as stop
 use Rattle.ex_image.specs.Image.{image_text}
 use Rattle.ex_take.specs.TakerState.{TakerState, taker_start}
 use Rattle.ex_store.specs.State.{State}
-use Rattle.ex_system.specs.Closing.{Closes, Ends}
-use Rattle.ex_system.specs.Disk.{Disk}
-use Rattle.ex_system.specs.Messages.{message}
-use Rattle.ex_system.specs.Saving.{IsOr, Keeps, Saves}
-use Rattle.ex_system.specs.Trying.{Tried}
-use Rattle.ex_system.specs.declared.status.Status.{Status}
-use Rattle.ex_system.specs.declared.status.Status.TheVariants as status
+use Rattle.ex_program.specs.Closing.{Closes, Ends}
+use Rattle.ex_program.specs.Disk.{Disk}
+use Rattle.ex_program.specs.Messages.{message}
+use Rattle.ex_program.specs.Saving.{IsOr, Keeps, Saves}
+use Rattle.ex_program.specs.Trying.{Tried}
+use Rattle.ex_program.specs.declared.status.Status.{Status}
+use Rattle.ex_program.specs.declared.status.Status.TheVariants as status
 use Rattle.ex_program.specs.Form.{Form}
-use Rattle.ex_summary.specs.Run.{closing, exec_left, exec_trace, run_shown}
+use Rattle.ex_program.specs.ExecRun.{closing, exec_left, exec_trace, run_shown}
 use Rattle.ex_program.specs.Scene.{Scene, seen}
 use Rattle.ex_program.specs.Stands.{Ran}
 

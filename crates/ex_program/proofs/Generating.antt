@@ -1,8 +1,8 @@
 -- What stands behind a generated run.
 use Rattle.std.proofs.Common.{◌≡◌, ℕ, Option, None, Some, refl, subst}
 use Rattle.cm_io.specs.Told.{Told}
-use Rattle.ex_system.specs.Disk.{Disk}
-use Rattle.ex_system.specs.declared.status.Status.{Status}
+use Rattle.ex_program.specs.Disk.{Disk}
+use Rattle.ex_program.specs.declared.status.Status.{Status}
 use Rattle.ex_program.specs.Form.{Form}
 use Rattle.ex_program.specs.Generates.{Rises, Sums}
 use Rattle.ex_program.specs.Scene.{Scene, with_count}

@@ -8,19 +8,19 @@ use Rattle.cm_run.specs.Trace.{RunState, is_ended, keys_trace}
 use Rattle.cm_run.specs.declared.stop.Stop.{Stop}
 use Rattle.cm_run.specs.declared.stop.Stop.TheVariants as stop
 use Rattle.cm_run.proofs.Prefixes.{GoesOn, runs_on}
-use Rattle.ex_exec.specs.Exec.{mode_of}
+use Rattle.ex_take.specs.Exec.{mode_of}
 use Rattle.ex_take.specs.Taker.{taker_meaning}
 use Rattle.ex_take.specs.TakerState.{TakerState, taker_start}
 use Rattle.ex_store.specs.State.{State}
-use Rattle.ex_system.specs.Cause.{IsQuiet, StatusCause}
-use Rattle.ex_system.specs.Closing.{Closes, Ends}
-use Rattle.ex_system.specs.Saving.{HostCause}
-use Rattle.ex_system.specs.Start.{IsRun}
-use Rattle.ex_system.specs.declared.status.Status.{Status}
-use Rattle.ex_system.specs.declared.status.Status.TheVariants as status
-use Rattle.ex_system.proofs.Causing.{not_quiet}
+use Rattle.ex_program.specs.Cause.{IsQuiet, StatusCause}
+use Rattle.ex_program.specs.Closing.{Closes, Ends}
+use Rattle.ex_program.specs.Saving.{HostCause}
+use Rattle.ex_program.specs.Start.{IsRun}
+use Rattle.ex_program.specs.declared.status.Status.{Status}
+use Rattle.ex_program.specs.declared.status.Status.TheVariants as status
+use Rattle.ex_program.proofs.Causing.{not_quiet}
 use Rattle.ex_program.specs.Form.{Form}
-use Rattle.ex_summary.specs.Run.{exec_left, exec_trace}
+use Rattle.ex_program.specs.ExecRun.{exec_left, exec_trace}
 use Rattle.ex_program.specs.Scene.{Scene, seen}
 use Rattle.ex_program.specs.Stands.{Ran}
 use Rattle.ex_program.specs.declared.program.TheConstants.{KEY_LIMIT}

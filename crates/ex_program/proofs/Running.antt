@@ -4,12 +4,12 @@ use Rattle.cm_run.specs.Cause.{KeyCount}
 use Rattle.cm_run.specs.Cut.{Traces}
 use Rattle.cm_run.specs.Trace.{is_ended, run_trace}
 use Rattle.cm_run.specs.declared.stop.Stop.{Stop}
-use Rattle.ex_exec.specs.Exec.{mode_by, mode_of}
+use Rattle.ex_take.specs.Exec.{mode_by, mode_of}
 use Rattle.ex_take.specs.Taker.{taker_meaning}
 use Rattle.ex_take.specs.TakerState.{TakerState, taker_start}
-use Rattle.ex_exec.specs.declared.pending.Pending.{Pending}
-use Rattle.ex_exec.specs.declared.typing.Typing.{Typing}
-use Rattle.ex_summary.specs.Run.{exec_trace}
+use Rattle.ex_take.specs.declared.pending.Pending.{Pending}
+use Rattle.ex_take.specs.declared.typing.Typing.{Typing}
+use Rattle.ex_program.specs.ExecRun.{exec_trace}
 use Rattle.ex_program.specs.Scene.{Scene, seen}
 use Rattle.ex_program.specs.declared.program.TheConstants.{KEY_LIMIT}
 

@@ -4,7 +4,7 @@ use Rattle.std.specs.Char.{is_ascii_digit}
 use Rattle.std.specs.List.{list_all}
 use Rattle.std.specs.Str.{bytes_eq}
 use Rattle.std.specs.Str.Parse.{digits_value}
-use Rattle.ex_generator.specs.declared.progress.TheConstants.{GENERATED_LINES}
+use Rattle.ex_program.specs.declared.progress.TheConstants.{GENERATED_LINES}
 use Rattle.ex_program.specs.declared.words.TheConstants.{LONGEST_WORD, MOST_DIGITS, MOST_WORDS}
 
 -- the words so far, or None where they are too many or one is too long

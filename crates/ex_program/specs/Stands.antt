@@ -5,17 +5,17 @@ use Rattle.cm_run.specs.Cut.{Traces}
 use Rattle.cm_run.specs.declared.stop.Stop.{Stop}
 use Rattle.ex_take.specs.TakerState.{TakerState, taker_start}
 use Rattle.ex_store.specs.State.{State}
-use Rattle.ex_system.specs.Closing.{Closes}
-use Rattle.ex_system.specs.Disk.{Disk}
-use Rattle.ex_system.specs.Messages.{message}
-use Rattle.ex_system.specs.Saving.{Saves}
-use Rattle.ex_system.specs.Start.{Began, InputCause, IsEarly, IsLoaded, Starts}
-use Rattle.ex_system.specs.Trying.{Tried}
-use Rattle.ex_system.specs.declared.status.Status.{Status}
-use Rattle.ex_system.specs.declared.status.Status.TheVariants as status
+use Rattle.ex_program.specs.Closing.{Closes}
+use Rattle.ex_program.specs.Disk.{Disk}
+use Rattle.ex_program.specs.Messages.{message}
+use Rattle.ex_program.specs.Saving.{Saves}
+use Rattle.ex_program.specs.Start.{Began, InputCause, IsEarly, IsLoaded, Starts}
+use Rattle.ex_program.specs.Trying.{Tried}
+use Rattle.ex_program.specs.declared.status.Status.{Status}
+use Rattle.ex_program.specs.declared.status.Status.TheVariants as status
 use Rattle.ex_program.specs.Form.{Form}
 use Rattle.ex_program.specs.Generates.{Rises, Sums}
-use Rattle.ex_summary.specs.Run.{exec_trace}
+use Rattle.ex_program.specs.ExecRun.{exec_trace}
 use Rattle.ex_program.specs.Scene.{Scene, seen, with_count, with_screen}
 use Rattle.ex_program.specs.declared.program.TheConstants.{KEY_LIMIT}
 

@@ -1,8 +1,9 @@
 // Laws of a run, and of what can't stand at its end.
 ghost use Rattle.std.specs.Prelude.{◌≡◌, ◌^◌};
 ghost use Rattle.ex_program.specs.declared.program.TheConstants.{KEY_LIMIT};
+ghost use Rattle.ex_program.specs.declared.progress.TheConstants.{GENERATED_KEYS, GENERATED_LINES};
 ghost use Rattle.ex_program.specs.declared.words.TheConstants.{LONGEST_WORD, MOST_DIGITS, MOST_WORDS};
-ghost use Rattle.ex_system.specs.declared.input.TheConstants.{IMAGE_LIMIT};
+ghost use Rattle.ex_program.specs.declared.input.TheConstants.{IMAGE_LIMIT};
 
 /// The numbers of a run: the most keys that it takes, the most bytes of the file that it begins from, the most words
 /// that it is given, the most bytes of a word, and the most digits of a number of lines.
@@ -12,4 +13,10 @@ pub fn these_are_the_numbers()
     ensures words { MOST_WORDS ≡ 4 }
     ensures word { LONGEST_WORD ≡ 255 }
     ensures digits { MOST_DIGITS ≡ 6 }
+{}
+
+/// The most lines of a generated run, and a number of keys that none has.
+pub fn these_are_the_numbers_of_a_generated_run()
+    ensures lines { GENERATED_LINES ≡ 100000 }
+    ensures keys { GENERATED_KEYS ≡ 2 ^ 24 }
 {}

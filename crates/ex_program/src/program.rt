@@ -13,28 +13,31 @@ ghost use Rattle.ex_image.specs.Image.{image_text};
 ghost use Rattle.ex_store.specs.State.{State};
 ghost use Rattle.ex_take.specs.Taker.{taker_meaning};
 ghost use Rattle.ex_take.specs.TakerState.{taker_start};
-ghost use Rattle.ex_system.specs.Cause.{IsQuiet, StatusCause};
-ghost use Rattle.ex_system.specs.Disk.{disk_of};
-ghost use Rattle.ex_system.specs.Saving.{HostCause, Saves};
-ghost use Rattle.ex_system.specs.Start.{IsRun};
+ghost use Rattle.ex_program.specs.Cause.{IsQuiet, StatusCause};
+ghost use Rattle.ex_program.specs.Disk.{disk_of};
+ghost use Rattle.ex_program.specs.Saving.{HostCause, Saves};
+ghost use Rattle.ex_program.specs.Start.{IsRun};
 ghost use Rattle.ex_program.specs.Asked.{form_view};
-ghost use Rattle.ex_generator.specs.declared.progress.TheConstants.{GENERATED_LINES};
+ghost use Rattle.ex_program.specs.declared.progress.TheConstants.{GENERATED_LINES};
 ghost use Rattle.ex_program.specs.Form.{Form, form_of, lines_of};
 ghost use Rattle.ex_program.specs.Generates.{Rises, Shows, Sums};
 ghost use Rattle.ex_program.specs.Runs.{Runs};
-ghost use Rattle.ex_summary.specs.Run.{exec_left, exec_trace, run_shown};
-ghost use Rattle.ex_summary.specs.Summary.{summary_text};
+ghost use Rattle.ex_program.specs.ExecRun.{exec_left, exec_trace, run_shown};
+ghost use Rattle.ex_program.specs.Summary.{summary_text};
 ghost use Rattle.ex_program.specs.Scene.{scene};
 ghost use Rattle.ex_program.specs.Stands.{Asks, Ran, Stands, StartCause, logs};
 
+use crate::closing::close;
+use crate::generated_run::summarize;
+use crate::input::start;
+use crate::message::refuse;
+use crate::summary::Summary;
 use crate::{Status, Words, words};
 use cm_blocks::{Grammar, Steps};
 use cm_hooks::Hooks;
 use cm_io::{Clock, Host, NoMemory, Put, Sink, Source, Writer};
 use cm_run::{Application, Stop, run};
 use ex_grammar::{ExecRules, grammar};
-use ex_summary::{Summary, summarize};
-use ex_system::{close, refuse, start};
 use ex_take::Taker;
 use std::alloc::Global;
 use std::sync::ledger::Ledger;
@@ -155,7 +158,7 @@ fn generate<S: Sink, L: Ledger>(
 ///
 /// `hooks` answer the EXEC's rules. `steps` counts the trials: a key costs those of its line behind the
 /// fields that the unchanged front of the line decides.
-#[tactic(auto, using(ex_summary::proofs::Hooking::serves_exec))]
+#[tactic(auto, using(crate::proofs::Hooking::serves_exec))]
 pub fn exec20<H: Host, K: Source, S: Sink, W: Sink, C: Clock, L: Ledger>(
     alloc: Global,
     words: &Words,

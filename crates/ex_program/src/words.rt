@@ -3,12 +3,12 @@ ghost use Rattle.std.specs.Prelude.{◌≡◌, ◌≤◌, ℕ, List, [], length,
 ghost use Rattle.std.specs.Str.{bytes_eq};
 ghost use Rattle.std.specs.Option.{option_map};
 ghost use Rattle.ex_program.specs.Asked.{form_view};
-ghost use Rattle.ex_generator.specs.declared.progress.TheConstants.{GENERATED_LINES};
+ghost use Rattle.ex_program.specs.declared.progress.TheConstants.{GENERATED_LINES};
 ghost use Rattle.ex_program.specs.Form.{files_of, form_of, form_of_words, is_name, is_number, lines_in, lines_of, lines_of_words, with_word};
 
+use crate::GENERATED_LINES;
 use arrayvec::{ArrayString, ArrayVec};
 use cm_fields::{are_digits, value_of};
-use ex_generator::GENERATED_LINES;
 use std::marker::Model;
 
 // How many words are held.

@@ -7,7 +7,7 @@ ghost use Rattle.cm_run.specs.Event.{trials_of};
 ghost use Rattle.cm_run.specs.Meaning.{setting_of};
 ghost use Rattle.ex_take.specs.Taker.{taker_meaning};
 ghost use Rattle.ex_take.specs.TakerState.{taker_start};
-ghost use Rattle.ex_summary.specs.Run.{exec_trace};
+ghost use Rattle.ex_program.specs.ExecRun.{exec_trace};
 
 // The counter takes no bytes, so that no run can show it. Whatever the files are:
 //

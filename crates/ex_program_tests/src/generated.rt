@@ -1,13 +1,12 @@
 // Runs over generated keys, and their summaries.
 ghost use Rattle.std.specs.Prelude.{◌≤◌};
-ghost use Rattle.ex_generator.specs.declared.progress.TheConstants.{GENERATED_LINES};
+ghost use Rattle.ex_program.specs.declared.progress.TheConstants.{GENERATED_LINES};
 
 use crate::case::try_cases;
 use crate::given::{Given, outcome_of, words_of};
 use crate::notation::push_said;
 use cm_io::{Got, NoMemory, Source};
-use ex_generator::{GENERATED_LINES, Generator};
-use ex_program::Status;
+use ex_program::{GENERATED_LINES, Generator, Status};
 use std::alloc::Global;
 use std::test::Fail;
 

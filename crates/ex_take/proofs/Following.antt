@@ -1,5 +1,5 @@
 -- Acts of the EXEC's, and what follows them.
-use Rattle.std.proofs.Common.{◌≡◌, ℕ, ◌==◌, length, Bool, true, false, List, [], ◌∷◌, ◌++◌, map, Option, None, Some, Result, Ok, Err, refl, sym, ap, ◌∙◌, subst}
+use Rattle.std.proofs.Common.{◌≡◌, ℕ, ◌==◌, length, true, false, List, [], ◌∷◌, ◌++◌, map, Option, None, Some, Result, Ok, Err, refl, sym, ap, ◌∙◌, subst}
 use Rattle.cm_io.specs.Told.{Told, AddsPart, add}
 use Rattle.cm_io.proofs.Adding.{add_none}
 use Rattle.cm_io.specs.Fault.{PutCause}
@@ -26,10 +26,10 @@ use Rattle.cm_blocks.specs.declared.field.Ending.TheVariants as endings
 use Rattle.cm_blocks.specs.declared.field.Fault.{Fault}
 use Rattle.cm_blocks.specs.declared.field.Open.{Open}
 use Rattle.cm_state.specs.SessionState.{SessionState}
-use Rattle.ex_exec.specs.Exec.{command_at, completion_answer, pending_complete, subcommand_deeds}
-use Rattle.ex_exec.specs.ExecState.{ExecState}
-use Rattle.ex_exec.specs.declared.pending.Pending.{Pending}
-use Rattle.ex_exec.specs.Outcome.{outcome_of}
+use Rattle.ex_take.specs.Exec.{command_at, completion_answer, pending_complete, subcommand_deeds}
+use Rattle.ex_take.specs.ExecState.{ExecState}
+use Rattle.ex_take.specs.declared.pending.Pending.{Pending}
+use Rattle.ex_take.specs.Outcome.{outcome_of}
 use Rattle.ex_take.specs.Taker.{acts, behind_end, closed, closes, command_deeds, completion_deeds, counted, counted_by, counts, end_deeds, ending_deeds, fault_deeds, file_line_deeds, follows, innermost, is_over, lifted, line_by, line_deeds, looks_ahead, next_fault, opened, opens, passed, pending_deeds, refuses, settles, silent, stopped, take_deeds, typing_deeds, unwaiting}
 use Rattle.ex_take.specs.TakerState.{TakerState}
 use Rattle.ex_take.specs.declared.taker.TheConstants.{MOST_FILES}

@@ -25,11 +25,11 @@ use Rattle.ex_commands.specs.declared.command.Command.TheVariants as commands
 use Rattle.cm_state.specs.SessionState.{SessionState}
 use Rattle.ex_commands.proofs.LineEnds.{Ended, Ends, act_ends, refusal_ends, write_ends}
 use Rattle.ex_commands.proofs.TypedEnds.{last_key_ends}
-use Rattle.ex_exec.specs.Exec.{command_at, completion_answer, deed_of, echo_by, mode_by, mode_of, pending_complete, pending_with, raw_answer, raw_by, subcommand_deeds, typed_deeds, written}
-use Rattle.ex_exec.specs.ExecState.{ExecState}
-use Rattle.ex_exec.specs.declared.pending.Pending.{Pending}
-use Rattle.ex_exec.specs.declared.typing.Typing.{Typing}
-use Rattle.ex_take.specs.Taker.{acts, behind_end, closed, closes, command_deeds, completion_deeds, counts, end_deeds, ending_deeds, fault_deeds, file_line_deeds, follows, followed, innermost, is_over, lifted, line_by, line_deeds, looks_ahead, next_fault, opened, opens, passed, pending_deeds, raw_deeds, refuses, settles, take_deeds, taker_meaning, typing_deeds, unwaiting}
+use Rattle.ex_take.specs.Exec.{command_at, completion_answer, deed_of, echo_by, mode_by, mode_of, pending_complete, pending_with, raw_answer, raw_by, subcommand_deeds, typed_deeds, written}
+use Rattle.ex_take.specs.ExecState.{ExecState}
+use Rattle.ex_take.specs.declared.pending.Pending.{Pending}
+use Rattle.ex_take.specs.declared.typing.Typing.{Typing}
+use Rattle.ex_take.specs.Taker.{acts, behind_end, closed, closes, command_deeds, counts, end_deeds, ending_deeds, fault_deeds, follows, followed, innermost, is_over, lifted, line_by, line_deeds, looks_ahead, next_fault, opened, opens, passed, raw_deeds, refuses, settles, take_deeds, taker_meaning, typing_deeds, unwaiting}
 use Rattle.ex_take.specs.TakerState.{TakerState}
 use Rattle.ex_take.specs.declared.taker.TheConstants.{MOST_FILES}
 use Rattle.ex_take.proofs.Following.{left_lifted, replies_lifted}

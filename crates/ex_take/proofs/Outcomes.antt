@@ -1,5 +1,5 @@
 -- What comes of a command file that is taken without keys.
-use Rattle.std.proofs.Common.{◌≡◌, ℕ, List, ◌++◌, Bool, true, false, Option, Some, None, Result, Ok, Err, refl, sym, ap, ◌∙◌, subst}
+use Rattle.std.proofs.Common.{◌≡◌, ℕ, List, Bool, true, false, Option, Some, None, Result, Ok, Err, refl, sym, ap, ◌∙◌, subst}
 use Rattle.cm_fields.specs.declared.code.Code.{Code}
 use Rattle.cm_io.specs.Told.{Told}
 use Rattle.cm_run.specs.Cause.{ObeyCause}
@@ -18,7 +18,6 @@ use Rattle.ex_take.specs.Taker.{take_deeds, taker_meaning}
 use Rattle.ex_take.specs.TakerState.{TakerState}
 use Rattle.ex_take.specs.Taking.{outcome_of, take_trace, took_at, took_by, took_of}
 use Rattle.ex_take.specs.declared.taking.Took.{Took}
-use Rattle.ex_take.specs.declared.taking.Took.TheVariants as took
 
 module _ (log : Told) (keys : List ℕ) (gets : ℕ) (moments : List ℕ) (trials : ℕ) (told middle : Told) (at on : TakerState) (file : Place) (moment : ℕ) where
   leaves : Obeys (stage told at) (stage middle on) (take_deeds at file) (Ok tt) → on ≡ left_by at (take_deeds at file)

@@ -2,7 +2,7 @@
 use Rattle.std.specs.Prelude.{ℕ, List, [], Option, None}
 use Rattle.cm_fields.specs.declared.code.Code.{Code}
 use Rattle.ex_store.specs.State.{State}
-use Rattle.ex_exec.specs.ExecState.{ExecState, exec_start}
+use Rattle.ex_take.specs.ExecState.{ExecState, exec_start}
 
 -- the EXEC; the files that are open, each as the lines of it that are left, the one that is taken now at the end; how
 -- many of their lines were taken; how many lines were refused; and why the last files were closed before their ends

@@ -1,10 +1,16 @@
-//! The EXEC as an application of the engine, with the command files that it takes.
+//! The EXEC: what its confirmed lines do, how a command waits for its subcommands, and how a file is typed in; and the
+//! EXEC as an application of the engine, with the command files that it takes.
 #![tactic(auto)]
 
 mod command_file;
+mod exec;
 pub mod laws;
+mod pending;
 mod taker;
 mod taking;
+mod typing;
 
+pub use pending::Pending;
 pub use taker::{MOST_FILES, Taker};
 pub use taking::{Took, take};
+pub use typing::Typing;

@@ -8,9 +8,9 @@ mod closing;
 mod lines;
 
 use crate::command_file::CommandFile;
+use crate::exec::Exec;
 use arrayvec::ArrayVec;
 use cm_fields::Code;
-use ex_exec::Exec;
 use ex_store::Store;
 use std::alloc::Global;
 use std::marker::Model;

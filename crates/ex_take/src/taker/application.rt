@@ -4,12 +4,12 @@ ghost use Rattle.ex_take.specs.Taker.{counted_by};
 
 use super::Taker;
 use crate::command_file::parsable;
+use crate::exec::outcome_of;
 use cm_blocks::{Ending, Grammar};
 use cm_io::{Put, Sink};
 use cm_run::{Application, Mode, Stop};
 use cm_state::Session;
 use ex_commands::Acted;
-use ex_exec::outcome_of;
 use ex_grammar::ExecRules;
 use ex_store::Store;
 

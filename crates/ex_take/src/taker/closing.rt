@@ -9,12 +9,12 @@ ghost use Rattle.ex_take.specs.Taker.{behind_end, closed, closes, end_deeds, fol
 
 use super::{MOST_FILES, Taker};
 use crate::command_file::{CommandFile, is_line};
+use crate::exec::outcome_of;
 use arrayvec::ArrayVec;
 use cm_fields::Code;
 use cm_io::{Put, Sink, Writer};
 use cm_run::{FILE_LINES, Stop};
 use ex_commands::{Acted, put_refusal};
-use ex_exec::outcome_of;
 
 impl Taker {
     // Closes all files behind a refusal, and drops the command that waits.

@@ -13,19 +13,20 @@ ghost use Rattle.ex_grammar.specs.ExecRules.{exec_meanings};
 ghost use Rattle.ex_grammar.specs.Graph.{exec_graph};
 ghost use Rattle.ex_store.specs.Plan.{IsSource};
 ghost use Rattle.ex_store.specs.State.{catalogue_of};
-ghost use Rattle.ex_exec.specs.Exec.{mode_of};
-ghost use Rattle.ex_exec.specs.ExecState.{ExecState};
+ghost use Rattle.ex_take.specs.Exec.{mode_of};
+ghost use Rattle.ex_take.specs.ExecState.{ExecState};
 ghost use Rattle.ex_take.specs.Taker.{acts, command_deeds, line_deeds, passed, pending_deeds, take_deeds, typing_deeds};
 
 use super::{MOST_FILES, Taker};
+use crate::Pending;
 use crate::command_file::CommandFile;
+use crate::exec::outcome_of;
 use cm_blocks::Grammar;
 use cm_fields::Code;
 use cm_io::Sink;
 use cm_run::Stop;
 use cm_state::Session;
 use ex_commands::{Command, file_bytes};
-use ex_exec::{Pending, outcome_of};
 use ex_grammar::ExecRules;
 use ex_store::Place;
 
@@ -130,7 +131,7 @@ impl Taker {
     }
 
     // Does what a line comes to whose parse is done.
-    #[tactic(auto, using(ex_exec::proofs::Waiting::main_line, ex_exec::proofs::Waiting::subcommand_line))]
+    #[tactic(auto, using(crate::proofs::Waiting::main_line, crate::proofs::Waiting::subcommand_line))]
     pub(super) fn obey_done<S: Sink>(
         &mut self,
         session: &Session<ExecRules>,

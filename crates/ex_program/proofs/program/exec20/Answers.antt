@@ -10,12 +10,12 @@ use Rattle.ex_take.specs.TakerState.{TakerState, taker_start}
 use Rattle.ex_store.specs.State.{State}
 use Rattle.ex_program.specs.Asked.{form_view}
 use Rattle.ex_program.specs.Form.{Form}
-use Rattle.ex_summary.specs.Run.{exec_left, exec_trace, run_shown}
+use Rattle.ex_program.specs.ExecRun.{exec_left, exec_trace, run_shown}
 use Rattle.ex_program.specs.Scene.{scene}
-use Rattle.ex_system.specs.Disk.{disk_of}
-use Rattle.ex_system.specs.Saving.{HostCause}
-use Rattle.ex_system.specs.Start.{Began}
-use Rattle.ex_system.proofs.Beginning.{refused_causes}
+use Rattle.ex_program.specs.Disk.{disk_of}
+use Rattle.ex_program.specs.Saving.{HostCause}
+use Rattle.ex_program.specs.Start.{Began}
+use Rattle.ex_program.proofs.Starting.{refused_causes}
 use Rattle.ex_program.proofs.Beginning.{as_asked, asked_memory, back_to_asked, quiet_since, stands_early, stands_past, started, without_log}
 use Rattle.ex_program.proofs.Early.{as_early, past_no_usage, tried_refused}
 use Rattle.ex_program.proofs.Ending.{done_counted, done_logged, done_saved, done_shown}

@@ -1,9 +1,9 @@
 use Rattle.std.proofs.Common.{Bool, refl, subst}
 use Rattle.ex_store.specs.State.{State}
-use Rattle.ex_system.specs.Closing.{Closes}
-use Rattle.ex_system.specs.Disk.{disk_of}
-use Rattle.ex_system.specs.Saving.{Saves}
-use Rattle.ex_system.proofs.Causing.{closes_causes, closes_run}
+use Rattle.ex_program.specs.Closing.{Closes}
+use Rattle.ex_program.specs.Disk.{disk_of}
+use Rattle.ex_program.specs.Saving.{Saves}
+use Rattle.ex_program.proofs.Causing.{closes_causes, closes_run}
 use Rattle.ex_program.specs.Scene.{scene}
 use Rattle.ex_program.proofs.Running.{as_count, as_traces}
 use Rattle.ex_program.proofs.Showing.{some_taken}

@@ -1,4 +1,4 @@
-use Rattle.std.proofs.Common.{Result, Ok, Err, sym, ap, subst, ◌∙◌}
+use Rattle.std.proofs.Common.{Result, Err, sym, ap, subst, ◌∙◌}
 use Rattle.cm_run.specs.Cause.{ObeyCause}
 use Rattle.cm_run.specs.Cut.{Traces}
 use Rattle.cm_run.specs.Observed.{observed}

@@ -1,10 +1,7 @@
 use Rattle.std.proofs.Common.{[], ◌∷◌, Err, sym, subst, ◌∙◌}
-use Rattle.cm_run.specs.Cause.{ObeyCause}
 use Rattle.cm_run.specs.Obey.{Obeys, stage}
-use Rattle.cm_run.proofs.Causes.{obey_cause_on}
-use Rattle.cm_run.specs.declared.stop.Stop.{Stop}
 use Rattle.ex_commands.specs.Act.{act_of}
-use Rattle.ex_exec.specs.Exec.{deed_of}
+use Rattle.ex_take.specs.Exec.{deed_of}
 use Rattle.ex_take.specs.Taker.{acts, follows}
 use Rattle.ex_take.specs.TakerState.{TakerState}
 use Rattle.ex_take.proofs.Following.{cause_kept, cause_on, followed_cut, followed_on}

@@ -1,6 +1,6 @@
-use Rattle.std.proofs.Common.{[], ◌∷◌, Err, sym, subst, ◌∙◌}
+use Rattle.std.proofs.Common.{Err, sym, subst, ◌∙◌}
 use Rattle.cm_run.specs.Obey.{Obeys, stage}
-use Rattle.ex_exec.specs.Exec.{completion_answer, pending_with, subcommand_deeds}
+use Rattle.ex_take.specs.Exec.{completion_answer, pending_with}
 use Rattle.ex_take.specs.Taker.{follows, pending_deeds}
 use Rattle.ex_take.specs.TakerState.{TakerState}
 use Rattle.ex_take.proofs.Following.{cause_kept, cause_on, followed_from, followed_from_cut}

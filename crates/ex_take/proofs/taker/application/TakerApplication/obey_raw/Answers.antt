@@ -1,8 +1,8 @@
 use Rattle.std.proofs.Common.{Result, sym, subst}
 use Rattle.cm_run.specs.Obey.{Obeys, stage}
 use Rattle.cm_run.specs.declared.stop.Stop.{Stop}
-use Rattle.ex_exec.specs.Exec.{raw_answer, raw_by}
-use Rattle.ex_exec.specs.Outcome.{outcome_of}
+use Rattle.ex_take.specs.Exec.{raw_answer, raw_by}
+use Rattle.ex_take.specs.Outcome.{outcome_of}
 use Rattle.ex_take.specs.Taker.{raw_deeds}
 use Rattle.ex_take.specs.TakerState.{TakerState}
 use Rattle.ex_take.proofs.Following.{raw_obeys}

@@ -1,3 +1,0 @@
-pub mod Exec
-pub mod ExecState
-pub mod Outcome

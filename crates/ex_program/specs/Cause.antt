@@ -1,0 +1,40 @@
+-- When a status may come, by the counts of faults.
+use Rattle.std.specs.Prelude.{◌≡◌, ◌⊎◌, ◌<◌, ℕ, ◌-◌, ◌^◌}
+use Rattle.cm_io.specs.Fault.{Rose}
+use Rattle.cm_run.specs.Cause.{Counts}
+use Rattle.ex_program.specs.declared.status.Status.{Status}
+use Rattle.ex_program.specs.declared.status.Status.TheVariants as status
+
+-- what the run came to, also where a fault of the host took its place; the screen may have failed later, at
+-- the message
+abbrev pub EndCause : Counts → Counts → Status → Type 0
+EndCause a b status.Done = (b.keys ≡ a.keys) × (b.log ≡ a.log)
+EndCause a b status.KeyLimit = (b.keys ≡ a.keys) × (b.log ≡ a.log)
+EndCause a b status.ReadFault = Rose a.keys b.keys × (b.log ≡ a.log)
+EndCause a b status.WriteFault =
+    (b.keys ≡ a.keys) × ((Rose a.screen b.screen × (b.log ≡ a.log)) ⊎ Rose a.log b.log)
+EndCause a b status.Usage = ⊥
+EndCause a b status.NoMemory = (b.keys ≡ a.keys) × (b.log ≡ a.log)
+EndCause a b status.HostFault = ⊥
+EndCause a b (status.BadImage at kind) = ⊥
+EndCause a b status.NoImage = ⊥
+EndCause a b status.ImageTooLarge = ⊥
+
+-- the counts of screen, log and keys, by the status
+abbrev pub StatusCause : Counts → Counts → Status → Type 0
+StatusCause a b status.Done = b ≡ a
+StatusCause a b status.WriteFault =
+    (Rose a.screen b.screen × (b ≡ record a { screen = b.screen }))
+    ⊎ (Rose a.log b.log × (b ≡ record a { log = b.log }))
+StatusCause a b status.ReadFault = EndCause a b status.ReadFault
+StatusCause a b status.KeyLimit = EndCause a b status.KeyLimit
+StatusCause a b status.Usage = (b.keys ≡ a.keys) × (b.log ≡ a.log)
+StatusCause a b status.NoMemory = (b.keys ≡ a.keys) × (b.log ≡ a.log)
+StatusCause a b (status.BadImage at kind) = (b.keys ≡ a.keys) × (b.log ≡ a.log)
+StatusCause a b status.NoImage = (b.keys ≡ a.keys) × (b.log ≡ a.log)
+StatusCause a b status.ImageTooLarge = (b.keys ≡ a.keys) × (b.log ≡ a.log)
+StatusCause a b status.HostFault = (why : Status) × EndCause a b why
+
+-- the count did not rise, and does not stand at its last value
+abbrev pub IsQuiet : ℕ → ℕ → Type 0
+IsQuiet before now = (now ≡ before) × (before < 2 ^ 64 - 1)

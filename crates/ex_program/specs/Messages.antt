@@ -1,0 +1,64 @@
+-- The texts that the program shows of itself.
+use Rattle.std.specs.Prelude.{ℕ, List, [], ◌++◌, codes}
+use Rattle.std.specs.Fmt.{decimal}
+use Rattle.cm_text.specs.Shown.{end_of_line}
+use Rattle.ex_image.specs.declared.fault.Kind.{Kind}
+use Rattle.ex_image.specs.declared.fault.Kind.TheVariants as kinds
+use Rattle.ex_program.specs.declared.status.Status.{Status}
+use Rattle.ex_program.specs.declared.status.Status.TheVariants as status
+
+-- the word for a kind of fault of an image
+unfoldable pub kind_text : Kind → List ℕ
+kind_text kinds.Cut = codes "Cut"
+kind_text kinds.Form = codes "Form"
+kind_text kinds.Range = codes "Range"
+kind_text kinds.Name = codes "Name"
+kind_text kinds.Order = codes "Order"
+kind_text kinds.Limit = codes "Limit"
+
+-- the message of a status, but for the place and the kind of a fault
+unfoldable pub message_head : Status → List ℕ
+message_head status.Done = []
+message_head status.Usage = codes "Usage: exec20 [-w] IN OUT | exec20 [-w] -n OUT | exec20 -g N"
+message_head (status.BadImage at kind) = codes "?Image is bad at "
+message_head status.HostFault = codes "?Host fault"
+message_head status.ReadFault = codes "?Read fault"
+message_head status.WriteFault = []
+message_head status.NoMemory = codes "?No memory"
+message_head status.KeyLimit = codes "?Too many keys"
+message_head status.NoImage = codes "?No image"
+message_head status.ImageTooLarge = codes "?Image too large"
+
+-- between the place and the kind
+unfoldable pub colon : List ℕ
+colon = codes ": "
+
+-- where the bytes are no image, and why
+unfoldable pub fault_text : ℕ → Kind → List ℕ
+fault_text at kind = decimal at ++ colon ++ kind_text kind
+
+-- the message and the end of its line; nothing where there is no message
+abbrev pub message : Status → List ℕ
+message status.Done = []
+message status.WriteFault = []
+message (status.BadImage at kind) = message_head (status.BadImage at kind) ++ fault_text at kind ++ end_of_line
+message result = message_head result ++ end_of_line
+
+-- nothing is said of these
+abbrev pub IsSilent : Status → Type 0
+IsSilent status.Done = Unit {0}
+IsSilent status.WriteFault = Unit {0}
+IsSilent result = ⊥
+
+-- the number that the process ends with
+abbrev pub number_of : Status → ℕ
+number_of status.Done = 0
+number_of status.Usage = 1
+number_of (status.BadImage at kind) = 2
+number_of status.HostFault = 3
+number_of status.ReadFault = 4
+number_of status.WriteFault = 5
+number_of status.NoMemory = 6
+number_of status.KeyLimit = 7
+number_of status.NoImage = 8
+number_of status.ImageTooLarge = 9

@@ -1,2 +1,0 @@
-pub mod Hooking
-mod Summing

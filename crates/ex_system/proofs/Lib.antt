@@ -1,4 +1,0 @@
-pub mod Beginning
-pub mod Causing
-pub mod Parts
-pub mod TryingLemmas
