@@ -1,5 +1,5 @@
 // Files by name, as a plan has them while it is played: each directory, name and type with its generations.
-ghost use Rattle.std.specs.Prelude.{◌≡◌, ◌<◌, ◌≤◌, [], true, false, get_or, length, position, IfOk, OnOk, Ok, Some, option_map};
+ghost use Rattle.std.specs.Prelude.{◌≡◌, ◌<◌, ◌≤◌, [], true, false, get_or, length, position, IfOk, IfSome, OnOk, Ok, Some, option_map};
 ghost use Rattle.std.specs.List.{prefix_len};
 ghost use Rattle.std.specs.Ordering.{is_lt};
 ghost use Rattle.cm_files.specs.Catalogue.{ascends};
@@ -49,6 +49,7 @@ impl FileName {
             option_map (row_under self.old.key) result ≡ row_at full (rows_under self.old) }
         ensures rows { let full : Full = record { key = self.old.key; generation = generation } in
             rows_under self.new ≡ without full (rows_under self.old) }
+        ensures short { IfSome result (λ file. length file.bytes ≤ FILE_LIMIT) }
     {
         if !self.gens.has(generation) {
             return None;
@@ -158,6 +159,7 @@ pub(crate) fn add(
 pub(crate) fn remove(names: &mut [FileName], full: &FullName) -> Option<File>
     requires { ascends by_name names.old ≡ true }
     ensures file { option_map (row_under full.now.key) result ≡ row_at full.now (rows_of names.old) }
+    ensures short { IfSome result (λ file. length file.bytes ≤ FILE_LIMIT) }
     ensures rows { rows_of names.new ≡ without full.now (rows_of names.old) }
     ensures ascend { ascends by_name names.new ≡ true }
 {
