@@ -48,8 +48,9 @@ impl Store {
         }
         let key = to.own_key();
         let number = numbered(&self.rows, &key, to.generation);
+        let files = self.rows.len();
         let all = total(&self.rows);
-        let generation = match admitted(number, self.rows.len(), all, bytes.len()) {
+        let generation = match admitted(number, files, all, bytes.len()) {
             Ok(generation) => generation,
             Err(code) => return Err(Refusal::Code(code)),
         };

@@ -8,7 +8,8 @@ use Rattle.ex_store.specs.declared.file_name.FileName.{FileName}
 use Rattle.ex_store.specs.declared.key.Key.{Key}
 use Rattle.ex_store.specs.FileNames.{by_name, is_under, rows_of}
 use Rattle.ex_store.specs.Rows.{by_key}
-use Rattle.ex_store.proofs.FileNamesLaws.{ascends_entered, key_own, rows_entered, under_found}
+use Rattle.ex_store.proofs.FileNamesLaws.{ascends_entered, rows_entered, under_found}
+use Rattle.ex_store.proofs.NamedFilesLaws.{key_own}
 use Rattle.ex_store.proofs.file_name.enter.Goals as goal
 
 pub returns-in-Some-clause-there : goal.returns-in-Some-clause-there

@@ -4,7 +4,7 @@ use Rattle.ex_store.specs.FileNames.{rows_of}
 use Rattle.ex_store.specs.Rows.{added, is_in_either}
 use Rattle.ex_store.specs.WellFormed.{is_numbered}
 use Rattle.ex_store.proofs.ElementsLaws.{all_behind}
-use Rattle.ex_store.proofs.FileNamesLaws.{next_row, next_whole}
+use Rattle.ex_store.proofs.LastRowLaws.{next_row, next_whole}
 use Rattle.ex_store.proofs.simulation.blanks.Goals as goal
 
 pub add-requires-clause-absent : goal.add-requires-clause-absent

@@ -3,7 +3,7 @@ use Rattle.ex_generations.specs.declared.file.File.{File}
 use Rattle.ex_generations.specs.Generations.{IsAscending, Kept}
 use Rattle.ex_generations.specs.Retention as retaining
 use Rattle.ex_store.specs.FileNames.{row_under}
-use Rattle.ex_store.proofs.FileNamesLaws.{added_under}
+use Rattle.ex_store.proofs.NamedFilesLaws.{added_under}
 use Rattle.ex_store.proofs.file_name.FileName.add.Goals as goal
 
 pub returns-clause-rows : goal.returns-clause-rows

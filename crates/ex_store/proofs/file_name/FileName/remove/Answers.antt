@@ -1,7 +1,7 @@
 use Rattle.std.proofs.Common.{◌≡◌, Some, ap, sym, ◌∙◌, map, option_map, false, find}
 use Rattle.ex_generations.specs.Generations.{Kept, has}
 use Rattle.ex_store.specs.FileNames.{row_under}
-use Rattle.ex_store.proofs.FileNamesLaws.{row_at_none, row_at_under, short_found, without_none, without_under}
+use Rattle.ex_store.proofs.NamedFilesLaws.{row_at_none, row_at_under, short_found, without_none, without_under}
 use Rattle.ex_store.proofs.file_name.FileName.remove.Goals as goal
 
 pub returns-then-not-has-clause-file : goal.returns-then-not-has-clause-file
