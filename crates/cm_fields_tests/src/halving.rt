@@ -14,8 +14,10 @@ fn probes(items: &[u16], wanted: u16) -> u32 {
 // The numbers 0, 1, 2, .. in their order.
 fn numbers<const N: usize>() -> [u16; N] {
     let mut items = [0; N];
-    for (place, item) in items.iter_mut().enumerate() {
-        *item = place as u16;
+    let mut next = 0_u16;
+    for item in items.iter_mut() {
+        *item = next;
+        next = next.saturating_add(1);
     }
     items
 }

@@ -54,7 +54,8 @@ impl Gens {
 
     /// Whether there is a file of this generation.
     pub fn has(&self, generation: u32) -> bool
-        ensures { result ≡ has generation self.now.files }
+        ensures there { result ≡ has generation self.now.files }
+        ensures ordered { IsAscending 0 self.now.files }
     {
         search::has(&self.files, generation)
     }
@@ -90,6 +91,7 @@ impl Gens {
         ensures room { OnOk result (length self.new.files + n ≤ self.new.room) }
         ensures succeeds { length self.old.files + n ≤ self.old.room → IsOk result }
         ensures grows { self.old.room ≤ self.new.room }
+        ensures ordered { IsAscending 0 self.new.files }
     {
         self.files.reserve(n)?;
         Ok(())
@@ -99,7 +101,6 @@ impl Gens {
     /// are then marked as deleted.
     pub fn add(&mut self, file: File, retention: u8)
         requires room { length self.old.files < self.old.room }
-        requires unmarked { file.deleted ≡ false }
         requires short { length file.bytes ≤ FILE_LIMIT }
         requires from_one { 0 < file.generation }
         requires to_limit { file.generation ≤ GENERATION_LIMIT }

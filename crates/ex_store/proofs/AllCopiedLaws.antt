@@ -1,6 +1,7 @@
 -- Files are copied one after the other: where the walk over the sources stands.
 use Rattle.std.proofs.Common.{◌≡◌, ◌||◌, ℕ, ◌+◌, nat_le, Bool, true, false, not, cond, List, [], ◌∷◌, ◌++◌, length, map, Result, Ok, Err, Option, Some, None, refl, ap, arith, ◌∙◌, sym}
 use Rattle.std.proofs.lemmas.Bool.{and_from, and_parts}
+use Rattle.std.specs.List.{list_all}
 use Rattle.std.proofs.lemmas.Bool.Decides.{nat_tests}
 use Rattle.std.proofs.lemmas.List.Sums.{fold-append}
 use Rattle.cm_fields.specs.declared.code.Code.{Code}
@@ -23,7 +24,7 @@ use Rattle.ex_store.specs.Ready.{are_doable, rows_after_all, rows_after}
 use Rattle.ex_store.specs.Rows.{added, blank, by_row, files_of, full_of, total, rows_in_either}
 use Rattle.ex_store.specs.State.{has_directory}
 use Rattle.ex_store.specs.WellFormed.{AreRows, is_file_name, is_file_type, is_numbered, is_row_among}
-use Rattle.ex_store.proofs.AdmittedLaws.{admitted_is, and_then_ok, counted_target, is_counted, limited_roomy, numbered_free, rows_added}
+use Rattle.ex_store.proofs.AdmittedLaws.{IsFree, admitted_is, and_then_ok, counted_target, is_counted, limited_roomy, numbered_free, rows_added}
 use Rattle.ex_store.proofs.AscendsLaws.{ascends_map}
 use Rattle.ex_store.proofs.BlankLaws.{added_blank, numbered_blank}
 use Rattle.ex_store.proofs.DoableLaws.{doable_more}
@@ -108,20 +109,22 @@ from_formed directories to source moment generation target is within number =
       short = parts.short;
     })
 
--- rows of two directories without their bytes ascend as the rows do
-pub ascends_blank : (from to : List ℕ) (rows simulated : List Row) → simulated ≡ map blank (rows_in_either from to rows)
-    → ascends by_row rows ≡ true → ascends by_row simulated ≡ true
-ascends_blank from to rows simulated is ascend =
-    rw is (ascends_map by_row by_row blank (λ row other. refl) (rows_in_either from to rows) ∙ ascends_either from to rows ascend)
-
--- a number that is admitted is one that none has
-pub admitted_new : (key : Key) (generation : Gen) (size files bytes : ℕ) (rows : List Row) (number : ℕ) → is_counted generation ≡ true
+-- a number that is admitted is one that may be and that none has
+pub admitted_free : (key : Key) (generation : Gen) (size files bytes : ℕ) (rows : List Row) (number : ℕ) → is_counted generation ≡ true
     → and_then (limited files bytes size) (numbered generation (files_of key rows)) ≡ Ok number
-    → has number (files_of key rows) ≡ false
-admitted_new key generation size files bytes rows number counted is =
+    → IsFree (files_of key rows) number
+admitted_free key generation size files bytes rows number counted is =
     let parts = and_then_ok (limited files bytes size) (numbered generation (files_of key rows)) number is in
     let room = limited_roomy files bytes size parts.0 number parts.2 in
-    (numbered_free generation (files_of key rows) number counted (parts.1 ∙ ap (λ n. Ok n) room.1)).absent
+    numbered_free generation (files_of key rows) number counted (parts.1 ∙ ap (λ n. Ok n) room.1)
+
+-- the generations of the files of a store may be
+pub all_numbered : (directories : List Directory) (rows : List Row) → list_all (is_row_among directories) rows ≡ true
+    → list_all (λ (row : Row). is_numbered row.file.generation) rows ≡ true
+all_numbered directories [] all = refl
+all_numbered directories (row ∷ rows) all =
+    let parts = and_parts _ _ all in
+    and_from _ _ (formed directories row parts.0).generation (all_numbered directories rows parts.1)
 
 -- what the code asks of the rows that it simulates is what is asked of all rows
 pub simulated_admitted : (from to : List ℕ) (key : Key) (generation : Gen) (size files bytes : ℕ) (rows simulated : List Row)

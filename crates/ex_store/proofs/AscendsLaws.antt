@@ -78,11 +78,6 @@ pub ascends_filter : {X : Type 0} (compare : X → X → Ordering) → IsTotalOr
 ascends_filter compare total keep xs ascend =
     ascends_sorted compare (filter keep xs) (sorted_filter compare keep xs (sorted_ascends compare total xs ascend))
 
-pub ascends_tail : {X : Type 0} (compare : X → X → Ordering) (x : X) (xs : List X)
-    → ascends compare (x ∷ xs) ≡ true → ascends compare xs ≡ true
-ascends_tail compare x [] ascend = refl
-ascends_tail compare x (y ∷ xs) ascend = (and_parts _ _ ascend).1
-
 -- a change that the order does not see
 pub ascends_map : {X Y : Type 0} (compare : Y → Y → Ordering) (under : X → X → Ordering) (f : X → Y)
     → ((x y : X) → compare (f x) (f y) ≡ under x y) → (xs : List X) → ascends compare (map f xs) ≡ ascends under xs

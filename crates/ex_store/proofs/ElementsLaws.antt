@@ -34,9 +34,13 @@ elements_more xs positions i at x lt place within =
     ∙ ap (λ there. option_to_list there ++ elements_at xs (drop (i + 1) positions)) (slice_get-get_or xs at x within))
 
 -- all places but the next pass a test, too
+pub all_behind : {X : Type 0} (test : X → Bool) (xs : List X) (i : ℕ) (d : X) → i < length xs → list_all test (drop i xs) ≡ true
+    → list_all test (drop (i + 1) xs) ≡ true
+all_behind test xs i d lt all =
+    (and_parts (test (get_or xs i d)) (list_all test (drop (i + 1) xs)) (sym (at_drop_more (list_all test) xs i d lt) ∙ all)).1
+
 pub all_more : (test : ℕ → Bool) (positions : List ℕ) (i : ℕ) → i < length positions → list_all test (drop i positions) ≡ true → list_all test (drop (i + 1) positions) ≡ true
-all_more test positions i lt all =
-    (and_parts (test (get_or positions i 0)) (list_all test (drop (i + 1) positions)) (sym (at_drop_more (list_all test) positions i 0 lt) ∙ all)).1
+all_more test positions i = all_behind test positions i 0
 
 -- the next place, where all are within a list
 pub within_next : (limit : ℕ) (positions : List ℕ) (i at : ℕ) → i < length positions → at ≡ get_or positions i 0 → list_all (λ place. nat_lt place limit) (drop i positions) ≡ true → at < limit

@@ -42,7 +42,7 @@ follows_of compare total wanted x y not_above = by (compare x y) refl not_above 
     by Greater more not_above a is = absurd (cc)
 
 -- what does not fall along sorted elements
-rises_sorted : {X Y : Type 0} (compare : X → X → Ordering) (under : Y → Y → Ordering) → IsTotalOrder under → (part : X → Y)
+pub rises_sorted : {X Y : Type 0} (compare : X → X → Ordering) (under : Y → Y → Ordering) → IsTotalOrder under → (part : X → Y)
     → ((x y : X) → is_lt (compare x y) ≡ true → is_gt (under (part x) (part y)) ≡ false) → (wanted : Y) (xs : List X)
     → is_sorted compare xs ≡ true → rises (λ x. under (part x) wanted) xs ≡ true
 rises_sorted compare under total part falls wanted [] sorted = refl
@@ -63,7 +63,7 @@ key_stays Less number less = refl
 key_stays Equal number less = refl
 key_stays Greater number less = absurd (cc)
 
-full_stays : (o : Ordering) → is_lt o ≡ true → is_gt o ≡ false
+pub full_stays : (o : Ordering) → is_lt o ≡ true → is_gt o ≡ false
 full_stays Less less = refl
 full_stays Equal less = refl
 full_stays Greater less = absurd (cc)
@@ -188,19 +188,27 @@ no_position test xs is =
     sym (ap (λ n. cond (nat_lt n (length xs)) (Some n) None) is
     ∙ ap (λ b. cond b (Some (length xs)) None) (le-ltb (length xs) (length xs) (omega arith)))
 
--- the row at the place of a full name is the one that is looked for
-pub full_found : (full : FullName) (rows : List Row) (at : ℕ) (row : Row) → at ≡ prefix_len (λ other. is_lt (full_place full other)) rows
-    → at < length rows → row ≡ get_or rows at row → is_full full row ≡ true → Some at ≡ position (is_full full) rows
-full_found full rows at row place within is here =
-    let there : is_eq (full_place full (get_or rows (prefix_len (λ other. is_lt (full_place full other)) rows) row)) ≡ true =
-    ap (λ (n : ℕ). is_full full (get_or rows n row)) (sym place) ∙ ap (is_full full) (sym is) ∙ here in
-    at_position (is_full full) rows at (found_first (full_place full) rows row (omega arith) there ∙ sym place) within
+-- the element at the place is the one that is looked for
+pub found_at : {X : Type 0} (place : X → Ordering) (xs : List X) (at : ℕ) (x : X) → at ≡ prefix_len (λ y. is_lt (place y)) xs
+    → at < length xs → x ≡ get_or xs at x → is_eq (place x) ≡ true → Some at ≡ position (λ y. is_eq (place y)) xs
+found_at {X} place xs at x stands within is here =
+    let there : is_eq (place (get_or xs (prefix_len (λ y. is_lt (place y)) xs) x)) ≡ true =
+    ap (λ (n : ℕ). is_eq (place (get_or xs n x))) (sym stands) ∙ ap (λ (y : X). is_eq (place y)) (sym is) ∙ here in
+    at_position (λ y. is_eq (place y)) xs at (found_first place xs x (omega arith) there ∙ sym stands) within
 
 -- or there is none
+pub none_there : {X : Type 0} (place : X → Ordering) (xs : List X) (at : ℕ) → rises place xs ≡ true
+    → at ≡ prefix_len (λ y. is_lt (place y)) xs
+    → ((d : X) → at < length xs → is_eq (place (get_or xs at d)) ≡ false) → None ≡ position (λ y. is_eq (place y)) xs
+none_there place xs at rise stands other =
+    no_position (λ y. is_eq (place y)) xs
+    (found_none place xs rise (λ d within. ap (λ (n : ℕ). is_eq (place (get_or xs n d))) (sym stands) ∙ other d (omega arith)))
+
+pub full_found : (full : FullName) (rows : List Row) (at : ℕ) (row : Row) → at ≡ prefix_len (λ other. is_lt (full_place full other)) rows
+    → at < length rows → row ≡ get_or rows at row → is_full full row ≡ true → Some at ≡ position (is_full full) rows
+full_found full = found_at (full_place full)
+
 pub full_none : (full : FullName) (rows : List Row) (at : ℕ) → ascends by_row rows ≡ true
     → at ≡ prefix_len (λ other. is_lt (full_place full other)) rows
     → ((d : Row) → at < length rows → is_full full (get_or rows at d) ≡ false) → None ≡ position (is_full full) rows
-full_none full rows at ascend place other =
-    no_position (is_full full) rows
-    (found_none (full_place full) rows (fulls_rise full rows ascend)
-    (λ d within. ap (λ (n : ℕ). is_full full (get_or rows n d)) (sym place) ∙ other d (omega arith)))
+full_none full rows at ascend = none_there (full_place full) rows at (fulls_rise full rows ascend)

@@ -17,7 +17,7 @@ use Rattle.ex_store.proofs.RowsInLaws.{drop_front, kept_pass, middle_slice, take
 abbrev pub none_of : Key → List Row → Bool
 none_of key rows = list_all (λ row. not (is_of key row)) rows
 
-kept_lower : (count : ℕ) (key : Key) (lower more : List Row) → none_of key lower ≡ true
+pub kept_lower : (count : ℕ) (key : Key) (lower more : List Row) → none_of key lower ≡ true
     → kept_newest count key (lower ++ more) ≡ lower ++ kept_newest count key more
 kept_lower count key [] more none = refl
 kept_lower count key (row ∷ lower) more none =
@@ -30,12 +30,12 @@ kept_none count key (row ∷ rows) none =
     let parts = and_parts _ _ none in
     rw (not-true (is_of key row) parts.0) (ap (λ rest. row ∷ rest) (kept_none count key rows parts.1))
 
-files_none : (key : Key) (rows : List Row) → none_of key rows ≡ true → files_of key rows ≡ []
+pub files_none : (key : Key) (rows : List Row) → none_of key rows ≡ true → files_of key rows ≡ []
 files_none key [] none = refl
 files_none key (row ∷ rows) none =
     let parts = and_parts _ _ none in rw (not-true (is_of key row) parts.0) (files_none key rows parts.1)
 
-files_upper : (key : Key) (middle upper : List Row) → none_of key upper ≡ true
+pub files_upper : (key : Key) (middle upper : List Row) → none_of key upper ≡ true
     → files_of key (middle ++ upper) ≡ files_of key middle
 files_upper key [] upper none = files_none key upper none
 files_upper key (row ∷ middle) upper none = by (is_of key row) (files_upper key middle upper none)
@@ -46,7 +46,7 @@ files_upper key (row ∷ middle) upper none = by (is_of key row) (files_upper ke
     by true rest = ap (λ files. row.file ∷ files) rest
     by false rest = rest
 
-kept_upper : (count : ℕ) (key : Key) (middle upper : List Row) → none_of key upper ≡ true
+pub kept_upper : (count : ℕ) (key : Key) (middle upper : List Row) → none_of key upper ≡ true
     → kept_newest count key (middle ++ upper) ≡ kept_newest count key middle ++ upper
 kept_upper count key [] upper none = kept_none count key upper none
 kept_upper count key (row ∷ middle) upper none =

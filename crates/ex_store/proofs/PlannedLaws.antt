@@ -61,15 +61,6 @@ made_by plan state from directories taken rows change over made =
     rw comes
     (ap (λ (next : State). Ok (record { state = next; pairs = change.pairs })) (sym (only_files state change made.files)))
 
--- and leads to a state that is well formed
-pub sound_by : (plan : Result Outcome Code) (state : State) (directories : List Directory) (rows : List Row) (change : Change)
-    → IsWellFormed state → directories ≡ state.directories → rows ≡ state.rows → IsMade directories rows plan change
-    → IsWellFormed (applied change state)
-sound_by plan state directories rows change well same_directories same_rows made =
-    subst (λ (next : State). IsWellFormed next) (sym (only_files state change made.files))
-    (well_formed_with_rows state (rows_after_all change.retention state.rows change.row_changes) well
-    (rw (← same_directories, ← same_rows) made.sound))
-
 -- and what is refused of them, the plan refuses
 pub refused_by : (plan : List Directory → List Row → List Row → Result Outcome Code) (state : State) (from : Place)
     (directories : List Directory) (taken rows : List Row) (refusal : Refusal) → IsOver state from directories taken rows

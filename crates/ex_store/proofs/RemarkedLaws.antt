@@ -133,13 +133,6 @@ total_filter keep (row ∷ rows) = by (keep row) (total_filter keep rows)
     by true rest = omega (arith, total_cons row (filter keep rows), total_cons row rows)
     by false rest = omega (arith, total_cons row rows)
 
-same_full : (test : Row → Bool) (deleted : Bool) (row : Row) → full_of (where_passing test (with_mark deleted) row) ≡ full_of row
-same_full test deleted row = by (test row)
-  where
-    by : (passes : Bool) → full_of (cond passes (with_mark deleted row) row) ≡ full_of row
-    by true = refl
-    by false = refl
-
 same_form : (directories : List Directory) (test : Row → Bool) (deleted : Bool) (row : Row)
     → is_row_among directories (where_passing test (with_mark deleted) row) ≡ is_row_among directories row
 same_form directories test deleted row = by (test row)

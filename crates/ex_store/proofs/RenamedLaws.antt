@@ -17,7 +17,9 @@ use Rattle.ex_store.specs.declared.ready.RowChange.TheVariants as changes
 use Rattle.ex_store.specs.declared.row.Row.{Row}
 use Rattle.ex_store.specs.Adding.{admitted, and_then, each_in_turn, limited, new_row, numbered}
 use Rattle.ex_store.specs.Copying.{key_from}
-use Rattle.ex_store.specs.Plan.{IsTarget}
+use Rattle.ex_store.specs.declared.plan.Refusal.{Refusal}
+use Rattle.ex_store.specs.declared.plan.Refusal.TheVariants as refusals
+use Rattle.ex_store.specs.Plan.{IsRefused, IsTarget}
 use Rattle.ex_store.specs.Positions.{elements_at}
 use Rattle.ex_store.specs.Ready.{rows_after_all, moved, reinserted, with_name}
 use Rattle.ex_store.specs.Renaming.{AreDistinct, pair_for, renamed}
@@ -202,3 +204,9 @@ renames_more directories retention from to rows whole more source done pairs sim
     subst (λ (pair : NamePair). IsRenaming directories retention from to rows whole more (done ++ changes.Move pair ∷ []) (pairs ++ pair ∷ [])
     (moved retention pair simulated)) same
     (renames_step directories retention from to rows whole more source done pairs simulated parts.0 target form is parts.1)
+
+-- what refuses a source refuses the walk
+pub refused_so : {A B : Type 0} (first : Result A Code) (whole : Result B Code) (refusal : Refusal)
+    → ((code : Code) → first ≡ Err code → whole ≡ Err code) → IsRefused first refusal → IsRefused whole refusal
+refused_so first whole (refusals.Code code) implies is = implies code is
+refused_so first whole refusals.NoMemory implies is = tt

@@ -79,10 +79,9 @@ none-cond : (b : Bool) (i : ℕ) → cond b (Some i) None ≡ None → b ≡ fal
 none-cond true i e = absurd (cc)
 none-cond false i e = refl
 
--- where no row has the full name
-absent-from_position : (full : FullName) (rows : List Row) → position (is_full full) rows ≡ None → list_any (is_full full) rows ≡ false
-absent-from_position full rows e =
-    none-any (is_full full) rows (ltb-false _ _ (none-cond (nat_lt (position_or_len (is_full full) rows) (length rows)) _ e))
+-- where nothing passes
+pub none-from_position : {X : Type 0} (p : X → Bool) (xs : List X) → position p xs ≡ None → list_any p xs ≡ false
+none-from_position p xs e = none-any p xs (ltb-false _ _ (none-cond (nat_lt (position_or_len p xs) (length xs)) _ e))
 
 without-absent : (full : FullName) (rows : List Row) → list_any (is_full full) rows ≡ false → without full rows ≡ rows
 without-absent full [] none = refl
@@ -103,10 +102,10 @@ filled-absent full moment bytes (row ∷ more) none =
     rw parts.0 (ap (λ rest. row ∷ rest) (filled-absent full moment bytes more parts.1))
 
 pub without_none : (full : FullName) (rows : List Row) → position (is_full full) rows ≡ None → without full rows ≡ rows
-without_none full rows e = without-absent full rows (absent-from_position full rows e)
+without_none full rows e = without-absent full rows (none-from_position (is_full full) rows e)
 
 pub row_none : (full : FullName) (rows : List Row) → position (is_full full) rows ≡ None → row_at full rows ≡ None
-row_none full rows e = row_at-absent full rows (absent-from_position full rows e)
+row_none full rows e = row_at-absent full rows (none-from_position (is_full full) rows e)
 
 pub filled_none : (full : FullName) (moment : ℕ) (bytes : List ℕ) (rows : List Row) → position (is_full full) rows ≡ None → filled full moment bytes rows ≡ rows
-filled_none full moment bytes rows e = filled-absent full moment bytes rows (absent-from_position full rows e)
+filled_none full moment bytes rows e = filled-absent full moment bytes rows (none-from_position (is_full full) rows e)

@@ -369,13 +369,6 @@ middle_slice test xs middle first behind parts =
     ∙ drop_front parts.lower (middle ++ parts.upper) in
     ap (λ (k : ℕ). take k (drop first xs)) size ∙ ap (take (length middle)) rest ∙ take_front middle parts.upper
 
--- the rows of a directory are a slice of all
-pub block_slice : (directory : List ℕ) (rows : List Row) → ascends by_row rows ≡ true
-    → take (end_in directory rows - first_in directory rows) (drop (first_in directory rows) rows) ≡ rows_in directory rows
-block_slice directory rows ascend =
-    middle_slice (is_in directory) rows (rows_in directory rows) (first_in directory rows) (end_in directory rows)
-    (block directory rows ascend)
-
 -- the positions of what passes, among the rows of a directory
 positions_append : {X : Type 0} (test : X → Bool) (at : ℕ) (front more : List X)
     → positions_from test at (front ++ more) ≡ positions_from test at front ++ positions_from test (at + length front) more

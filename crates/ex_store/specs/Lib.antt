@@ -16,3 +16,4 @@ pub mod Rows
 pub mod Selection
 pub mod State
 pub mod WellFormed
+pub mod FileNames

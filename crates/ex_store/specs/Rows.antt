@@ -107,7 +107,7 @@ abbrev pub is_in_either : List ℕ → List ℕ → Row → Bool
 is_in_either first second row = is_in first row || is_in second row
 
 abbrev pub rows_in_either : List ℕ → List ℕ → List Row → List Row
-rows_in_either from to rows = filter (is_in_either from to) rows
+rows_in_either first second rows = filter (is_in_either first second) rows
 
 -- the pages of a directory's files, those that are marked too
 abbrev pub pages_in : List ℕ → List Row → ℕ

@@ -2,7 +2,7 @@
 ghost use Rattle.std.specs.Prelude.{◌≡◌, ◌≤◌, true};
 ghost use Rattle.cm_files.specs.Catalogue.{ascends};
 ghost use Rattle.ex_generations.specs.declared.file.TheConstants.{FILE_LIMIT};
-ghost use Rattle.ex_store.specs.Adding.{admitted_beside, limited, next_of, numbered};
+ghost use Rattle.ex_store.specs.Adding.{and_then, limited, next_of, numbered};
 ghost use Rattle.ex_store.specs.Rows.{by_row, files, files_of};
 
 use crate::limits::{ROW_LIMIT, STORE_LIMIT};
@@ -52,21 +52,18 @@ pub(crate) fn limited(files: usize, bytes: usize, size: usize, generation: u32) 
     }
 }
 
-// The generation under which a row of this size is added to these, where there are so many files in all, of so many
-// bytes; or the first refusal.
+// The generation under which a file of this size is added, where there are so many files in all, of so many bytes; or the
+// refusal of its generation or of its size.
 pub(crate) fn admitted(
-    rows: &[Row],
+    number: Result<u32, Code>,
     files: usize,
     bytes: usize,
-    key: &Key,
-    generation: Gen,
     size: usize,
 ) -> Result<u32, Code>
-    requires rows { ascends by_row rows.now ≡ true }
-    requires bytes { bytes ≤ STORE_LIMIT }
-    ensures { result ≡ admitted_beside files bytes key.now generation size rows.now }
+    requires { bytes ≤ STORE_LIMIT }
+    ensures { result ≡ and_then (limited files bytes size) number }
 {
-    match numbered(rows, key, generation) {
+    match number {
         Ok(number) => limited(files, bytes, size, number),
         Err(code) => Err(code),
     }

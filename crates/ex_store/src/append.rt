@@ -14,7 +14,7 @@ ghost use Rattle.ex_store.specs.Rows.{by_row, files_of, total};
 ghost use Rattle.ex_store.specs.State.{retention_of};
 ghost use Rattle.ex_store.specs.WellFormed.{AreRows, IsWellFormed};
 
-use crate::adding::admitted;
+use crate::adding::{admitted, numbered};
 use crate::copy::moment_of;
 use crate::directory::retention_of;
 use crate::limits::STORE_LIMIT;
@@ -140,10 +140,13 @@ fn opened(
             };
             return Ok(Opening { target, new: None });
         }
-        Ok(None) => match admitted(rows, rows.len(), total(rows), &key, generation, 0) {
-            Ok(number) => number,
-            Err(code) => return Err(code),
-        },
+        Ok(None) => {
+            let number = numbered(rows, &key, generation);
+            match admitted(number, rows.len(), total(rows), 0) {
+                Ok(number) => number,
+                Err(code) => return Err(code),
+            }
+        }
         Err(code) => return Err(code),
     };
     let new = Row::new(key, number, moment_of(moment), Bytes::new(Vec::new(alloc)));

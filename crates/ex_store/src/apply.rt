@@ -1,26 +1,14 @@
 // Plans are done.
 ghost use Rattle.std.specs.Prelude.{◌≡◌, ◌<◌, ◌≤◌, ◌+◌, true, [], ◌∷◌, ◌++◌, vec_capacity, vec_len};
 ghost use Rattle.cm_files.specs.Catalogue.{ascends};
-ghost use Rattle.ex_store.specs.declared.ready.RowChange.TheVariants as changes;
-ghost use Rattle.ex_store.specs.Ready.{IsFor, applied, are_doable, is_doable, moved, rows_after, rows_after_all};
+ghost use Rattle.ex_store.specs.Ready.{IsFor, applied, are_doable, is_doable, rows_after, rows_after_all};
 ghost use Rattle.ex_store.specs.Rows.{by_row};
 
 use crate::build::make;
 use crate::change::{add, fill};
 use crate::define::define;
 use crate::shift::move_row;
-use crate::{NamePair, QueueEntry, Ready, Row, RowChange, Store};
-
-// A file goes to another name.
-fn rename_row(rows: &mut Vec<Row>, pair: &NamePair, retention: u8)
-    requires rows { ascends by_row rows.old.items ≡ true }
-    requires doable { is_doable rows.old.items (changes.Move pair.now) ≡ true }
-    ensures items { rows.new.items ≡ moved retention pair.now rows.old.items }
-    ensures len { vec_len rows.new ≤ vec_len rows.old }
-    ensures capacity { vec_capacity rows.new ≡ vec_capacity rows.old }
-{
-    move_row(rows, pair, retention);
-}
+use crate::{QueueEntry, Ready, Row, RowChange, Store};
 
 // One change, in a vector that has room for it.
 fn change_row(rows: &mut Vec<Row>, change: RowChange, retention: u8)
@@ -34,7 +22,7 @@ fn change_row(rows: &mut Vec<Row>, change: RowChange, retention: u8)
 {
     match change {
         RowChange::Add(row) => add(rows, row, retention),
-        RowChange::Move(pair) => rename_row(rows, &pair, retention),
+        RowChange::Move(pair) => move_row(rows, &pair, retention),
         RowChange::Fill {
             target,
             moment,

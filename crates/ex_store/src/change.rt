@@ -1,10 +1,8 @@
 // Changes of the rows of a store.
-ghost use Rattle.std.specs.Prelude.{◌≡◌, ◌<◌, ◌≤◌, ◌+◌, true, false, length, insert, vec_capacity, vec_len, OnSome};
-ghost use Rattle.std.specs.Option.{option_to_list};
+ghost use Rattle.std.specs.Prelude.{◌≡◌, ◌<◌, ◌≤◌, ◌+◌, true, false, insert, vec_capacity, vec_len};
 ghost use Rattle.cm_files.specs.Catalogue.{ascends};
 ghost use Rattle.ex_generations.specs.Generations.{has, rewritten};
-ghost use Rattle.ex_store.specs.Ready.{reinserted, with_name};
-ghost use Rattle.ex_store.specs.Rows.{added, by_row, filled, files_of, inserted, kept_newest, older_marked, retained, row_at, without};
+ghost use Rattle.ex_store.specs.Rows.{added, by_row, filled, files_of, inserted, kept_newest, older_marked, retained};
 
 use crate::search::{live, place, position, range_of};
 use crate::{FullName, Key, Row};
@@ -82,48 +80,6 @@ pub(crate) fn add(rows: &mut Vec<Row>, row: Row, retention: u8)
     let key = row.key.copy();
     insert(rows, row);
     retain(rows, &key, retention);
-}
-
-// Takes the row of a full name out, where there is one.
-pub(crate) fn remove(rows: &mut Vec<Row>, full: &FullName) -> Option<Row>
-    requires { ascends by_row rows.old.items ≡ true }
-    ensures row { result ≡ row_at full.now rows.old.items }
-    ensures items { rows.new.items ≡ without full.now rows.old.items }
-    ensures len { vec_len rows.new + length (option_to_list result) ≡ vec_len rows.old }
-    ensures room { OnSome result (vec_len rows.new < vec_capacity rows.new) }
-    ensures capacity { vec_capacity rows.new ≡ vec_capacity rows.old }
-{
-    match position(rows, full) {
-        Some(at) => Some(rows.remove(at)),
-        None => None,
-    }
-}
-
-// The row under another name, unmarked.
-fn with_name(row: Row, target: &FullName) -> Row
-    ensures { result ≡ with_name target.now row }
-{
-    let Row { file, .. } = row;
-    Row::new(
-        target.key.copy(),
-        target.generation,
-        file.moment,
-        file.bytes,
-    )
-}
-
-// Adds a row that was taken out under another name.
-pub(crate) fn reinsert(rows: &mut Vec<Row>, target: &FullName, row: Option<Row>, retention: u8)
-    requires rows { ascends by_row rows.old.items ≡ true }
-    requires absent { has target.now.generation (files_of target.now.key rows.old.items) ≡ false }
-    requires room { OnSome row (vec_len rows.old < vec_capacity rows.old) }
-    ensures items { rows.new.items ≡ reinserted retention target.now rows.old.items row }
-    ensures len { vec_len rows.new ≡ vec_len rows.old + length (option_to_list row) }
-    ensures capacity { vec_capacity rows.new ≡ vec_capacity rows.old }
-{
-    if let Some(row) = row {
-        add(rows, with_name(row, target), retention);
-    }
 }
 
 fn overwrite(row: &mut Row, moment: u64, bytes: Bytes)

@@ -8,16 +8,17 @@ ghost use Rattle.ex_store.specs.declared.plan.Plan.TheVariants as plans;
 ghost use Rattle.ex_store.specs.declared.ready.RowChange.TheVariants as changes;
 ghost use Rattle.ex_store.specs.Adding.{new_row};
 ghost use Rattle.ex_store.specs.Copying.{all_copied, moment_of};
+ghost use Rattle.ex_store.specs.FileNames.{by_name, rows_of};
 ghost use Rattle.ex_store.specs.Plan.{IsRefused, IsTarget, MayPlan, planned};
 ghost use Rattle.ex_store.specs.Positions.{elements_at};
 ghost use Rattle.ex_store.specs.Ready.{IsMade, applied, are_doable, done_on};
-ghost use Rattle.ex_store.specs.Rows.{added, blank, by_row, files_of, full_of};
+ghost use Rattle.ex_store.specs.Rows.{added, blank, files_of, full_of};
 ghost use Rattle.ex_store.specs.State.{retention_of};
-ghost use Rattle.ex_store.specs.WellFormed.{AreRows, IsWellFormed};
+ghost use Rattle.ex_store.specs.WellFormed.{AreRows, IsWellFormed, is_numbered};
 
 use crate::adding::admitted;
-use crate::change::add;
 use crate::directory::retention_of;
+use crate::file_name::{add, numbered};
 use crate::limits::MOMENT_LIMIT;
 use crate::search::total;
 use crate::simulation::Simulation;
@@ -43,8 +44,9 @@ impl Simulation {
         moment: u64,
         retention: u8,
     ) -> Result<(), NoMemory>
-        requires rows { ascends by_row self.old.simulated.items ≡ true }
-        requires absent { has generation (files_of key self.old.simulated.items) ≡ false }
+        requires names { ascends by_name self.old.names.items ≡ true }
+        requires number { is_numbered generation ≡ true }
+        requires absent { has generation (files_of key (rows_of self.old.names.items)) ≡ false }
         ensures row_changes { OnOk result (self.new.row_changes.items
             ≡ self.old.row_changes.items ++ changes.Add (new_row key moment source.now.file.bytes generation) ∷ []) }
         ensures pairs { OnOk result (self.new.pairs.items
@@ -52,12 +54,13 @@ impl Simulation {
               source = full_of source.now;
               target = record { key = key; generation = generation };
             }) ∷ []) }
-        ensures simulated { OnOk result (self.new.simulated.items
-            ≡ added retention (blank (new_row key moment source.now.file.bytes generation)) self.old.simulated.items) }
+        ensures names { OnOk result (rows_of self.new.names.items
+            ≡ added retention (blank (new_row key moment source.now.file.bytes generation))
+            (rows_of self.old.names.items)) }
+        ensures ascend { OnOk result (ascends by_name self.new.names.items ≡ true) }
     {
         let row = Row::new(key, generation, moment, source.file.bytes.copy(alloc)?);
-        self.simulated.reserve(1)?;
-        add(&mut self.simulated, row.blank(alloc), retention);
+        add(&mut self.names, alloc, row.blank(alloc), retention)?;
         self.pairs.push(NamePair {
             source: source.full_name(),
             target: row.full_name(),
@@ -99,14 +102,8 @@ fn copies(
         let source = &rows[usize::from(*at)];
         let key = to.key_from(&source.key);
         let size = source.file.bytes.len();
-        let generation = match admitted(
-            &simulation.simulated,
-            files,
-            bytes,
-            &key,
-            to.generation,
-            size,
-        ) {
+        let number = numbered(&simulation.names, &key, to.generation);
+        let generation = match admitted(number, files, bytes, size) {
             Ok(generation) => generation,
             Err(code) => return Err(Refusal::Code(code)),
         };

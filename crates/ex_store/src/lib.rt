@@ -12,6 +12,7 @@ mod copy;
 mod define;
 mod directory;
 mod draft;
+mod file_name;
 mod key;
 pub mod laws;
 mod limits;

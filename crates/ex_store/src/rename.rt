@@ -1,101 +1,87 @@
 // Files are given other names.
-ghost use Rattle.std.specs.Prelude.{ℕ, ◌≡◌, ◌≤◌, true, false, [], ◌∷◌, ◌++◌, length, nat_lt, IfOk, IfErr, OnOk, Ok};
+ghost use Rattle.std.specs.Prelude.{ℕ, ◌≡◌, ◌≤◌, true, false, [], ◌∷◌, ◌++◌, length, nat_lt, IfOk, IfErr, IfSome, OnOk, Ok, option_map};
 ghost use Rattle.std.specs.List.{list_all};
-ghost use Rattle.std.specs.Ordering.{is_eq};
 ghost use Rattle.cm_files.specs.Catalogue.{ascends};
+ghost use Rattle.ex_generations.specs.declared.file.TheConstants.{FILE_LIMIT};
+ghost use Rattle.ex_generations.specs.Generations.{has};
 ghost use Rattle.ex_store.specs.declared.limits.TheConstants.{ROW_LIMIT};
 ghost use Rattle.ex_store.specs.declared.plan.Plan.TheVariants as plans;
 ghost use Rattle.ex_store.specs.declared.ready.RowChange.TheVariants as changes;
+ghost use Rattle.ex_store.specs.FileNames.{by_name, row_under, rows_of};
 ghost use Rattle.ex_store.specs.Plan.{IsRefused, IsTarget, MayPlan, may_number, planned};
 ghost use Rattle.ex_store.specs.Positions.{elements_at};
-ghost use Rattle.ex_store.specs.Ready.{IsMade, applied, are_doable, done_on, moved};
-ghost use Rattle.ex_store.specs.Renaming.{AreDistinct, all_renamed, pair_for, pair_to};
-ghost use Rattle.ex_store.specs.Rows.{by_key, by_row, is_in};
+ghost use Rattle.ex_store.specs.Ready.{IsMade, applied, are_doable, done_on, moved, reinserted};
+ghost use Rattle.ex_store.specs.Renaming.{AreDistinct, all_renamed, pair_for};
+ghost use Rattle.ex_store.specs.Rows.{files_of, is_in};
 ghost use Rattle.ex_store.specs.State.{retention_of};
-ghost use Rattle.ex_store.specs.WellFormed.{AreRows, IsWellFormed};
+ghost use Rattle.ex_store.specs.WellFormed.{AreRows, IsWellFormed, is_numbered};
 
-use crate::adding::numbered;
-use crate::change::{reinsert, remove};
 use crate::directory::retention_of;
-use crate::key::key_cmp;
-use crate::shift::move_row;
+use crate::file_name::{FileName, add, numbered, remove};
 use crate::simulation::Simulation;
-use crate::{Directory, FullName, Key, NamePair, Place, Ready, Refusal, Row, RowChange, Store};
-use cm_fields::{Code, Gen};
+use crate::{Directory, FullName, NamePair, Place, Ready, Refusal, Row, RowChange, Store};
 use cm_io::NoMemory;
+use ex_generations::File;
 use std::alloc::Global;
 
-// A source is renamed in a simulation where its name and type stay: it is taken out, and added under another
-// generation.
-fn renumber(
-    simulated: &mut Vec<Row>,
-    full: FullName,
-    key: Key,
-    generation: Gen,
+// Adds a file that was taken out under another name, unmarked.
+fn reinsert(
+    names: &mut Vec<FileName>,
+    alloc: Global,
+    target: &FullName,
+    file: Option<File>,
     retention: u8,
-) -> Result<NamePair, Code>
-    requires rows { ascends by_row simulated.old.items ≡ true }
-    requires number { may_number generation ≡ true }
-    ensures pair { result ≡ pair_to full key generation simulated.old.items }
-    ensures simulated { IfOk result (λ pair. simulated.new.items ≡ moved retention pair simulated.old.items) }
+) -> Result<(), NoMemory>
+    requires names { ascends by_name names.old.items ≡ true }
+    requires short { IfSome file (λ file. length file.bytes ≤ FILE_LIMIT) }
+    requires number { is_numbered target.now.generation ≡ true }
+    requires absent { has target.now.generation (files_of target.now.key (rows_of names.old.items)) ≡ false }
+    ensures rows { OnOk result (rows_of names.new.items
+        ≡ reinserted retention target.now (rows_of names.old.items) (option_map (row_under target.now.key) file)) }
+    ensures ascend { OnOk result (ascends by_name names.new.items ≡ true) }
 {
-    let row = remove(simulated, &full);
-    let generation = match numbered(simulated, &key, generation) {
-        Ok(generation) => generation,
-        Err(code) => return Err(code),
+    let Some(file) = file else {
+        return Ok(());
     };
-    let pair = NamePair {
-        source: full,
-        target: FullName { key, generation },
-    };
-    reinsert(simulated, &pair.target, row, retention);
-    Ok(pair)
+    let row = Row::new(
+        target.key.copy(),
+        target.generation,
+        file.moment,
+        file.bytes,
+    );
+    add(names, alloc, row, retention)?;
+    Ok(())
 }
 
-// The same where they do not: it moves to its place.
-fn relocate(
-    simulated: &mut Vec<Row>,
-    full: FullName,
-    key: Key,
-    generation: Gen,
-    retention: u8,
-) -> Result<NamePair, Code>
-    requires rows { ascends by_row simulated.old.items ≡ true }
-    requires number { may_number generation ≡ true }
-    requires apart { is_eq (by_key full.key key) ≡ false }
-    ensures pair { result ≡ pair_to full key generation simulated.old.items }
-    ensures simulated { IfOk result (λ pair. simulated.new.items ≡ moved retention pair simulated.old.items) }
-{
-    let generation = match numbered(simulated, &key, generation) {
-        Ok(generation) => generation,
-        Err(code) => return Err(code),
-    };
-    let pair = NamePair {
-        source: full,
-        target: FullName { key, generation },
-    };
-    move_row(simulated, &pair, retention);
-    Ok(pair)
-}
-
-// A source is renamed in a simulation. Which names it had and has.
+// A source is renamed in a simulation: it is taken out, and added under its new name. Which names it had and has.
 fn simulate(
-    simulated: &mut Vec<Row>,
+    names: &mut Vec<FileName>,
+    alloc: Global,
     source: &Row,
     to: &Place,
     retention: u8,
-) -> Result<NamePair, Code>
-    requires rows { ascends by_row simulated.old.items ≡ true }
+) -> Result<NamePair, Refusal>
+    requires names { ascends by_name names.old.items ≡ true }
     requires number { may_number to.now.generation ≡ true }
-    ensures pair { result ≡ pair_for to.now source.now simulated.old.items }
-    ensures simulated { IfOk result (λ pair. simulated.new.items ≡ moved retention pair simulated.old.items) }
+    ensures pair { IfOk result (λ pair. pair_for to.now source.now (rows_of names.old.items) ≡ Ok pair) }
+    ensures refused { IfErr result (IsRefused (pair_for to.now source.now (rows_of names.old.items))) }
+    ensures rows { IfOk result (λ pair. rows_of names.new.items ≡ moved retention pair (rows_of names.old.items)) }
+    ensures ascend { IfOk result (λ pair. ascends by_name names.new.items ≡ true) }
 {
     let full = source.full_name();
     let key = to.key_from(&source.key);
-    if key_cmp(&full.key, &key).is_eq() {
-        renumber(simulated, full, key, to.generation, retention)
-    } else {
-        relocate(simulated, full, key, to.generation, retention)
+    let file = remove(names, &full);
+    let generation = match numbered(names, &key, to.generation) {
+        Ok(generation) => generation,
+        Err(code) => return Err(Refusal::Code(code)),
+    };
+    let pair = NamePair {
+        source: full,
+        target: FullName { key, generation },
+    };
+    match reinsert(names, alloc, &pair.target, file, retention) {
+        Ok(()) => Ok(pair),
+        Err(NoMemory) => Err(Refusal::NoMemory),
     }
 }
 
@@ -105,7 +91,7 @@ impl Simulation {
         ensures row_changes { OnOk result
             (self.new.row_changes.items ≡ self.old.row_changes.items ++ changes.Move pair ∷ []) }
         ensures pairs { OnOk result (self.new.pairs.items ≡ self.old.pairs.items ++ pair ∷ []) }
-        ensures simulated { self.new.simulated ≡ self.old.simulated }
+        ensures names { self.new.names.items ≡ self.old.names.items }
     {
         self.pairs.push(pair.copy())?;
         self.row_changes.push(RowChange::Move(pair))?;
@@ -142,14 +128,10 @@ fn renames(
         Err(NoMemory) => return Err(Refusal::NoMemory),
     };
     for at in positions {
-        let pair = match simulate(
-            &mut simulation.simulated,
-            &rows[usize::from(*at)],
-            to,
-            retention,
-        ) {
+        let source = &rows[usize::from(*at)];
+        let pair = match simulate(&mut simulation.names, alloc, source, to, retention) {
             Ok(pair) => pair,
-            Err(code) => return Err(Refusal::Code(code)),
+            Err(refusal) => return Err(refusal),
         };
         match simulation.rename(pair) {
             Ok(()) => {}

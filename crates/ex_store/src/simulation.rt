@@ -1,52 +1,64 @@
 // A plan over files, as far as it has come.
-ghost use Rattle.std.specs.Prelude.{◌≡◌, ◌≤◌, [], length, map, IfOk};
+ghost use Rattle.std.specs.Prelude.{◌≡◌, ◌≤◌, [], true, length, map, IfOk};
+ghost use Rattle.std.specs.List.{list_all};
+ghost use Rattle.cm_files.specs.Catalogue.{ascends};
 ghost use Rattle.ex_store.specs.declared.limits.TheConstants.{ROW_LIMIT};
+ghost use Rattle.ex_store.specs.FileNames.{by_name, rows_of};
 ghost use Rattle.ex_store.specs.Ready.{of_files};
-ghost use Rattle.ex_store.specs.Rows.{blank, rows_in_either};
+ghost use Rattle.ex_store.specs.Rows.{blank, by_row, rows_in_either};
+ghost use Rattle.ex_store.specs.WellFormed.{is_numbered};
 
+use crate::file_name::{FileName, add};
 use crate::{NamePair, Ready, Row, RowChange};
 use cm_io::NoMemory;
 use std::alloc::Global;
 
-// What is to be done, from which file to which one each goes, and the rows of the directories that the plan touches as
-// they stand then, without their bytes.
+// What is to be done, from which file to which one each goes, and the files of the directories that the plan touches, by
+// name, as they stand then, without their bytes.
 #[derive(Drop)]
 pub(crate) struct Simulation {
     pub(crate) row_changes: Vec<RowChange>,
     pub(crate) pairs: Vec<NamePair>,
-    pub(crate) simulated: Vec<Row>,
+    pub(crate) names: Vec<FileName>,
 }
 
-// The rows of two directories without their bytes.
-fn blanks(alloc: Global, rows: &[Row], from: &[u8], to: &[u8]) -> Result<Vec<Row>, NoMemory>
-    ensures { IfOk result (λ blanks. blanks.items ≡ map blank (rows_in_either from.now to.now rows.now)) }
+// The files of two directories without their bytes.
+fn blanks(alloc: Global, rows: &[Row], from: &[u8], to: &[u8]) -> Result<Vec<FileName>, NoMemory>
+    requires rows { ascends by_row rows.now ≡ true }
+    requires numbers { list_all (λ row. is_numbered row.file.generation) rows.now ≡ true }
+    ensures rows { IfOk result (λ names. rows_of names.items ≡ map blank (rows_in_either from.now to.now rows.now)) }
+    ensures ascend { IfOk result (λ names. ascends by_name names.items ≡ true) }
 {
-    let mut blanks = Vec::new(alloc);
+    let mut names = Vec::new(alloc);
     for row in rows {
-        if row.is_in_either(from, to) {
-            blanks.push(row.blank(alloc))?;
+        if !row.is_in_either(from, to) {
+            continue;
         }
+        add(&mut names, alloc, row.blank(alloc), 0)?;
     }
-    Ok(blanks)
+    Ok(names)
 }
 
 impl Simulation {
-    // Nothing is done yet, with the rows of two directories: of files that go, and of files that come.
+    // Nothing is done yet, with the files of two directories: of files that go, and of files that come.
     pub(crate) fn new(
         alloc: Global,
         rows: &[Row],
         from: &[u8],
         to: &[u8],
     ) -> Result<Simulation, NoMemory>
+        requires rows { ascends by_row rows.now ≡ true }
+        requires numbers { list_all (λ row. is_numbered row.file.generation) rows.now ≡ true }
         ensures row_changes { IfOk result (λ simulation. simulation.row_changes.items ≡ []) }
         ensures pairs { IfOk result (λ simulation. simulation.pairs.items ≡ []) }
-        ensures simulated { IfOk result (λ simulation.
-            simulation.simulated.items ≡ map blank (rows_in_either from.now to.now rows.now)) }
+        ensures names { IfOk result (λ simulation.
+            rows_of simulation.names.items ≡ map blank (rows_in_either from.now to.now rows.now)) }
+        ensures ascend { IfOk result (λ simulation. ascends by_name simulation.names.items ≡ true) }
     {
         Ok(Simulation {
             row_changes: Vec::new(alloc),
             pairs: Vec::new(alloc),
-            simulated: blanks(alloc, rows, from, to)?,
+            names: blanks(alloc, rows, from, to)?,
         })
     }
 

@@ -7,7 +7,7 @@ ghost use Rattle.ex_store.specs.Ready.{applied, are_doable, done_on, of_files};
 ghost use Rattle.ex_store.specs.Rows.{full_of};
 ghost use Rattle.ex_store.specs.WellFormed.{IsWellFormed};
 
-use crate::adding::admitted;
+use crate::adding::{admitted, numbered};
 use crate::copy::moment_of;
 use crate::directory::retention_of;
 use crate::search::total;
@@ -47,9 +47,10 @@ impl Store {
             return Err(Refusal::Code(Code::NameNeeded));
         }
         let key = to.own_key();
+        let number = numbered(&self.rows, &key, to.generation);
         let files = self.rows.len();
         let all = total(&self.rows);
-        let generation = match admitted(&self.rows, files, all, &key, to.generation, bytes.len()) {
+        let generation = match admitted(number, files, all, bytes.len()) {
             Ok(generation) => generation,
             Err(code) => return Err(Refusal::Code(code)),
         };

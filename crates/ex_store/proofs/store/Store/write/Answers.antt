@@ -1,6 +1,6 @@
 use Rattle.std.proofs.Common.{◌≡◌, ℕ, List, length, Ok, ap, arith, sym, subst, ◌∙◌}
 use Rattle.std.proofs.lemmas.Grind.{common_steps}
-use Rattle.ex_store.specs.Adding.{admitted}
+use Rattle.ex_store.specs.Adding.{admitted, and_then, limited}
 use Rattle.ex_store.specs.Copying.{own_key}
 use Rattle.ex_store.specs.Plan.{retention_at}
 use Rattle.ex_store.specs.Rows.{total}
@@ -20,8 +20,9 @@ returns-in-Err-clause-refused c =
     let files : c.len-files.result ≡ length c.args.self.now.state.rows = grind (arith, common_steps, items, c.len-files.ensures) in
     let asked : c.admitted.result ≡ admitted (own_key c.args.to.now) c.args.to.now.generation (length c.args.bytes) c.args.self.now.state.rows =
     asked_is (own_key c.args.to.now) c.own_key-key.result c.args.to.now.generation (length c.args.bytes) c.len.result c.len-files.result c.total-all.result
-    c.args.self.now.state.rows c.deref-2.result.now c.admitted.result c.own_key-key.ensures (c.deref-2.ensures.value ∙ rows)
-    files (c.total-all.ensures ∙ ap total (c.deref.ensures.value ∙ rows)) c.len.ensures c.admitted.ensures in
+    c.args.self.now.state.rows c.deref.result.now c.admitted.result c.own_key-key.ensures (c.deref.ensures.value ∙ rows)
+    files (c.total-all.ensures ∙ ap total (c.deref-2.ensures.value ∙ rows)) c.len.ensures
+    (c.admitted.ensures ∙ ap (and_then (limited c.len-files.result c.total-all.result c.len.result)) c.numbered-number.ensures) in
     write_refused c.args.self.now.state c.args.to.now c.args.bytes c.args.moment c.in-Err.code (sym c.lacks_name.ensures ∙ c.if-lacks_name.false)
     (sym asked ∙ c.in-Err.is)
 
@@ -33,8 +34,9 @@ admits c =
     let files : c.len-files.result ≡ length c.args.self.now.state.rows = grind (arith, common_steps, items, c.len-files.ensures) in
     let asked : c.admitted.result ≡ admitted (own_key c.args.to.now) c.args.to.now.generation (length c.args.bytes) c.args.self.now.state.rows =
     asked_is (own_key c.args.to.now) c.own_key-key.result c.args.to.now.generation (length c.args.bytes) c.len.result c.len-files.result c.total-all.result
-    c.args.self.now.state.rows c.deref-2.result.now c.admitted.result c.own_key-key.ensures (c.deref-2.ensures.value ∙ rows)
-    files (c.total-all.ensures ∙ ap total (c.deref.ensures.value ∙ rows)) c.len.ensures c.admitted.ensures in
+    c.args.self.now.state.rows c.deref.result.now c.admitted.result c.own_key-key.ensures (c.deref.ensures.value ∙ rows)
+    files (c.total-all.ensures ∙ ap total (c.deref-2.ensures.value ∙ rows)) c.len.ensures
+    (c.admitted.ensures ∙ ap (and_then (limited c.len-files.result c.total-all.result c.len.result)) c.numbered-number.ensures) in
     sym asked ∙ c.in-Ok.is
 
 -- and it is what is added

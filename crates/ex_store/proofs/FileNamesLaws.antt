@@ -1,0 +1,404 @@
+-- Files by name: what is done with the generations of one name is done with its rows, and with no others.
+use Rattle.std.proofs.Common.{◌≡◌, ℕ, ◌<◌, ◌≤◌, ◌+◌, ◌==◌, ◌&&◌, Bool, true, false, not, cond, zero, suc, List, [], ◌∷◌, ◌++◌, length, drop, get_or, set, insert, map, filter, find, position, Option, None, Some, refl, ap, arith, ◌∙◌, sym, subst, append_assoc, append-nil}
+use Rattle.std.specs.List.{flat_map, list_all, list_any, position_or_len, prefix_len}
+use Rattle.std.specs.Option.{option_map, option_or}
+use Rattle.std.specs.Ordering.{is_eq, is_gt, is_lt, nat_cmp, ordering_reverse, ordering_then}
+use Rattle.std.specs.declared.cmp.Ordering.{Ordering}
+use Rattle.std.specs.declared.cmp.Ordering.TheVariants.{Less, Equal, Greater}
+use Rattle.std.specs.Cmp.{IsTotalOrder}
+use Rattle.std.proofs.lemmas.Bool.{and_from, and_parts, le-ltb, lt-ltb, ltb-true, not-true, not_from_false, or_parts}
+use Rattle.std.proofs.lemmas.Bool.Decides.{nat_tests}
+use Rattle.std.proofs.lemmas.Cmp.{on_total}
+use Rattle.std.proofs.lemmas.Map.Lookups.{exact_bytes}
+use Rattle.std.proofs.lemmas.List.{drop_more}
+use Rattle.std.proofs.lemmas.List.Quantifiers.{position-Some}
+use Rattle.cm_files.specs.Catalogue.{ascends, by_bytes}
+use Rattle.ex_generations.specs.declared.file.File.{File}
+use Rattle.ex_generations.specs.declared.file.TheConstants.{FILE_LIMIT}
+use Rattle.ex_generations.specs.Generations.{IsAscending, has, is_generation}
+use Rattle.ex_generations.specs.Generations as generations
+use Rattle.ex_generations.specs.Retention as retaining
+use Rattle.ex_store.specs.declared.file_name.FileName.{FileName}
+use Rattle.ex_store.specs.declared.key.FullName.{FullName}
+use Rattle.ex_store.specs.declared.key.Key.{Key}
+use Rattle.ex_store.specs.declared.row.Row.{Row}
+use Rattle.ex_store.specs.FileNames.{by_name, is_under, row_under, rows_of, rows_under}
+use Rattle.ex_store.specs.Rows.{added, blank, by_key, by_row, files, files_of, full_of, inserted, is_full, is_in_either, is_of, kept_newest, row_at, rows_in_either, without}
+use Rattle.ex_store.proofs.AscendsLaws.{all_above, ascends_map, ascends_sorted, is_less, is_sorted, sorted_ascends}
+use Rattle.ex_store.proofs.AreRowsLaws.{all_added, by_key_total, by_row_total, full_parts}
+use Rattle.ex_store.proofs.FilesOfLaws.{files_added}
+use Rattle.ex_store.proofs.HalvingLaws.{full_stays, rises_sorted}
+use Rattle.ex_store.proofs.KeptLaws.{files_none, files_upper, kept_lower, kept_upper, none_of}
+use Rattle.ex_store.proofs.InsertionLaws.{inserted_ascends, inserted_there}
+use Rattle.ex_store.proofs.RowAtLaws.{none-from_position}
+use Rattle.ex_store.proofs.RowsInEitherLaws.{ascends_either}
+use Rattle.ex_store.proofs.RowsInLaws.{rises}
+use Rattle.ex_store.proofs.NamedFilesLaws.{files_of_under, key_is}
+
+pub by_name_total : IsTotalOrder by_name
+by_name_total = on_total (λ (name : FileName). name.key) by_key_total
+
+-- where names stand beside a key
+abbrev pub key_place : Key → FileName → Ordering
+key_place key name = by_key name.key key
+
+pub names_rise : (key : Key) (names : List FileName) → ascends by_name names ≡ true → rises (key_place key) names ≡ true
+names_rise key names ascend =
+    rises_sorted by_name by_key by_key_total (λ (name : FileName). name.key) (λ x y less. full_stays (by_key x.key y.key) less) key names
+    (sorted_ascends by_name by_name_total names ascend)
+
+-- the name at a place is of the key
+abbrev IsAt : Key → List FileName → ℕ → Type 0
+IsAt key [] i = ⊥
+IsAt key (name ∷ names) zero = is_under key name ≡ true
+IsAt key (name ∷ names) (suc i) = IsAt key names i
+
+is_at : (key : Key) (names : List FileName) (i : ℕ) → i < length names → ((d : FileName) → is_under key (get_or names i d) ≡ true)
+    → IsAt key names i
+is_at key [] i within there = absurd (omega arith)
+is_at key (name ∷ names) zero within there = there name
+is_at key (name ∷ names) (suc i) within there = is_at key names i (omega arith) there
+
+-- rows that stand below a key, and above it
+abbrev is_below : Key → Row → Bool
+is_below key row = is_lt (by_key row.key key)
+
+abbrev is_above : Key → Row → Bool
+is_above key row = is_gt (by_key row.key key)
+
+all_append : {X : Type 0} (test : X → Bool) (xs ys : List X) → list_all test xs ≡ true → list_all test ys ≡ true
+    → list_all test (xs ++ ys) ≡ true
+all_append test [] ys first rest = rest
+all_append test (x ∷ xs) ys first rest =
+    let parts = and_parts _ _ first in and_from _ _ parts.0 (all_append test xs ys parts.1 rest)
+
+all_imply : {X : Type 0} (test other : X → Bool) → ((x : X) → test x ≡ true → other x ≡ true) → (xs : List X)
+    → list_all test xs ≡ true → list_all other xs ≡ true
+all_imply test other implies [] all = refl
+all_imply test other implies (x ∷ xs) all =
+    let parts = and_parts _ _ all in and_from _ _ (implies x parts.0) (all_imply test other implies xs parts.1)
+
+below_own : (key under : Key) (own : List File) → is_lt (by_key under key) ≡ true → list_all (is_below key) (map (row_under under) own) ≡ true
+below_own key under [] less = refl
+below_own key under (file ∷ own) less = and_from _ _ less (below_own key under own less)
+
+above_own : (key under : Key) (own : List File) → is_gt (by_key under key) ≡ true → list_all (is_above key) (map (row_under under) own) ≡ true
+above_own key under [] more = refl
+above_own key under (file ∷ own) more = and_from _ _ more (above_own key under own more)
+
+below_at : (key : Key) (name : FileName) (names : List FileName) (i : ℕ) → all_above by_name name names ≡ true → IsAt key names i
+    → is_lt (by_key name.key key) ≡ true
+below_at key name [] i above at = absurd at
+below_at key name (other ∷ names) zero above at =
+    subst (λ (it : Key). is_lt (by_key name.key it) ≡ true) (key_is other.key key at) (and_parts _ _ above).0
+below_at key name (other ∷ names) (suc i) above at = below_at key name names i (and_parts _ _ above).1 at
+
+turns_above : (o p : Ordering) → p ≡ ordering_reverse o → is_lt o ≡ true → is_gt p ≡ true
+turns_above Less p turn less = ap is_gt turn
+turns_above Equal p turn less = absurd (cc)
+turns_above Greater p turn less = absurd (cc)
+
+above_names : (key : Key) (name : FileName) (names : List FileName) → is_under key name ≡ true → all_above by_name name names ≡ true
+    → list_all (is_above key) (rows_of names) ≡ true
+above_names key name [] here above = refl
+above_names key name (other ∷ names) here above =
+    let parts : (is_lt (by_name name other) ≡ true) × (all_above by_name name names ≡ true) = and_parts _ _ above in
+    let less : is_lt (by_key key other.key) ≡ true =
+    subst (λ (it : Key). is_lt (by_key it other.key) ≡ true) (key_is name.key key here) parts.0 in
+    all_append (is_above key) (rows_under other) (rows_of names)
+    (above_own key other.key other.gens.files (turns_above (by_key key other.key) (by_key other.key key) (by_key_total.antisymm other.key key) less))
+    (above_names key name names here parts.1)
+
+below_none : (o : Ordering) → is_lt o ≡ true → not (is_eq o) ≡ true
+below_none Less is = refl
+below_none Equal is = absurd (cc)
+below_none Greater is = absurd (cc)
+
+above_none : (o : Ordering) → is_gt o ≡ true → not (is_eq o) ≡ true
+above_none Less is = absurd (cc)
+above_none Equal is = absurd (cc)
+above_none Greater is = refl
+
+none_below : (key : Key) (rows : List Row) → list_all (is_below key) rows ≡ true → none_of key rows ≡ true
+none_below key rows all = all_imply (is_below key) (λ row. not (is_of key row)) (λ row is. below_none (by_key row.key key) is) rows all
+
+none_above : (key : Key) (rows : List Row) → list_all (is_above key) rows ≡ true → none_of key rows ≡ true
+none_above key rows all = all_imply (is_above key) (λ row. not (is_of key row)) (λ row is. above_none (by_key row.key key) is) rows all
+
+-- a row is added behind those below its key, and before those above it
+then_less : (o p : Ordering) → is_lt o ≡ true → is_lt (ordering_then o p) ≡ true
+then_less Less p is = refl
+then_less Equal p is = absurd (cc)
+then_less Greater p is = absurd (cc)
+
+then_not_less : (o p : Ordering) → is_gt o ≡ true → is_lt (ordering_then o p) ≡ false
+then_not_less Less p is = absurd (cc)
+then_not_less Equal p is = absurd (cc)
+then_not_less Greater p is = refl
+
+inserted_lower : (row : Row) (lower more : List Row) → list_all (is_below row.key) lower ≡ true
+    → inserted row (lower ++ more) ≡ lower ++ inserted row more
+inserted_lower row [] more all = refl
+inserted_lower row (other ∷ lower) more all =
+    let parts : (is_below row.key other ≡ true) × (list_all (is_below row.key) lower ≡ true) = and_parts _ _ all in
+    rw (then_less (by_key other.key row.key) (nat_cmp other.file.generation row.file.generation) parts.0)
+    (ap (λ rest. other ∷ rest) (inserted_lower row lower more parts.1))
+
+inserted_upper : (row : Row) (own upper : List Row) → list_all (is_above row.key) upper ≡ true
+    → inserted row (own ++ upper) ≡ inserted row own ++ upper
+inserted_upper row [] [] all = refl
+inserted_upper row [] (other ∷ upper) all =
+    let parts : (is_above row.key other ≡ true) × (list_all (is_above row.key) upper ≡ true) = and_parts _ _ all in
+    rw (then_not_less (by_key other.key row.key) (nat_cmp other.file.generation row.file.generation) parts.0) refl
+inserted_upper row (other ∷ own) upper all = by (is_lt (by_row other row)) (inserted_upper row own upper all)
+  where
+    by : (b : Bool) → inserted row (own ++ upper) ≡ inserted row own ++ upper
+        → cond b (other ∷ inserted row (own ++ upper)) (row ∷ other ∷ own ++ upper) ≡ cond b (other ∷ inserted row own) (row ∷ other ∷ own) ++ upper
+    by true rest = ap (λ more. other ∷ more) rest
+    by false rest = refl
+
+added_lower : (retention : ℕ) (row : Row) (lower more : List Row) → list_all (is_below row.key) lower ≡ true
+    → added retention row (lower ++ more) ≡ lower ++ added retention row more
+added_lower retention row lower more all = by (retention == 0)
+  where
+    by : (b : Bool) → cond b (inserted row (lower ++ more)) (kept_newest retention row.key (inserted row (lower ++ more)))
+        ≡ lower ++ cond b (inserted row more) (kept_newest retention row.key (inserted row more))
+    by true = inserted_lower row lower more all
+    by false =
+        ap (kept_newest retention row.key) (inserted_lower row lower more all)
+        ∙ kept_lower retention row.key lower (inserted row more) (none_below row.key lower all)
+
+added_upper : (retention : ℕ) (row : Row) (own upper : List Row) → list_all (is_above row.key) upper ≡ true
+    → added retention row (own ++ upper) ≡ added retention row own ++ upper
+added_upper retention row own upper all = by (retention == 0)
+  where
+    by : (b : Bool) → cond b (inserted row (own ++ upper)) (kept_newest retention row.key (inserted row (own ++ upper)))
+        ≡ cond b (inserted row own) (kept_newest retention row.key (inserted row own)) ++ upper
+    by true = inserted_upper row own upper all
+    by false =
+        ap (kept_newest retention row.key) (inserted_upper row own upper all)
+        ∙ kept_upper retention row.key (inserted row own) upper (none_above row.key upper all)
+
+added_at : (retention : ℕ) (row : Row) (names : List FileName) (i : ℕ) (d new : FileName) → is_sorted by_name names ≡ true
+    → IsAt row.key names i → rows_under new ≡ added retention row (rows_under (get_or names i d))
+    → rows_of (set names i new) ≡ added retention row (rows_of names)
+added_at retention row [] i d new sorted at is = absurd at
+added_at retention row (name ∷ names) zero d new sorted at is =
+    let parts = and_parts _ _ sorted in
+    ap (λ own. own ++ rows_of names) is
+    ∙ sym (added_upper retention row (rows_under name) (rows_of names) (above_names row.key name names at parts.0))
+added_at retention row (name ∷ names) (suc i) d new sorted at is =
+    let parts = and_parts _ _ sorted in
+    ap (λ rest. rows_under name ++ rest) (added_at retention row names i d new parts.1 at is)
+    ∙ sym (added_lower retention row (rows_under name) (rows_of names)
+    (below_own row.key name.key name.gens.files (below_at row.key name names i parts.0 at)))
+
+-- a row is taken out between those below its key and those above it
+then_other : (o p : Ordering) → not (is_eq o) ≡ true → is_eq (ordering_then o p) ≡ false
+then_other Less p is = refl
+then_other Equal p is = absurd (cc)
+then_other Greater p is = refl
+
+without_lower : (full : FullName) (lower more : List Row) → none_of full.key lower ≡ true
+    → without full (lower ++ more) ≡ lower ++ without full more
+without_lower full [] more none = refl
+without_lower full (row ∷ lower) more none =
+    let parts : (not (is_of full.key row) ≡ true) × (none_of full.key lower ≡ true) = and_parts _ _ none in
+    rw (then_other (by_key row.key full.key) (nat_cmp row.file.generation full.generation) parts.0)
+    (ap (λ rest. row ∷ rest) (without_lower full lower more parts.1))
+
+without_upper : (full : FullName) (own upper : List Row) → none_of full.key upper ≡ true
+    → without full (own ++ upper) ≡ without full own ++ upper
+without_upper full [] [] none = refl
+without_upper full [] (row ∷ upper) none =
+    let parts : (not (is_of full.key row) ≡ true) × (none_of full.key upper ≡ true) = and_parts _ _ none in
+    rw (then_other (by_key row.key full.key) (nat_cmp row.file.generation full.generation) parts.0)
+    (ap (λ rest. row ∷ rest) (without_upper full [] upper parts.1))
+without_upper full (row ∷ own) upper none = by (is_full full row) (without_upper full own upper none)
+  where
+    by : (b : Bool) → without full (own ++ upper) ≡ without full own ++ upper
+        → cond b (own ++ upper) (row ∷ without full (own ++ upper)) ≡ cond b own (row ∷ without full own) ++ upper
+    by true rest = refl
+    by false rest = ap (λ more. row ∷ more) rest
+
+row_at_lower : (full : FullName) (lower more : List Row) → none_of full.key lower ≡ true
+    → row_at full (lower ++ more) ≡ row_at full more
+row_at_lower full [] more none = refl
+row_at_lower full (row ∷ lower) more none =
+    let parts : (not (is_of full.key row) ≡ true) × (none_of full.key lower ≡ true) = and_parts _ _ none in
+    rw (then_other (by_key row.key full.key) (nat_cmp row.file.generation full.generation) parts.0)
+    (row_at_lower full lower more parts.1)
+
+row_at_upper : (full : FullName) (own upper : List Row) → none_of full.key upper ≡ true
+    → row_at full (own ++ upper) ≡ row_at full own
+row_at_upper full [] [] none = refl
+row_at_upper full [] (row ∷ upper) none =
+    let parts : (not (is_of full.key row) ≡ true) × (none_of full.key upper ≡ true) = and_parts _ _ none in
+    rw (then_other (by_key row.key full.key) (nat_cmp row.file.generation full.generation) parts.0) (row_at_upper full [] upper parts.1)
+row_at_upper full (row ∷ own) upper none = by (is_full full row) (row_at_upper full own upper none)
+  where
+    by : (b : Bool) → row_at full (own ++ upper) ≡ row_at full own
+        → cond b (Some row) (row_at full (own ++ upper)) ≡ cond b (Some row) (row_at full own)
+    by true rest = refl
+    by false rest = rest
+
+without_at : (full : FullName) (names : List FileName) (i : ℕ) (d new : FileName) → is_sorted by_name names ≡ true
+    → IsAt full.key names i → rows_under new ≡ without full (rows_under (get_or names i d))
+    → rows_of (set names i new) ≡ without full (rows_of names)
+without_at full [] i d new sorted at is = absurd at
+without_at full (name ∷ names) zero d new sorted at is =
+    let parts = and_parts _ _ sorted in
+    ap (λ own. own ++ rows_of names) is
+    ∙ sym (without_upper full (rows_under name) (rows_of names) (none_above full.key (rows_of names) (above_names full.key name names at parts.0)))
+without_at full (name ∷ names) (suc i) d new sorted at is =
+    let parts = and_parts _ _ sorted in
+    ap (λ rest. rows_under name ++ rest) (without_at full names i d new parts.1 at is)
+    ∙ sym (without_lower full (rows_under name) (rows_of names)
+    (none_below full.key (rows_under name) (below_own full.key name.key name.gens.files (below_at full.key name names i parts.0 at))))
+
+row_at_at : (full : FullName) (names : List FileName) (i : ℕ) (d : FileName) → is_sorted by_name names ≡ true
+    → IsAt full.key names i → row_at full (rows_of names) ≡ row_at full (rows_under (get_or names i d))
+row_at_at full [] i d sorted at = absurd at
+row_at_at full (name ∷ names) zero d sorted at =
+    let parts = and_parts _ _ sorted in
+    row_at_upper full (rows_under name) (rows_of names) (none_above full.key (rows_of names) (above_names full.key name names at parts.0))
+row_at_at full (name ∷ names) (suc i) d sorted at =
+    let parts = and_parts _ _ sorted in
+    row_at_lower full (rows_under name) (rows_of names)
+    (none_below full.key (rows_under name) (below_own full.key name.key name.gens.files (below_at full.key name names i parts.0 at)))
+    ∙ row_at_at full names i d parts.1 at
+
+files_lower : (key : Key) (lower more : List Row) → none_of key lower ≡ true → files_of key (lower ++ more) ≡ files_of key more
+files_lower key [] more none = refl
+files_lower key (row ∷ lower) more none =
+    let parts : (not (is_of key row) ≡ true) × (none_of key lower ≡ true) = and_parts _ _ none in
+    rw (not-true (is_of key row) parts.0) (files_lower key lower more parts.1)
+
+files_at : (key : Key) (names : List FileName) (i : ℕ) (d : FileName) → is_sorted by_name names ≡ true → IsAt key names i
+    → files_of key (rows_of names) ≡ (get_or names i d).gens.files
+files_at key [] i d sorted at = absurd at
+files_at key (name ∷ names) zero d sorted at =
+    let parts = and_parts _ _ sorted in
+    files_upper key (rows_under name) (rows_of names) (none_above key (rows_of names) (above_names key name names at parts.0))
+    ∙ ap (λ (it : Key). files_of key (map (row_under it) name.gens.files)) (key_is name.key key at)
+    ∙ files_of_under key name.gens.files
+files_at key (name ∷ names) (suc i) d sorted at =
+    let parts = and_parts _ _ sorted in
+    files_lower key (rows_under name) (rows_of names)
+    (none_below key (rows_under name) (below_own key name.key name.gens.files (below_at key name names i parts.0 at)))
+    ∙ files_at key names i d parts.1 at
+
+-- the same of the place that a search gives
+at_found : (key : Key) (names : List FileName) (i : ℕ) → position (is_under key) names ≡ Some i → IsAt key names i
+at_found key [] i found = absurd (cc)
+at_found key (name ∷ names) i found =
+    is_at key (name ∷ names) i (position-Some (is_under key) (name ∷ names) i name found).0
+    (λ d. (position-Some (is_under key) (name ∷ names) i d found).1)
+
+pub under_found : (key : Key) (names : List FileName) (i : ℕ) (d : FileName) → position (is_under key) names ≡ Some i
+    → is_under key (get_or names i d) ≡ true
+under_found key [] i d found = absurd (cc)
+under_found key (name ∷ names) i d found = (position-Some (is_under key) (name ∷ names) i d found).1
+
+pub files_found : (key : Key) (names : List FileName) (i : ℕ) (name : FileName) → ascends by_name names ≡ true
+    → position (is_under key) names ≡ Some i → name ≡ get_or names i name → files_of key (rows_of names) ≡ name.gens.files
+files_found key names i name ascend found is =
+    files_at key names i name (sorted_ascends by_name by_name_total names ascend) (at_found key names i found)
+    ∙ ap (λ (it : FileName). it.gens.files) (sym is)
+
+-- where no name is of the key
+other_own : (key under : Key) (own : List File) → is_eq (by_key under key) ≡ false → none_of key (map (row_under under) own) ≡ true
+other_own key under [] apart = refl
+other_own key under (file ∷ own) apart = and_from _ _ (not_from_false _ apart) (other_own key under own apart)
+
+none_under : (key : Key) (names : List FileName) → list_any (is_under key) names ≡ false → none_of key (rows_of names) ≡ true
+none_under key [] none = refl
+none_under key (name ∷ names) none =
+    let parts : (is_under key name ≡ false) × (list_any (is_under key) names ≡ false) = or_parts _ _ none in
+    all_append (λ row. not (is_of key row)) (rows_under name) (rows_of names) (other_own key name.key name.gens.files parts.0)
+    (none_under key names parts.1)
+
+none_found_of : (key : Key) (names : List FileName) → position (is_under key) names ≡ None → none_of key (rows_of names) ≡ true
+none_found_of key names none = none_under key names (none-from_position (is_under key) names none)
+
+pub files_absent : (key : Key) (names : List FileName) → position (is_under key) names ≡ None → files_of key (rows_of names) ≡ []
+files_absent key names none = files_none key (rows_of names) (none_found_of key names none)
+
+pub row_at_absent : (full : FullName) (names : List FileName) → position (is_under full.key) names ≡ None
+    → row_at full (rows_of names) ≡ None
+row_at_absent full names none =
+    ap (row_at full) (sym (append-nil (rows_of names))) ∙ row_at_lower full (rows_of names) [] (none_found_of full.key names none)
+
+pub without_absent : (full : FullName) (names : List FileName) → position (is_under full.key) names ≡ None
+    → without full (rows_of names) ≡ rows_of names
+without_absent full names none =
+    ap (without full) (sym (append-nil (rows_of names))) ∙ without_lower full (rows_of names) [] (none_found_of full.key names none)
+    ∙ append-nil (rows_of names)
+
+-- a name without files is entered at its place
+pub rows_entered : (names : List FileName) (at : ℕ) (new : FileName) → at ≤ length names → new.gens.files ≡ []
+    → rows_of (insert names at new) ≡ rows_of names
+rows_entered [] zero new within is = ap (λ own. map (row_under new.key) own ++ []) is
+rows_entered [] (suc at) new within is = absurd (omega arith)
+rows_entered (name ∷ names) zero new within is = ap (λ own. map (row_under new.key) own ++ rows_of (name ∷ names)) is
+rows_entered (name ∷ names) (suc at) new within is =
+    ap (λ rest. rows_under name ++ rest) (rows_entered names at new (omega arith) is)
+
+pub ascends_entered : (key : Key) (names : List FileName) (at : ℕ) (new : FileName) → ascends by_name names ≡ true
+    → at ≡ prefix_len (λ name. is_lt (by_key name.key key)) names → new.key ≡ key → position (is_under key) names ≡ None
+    → ascends by_name (insert names at new) ≡ true
+ascends_entered key names at new ascend place is none =
+    ap (λ (n : ℕ). ascends by_name (insert names n new)) (place ∙ ap (λ (it : Key). prefix_len (λ name. is_lt (by_key name.key it)) names) (sym is))
+    ∙ ap (ascends by_name) (inserted_there by_name new names)
+    ∙ inserted_ascends by_name by_name_total new names ascend
+    (ap (λ (it : Key). list_any (is_under it) names) is ∙ none-from_position (is_under key) names none)
+
+-- a name that keeps its key
+keys_set : (names : List FileName) (at : ℕ) (new d : FileName) → new.key ≡ (get_or names at d).key
+    → map (λ (name : FileName). name.key) (set names at new) ≡ map (λ (name : FileName). name.key) names
+keys_set [] at new d same = refl
+keys_set (name ∷ names) zero new d same = ap (λ key. key ∷ map (λ (name : FileName). name.key) names) same
+keys_set (name ∷ names) (suc at) new d same = ap (λ rest. name.key ∷ rest) (keys_set names at new d same)
+
+pub ascends_set : (names : List FileName) (at : ℕ) (new d : FileName) → ascends by_name names ≡ true
+    → new.key ≡ (get_or names at d).key → ascends by_name (set names at new) ≡ true
+ascends_set names at new d ascend same =
+    sym (ascends_map by_key by_name (λ (name : FileName). name.key) (λ x y. refl) (set names at new))
+    ∙ ap (ascends by_key) (keys_set names at new d same)
+    ∙ ascends_map by_key by_name (λ (name : FileName). name.key) (λ x y. refl) names
+    ∙ ascend
+
+-- a file is added under its name, and taken out
+pub added_there : (retention : ℕ) (row : Row) (names : List FileName) (at : ℕ) (d new : FileName) → ascends by_name names ≡ true
+    → at < length names → ((d : FileName) → is_under row.key (get_or names at d) ≡ true)
+    → rows_under new ≡ added retention (row_under (get_or names at d).key row.file) (rows_under (get_or names at d))
+    → rows_of (set names at new) ≡ added retention row (rows_of names)
+added_there retention row names at d new ascend within there made =
+    let key : (get_or names at d).key ≡ row.key = key_is (get_or names at d).key row.key (there d) in
+    added_at retention row names at d new (sorted_ascends by_name by_name_total names ascend) (is_at row.key names at within there)
+    (made ∙ ap (λ (it : Key). added retention (row_under it row.file) (rows_under (get_or names at d))) key)
+
+pub without_there : (full : FullName) (names : List FileName) (at : ℕ) (d new : FileName) → ascends by_name names ≡ true
+    → position (is_under full.key) names ≡ Some at
+    → rows_under new ≡ without (record { key = (get_or names at d).key; generation = full.generation }) (rows_under (get_or names at d))
+    → rows_of (set names at new) ≡ without full (rows_of names)
+without_there full names at d new ascend found made =
+    let key : (get_or names at d).key ≡ full.key = key_is (get_or names at d).key full.key (under_found full.key names at d found) in
+    without_at full names at d new (sorted_ascends by_name by_name_total names ascend) (at_found full.key names at found)
+    (made ∙ ap (λ (it : Key). without (record { key = it; generation = full.generation }) (rows_under (get_or names at d))) key)
+
+pub row_at_there : (full : FullName) (names : List FileName) (at : ℕ) (d : FileName) (file : Option File) → ascends by_name names ≡ true
+    → position (is_under full.key) names ≡ Some at
+    → option_map (row_under (get_or names at d).key) file
+    ≡ row_at (record { key = (get_or names at d).key; generation = full.generation }) (rows_under (get_or names at d))
+    → option_map (row_under full.key) file ≡ row_at full (rows_of names)
+row_at_there full names at d file ascend found made =
+    let key : (get_or names at d).key ≡ full.key = key_is (get_or names at d).key full.key (under_found full.key names at d found) in
+    ap (λ (it : Key). option_map (row_under it) file) (sym key) ∙ made
+    ∙ ap (λ (it : Key). row_at (record { key = it; generation = full.generation }) (rows_under (get_or names at d))) key
+    ∙ sym (row_at_at full names at d (sorted_ascends by_name by_name_total names ascend) (at_found full.key names at found))
+
+pub files_there : (key : Key) (names : List FileName) (at : ℕ) (d : FileName) → ascends by_name names ≡ true → at < length names
+    → ((d : FileName) → is_under key (get_or names at d) ≡ true) → files_of key (rows_of names) ≡ (get_or names at d).gens.files
+files_there key names at d ascend within there =
+    files_at key names at d (sorted_ascends by_name by_name_total names ascend) (is_at key names at within there)

@@ -1,0 +1,210 @@
+-- The generations of one name as rows: what is done with the one is done with the others.
+use Rattle.std.proofs.Common.{◌≡◌, ℕ, ◌<◌, ◌≤◌, ◌+◌, ◌==◌, ◌&&◌, Bool, true, false, not, cond, zero, suc, List, [], ◌∷◌, ◌++◌, length, drop, get_or, set, insert, map, filter, find, position, Option, None, Some, refl, ap, arith, ◌∙◌, sym, subst, append_assoc, append-nil}
+use Rattle.std.specs.List.{flat_map, list_all, list_any, position_or_len, prefix_len}
+use Rattle.std.specs.Option.{option_map, option_or}
+use Rattle.std.specs.Ordering.{is_eq, is_gt, is_lt, nat_cmp, ordering_reverse, ordering_then}
+use Rattle.std.specs.declared.cmp.Ordering.{Ordering}
+use Rattle.std.specs.declared.cmp.Ordering.TheVariants.{Less, Equal, Greater}
+use Rattle.std.specs.Cmp.{IsTotalOrder}
+use Rattle.std.proofs.lemmas.Bool.{and_from, and_parts, le-ltb, lt-ltb, ltb-true, not-true, not_from_false, or_parts}
+use Rattle.std.proofs.lemmas.Bool.Decides.{nat_tests}
+use Rattle.std.proofs.lemmas.Cmp.{on_total}
+use Rattle.std.proofs.lemmas.Map.Lookups.{exact_bytes}
+use Rattle.std.proofs.lemmas.List.{drop_more}
+use Rattle.std.proofs.lemmas.List.Quantifiers.{position-Some}
+use Rattle.cm_files.specs.Catalogue.{ascends, by_bytes}
+use Rattle.ex_generations.specs.declared.file.File.{File}
+use Rattle.ex_generations.specs.declared.file.TheConstants.{FILE_LIMIT}
+use Rattle.ex_generations.specs.Generations.{IsAscending, has, is_generation}
+use Rattle.ex_generations.specs.Generations as generations
+use Rattle.ex_generations.specs.Retention as retaining
+use Rattle.ex_store.specs.declared.file_name.FileName.{FileName}
+use Rattle.ex_store.specs.declared.key.FullName.{FullName}
+use Rattle.ex_store.specs.declared.key.Key.{Key}
+use Rattle.ex_store.specs.declared.row.Row.{Row}
+use Rattle.ex_store.specs.FileNames.{by_name, is_under, row_under, rows_of, rows_under}
+use Rattle.ex_store.specs.Rows.{added, blank, by_key, by_row, files, files_of, full_of, inserted, is_full, is_in_either, is_of, kept_newest, row_at, rows_in_either, without}
+use Rattle.ex_store.proofs.AscendsLaws.{all_above, ascends_map, ascends_sorted, is_less, is_sorted, sorted_ascends}
+use Rattle.ex_store.proofs.AreRowsLaws.{all_added, by_key_total, by_row_total, full_parts}
+use Rattle.ex_store.proofs.FilesOfLaws.{files_added}
+use Rattle.ex_store.proofs.HalvingLaws.{full_stays, rises_sorted}
+use Rattle.ex_store.proofs.KeptLaws.{files_none, files_upper, kept_lower, kept_upper, none_of}
+use Rattle.ex_store.proofs.InsertionLaws.{inserted_ascends, inserted_there}
+use Rattle.ex_store.proofs.RowAtLaws.{none-from_position}
+use Rattle.ex_store.proofs.RowsInEitherLaws.{ascends_either}
+use Rattle.ex_store.proofs.RowsInLaws.{rises}
+
+-- keys that stand at one place are one
+is_equal : (o : Ordering) → is_eq o ≡ true → o ≡ Equal
+is_equal Less is = absurd (cc)
+is_equal Equal is = refl
+is_equal Greater is = absurd (cc)
+
+then_parts : (o p : Ordering) → is_eq (ordering_then o p) ≡ true → (is_eq o ≡ true) × (is_eq p ≡ true)
+then_parts Less p is = absurd (cc)
+then_parts Equal p is = (refl, is)
+then_parts Greater p is = absurd (cc)
+
+pub key_is : (a b : Key) → is_eq (by_key a b) ≡ true → a ≡ b
+key_is a b is =
+    let first = then_parts (by_bytes a.directory b.directory) _ is in
+    let rest = then_parts (by_bytes a.name b.name) _ first.1 in
+    λ j. record {
+      directory = exact_bytes a.directory b.directory (is_equal _ first.0) j;
+      name = exact_bytes a.name b.name (is_equal _ rest.0) j;
+      kind = exact_bytes a.kind b.kind (is_equal _ rest.1) j;
+    }
+
+own_place : (o : Ordering) → o ≡ ordering_reverse o → o ≡ Equal
+own_place Less is = absurd (cc)
+own_place Equal is = refl
+own_place Greater is = absurd (cc)
+
+pub key_itself : (key : Key) → by_key key key ≡ Equal
+key_itself key = own_place (by_key key key) (by_key_total.antisymm key key)
+
+pub key_own : (key : Key) → is_eq (by_key key key) ≡ true
+key_own key = ap is_eq (key_itself key)
+
+-- the generations of a name as rows
+pub under_own : (key : Key) (own : List File) → list_all (is_of key) (map (row_under key) own) ≡ true
+under_own key [] = refl
+under_own key (file ∷ own) = and_from _ _ (key_own key) (under_own key own)
+
+pub files_under : (key : Key) (own : List File) → files (map (row_under key) own) ≡ own
+files_under key [] = refl
+files_under key (file ∷ own) = ap (λ more. file ∷ more) (files_under key own)
+
+-- rows of one key are its files
+pub rows_own : (key : Key) (rows : List Row) → list_all (is_of key) rows ≡ true → rows ≡ map (row_under key) (files rows)
+rows_own key [] all = refl
+rows_own key (row ∷ rows) all =
+    let parts : (is_of key row ≡ true) × (list_all (is_of key) rows ≡ true) = and_parts _ _ all in
+    let here = key_is row.key key parts.0 in
+    let rest = rows_own key rows parts.1 in
+    λ j. record { key = here j; file = row.file } ∷ rest j
+
+files_all : (key : Key) (rows : List Row) → list_all (is_of key) rows ≡ true → files_of key rows ≡ files rows
+files_all key [] all = refl
+files_all key (row ∷ rows) all =
+    let parts : (is_of key row ≡ true) × (list_all (is_of key) rows ≡ true) = and_parts _ _ all in
+    rw parts.0 (ap (λ rest. row.file ∷ rest) (files_all key rows parts.1))
+
+pub files_of_under : (key : Key) (own : List File) → files_of key (map (row_under key) own) ≡ own
+files_of_under key own = files_all key (map (row_under key) own) (under_own key own) ∙ files_under key own
+
+above_file : (key : Key) (file : File) (own : List File) → IsAscending file.generation own
+    → all_above by_row (row_under key file) (map (row_under key) own) ≡ true
+above_file key file own ascend = from file.generation own (omega arith) ascend
+  where
+    from : (low : ℕ) (more : List File) → file.generation ≤ low → IsAscending low more
+        → all_above by_row (row_under key file) (map (row_under key) more) ≡ true
+    from low [] most ascend = refl
+    from low (other ∷ more) most ascend =
+        let less : is_lt (nat_cmp file.generation other.generation) ≡ true = grind (arith, nat_tests, ascend.0) in
+        and_from _ _ (rw (key_itself key) less) (from other.generation more (omega (arith, ascend.0)) ascend.3)
+
+sorted_under : (key : Key) (low : ℕ) (own : List File) → IsAscending low own → is_sorted by_row (map (row_under key) own) ≡ true
+sorted_under key low [] ascend = refl
+sorted_under key low (file ∷ own) ascend =
+    and_from _ _ (above_file key file own ascend.3) (sorted_under key file.generation own ascend.3)
+
+pub ascends_under : (key : Key) (own : List File) → IsAscending 0 own → ascends by_row (map (row_under key) own) ≡ true
+ascends_under key own ascend = ascends_sorted by_row (map (row_under key) own) (sorted_under key 0 own ascend)
+
+-- a file is added to the generations of a name
+pub added_under : (retention : ℕ) (key : Key) (file : File) (own : List File) → IsAscending 0 own → has file.generation own ≡ false
+    → map (row_under key) (retaining.added retention file own) ≡ added retention (row_under key file) (map (row_under key) own)
+added_under retention key file own ascend none =
+    let rows = map (row_under key) own in
+    let new = added retention (row_under key file) rows in
+    let all : list_all (is_of key) new ≡ true =
+    all_added (is_of key) (λ row. refl) retention (row_under key file) rows (key_own key) (under_own key own) in
+    let is : files_of key new ≡ retaining.added retention file own =
+    files_added retention (row_under key file) rows (ascends_under key own ascend) (ap (has file.generation) (files_of_under key own) ∙ none)
+    ∙ ap (retaining.added retention file) (files_of_under key own) in
+    sym (rows_own key new all ∙ ap (map (row_under key)) (sym (files_all key new all) ∙ is))
+
+-- a file is taken out of the generations of a name
+other_number : (low high : ℕ) → low < high → (high == low) ≡ false
+other_number low high less = grind (arith, nat_tests)
+
+without_higher : (generation low : ℕ) (own : List File) → generation ≤ low → IsAscending low own
+    → generations.without generation own ≡ own
+without_higher generation low [] most ascend = refl
+without_higher generation low (file ∷ own) most ascend =
+    rw (other_number generation file.generation (omega (arith, ascend.0)))
+    (ap (λ rest. file ∷ rest) (without_higher generation file.generation own (omega (arith, ascend.0)) ascend.3))
+
+same_number : (a b : ℕ) → (a == b) ≡ true → a ≡ b
+same_number a b is = grind (arith, nat_tests)
+
+full_under : (key : Key) (generation : ℕ) (file : File)
+    → is_full (record { key = key; generation = generation }) (row_under key file) ≡ is_generation generation file
+full_under key generation file = full_parts key generation (row_under key file) ∙ ap (λ b. b && is_generation generation file) (key_own key)
+
+pub without_under : (key : Key) (generation low : ℕ) (own : List File) → IsAscending low own
+    → map (row_under key) (generations.without generation own)
+    ≡ without (record { key = key; generation = generation }) (map (row_under key) own)
+without_under key generation low [] ascend = refl
+without_under key generation low (file ∷ own) ascend =
+    rw (full_under key generation file) (by (is_generation generation file) refl (without_under key generation file.generation own ascend.3))
+  where
+    by : (b : Bool) → is_generation generation file ≡ b
+        → map (row_under key) (generations.without generation own)
+        ≡ without (record { key = key; generation = generation }) (map (row_under key) own)
+        → map (row_under key) (cond (not b) (file ∷ generations.without generation own) (generations.without generation own))
+        ≡ cond b (map (row_under key) own) (row_under key file ∷ without (record { key = key; generation = generation }) (map (row_under key) own))
+    by true is rest =
+        ap (map (row_under key)) (without_higher generation file.generation own (omega (arith, same_number file.generation generation is)) ascend.3)
+    by false is rest = ap (λ more. row_under key file ∷ more) rest
+
+pub row_at_under : (key : Key) (generation : ℕ) (own : List File)
+    → option_map (row_under key) (find (is_generation generation) own)
+    ≡ row_at (record { key = key; generation = generation }) (map (row_under key) own)
+row_at_under key generation [] = refl
+row_at_under key generation (file ∷ own) =
+    rw (full_under key generation file) (by (is_generation generation file) (row_at_under key generation own))
+  where
+    by : (b : Bool) → option_map (row_under key) (find (is_generation generation) own)
+        ≡ row_at (record { key = key; generation = generation }) (map (row_under key) own)
+        → option_map (row_under key) (cond b (Some file) (find (is_generation generation) own))
+        ≡ cond b (Some (row_under key file)) (row_at (record { key = key; generation = generation }) (map (row_under key) own))
+    by true rest = refl
+    by false rest = rest
+
+-- and where it has none of that generation nothing is
+none_found : (generation : ℕ) (own : List File) → has generation own ≡ false → find (is_generation generation) own ≡ None
+none_found generation [] none = refl
+none_found generation (file ∷ own) none =
+    let parts : (is_generation generation file ≡ false) × (has generation own ≡ false) = or_parts _ _ none in
+    rw parts.0 (none_found generation own parts.1)
+
+none_without : (generation : ℕ) (own : List File) → has generation own ≡ false → generations.without generation own ≡ own
+none_without generation [] none = refl
+none_without generation (file ∷ own) none =
+    let parts : (is_generation generation file ≡ false) × (has generation own ≡ false) = or_parts _ _ none in
+    rw parts.0 (ap (λ rest. file ∷ rest) (none_without generation own parts.1))
+
+pub row_at_none : (key : Key) (generation : ℕ) (own : List File) → has generation own ≡ false
+    → None ≡ row_at (record { key = key; generation = generation }) (map (row_under key) own)
+row_at_none key generation own none =
+    sym (ap (option_map (row_under key)) (none_found generation own none)) ∙ row_at_under key generation own
+
+pub without_none : (key : Key) (generation : ℕ) (own : List File) → IsAscending 0 own → has generation own ≡ false
+    → map (row_under key) own ≡ without (record { key = key; generation = generation }) (map (row_under key) own)
+without_none key generation own ascend none =
+    sym (ap (map (row_under key)) (none_without generation own none)) ∙ without_under key generation 0 own ascend
+
+-- a file that is found is short
+pub short_found : (generation low : ℕ) (own : List File) (file : File) → IsAscending low own
+    → find (is_generation generation) own ≡ Some file → length file.bytes ≤ FILE_LIMIT
+short_found generation low [] file ascend found = absurd (cc)
+short_found generation low (first ∷ own) file ascend found =
+    by (is_generation generation first) found (λ found. short_found generation first.generation own file ascend.3 found)
+  where
+    by : (b : Bool) → cond b (Some first) (find (is_generation generation) own) ≡ Some file
+        → (find (is_generation generation) own ≡ Some file → length file.bytes ≤ FILE_LIMIT) → length file.bytes ≤ FILE_LIMIT
+    by true is rest =
+        let same : first ≡ file = cc in subst (λ (it : File). length it.bytes ≤ FILE_LIMIT) same ascend.2
+    by false is rest = rest is

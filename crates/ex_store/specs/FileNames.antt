@@ -1,0 +1,28 @@
+-- Files by name: each directory, name and type with its generations. A name without any is no file.
+use Rattle.std.specs.Prelude.{Bool, List, map}
+use Rattle.std.specs.List.{flat_map}
+use Rattle.std.specs.Ordering.{is_eq, on}
+use Rattle.std.specs.declared.cmp.Ordering.{Ordering}
+use Rattle.ex_generations.specs.declared.file.File.{File}
+use Rattle.ex_store.specs.declared.file_name.FileName.{FileName}
+use Rattle.ex_store.specs.declared.key.Key.{Key}
+use Rattle.ex_store.specs.declared.row.Row.{Row}
+use Rattle.ex_store.specs.Rows.{by_key}
+
+-- a generation of this directory, name and type
+abbrev pub row_under : Key → File → Row
+row_under key file = record { key = key; file = file }
+
+-- the files of a name, and of all names
+abbrev pub rows_under : FileName → List Row
+rows_under name = map (row_under name.key) name.gens.files
+
+abbrev pub rows_of : List FileName → List Row
+rows_of names = flat_map rows_under names
+
+-- names by directory, name and type
+abbrev pub by_name : FileName → FileName → Ordering
+by_name = on (λ name. name.key) by_key
+
+abbrev pub is_under : Key → FileName → Bool
+is_under key name = is_eq (by_key name.key key)

@@ -1,0 +1,170 @@
+// Files by name, as a plan has them while it is played: each directory, name and type with its generations.
+ghost use Rattle.std.specs.Prelude.{◌≡◌, ◌<◌, ◌≤◌, [], true, false, get_or, length, position, IfOk, IfSome, OnOk, Ok, Some, option_map};
+ghost use Rattle.std.specs.List.{prefix_len};
+ghost use Rattle.std.specs.Ordering.{is_lt};
+ghost use Rattle.cm_files.specs.Catalogue.{ascends};
+ghost use Rattle.ex_generations.specs.declared.file.TheConstants.{FILE_LIMIT, GENERATION_LIMIT};
+ghost use Rattle.ex_generations.specs.Generations.{has};
+ghost use Rattle.ex_store.specs.Adding.{numbered};
+ghost use Rattle.ex_store.specs.FileNames.{by_name, is_under, row_under, rows_of, rows_under};
+ghost use Rattle.ex_store.specs.declared.file_name.FileName.{FileName as Name};
+ghost use Rattle.ex_store.specs.declared.key.FullName.{FullName as Full};
+ghost use Rattle.ex_store.specs.Rows.{added, by_key, files_of, row_at, without};
+
+use crate::key::key_cmp;
+use crate::{FullName, Key, Row};
+use cm_fields::{Code, Gen};
+use cm_io::NoMemory;
+use cm_text::seek;
+use ex_generations::{File, GenFull, Gens};
+use std::alloc::Global;
+
+// A name and a type of a directory, and its generations.
+#[derive(Drop)]
+pub(crate) struct FileName {
+    pub(crate) key: Key,
+    pub(crate) gens: Gens,
+}
+
+impl FileName {
+    // Adds a file, and then so many unmarked generations are kept.
+    fn add(&mut self, file: File, retention: u8) -> Result<(), NoMemory>
+        requires short { length file.bytes ≤ FILE_LIMIT }
+        requires from_one { 0 < file.generation }
+        requires to_limit { file.generation ≤ GENERATION_LIMIT }
+        requires absent { has file.generation self.old.gens.files ≡ false }
+        ensures key { self.new.key ≡ self.old.key }
+        ensures rows { OnOk result
+            (rows_under self.new ≡ added retention (row_under self.old.key file) (rows_under self.old)) }
+    {
+        self.gens.reserve(1)?;
+        self.gens.add(file, retention);
+        Ok(())
+    }
+
+    // Takes the file of a generation out, where there is one.
+    fn remove(&mut self, generation: u32) -> Option<File>
+        ensures key { self.new.key ≡ self.old.key }
+        ensures file { let full : Full = record { key = self.old.key; generation = generation } in
+            option_map (row_under self.old.key) result ≡ row_at full (rows_under self.old) }
+        ensures rows { let full : Full = record { key = self.old.key; generation = generation } in
+            rows_under self.new ≡ without full (rows_under self.old) }
+        ensures short { IfSome result (λ file. length file.bytes ≤ FILE_LIMIT) }
+    {
+        if !self.gens.has(generation) {
+            return None;
+        }
+        Some(self.gens.remove(generation))
+    }
+}
+
+// How many names stand before the place of this one.
+fn place(names: &[FileName], key: &Key) -> usize
+    requires { ascends by_name names.now ≡ true }
+    ensures { result ≡ prefix_len (λ name. is_lt (by_key name.key key.now)) names.now }
+{
+    seek(names, |name| key_cmp(&name.key, key).is_lt())
+}
+
+// Where a name stands.
+fn position(names: &[FileName], key: &Key) -> Option<usize>
+    requires { ascends by_name names.now ≡ true }
+    ensures { result ≡ position (is_under key.now) names.now }
+{
+    let at = place(names, key);
+    match names.get(at) {
+        Some(name) if key_cmp(&name.key, key).is_eq() => Some(at),
+        _ => None,
+    }
+}
+
+// The generation that a new file takes beside these: a number that is given, and else the next.
+fn numbered_beside(gens: &Gens, generation: Gen) -> Result<u32, Code>
+    ensures { result ≡ numbered generation gens.now.files }
+{
+    match generation {
+        Gen::Number(number) if gens.has(number) => Err(Code::FileExists),
+        Gen::Number(number) => Ok(number),
+        _ => match gens.next() {
+            Ok(number) => Ok(number),
+            Err(GenFull) => Err(Code::GenFull),
+        },
+    }
+}
+
+// The same beside none.
+fn first_number(generation: Gen) -> u32
+    ensures { Ok result ≡ numbered generation [] }
+{
+    match generation {
+        Gen::Number(number) => number,
+        _ => 1,
+    }
+}
+
+// The generation that a new file of a name takes: a number that is given, and else the next.
+pub(crate) fn numbered(names: &[FileName], key: &Key, generation: Gen) -> Result<u32, Code>
+    requires { ascends by_name names.now ≡ true }
+    ensures { result ≡ numbered generation (files_of key.now (rows_of names.now)) }
+{
+    match position(names, key) {
+        Some(at) => numbered_beside(&names[at].gens, generation),
+        None => Ok(first_number(generation)),
+    }
+}
+
+// Where a name stands, which is entered at its place where it is not there yet.
+fn enter(names: &mut Vec<FileName>, alloc: Global, key: &Key) -> Result<usize, NoMemory>
+    requires { ascends by_name names.old.items ≡ true }
+    ensures rows { rows_of names.new.items ≡ rows_of names.old.items }
+    ensures ascend { ascends by_name names.new.items ≡ true }
+    ensures within { IfOk result (λ at. at < length names.new.items) }
+    ensures there { IfOk result (λ at. (d : Name) → is_under key.now (get_or names.new.items at d) ≡ true) }
+{
+    if let Some(at) = position(names, key) {
+        return Ok(at);
+    }
+    let at = place(names, key);
+    names.insert(
+        at,
+        FileName {
+            key: key.copy(),
+            gens: Gens::new(alloc),
+        },
+    )?;
+    Ok(at)
+}
+
+// Adds a file under its name, and then so many unmarked generations are kept.
+pub(crate) fn add(
+    names: &mut Vec<FileName>,
+    alloc: Global,
+    row: Row,
+    retention: u8,
+) -> Result<(), NoMemory>
+    requires names { ascends by_name names.old.items ≡ true }
+    requires short { length row.file.bytes ≤ FILE_LIMIT }
+    requires from_one { 0 < row.file.generation }
+    requires to_limit { row.file.generation ≤ GENERATION_LIMIT }
+    requires absent { has row.file.generation (files_of row.key (rows_of names.old.items)) ≡ false }
+    ensures rows { OnOk result (rows_of names.new.items ≡ added retention row (rows_of names.old.items)) }
+    ensures ascend { ascends by_name names.new.items ≡ true }
+{
+    let at = enter(names, alloc, &row.key)?;
+    names[at].add(row.file, retention)?;
+    Ok(())
+}
+
+// Takes the file of a full name out, where there is one.
+pub(crate) fn remove(names: &mut [FileName], full: &FullName) -> Option<File>
+    requires { ascends by_name names.old ≡ true }
+    ensures file { option_map (row_under full.now.key) result ≡ row_at full.now (rows_of names.old) }
+    ensures short { IfSome result (λ file. length file.bytes ≤ FILE_LIMIT) }
+    ensures rows { rows_of names.new ≡ without full.now (rows_of names.old) }
+    ensures ascend { ascends by_name names.new ≡ true }
+{
+    match position(names, &full.key) {
+        Some(at) => names[at].remove(full.generation),
+        None => None,
+    }
+}
