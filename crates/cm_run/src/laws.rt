@@ -1,20 +1,31 @@
-// Laws of every run, whatever the application.
-ghost use Rattle.std.specs.Prelude.{◌≡◌, ◌⊎◌, ◌+◌, ◌<◌, ◌^◌, ◌-◌, ℕ, Bool, false, List, [], ◌∷◌, ◌++◌, None, Result, Ok, Err};
+// Laws of every run, whatever the application, and of what displays show of it.
+ghost use Rattle.std.specs.Prelude.{◌≡◌, ◌⊎◌, ◌+◌, ◌<◌, ◌^◌, ◌-◌, ℕ, Bool, false, List, [], ◌∷◌, ◌++◌, None, Result, Ok, Err, Option, IfSome};
+ghost use Rattle.cm_text.specs.Text.{IsLine};
 ghost use Rattle.cm_io.specs.Told.{AddsPart, IsPart};
+ghost use Rattle.cm_io.specs.Display.{ArePrinted};
+ghost use Rattle.cm_line.specs.Keys.{class_of};
 ghost use Rattle.cm_blocks.specs.declared.field.Fault.{Fault};
-ghost use Rattle.cm_state.specs.SessionState.{SessionState};
+ghost use Rattle.cm_blocks.specs.Setting.{Setting};
+ghost use Rattle.cm_state.specs.SessionState.{SessionState, at_start};
 ghost use Rattle.cm_state.specs.declared.turn.Turn.{Turn};
 ghost use Rattle.cm_state.specs.declared.turn.Turn.TheVariants as turn;
+ghost use Rattle.cm_state.specs.declared.prompt.Prompt.{Prompt};
+ghost use Rattle.cm_state.specs.declared.prompt.Prompt.TheVariants.{Main, Sub};
+ghost use Rattle.cm_state.specs.Echo.{echo, prompt_text};
+ghost use Rattle.cm_state.specs.Edit.{edited};
 ghost use Rattle.cm_run.specs.Cause.{Counts, KeyCount, RunCause};
 ghost use Rattle.cm_run.specs.Cut.{Traces};
 ghost use Rattle.cm_run.specs.Event.{Act, Event, Log, Screen, Trials, gets_behind, keys_of, log_bytes, moments_behind, screen_bytes, state_behind, trials_of};
 ghost use Rattle.cm_run.specs.Meaning.{Meaning};
 ghost use Rattle.cm_run.specs.Observed.{Observed};
-ghost use Rattle.cm_run.specs.Progress.{keys_cost, progress, stroke_cost};
+ghost use Rattle.cm_run.specs.Progress.{keys_cost, progress, stroke_cost, MeetSound};
 ghost use Rattle.cm_run.specs.Trace.{RunState, events_if, key_trace, run_trace, starting, stroke, turn_outcome};
 ghost use Rattle.cm_run.specs.declared.engine.TheConstants.{FILE_LINES};
+ghost use Rattle.cm_run.specs.Keeping.{IsLineKeeping, KeepsLine};
+ghost use Rattle.cm_run.specs.Shows.{EndsLine, IsClear, Shows, ShowsBehind};
+ghost use Rattle.cm_run.specs.Sound.{IsSound};
 
-use crate::{Application, Stop};
+use crate::{Application, Display, Stop};
 
 /// Nothing acts before confirmation: a line that goes on does nothing and takes no moment, and one that is refused
 /// takes none, and does no more than what the application means by a refusal, which shows nothing and takes no memory.
@@ -91,4 +102,45 @@ pub fn a_quiet_run_goes_to_its_end()
 /// The numbers of the engine: the most lines of command files that are taken for one typed line.
 pub fn these_are_the_numbers()
     ensures lines { FILE_LINES ≡ 10000 }
+{}
+
+/// The prompts `@` and `@@` are printed bytes. A program sees to it that a prompt of its own is.
+pub fn the_prompts_are_printed()
+    ensures main { ArePrinted (prompt_text Main) }
+    ensures sub { ArePrinted (prompt_text Sub) }
+{}
+
+/// Where a display holds nothing, a prompt shows prompt and line of the session that begins with it.
+pub fn a_prompt_begins_a_line<D: Display>()
+    ensures shows { (display : D.State) → D.holds display [] → (node : ℕ) → (prompt : Prompt)
+        → (restorable : Option (List ℕ)) → ArePrinted (prompt_text prompt)
+        → Shows D.holds (D.feed display (prompt_text prompt)) (at_start node prompt restorable) }
+    ensures clear { (node : ℕ) → (prompt : Prompt) → (restorable : Option (List ℕ))
+        → ArePrinted (prompt_text prompt) → IfSome restorable IsLine → IsClear (at_start node prompt restorable) }
+{}
+
+/// Where a display shows prompt and line, the echo of a key leaves it showing prompt and line as they then are, for
+/// lines and prompts of every length. Behind a key that finishes the line or gives it up the display holds nothing.
+pub fn a_key_keeps_the_screen<D: Display>()
+    ensures clear { (s : Setting) → IsSound s → (held : SessionState) → (key : ℕ) → IsClear held
+        → IsClear (edited s held key) }
+    ensures shows { (s : Setting) → IsSound s → (held : SessionState) → (key : ℕ) → IsClear held
+        → (display : D.State) → Shows D.holds display held
+        → ShowsBehind D.holds (class_of key) (D.feed display (echo s held key)) (edited s held key) }
+{}
+
+/// Where a display holds nothing, a reply that is empty or ends with a line feed leaves it holding nothing.
+pub fn a_reply_ends_its_line<D: Display>()
+    ensures { (display : D.State) → (bytes : List ℕ) → EndsLine bytes → D.holds display []
+        → D.holds (D.feed display bytes) [] }
+{}
+
+/// Behind the first prompt, and behind every key with what it does and the next prompt, a display shows prompt and
+/// line as they then are, wherever the next key is for a line: for every application whose replies end their lines.
+/// Raw keys may come between; what they show is asked only to end its line where a line begins again.
+///
+/// `run` ensures of the keys that were taken that what each of them met is sound.
+pub fn a_run_keeps_the_screen<A: Application, D: Display>()
+    ensures { (m : Meaning A) → IsLineKeeping m → (state : A) → (moments keys : List ℕ)
+        → MeetSound m (starting m state moments) keys → KeepsLine D.feed D.holds m state moments keys }
 {}

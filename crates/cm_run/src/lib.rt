@@ -3,7 +3,7 @@
 #![tactic(auto)]
 
 mod application;
-pub mod display;
+mod display;
 mod engine;
 mod key;
 pub mod laws;
@@ -13,6 +13,7 @@ mod no_clock;
 mod stop;
 
 pub use application::Application;
+pub use display::Display;
 pub use engine::{FILE_LINES, run};
 pub use line::run_lines;
 pub use mode::Mode;

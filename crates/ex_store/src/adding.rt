@@ -52,8 +52,8 @@ pub(crate) fn limited(files: usize, bytes: usize, size: usize, generation: u32) 
     }
 }
 
-// The generation under which a file of this size is added, where there are so many files in all, of so many bytes; or the
-// refusal of its generation or of its size.
+// The generation under which a file of this size is added, where there are so many files in all, of so many bytes; or
+// the refusal of its generation or of its size.
 pub(crate) fn admitted(
     number: Result<u32, Code>,
     files: usize,

@@ -13,8 +13,8 @@ use crate::{NamePair, Ready, Row, RowChange};
 use cm_io::NoMemory;
 use std::alloc::Global;
 
-// What is to be done, from which file to which one each goes, and the files of the directories that the plan touches, by
-// name, as they stand then, without their bytes.
+// What is to be done, from which file to which one each goes, and the files of the directories that the plan touches,
+// by name, as they stand then, without their bytes.
 #[derive(Drop)]
 pub(crate) struct Simulation {
     pub(crate) row_changes: Vec<RowChange>,

@@ -12,7 +12,7 @@ use cm_blocks::{Grammar, Steps};
 use cm_files::{Names, OneDirectory};
 use cm_hooks::{Hooks, Rules};
 use cm_io::{MemSink, MemSource, Put};
-use cm_run::display::Display;
+use cm_run::Display;
 use cm_state::{Prompt, Session, Turn};
 use std::alloc::Global;
 use std::marker::Brand;
@@ -254,8 +254,8 @@ impl Display for PlainScreen {
 
 #[test]
 fn the_laws_hold() {
-    cm_run::display::the_prompts_are_printed();
-    cm_run::display::a_prompt_begins_a_line::<PlainScreen>();
-    cm_run::display::a_key_keeps_the_screen::<PlainScreen>();
-    cm_run::display::a_reply_ends_its_line::<PlainScreen>();
+    cm_run::laws::the_prompts_are_printed();
+    cm_run::laws::a_prompt_begins_a_line::<PlainScreen>();
+    cm_run::laws::a_key_keeps_the_screen::<PlainScreen>();
+    cm_run::laws::a_reply_ends_its_line::<PlainScreen>();
 }

@@ -1,5 +1,5 @@
 use Rattle.cm_run.proofs.Showing.{start_is_clear, start_shows}
-use Rattle.cm_run.proofs.display.a_prompt_begins_a_line.Goals as goal
+use Rattle.cm_run.proofs.laws.a_prompt_begins_a_line.Goals as goal
 
 pub returns-clause-shows : goal.returns-clause-shows
 returns-clause-shows g c = start_shows g.D.Display.feed g.D.Display.holds g.D.Display.is_display

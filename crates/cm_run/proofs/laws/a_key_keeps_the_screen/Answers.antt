@@ -1,5 +1,5 @@
 use Rattle.cm_run.proofs.Showing.{key_clears, key_shows}
-use Rattle.cm_run.proofs.display.a_key_keeps_the_screen.Goals as goal
+use Rattle.cm_run.proofs.laws.a_key_keeps_the_screen.Goals as goal
 
 pub returns-clause-clear : goal.returns-clause-clear
 returns-clause-clear g c = key_clears

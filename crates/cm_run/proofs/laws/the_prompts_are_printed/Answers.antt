@@ -1,5 +1,5 @@
 use Rattle.cm_run.proofs.Showing.{prompts_printed}
-use Rattle.cm_run.proofs.display.the_prompts_are_printed.Goals as goal
+use Rattle.cm_run.proofs.laws.the_prompts_are_printed.Goals as goal
 
 pub returns-clause-main : goal.returns-clause-main
 returns-clause-main c = prompts_printed.0
