@@ -6,9 +6,7 @@ use Rattle.std.proofs.lemmas.Bool.Decides.{nat_tests}
 use Rattle.std.proofs.lemmas.List.Sums.{fold-append}
 use Rattle.cm_fields.specs.declared.code.Code.{Code}
 use Rattle.cm_fields.specs.declared.value.Gen.{Gen}
-use Rattle.cm_files.specs.Catalogue.{ascends}
 use Rattle.ex_generations.specs.declared.file.TheConstants.{FILE_LIMIT}
-use Rattle.ex_generations.specs.Generations.{has}
 use Rattle.ex_store.specs.declared.directory.Directory.{Directory}
 use Rattle.ex_store.specs.declared.key.Key.{Key}
 use Rattle.ex_store.specs.declared.key.NamePair.{NamePair}
@@ -21,15 +19,14 @@ use Rattle.ex_store.specs.Adding.{Outcome, admitted, and_then, each_in_turn, lim
 use Rattle.ex_store.specs.Copying.{copied, is_star, key_from, moment_of, part_from}
 use Rattle.ex_store.specs.Plan.{IsTarget, may_be}
 use Rattle.ex_store.specs.Ready.{are_doable, rows_after_all, rows_after}
-use Rattle.ex_store.specs.Rows.{added, blank, by_row, files_of, full_of, total, rows_in_either}
+use Rattle.ex_store.specs.Rows.{added, blank, files_of, full_of, total, rows_in_either}
 use Rattle.ex_store.specs.State.{has_directory}
 use Rattle.ex_store.specs.WellFormed.{AreRows, is_file_name, is_file_type, is_numbered, is_row_among}
 use Rattle.ex_store.proofs.AdmittedLaws.{IsFree, admitted_is, and_then_ok, counted_target, is_counted, limited_roomy, numbered_free, rows_added}
-use Rattle.ex_store.proofs.AscendsLaws.{ascends_map}
 use Rattle.ex_store.proofs.BlankLaws.{added_blank, numbered_blank}
 use Rattle.ex_store.proofs.DoableLaws.{doable_more}
 use Rattle.ex_store.proofs.TotalLaws.{length_added, total_added}
-use Rattle.ex_store.proofs.RowsInEitherLaws.{added_either, ascends_either, either_target, files_either, is_either}
+use Rattle.ex_store.proofs.RowsInEitherLaws.{added_either, either_target, files_either, is_either}
 
 -- what a plan has come to
 abbrev pub outcome_at : ℕ → List Row → List RowChange → List NamePair → Outcome

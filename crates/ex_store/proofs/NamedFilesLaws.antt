@@ -1,38 +1,26 @@
 -- The generations of one name as rows: what is done with the one is done with the others.
-use Rattle.std.proofs.Common.{◌≡◌, ℕ, ◌<◌, ◌≤◌, ◌+◌, ◌==◌, ◌&&◌, Bool, true, false, not, cond, zero, suc, List, [], ◌∷◌, ◌++◌, length, drop, get_or, set, insert, map, filter, find, position, Option, None, Some, refl, ap, arith, ◌∙◌, sym, subst, append_assoc, append-nil}
-use Rattle.std.specs.List.{flat_map, list_all, list_any, position_or_len, prefix_len}
-use Rattle.std.specs.Option.{option_map, option_or}
-use Rattle.std.specs.Ordering.{is_eq, is_gt, is_lt, nat_cmp, ordering_reverse, ordering_then}
+use Rattle.std.proofs.Common.{◌≡◌, ℕ, ◌<◌, ◌≤◌, ◌==◌, ◌&&◌, Bool, true, false, not, cond, List, [], ◌∷◌, length, map, find, None, Some, refl, ap, arith, ◌∙◌, sym, subst}
+use Rattle.std.specs.List.{list_all}
+use Rattle.std.specs.Option.{option_map}
+use Rattle.std.specs.Ordering.{is_eq, is_lt, nat_cmp, ordering_reverse, ordering_then}
 use Rattle.std.specs.declared.cmp.Ordering.{Ordering}
 use Rattle.std.specs.declared.cmp.Ordering.TheVariants.{Less, Equal, Greater}
-use Rattle.std.specs.Cmp.{IsTotalOrder}
-use Rattle.std.proofs.lemmas.Bool.{and_from, and_parts, le-ltb, lt-ltb, ltb-true, not-true, not_from_false, or_parts}
+use Rattle.std.proofs.lemmas.Bool.{and_from, and_parts, or_parts}
 use Rattle.std.proofs.lemmas.Bool.Decides.{nat_tests}
-use Rattle.std.proofs.lemmas.Cmp.{on_total}
 use Rattle.std.proofs.lemmas.Map.Lookups.{exact_bytes}
-use Rattle.std.proofs.lemmas.List.{drop_more}
-use Rattle.std.proofs.lemmas.List.Quantifiers.{position-Some}
 use Rattle.cm_files.specs.Catalogue.{ascends, by_bytes}
 use Rattle.ex_generations.specs.declared.file.File.{File}
 use Rattle.ex_generations.specs.declared.file.TheConstants.{FILE_LIMIT}
 use Rattle.ex_generations.specs.Generations.{IsAscending, has, is_generation}
 use Rattle.ex_generations.specs.Generations as generations
 use Rattle.ex_generations.specs.Retention as retaining
-use Rattle.ex_store.specs.declared.file_name.FileName.{FileName}
-use Rattle.ex_store.specs.declared.key.FullName.{FullName}
 use Rattle.ex_store.specs.declared.key.Key.{Key}
 use Rattle.ex_store.specs.declared.row.Row.{Row}
-use Rattle.ex_store.specs.FileNames.{by_name, is_under, row_under, rows_of, rows_under}
-use Rattle.ex_store.specs.Rows.{added, blank, by_key, by_row, files, files_of, full_of, inserted, is_full, is_in_either, is_of, kept_newest, row_at, rows_in_either, without}
-use Rattle.ex_store.proofs.AscendsLaws.{all_above, ascends_map, ascends_sorted, is_less, is_sorted, sorted_ascends}
-use Rattle.ex_store.proofs.AreRowsLaws.{all_added, by_key_total, by_row_total, full_parts}
+use Rattle.ex_store.specs.FileNames.{row_under}
+use Rattle.ex_store.specs.Rows.{added, by_key, by_row, files, files_of, is_full, is_of, row_at, without}
+use Rattle.ex_store.proofs.AscendsLaws.{all_above, ascends_sorted, is_sorted}
+use Rattle.ex_store.proofs.AreRowsLaws.{all_added, by_key_total, full_parts}
 use Rattle.ex_store.proofs.FilesOfLaws.{files_added}
-use Rattle.ex_store.proofs.HalvingLaws.{full_stays, rises_sorted}
-use Rattle.ex_store.proofs.KeptLaws.{files_none, files_upper, kept_lower, kept_upper, none_of}
-use Rattle.ex_store.proofs.InsertionLaws.{inserted_ascends, inserted_there}
-use Rattle.ex_store.proofs.RowAtLaws.{none-from_position}
-use Rattle.ex_store.proofs.RowsInEitherLaws.{ascends_either}
-use Rattle.ex_store.proofs.RowsInLaws.{rises}
 
 -- keys that stand at one place are one
 is_equal : (o : Ordering) → is_eq o ≡ true → o ≡ Equal

@@ -1,5 +1,5 @@
 -- What is made of the sources of a plan is what the plan makes of the state.
-use Rattle.std.proofs.Common.{◌≡◌, ℕ, List, Result, Ok, Err, refl, ap, sym, subst, ◌∙◌}
+use Rattle.std.proofs.Common.{◌≡◌, ℕ, List, Result, Ok, Err, refl, ap, sym, ◌∙◌}
 use Rattle.std.proofs.lemmas.List.{append-nil}
 use Rattle.cm_fields.specs.declared.code.Code.{Code}
 use Rattle.ex_store.specs.declared.directory.Directory.{Directory}
@@ -16,9 +16,7 @@ use Rattle.ex_store.specs.Positions.{elements_at, positions_from}
 use Rattle.ex_store.specs.Ready.{Change, IsMade, applied, done_on, of_files, outcome_of, rows_after_all}
 use Rattle.ex_store.specs.Selection.{is_meant}
 use Rattle.ex_store.specs.State.{State}
-use Rattle.ex_store.specs.WellFormed.{IsWellFormed}
 use Rattle.ex_store.proofs.PositionsLaws.{elements_filter}
-use Rattle.ex_store.proofs.RemarkedLaws.{well_formed_with_rows}
 
 -- the directories, sources and rows that a plan is made of are those of the state
 pub record IsOver (state : State) (from : Place) (directories : List Directory) (taken rows : List Row) : Type 0 where

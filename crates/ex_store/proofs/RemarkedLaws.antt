@@ -7,7 +7,7 @@ use Rattle.std.proofs.lemmas.List.Sums.{count_by-le-length, length-filter}
 use Rattle.ex_store.specs.declared.directory.Directory.{Directory}
 use Rattle.ex_store.specs.declared.row.Row.{Row}
 use Rattle.ex_store.specs.Positions.{all_changed_at, changed_at, positions_from}
-use Rattle.ex_store.specs.Rows.{by_row, full_of, is_short, total, with_mark}
+use Rattle.ex_store.specs.Rows.{by_row, is_short, total, with_mark}
 use Rattle.ex_store.specs.State.{State}
 use Rattle.ex_store.specs.WellFormed.{AreRows, IsWellFormed, is_row_among}
 use Rattle.ex_store.proofs.AscendsLaws.{all_filter, ascends_filter, ascends_map}

@@ -1,29 +1,23 @@
 -- An element that is taken out at one place of a list and put in at another, and a row that is renamed so.
-use Rattle.std.proofs.Common.{◌≡◌, ℕ, suc, zero, ◌+◌, ◌-◌, ◌<◌, ◌≤◌, Bool, true, false, cond, if◌then◌else◌, nat_lt, List, [], ◌∷◌, ◌++◌, length, get_or, set, insert, remove, take, drop, position, filter, map, Ok, Err, Some, None, append_assoc, length-append, length-take, length-drop, refl, sym, ap, ◌∙◌, arith}
+use Rattle.std.proofs.Common.{◌≡◌, ℕ, suc, zero, ◌+◌, ◌-◌, ◌<◌, ◌≤◌, Bool, true, false, cond, if◌then◌else◌, nat_lt, List, [], ◌∷◌, ◌++◌, length, get_or, set, insert, remove, take, drop, position, Some, None, append_assoc, length-append, length-take, length-drop, refl, sym, ap, ◌∙◌, arith}
 use Rattle.std.specs.List.{list_all, prefix_len}
-use Rattle.std.specs.Ordering.{is_eq, is_lt}
+use Rattle.std.specs.Ordering.{is_lt}
 use Rattle.std.specs.declared.cmp.Ordering.{Ordering}
 use Rattle.std.specs.declared.cmp.Ordering.TheVariants.{Less, Equal, Greater}
 use Rattle.std.proofs.Math.Seq.{drop-append_seam, drop-cons, take-append_seam}
-use Rattle.std.proofs.lemmas.Bool.{and_parts, ltb-false, ltb-true, not-true, not_from_false}
+use Rattle.std.proofs.lemmas.Bool.{and_parts, ltb-false, ltb-true, not-true}
 use Rattle.std.proofs.lemmas.List.{get_or-drop, get_or-set_same, get_or_default, length-take-le, take-append-drop}
 use Rattle.std.proofs.lemmas.List.Quantifiers.{position-Some}
 use borrow.Rule.Slice.PartMut.{put_mid}
 use Rattle.cm_files.specs.Catalogue.{ascends}
-use Rattle.cm_fields.specs.declared.code.Code.{Code}
-use Rattle.cm_fields.specs.declared.value.Gen.{Gen}
-use Rattle.ex_generations.specs.Generations.{has}
 use Rattle.ex_store.specs.declared.key.FullName.{FullName}
-use Rattle.ex_store.specs.declared.key.Key.{Key}
 use Rattle.ex_store.specs.declared.key.NamePair.{NamePair}
 use Rattle.ex_store.specs.declared.ready.RowChange.TheVariants as changes
 use Rattle.ex_store.specs.declared.row.Row.{Row}
-use Rattle.ex_store.specs.Adding.{and_then, numbered}
-use Rattle.ex_store.specs.Renaming.{pair_to}
 use Rattle.ex_store.specs.Ready.{is_doable, moved, reinserted, with_name}
-use Rattle.ex_store.specs.Rows.{by_key, by_row, files_of, inserted, is_full, is_of, retained, without}
-use Rattle.ex_store.proofs.AllRenamedLaws.{ascends_without, equal_is}
-use Rattle.ex_store.proofs.AreRowsLaws.{ascends_inserted, by_key_total, full_parts}
+use Rattle.ex_store.specs.Rows.{by_row, inserted, is_full, retained, without}
+use Rattle.ex_store.proofs.AllRenamedLaws.{ascends_without}
+use Rattle.ex_store.proofs.AreRowsLaws.{ascends_inserted}
 use Rattle.ex_store.proofs.HalvingLaws.{full_place, fulls_rise}
 use Rattle.ex_store.proofs.KeptLaws.{put_mid_is}
 use Rattle.ex_store.proofs.RowAtLaws.{inserted_at, remove_is, row_is, row_none, without_none}

@@ -1,5 +1,4 @@
-use Rattle.std.proofs.Common.{◌≡◌, List, sym, ap, ◌∙◌}
-use Rattle.ex_generations.specs.declared.file.File.{File}
+use Rattle.std.proofs.Common.{List, sym, ap, ◌∙◌}
 use Rattle.ex_generations.specs.Generations.{has}
 use Rattle.ex_store.specs.declared.file_name.FileName.{FileName}
 use Rattle.ex_store.specs.declared.row.Row.{Row}

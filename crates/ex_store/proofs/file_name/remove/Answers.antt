@@ -1,4 +1,4 @@
-use Rattle.std.proofs.Common.{sym, ap, ◌∙◌}
+use Rattle.std.proofs.Common.{sym, ◌∙◌}
 use Rattle.ex_store.proofs.FileNamesLaws.{ascends_set, row_at_absent, row_at_there, without_absent, without_there}
 use Rattle.ex_store.proofs.file_name.remove.Goals as goal
 

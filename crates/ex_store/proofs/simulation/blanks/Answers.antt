@@ -1,7 +1,7 @@
-use Rattle.std.proofs.Common.{◌≡◌, List, true, false, sym, ap, ◌∙◌}
+use Rattle.std.proofs.Common.{sym, ap, ◌∙◌}
 use Rattle.ex_store.specs.declared.row.Row.{Row}
 use Rattle.ex_store.specs.FileNames.{rows_of}
-use Rattle.ex_store.specs.Rows.{added, is_in_either}
+use Rattle.ex_store.specs.Rows.{added}
 use Rattle.ex_store.specs.WellFormed.{is_numbered}
 use Rattle.ex_store.proofs.ElementsLaws.{all_behind}
 use Rattle.ex_store.proofs.LastRowLaws.{next_row, next_whole}

@@ -1,4 +1,4 @@
-use Rattle.std.proofs.Common.{◌≡◌, [], List, ap, sym, subst, ◌∙◌, map, false}
+use Rattle.std.proofs.Common.{List, ap, ◌∙◌, map}
 use Rattle.ex_generations.specs.declared.file.File.{File}
 use Rattle.ex_generations.specs.Generations.{IsAscending, Kept}
 use Rattle.ex_generations.specs.Retention as retaining

@@ -1,5 +1,5 @@
-use Rattle.std.proofs.Common.{◌≡◌, Some, ap, sym, ◌∙◌, map, option_map, false, find}
-use Rattle.ex_generations.specs.Generations.{Kept, has}
+use Rattle.std.proofs.Common.{ap, sym, ◌∙◌, map, option_map}
+use Rattle.ex_generations.specs.Generations.{Kept}
 use Rattle.ex_store.specs.FileNames.{row_under}
 use Rattle.ex_store.proofs.NamedFilesLaws.{row_at_none, row_at_under, short_found, without_none, without_under}
 use Rattle.ex_store.proofs.file_name.FileName.remove.Goals as goal
