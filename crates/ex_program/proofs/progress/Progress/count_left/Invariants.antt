@@ -1,7 +1,7 @@
 use Rattle.std.proofs.Common.{◌≡◌, ◌≤◌, ◌<◌, ◌+◌, ◌-◌, ◌*◌, length}
 use Rattle.ex_program.specs.GeneratedKeys.{keys_behind}
 use Rattle.ex_program.specs.Progress.{keys_left}
-use Rattle.ex_program.specs.declared.line.TheConstants.{LINE_ROOM}
+use Rattle.ex_program.specs.declared.generated_line.TheConstants.{LINE_ROOM}
 use Rattle.ex_program.specs.declared.progress.TheConstants.{NUMBER_LIMIT}
 use Rattle.ex_program.proofs.progress.Progress.count_left.Given as goal
 
