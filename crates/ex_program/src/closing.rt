@@ -77,7 +77,7 @@ fn end_line<H: Host, S: Sink>(store: &Store, out: &str, host: &mut H, screen: &m
 /// Closes the end of a run that stopped so, where its application has ended it or not: ends the line that is open,
 /// writes the image of the store to a file, and shows the message of the status that it comes to.
 #[tactic(auto, unfolding(crate::specs::Closing::Closes))]
-pub(crate) fn close<H: Host, S: Sink>(
+pub fn close<H: Host, S: Sink>(
     stop: Result<(), Stop>,
     ended: bool,
     store: &Store,

@@ -43,7 +43,7 @@ fn end_line(ended: bool, screen: &mut CountSink)
 /// Runs the EXEC over the keys of so many generated lines, from the first store, without a log, at the moment 0 for
 /// each line, and sums up what came of it. `steps` counts the trials. NoMemory where memory is wanting.
 #[tactic(auto, using(crate::proofs::Hooking::serves_exec))]
-pub(crate) fn summarize<L: Ledger>(
+pub fn summarize<L: Ledger>(
     alloc: Global,
     lines: u32,
     hooks: &Hooks<ExecRules>,

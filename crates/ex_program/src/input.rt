@@ -11,7 +11,7 @@ use ex_store::Store;
 use std::alloc::Global;
 
 /// The most bytes of a file that is loaded: 16 MiB, more than any image has.
-pub(crate) const IMAGE_LIMIT: u32 = 16_777_216;
+pub const IMAGE_LIMIT: u32 = 16_777_216;
 
 // The store of which the bytes are the image.
 fn decoded(alloc: Global, bytes: &[u8]) -> Result<Store, Status>
@@ -48,11 +48,7 @@ fn loaded<H: Host>(alloc: Global, name: &str, host: &mut H) -> Result<Store, Sta
 
 /// The store that a run begins with: that of which a file has the image, or a new one where no file is named. The file
 /// is loaded once.
-pub(crate) fn start<H: Host>(
-    alloc: Global,
-    input: Option<&str>,
-    host: &mut H,
-) -> Result<Store, Status>
+pub fn start<H: Host>(alloc: Global, input: Option<&str>, host: &mut H) -> Result<Store, Status>
     ensures began { IfOk result (λ store. Began (disk_of H.Host host.old) (option_copied input.entry) store.state) }
     ensures early { IfErr result (λ status. IsEarly (option_copied input.entry) status) }
     ensures cause { IfErr result (λ status. InputCause (disk_of H.Host host.old) (option_copied input.entry) status) }

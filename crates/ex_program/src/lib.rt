@@ -18,8 +18,13 @@ mod status;
 mod summary;
 mod words;
 
+pub use closing::close;
+pub use generated_run::summarize;
 pub use generator::Generator;
+pub use input::{IMAGE_LIMIT, start};
+pub use message::refuse;
 pub use program::exec20;
-pub use progress::GENERATED_LINES;
+pub use progress::{GENERATED_KEYS, GENERATED_LINES};
 pub use status::Status;
+pub use summary::Summary;
 pub use words::Words;

@@ -72,7 +72,7 @@ pub(crate) fn show_message<S: Sink>(status: Status, screen: &mut S)
 }
 
 /// Shows the message of a status that comes before the first prompt.
-pub(crate) fn refuse<S: Sink>(status: Status, screen: &mut S) -> Status
+pub fn refuse<S: Sink>(status: Status, screen: &mut S) -> Status
     ensures status { result ≡ status }
     ensures shown { Tried (S.told screen.old) (S.told screen.new)
         (S.faults screen.old) (S.faults screen.new) [] (message status) }

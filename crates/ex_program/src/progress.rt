@@ -10,7 +10,7 @@ use arrayvec::ArrayString;
 pub const GENERATED_LINES: u32 = 100_000;
 
 /// More keys than any generated run has.
-pub(crate) const GENERATED_KEYS: u64 = 16_777_216;
+pub const GENERATED_KEYS: u64 = 16_777_216;
 
 // Numbers of lines are below this.
 const NUMBER_LIMIT: u64 = 2_147_483_648;

@@ -8,23 +8,23 @@ use cm_text::end_of_line;
 
 /// The figures of a generated run.
 #[derive(Clone, Copy, Debug, PartialEq, Eq)]
-pub(crate) struct Summary {
+pub struct Summary {
     /// How many lines it had.
-    pub(crate) lines: u32,
+    pub lines: u32,
     /// How many of them were refused, by the parser or by what they command.
-    pub(crate) refused: u64,
+    pub refused: u64,
     /// How many keys were taken.
-    pub(crate) keys: u64,
+    pub keys: u64,
     /// How many bytes were shown, with the first prompt and the end of the last line: at most 18446744073709551615.
-    pub(crate) shown: u64,
+    pub shown: u64,
     /// How many generations of files the store had at the end, with those that are marked deleted.
-    pub(crate) generations: u64,
+    pub generations: u64,
 }
 
 impl Summary {
     /// Writes `lines L refused R keys K shown S generations G` and the end of the line.
     #[tactic(auto, using(cm_io::proofs::Texts::texts), unfolding(crate::specs::Summary::summary_text))]
-    pub(crate) fn put<S: Sink>(&self, out: &mut Writer<'_, S>)
+    pub fn put<S: Sink>(&self, out: &mut Writer<'_, S>)
         ensures { Writes S.Sink out.old out.new (summary_text self.now) }
     {
         out.put(before_lines());

@@ -41,7 +41,7 @@ use std::marker::Model;
 /// typed in, and whether LOGOUT has acted.
 /// Contracts see these, with the state of the file machine in place of the store.
 #[derive(Drop)]
-pub(crate) struct Exec {
+pub struct Exec {
     alloc: Global,
     store: Store,
     pending: Option<Pending>,
@@ -72,7 +72,7 @@ impl Model for Exec {
 
 impl Exec {
     /// The EXEC over a store, at a line. The memory for files that are typed in is `alloc`.
-    pub(crate) fn new(alloc: Global, store: Store) -> Exec
+    pub fn new(alloc: Global, store: Store) -> Exec
         ensures { result ≡ exec_start store.state }
     {
         Exec {
@@ -85,21 +85,21 @@ impl Exec {
     }
 
     /// Its directories and files.
-    pub(crate) fn store(&self) -> &Store
+    pub fn store(&self) -> &Store
         ensures { result.now.state ≡ self.now.state }
     {
         &self.store
     }
 
     /// Whether LOGOUT has acted.
-    pub(crate) fn has_ended(&self) -> bool
+    pub fn has_ended(&self) -> bool
         ensures { result ≡ self.now.ended }
     {
         self.has_ended
     }
 
     /// What a confirmed line commands.
-    pub(crate) fn command_of(&self, session: &Session<ExecRules>, grammar: &Grammar) -> Command
+    pub fn command_of(&self, session: &Session<ExecRules>, grammar: &Grammar) -> Command
         requires grammar { grammar.now ≡ exec_graph }
         requires parse { IsParse (setting exec_graph (catalogue_of self.now.state) exec_meanings) COMMANDS
             (text_of session.now) session.now.fields ending.Done }
@@ -188,7 +188,7 @@ impl Exec {
     }
 
     /// Does what a main line commands, or waits for its subcommands.
-    pub(crate) fn obey<S: Sink>(&mut self, command: Command, moment: u64, screen: &mut S) -> Acted
+    pub fn obey<S: Sink>(&mut self, command: Command, moment: u64, screen: &mut S) -> Acted
         requires may_act { MayAct command self.old.state }
         requires line { self.old.typing ≡ None }
         requires free { self.old.pending ≡ None }
@@ -246,7 +246,7 @@ impl Exec {
     }
 
     /// The command that waits for its subcommands, which waits no more then.
-    pub(crate) fn take_pending(&mut self) -> Option<Pending>
+    pub fn take_pending(&mut self) -> Option<Pending>
         ensures pending { result ≡ self.old.pending }
         ensures rest { self.new ≡ record self.old { pending = None } }
         ensures may_act { ForSome result (λ pending. MayAct pending.command self.old.state) }
@@ -256,7 +256,7 @@ impl Exec {
     }
 
     /// Adds a line of subcommands to a command that waited; behind an empty one it acts.
-    pub(crate) fn add_subcommands<S: Sink>(
+    pub fn add_subcommands<S: Sink>(
         &mut self,
         mut pending: Pending,
         session: &Session<ExecRules>,
@@ -282,7 +282,7 @@ impl Exec {
 
     /// Ends the subcommands of a command that waited, as an empty line of them does: it acts.
     #[tactic(auto, using(crate::proofs::Waiting::may_act_complete))]
-    pub(crate) fn end_subcommands<S: Sink>(&mut self, mut pending: Pending, screen: &mut S) -> Acted
+    pub fn end_subcommands<S: Sink>(&mut self, mut pending: Pending, screen: &mut S) -> Acted
         requires may_act { MayAct pending.command self.old.state }
         requires line { self.old.typing ≡ None }
         requires free { self.old.pending ≡ None }
@@ -299,7 +299,7 @@ impl Exec {
     }
 
     /// What the next key is for.
-    pub(crate) fn mode(&self) -> Mode
+    pub fn mode(&self) -> Mode
         ensures mode { result ≡ mode_of self.now }
         ensures node { IsModeOf exec_graph result }
     {
@@ -313,7 +313,7 @@ impl Exec {
     }
 
     /// Drops the command that waits for its subcommands.
-    pub(crate) fn abandon(&mut self)
+    pub fn abandon(&mut self)
         ensures { self.new ≡ record self.old { pending = None } }
     {
         self.pending = None;
@@ -321,7 +321,7 @@ impl Exec {
 
     /// Shows what a key of a file that is typed in does, and does nothing yet.
     #[tactic(auto, using(cm_io::proofs::Adding::add_none))]
-    pub(crate) fn echo_raw<S: Sink>(&self, key: u8, screen: &mut S) -> Put
+    pub fn echo_raw<S: Sink>(&self, key: u8, screen: &mut S) -> Put
         ensures bytes { Adds (S.told screen.old) (S.told screen.new) (echo_by key self.now.typing) result }
         ensures later { S.faults screen.old ≤ S.faults screen.new }
         ensures cause { PutCause (S.faults screen.old) (S.faults screen.new) result }
@@ -334,7 +334,7 @@ impl Exec {
 
     /// Takes a key of a file that is typed in.
     #[tactic(auto, using(cm_run::proofs::Obeying::obeys_nothing, crate::proofs::Obeying::obeys_silent), unfolding(cm_run::specs::Cause::ObeyCause, crate::specs::Exec::typed_deeds))]
-    pub(crate) fn obey_raw<S: Sink>(&mut self, key: u8, screen: &mut S) -> Acted
+    pub fn obey_raw<S: Sink>(&mut self, key: u8, screen: &mut S) -> Acted
         ensures obeys { Obeys (stage (S.told screen.old) self.old) (stage (S.told screen.new) self.new)
             (raw_by self.old key self.old.typing) (outcome_of result) }
         ensures answer { outcome_of result ≡ Ok tt → result ≡ raw_answer self.old key self.old.typing }
@@ -383,7 +383,7 @@ fn line_mode(pending: Option<&Pending>) -> Mode
 }
 
 /// What came of a command, as the engine is told it.
-pub(crate) fn outcome_of(acted: Acted) -> Result<(), Stop>
+pub fn outcome_of(acted: Acted) -> Result<(), Stop>
     ensures { result ≡ outcome_of acted }
 {
     match acted {

@@ -10,6 +10,7 @@ mod taker;
 mod taking;
 mod typing;
 
+pub use exec::{Exec, outcome_of};
 pub use pending::Pending;
 pub use taker::{MOST_FILES, Taker};
 pub use taking::{Took, take};
