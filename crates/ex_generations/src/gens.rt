@@ -52,6 +52,14 @@ impl Gens {
         &self.files[i as usize]
     }
 
+    /// The files, in ascending order of their generations.
+    pub fn as_slice(&self) -> &[File]
+        ensures value { result.now ≡ self.now.files }
+        ensures ordered { IsAscending 0 self.now.files }
+    {
+        &self.files
+    }
+
     /// Whether there is a file of this generation.
     pub fn has(&self, generation: u32) -> bool
         ensures there { result ≡ has generation self.now.files }

@@ -1,5 +1,5 @@
 -- Files by name: each directory, name and type with its generations. A name without any is no file.
-use Rattle.std.specs.Prelude.{Bool, List, map}
+use Rattle.std.specs.Prelude.{ℕ, ◌≡◌, ◌+◌, Bool, List, [], ◌∷◌, length, map}
 use Rattle.std.specs.List.{flat_map}
 use Rattle.std.specs.Ordering.{is_eq, on}
 use Rattle.std.specs.declared.cmp.Ordering.{Ordering}
@@ -26,3 +26,15 @@ by_name = on (λ name. name.key) by_key
 
 abbrev pub is_under : Key → FileName → Bool
 is_under key name = is_eq (by_key name.key key)
+
+-- each name tells how many files the names up to it have, from so many before them on
+abbrev pub IsCounted : ℕ → List FileName → Type 0
+IsCounted before [] = Unit {0}
+IsCounted before (name ∷ names) = (name.end ≡ before + length name.gens.files) × IsCounted name.end names
+
+-- the names, counted
+abbrev pub counted : ℕ → List FileName → List FileName
+counted before [] = []
+counted before (name ∷ names) =
+    let end = before + length name.gens.files in
+    record name { end = end } ∷ counted end names

@@ -24,6 +24,8 @@ use std::alloc::Global;
 pub(crate) struct FileName {
     pub(crate) key: Key,
     pub(crate) gens: Gens,
+    // How many files the names up to this one have, where they are counted.
+    pub(crate) end: usize,
 }
 
 impl FileName {
@@ -130,6 +132,7 @@ fn enter(names: &mut Vec<FileName>, alloc: Global, key: &Key) -> Result<usize, N
         FileName {
             key: key.copy(),
             gens: Gens::new(alloc),
+            end: 0,
         },
     )?;
     Ok(at)

@@ -13,6 +13,7 @@ mod define;
 mod directory;
 mod draft;
 mod file_name;
+mod files;
 mod key;
 pub mod laws;
 mod limits;

@@ -25,20 +25,20 @@ pub returns-clause-rows : goal.returns-clause-rows
 returns-clause-rows c =
     let within : c.place-at.result ≤ length c.args.names.now.items = rw (← c.deref-2.ensures.value) (omega (arith, c.place-at.ensures, prefix_len-le-length (λ (name : FileName). is_lt (by_key name.key c.args.key.now)) c.deref-2.result.now)) in
     ap rows_of c.in_ok-insert.ensures.items
-    ∙ rows_entered c.args.names.now.items c.place-at.result (record { key = c.copy.result; gens = c.new.result }) within
+    ∙ rows_entered c.args.names.now.items c.place-at.result (record { key = c.copy.result; gens = c.new.result; end = 0 }) within
     (ap (λ (kept : Kept). kept.files) c.new.ensures)
 
 pub returns-clause-ascend : goal.returns-clause-ascend
 returns-clause-ascend c =
     let none : position (is_under c.args.key.now) c.args.names.now.items ≡ None = rw (← c.deref.ensures.value) (sym c.position.ensures ∙ c.in_default.is) in
     ap (ascends by_name) c.in_ok-insert.ensures.items
-    ∙ ascends_entered c.args.key.now c.args.names.now.items c.place-at.result (record { key = c.copy.result; gens = c.new.result })
+    ∙ ascends_entered c.args.key.now c.args.names.now.items c.place-at.result (record { key = c.copy.result; gens = c.new.result; end = 0 })
     c.requires (rw (← c.deref-2.ensures.value) c.place-at.ensures) c.copy.ensures none
 
 pub returns-clause-there : goal.returns-clause-there
 returns-clause-there c =
     let within : c.place-at.result ≤ length c.args.names.now.items = rw (← c.deref-2.ensures.value) (omega (arith, c.place-at.ensures, prefix_len-le-length (λ (name : FileName). is_lt (by_key name.key c.args.key.now)) c.deref-2.result.now)) in
     λ d. ap (λ (it : List FileName). is_under c.args.key.now (get_or it c.place-at.result d)) c.in_ok-insert.ensures.items
-    ∙ ap (is_under c.args.key.now) (get_or-insert_at c.args.names.now.items c.place-at.result (record { key = c.copy.result; gens = c.new.result }) d within)
+    ∙ ap (is_under c.args.key.now) (get_or-insert_at c.args.names.now.items c.place-at.result (record { key = c.copy.result; gens = c.new.result; end = 0 }) d within)
     ∙ ap (λ (it : Key). is_eq (by_key it c.args.key.now)) c.copy.ensures
     ∙ key_own c.args.key.now
