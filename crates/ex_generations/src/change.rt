@@ -1,5 +1,6 @@
 // Changes of the generations of a file.
-ghost use Rattle.std.specs.Prelude.{◌≡◌, ◌<◌, ◌≤◌, ◌↔◌, true, false, IsErr, OnErr, length, insert, Some, vec_capacity, vec_len, find};
+ghost use Rattle.std.specs.Prelude.{◌≡◌, ◌<◌, ◌≤◌, ◌↔◌, true, false, IsErr, OnErr, length, get_or, insert, set, Some, vec_capacity, vec_len, find};
+ghost use Rattle.ex_generations.specs.declared.file.File.{File as Generation};
 ghost use Rattle.ex_generations.specs.Generations.{IsAscending, changed, has, inserted, is_generation, marked_as, rewritten, unmarked, without};
 ghost use Rattle.ex_generations.specs.Retention.{kept_newest, retained};
 
@@ -78,6 +79,16 @@ pub(crate) fn set_mark(files: &mut [File], generation: u32, deleted: bool) -> Re
         }
         None => Err(NoGen),
     }
+}
+
+// Sets or clears the mark of the file at a place.
+pub(crate) fn set_mark_at(files: &mut [File], i: usize, deleted: bool)
+    requires ascending { IsAscending 0 files.old }
+    requires within { i < length files.old }
+    ensures set { (d : Generation) → files.new ≡ set files.old i (marked_as deleted (get_or files.old i d)) }
+    ensures ascending { IsAscending 0 files.new }
+{
+    files[i].deleted = deleted;
 }
 
 // Gives a file a moment and bytes.

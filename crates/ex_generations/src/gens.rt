@@ -1,5 +1,6 @@
 // The generations of one file.
-ghost use Rattle.std.specs.Prelude.{◌≡◌, ◌<◌, ◌≤◌, ◌+◌, ◌↔◌, [], true, false, length, find, slice_get, Some, IsTrue, IsErr, IsOk, IfOk, OnErr, OnOk};
+ghost use Rattle.std.specs.Prelude.{◌≡◌, ◌<◌, ◌≤◌, ◌+◌, ◌↔◌, [], true, false, length, find, get_or, set, slice_get, Some, IsTrue, IsErr, IsOk, IfOk, OnErr, OnOk};
+ghost use Rattle.ex_generations.specs.declared.file.File.{File};
 ghost use Rattle.ex_generations.specs.Generations.{IsAscending, changed, has, highest, is_generation, lowest, marked, marked_as, next_generation, pages, rewritten, unmarked, with_mark, without};
 ghost use Rattle.ex_generations.specs.Retention.{added, retained};
 
@@ -113,7 +114,8 @@ impl Gens {
         requires from_one { 0 < file.generation }
         requires to_limit { file.generation ≤ GENERATION_LIMIT }
         requires absent { has file.generation self.old.files ≡ false }
-        ensures { self.new ≡ record self.old { files = added retention file self.old.files } }
+        ensures added { self.new ≡ record self.old { files = added retention file self.old.files } }
+        ensures ordered { IsAscending 0 self.old.files }
     {
         change::insert(&mut self.files, file);
         change::retain(&mut self.files, retention);
@@ -146,6 +148,16 @@ impl Gens {
         ensures err { OnErr result (self.new ≡ self.old) }
     {
         change::set_mark(&mut self.files, generation, false)
+    }
+
+    /// Marks the file at a place in the ascending order as deleted, or clears its mark.
+    pub fn set_mark(&mut self, i: u32, deleted: bool)
+        requires { i < length self.old.files }
+        ensures { (d : File) → self.new ≡ record self.old {
+          files = set self.old.files i (marked_as deleted (get_or self.old.files i d));
+        } }
+    {
+        change::set_mark_at(&mut self.files, i as usize, deleted);
     }
 
     /// Takes the file of a generation out. The room stays.

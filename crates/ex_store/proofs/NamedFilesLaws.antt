@@ -17,7 +17,7 @@ use Rattle.ex_generations.specs.Retention as retaining
 use Rattle.ex_store.specs.declared.key.Key.{Key}
 use Rattle.ex_store.specs.declared.row.Row.{Row}
 use Rattle.ex_store.specs.FileNames.{row_under}
-use Rattle.ex_store.specs.Rows.{added, by_key, by_row, files, files_of, is_full, is_of, row_at, without}
+use Rattle.ex_store.specs.Rows.{added, by_key, by_row, filled, files, files_of, is_full, is_of, row_at, without}
 use Rattle.ex_store.proofs.AscendsLaws.{all_above, ascends_sorted, is_sorted}
 use Rattle.ex_store.proofs.AreRowsLaws.{all_added, by_key_total, full_parts}
 use Rattle.ex_store.proofs.FilesOfLaws.{files_added}
@@ -196,3 +196,37 @@ short_found generation low (first ∷ own) file ascend found =
     by true is rest =
         let same : first ≡ file = cc in subst (λ (it : File). length it.bytes ≤ FILE_LIMIT) same ascend.2
     by false is rest = rest is
+
+-- a file is given a moment and bytes
+changed_higher : (generation moment low : ℕ) (bytes : List ℕ) (own : List File) → generation ≤ low → IsAscending low own
+    → generations.changed generation (generations.rewritten moment bytes) own ≡ own
+changed_higher generation moment low bytes [] most ascend = refl
+changed_higher generation moment low bytes (file ∷ own) most ascend =
+    rw (other_number generation file.generation (omega (arith, ascend.0)))
+    (ap (λ rest. file ∷ rest) (changed_higher generation moment file.generation bytes own (omega (arith, ascend.0)) ascend.3))
+
+pub filled_under : (key : Key) (generation moment low : ℕ) (bytes : List ℕ) (own : List File) → IsAscending low own
+    → map (row_under key) (generations.changed generation (generations.rewritten moment bytes) own)
+    ≡ filled (record { key = key; generation = generation }) moment bytes (map (row_under key) own)
+filled_under key generation moment low bytes [] ascend = refl
+filled_under key generation moment low bytes (file ∷ own) ascend =
+    rw (full_under key generation file) (by (is_generation generation file) refl (filled_under key generation moment file.generation bytes own ascend.3))
+  where
+    by : (b : Bool) → is_generation generation file ≡ b
+        → map (row_under key) (generations.changed generation (generations.rewritten moment bytes) own)
+        ≡ filled (record { key = key; generation = generation }) moment bytes (map (row_under key) own)
+        → row_under key (cond b (generations.rewritten moment bytes file) file)
+        ∷ map (row_under key) (generations.changed generation (generations.rewritten moment bytes) own)
+        ≡ cond b ((record (row_under key file) { file = generations.rewritten moment bytes file }) ∷ map (row_under key) own)
+        (row_under key file ∷ filled (record { key = key; generation = generation }) moment bytes (map (row_under key) own))
+    by true is rest =
+        ap (λ (it : List File). row_under key (generations.rewritten moment bytes file) ∷ map (row_under key) it)
+        (changed_higher generation moment file.generation bytes own (omega (arith, same_number file.generation generation is)) ascend.3)
+    by false is rest = ap (λ more. row_under key file ∷ more) rest
+
+pub filled_none : (key : Key) (generation moment : ℕ) (bytes : List ℕ) (own : List File) → has generation own ≡ false
+    → map (row_under key) own ≡ filled (record { key = key; generation = generation }) moment bytes (map (row_under key) own)
+filled_none key generation moment bytes [] none = refl
+filled_none key generation moment bytes (file ∷ own) none =
+    let parts : (is_generation generation file ≡ false) × (has generation own ≡ false) = or_parts _ _ none in
+    rw (full_under key generation file, parts.0) (ap (λ more. row_under key file ∷ more) (filled_none key generation moment bytes own parts.1))

@@ -1,6 +1,7 @@
 -- Files by name: each directory, name and type with its generations. A name without any is no file.
-use Rattle.std.specs.Prelude.{ℕ, ◌≡◌, ◌+◌, Bool, List, [], ◌∷◌, length, map}
+use Rattle.std.specs.Prelude.{ℕ, ◌≡◌, ◌+◌, Bool, List, [], ◌∷◌, find, length, map}
 use Rattle.std.specs.List.{flat_map}
+use Rattle.std.specs.Option.{option_map_or}
 use Rattle.std.specs.Ordering.{is_eq, on}
 use Rattle.std.specs.declared.cmp.Ordering.{Ordering}
 use Rattle.ex_generations.specs.declared.file.File.{File}
@@ -8,6 +9,7 @@ use Rattle.ex_store.specs.declared.file_name.FileName.{FileName}
 use Rattle.ex_store.specs.declared.key.Key.{Key}
 use Rattle.ex_store.specs.declared.row.Row.{Row}
 use Rattle.ex_store.specs.Rows.{by_key}
+use Rattle.ex_store.specs.State.{NameRoom}
 
 -- a generation of this directory, name and type
 abbrev pub row_under : Key → File → Row
@@ -38,3 +40,11 @@ counted before [] = []
 counted before (name ∷ names) =
     let end = before + length name.gens.files in
     record name { end = end } ∷ counted end names
+
+-- for how many files each name has room
+abbrev pub rooms_of : List FileName → List NameRoom
+rooms_of names = map (λ name. record { key = name.key; room = name.gens.room }) names
+
+-- for how many files there is room under a key, and none where its name is not there
+abbrev pub room_at : Key → List NameRoom → ℕ
+room_at key rooms = option_map_or (λ it. it.room) (find (λ it. is_eq (by_key it.key key)) rooms) 0

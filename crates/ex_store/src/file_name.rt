@@ -6,17 +6,17 @@ ghost use Rattle.cm_files.specs.Catalogue.{ascends};
 ghost use Rattle.ex_generations.specs.declared.file.TheConstants.{FILE_LIMIT, GENERATION_LIMIT};
 ghost use Rattle.ex_generations.specs.Generations.{has};
 ghost use Rattle.ex_store.specs.Adding.{numbered};
-ghost use Rattle.ex_store.specs.FileNames.{by_name, is_under, row_under, rows_of, rows_under};
+ghost use Rattle.ex_store.specs.FileNames.{by_name, is_under, room_at, rooms_of, row_under, rows_of, rows_under};
 ghost use Rattle.ex_store.specs.declared.file_name.FileName.{FileName as Name};
 ghost use Rattle.ex_store.specs.declared.key.FullName.{FullName as Full};
-ghost use Rattle.ex_store.specs.Rows.{added, by_key, files_of, row_at, without};
+ghost use Rattle.ex_store.specs.Rows.{added, by_key, filled, files_of, row_at, without};
 
 use crate::key::key_cmp;
 use crate::{FullName, Key, Row};
 use cm_fields::{Code, Gen};
 use cm_io::NoMemory;
 use cm_text::seek;
-use ex_generations::{File, GenFull, Gens};
+use ex_generations::{Bytes, File, GenFull, Gens};
 use std::alloc::Global;
 
 // A name and a type of a directory, and its generations.
@@ -44,9 +44,37 @@ impl FileName {
         Ok(())
     }
 
+    // Adds a file where there is room for it, and then so many unmarked generations are kept.
+    fn put(&mut self, file: File, retention: u8)
+        requires room { length self.old.gens.files < self.old.gens.room }
+        requires short { length file.bytes ≤ FILE_LIMIT }
+        requires from_one { 0 < file.generation }
+        requires to_limit { file.generation ≤ GENERATION_LIMIT }
+        requires absent { has file.generation self.old.gens.files ≡ false }
+        ensures key { self.new.key ≡ self.old.key }
+        ensures room { self.new.gens.room ≡ self.old.gens.room }
+        ensures rows { rows_under self.new ≡ added retention (row_under self.old.key file) (rows_under self.old) }
+    {
+        self.gens.add(file, retention);
+    }
+
+    // Gives the file of a generation another moment and other bytes, where there is one.
+    fn fill(&mut self, generation: u32, moment: u64, bytes: Bytes)
+        requires { length bytes ≤ FILE_LIMIT }
+        ensures key { self.new.key ≡ self.old.key }
+        ensures room { self.new.gens.room ≡ self.old.gens.room }
+        ensures rows { let full : Full = record { key = self.old.key; generation = generation } in
+            rows_under self.new ≡ filled full moment bytes (rows_under self.old) }
+    {
+        if self.gens.has(generation) {
+            self.gens.replace(generation, moment, bytes);
+        }
+    }
+
     // Takes the file of a generation out, where there is one.
     fn remove(&mut self, generation: u32) -> Option<File>
         ensures key { self.new.key ≡ self.old.key }
+        ensures room { self.new.gens.room ≡ self.old.gens.room }
         ensures file { let full : Full = record { key = self.old.key; generation = generation } in
             option_map (row_under self.old.key) result ≡ row_at full (rows_under self.old) }
         ensures rows { let full : Full = record { key = self.old.key; generation = generation } in
@@ -165,9 +193,41 @@ pub(crate) fn remove(names: &mut [FileName], full: &FullName) -> Option<File>
     ensures short { IfSome result (λ file. length file.bytes ≤ FILE_LIMIT) }
     ensures rows { rows_of names.new ≡ without full.now (rows_of names.old) }
     ensures ascend { ascends by_name names.new ≡ true }
+    ensures rooms { rooms_of names.new ≡ rooms_of names.old }
 {
     match position(names, &full.key) {
         Some(at) => names[at].remove(full.generation),
         None => None,
+    }
+}
+
+// Adds a file under a name that has room for it, and then so many unmarked generations are kept.
+pub(crate) fn put(names: &mut [FileName], row: Row, retention: u8)
+    requires names { ascends by_name names.old ≡ true }
+    requires room { length (files_of row.key (rows_of names.old)) < room_at row.key (rooms_of names.old) }
+    requires short { length row.file.bytes ≤ FILE_LIMIT }
+    requires from_one { 0 < row.file.generation }
+    requires to_limit { row.file.generation ≤ GENERATION_LIMIT }
+    requires absent { has row.file.generation (files_of row.key (rows_of names.old)) ≡ false }
+    ensures rows { rows_of names.new ≡ added retention row (rows_of names.old) }
+    ensures ascend { ascends by_name names.new ≡ true }
+    ensures rooms { rooms_of names.new ≡ rooms_of names.old }
+{
+    match position(names, &row.key) {
+        Some(at) => names[at].put(row.file, retention),
+        None => unreachable!(),
+    }
+}
+
+// Gives the file of a full name another moment and other bytes, where there is one.
+pub(crate) fn fill(names: &mut [FileName], target: &FullName, moment: u64, bytes: Bytes)
+    requires names { ascends by_name names.old ≡ true }
+    requires short { length bytes ≤ FILE_LIMIT }
+    ensures rows { rows_of names.new ≡ filled target.now moment bytes (rows_of names.old) }
+    ensures ascend { ascends by_name names.new ≡ true }
+    ensures rooms { rooms_of names.new ≡ rooms_of names.old }
+{
+    if let Some(at) = position(names, &target.key) {
+        names[at].fill(target.generation, moment, bytes);
     }
 }
