@@ -1,10 +1,11 @@
 -- Files by name: each directory, name and type with its generations. A name without any is no file.
-use Rattle.std.specs.Prelude.{ℕ, ◌≡◌, ◌+◌, Bool, List, [], ◌∷◌, find, length, map}
+use Rattle.std.specs.Prelude.{ℕ, ◌≡◌, ◌+◌, Bool, List, [], ◌∷◌, find, length, map, sum_by}
 use Rattle.std.specs.List.{flat_map}
 use Rattle.std.specs.Option.{option_map_or}
 use Rattle.std.specs.Ordering.{is_eq, on}
 use Rattle.std.specs.declared.cmp.Ordering.{Ordering}
 use Rattle.ex_generations.specs.declared.file.File.{File}
+use Rattle.cm_files.specs.Catalogue.{by_bytes}
 use Rattle.ex_store.specs.declared.file_name.FileName.{FileName}
 use Rattle.ex_store.specs.declared.key.Key.{Key}
 use Rattle.ex_store.specs.declared.row.Row.{Row}
@@ -48,3 +49,11 @@ rooms_of names = map (λ name. record { key = name.key; room = name.gens.room })
 -- for how many files there is room under a key, and none where its name is not there
 abbrev pub room_at : Key → List NameRoom → ℕ
 room_at key rooms = option_map_or (λ it. it.room) (find (λ it. is_eq (by_key it.key key)) rooms) 0
+
+-- the bytes of some files together
+abbrev pub bytes_of : List File → ℕ
+bytes_of files = sum_by (λ file. length file.bytes) files
+
+-- a name of a directory
+abbrev pub is_under_directory : List ℕ → FileName → Bool
+is_under_directory directory name = is_eq (by_bytes name.key.directory directory)

@@ -34,6 +34,7 @@ mod selection;
 mod shift;
 mod simulation;
 mod store;
+mod sweep;
 mod write;
 
 pub use directory::{Definition, DefinitionView, Directory, DirectoryView, Logical};
