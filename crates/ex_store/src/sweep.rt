@@ -54,9 +54,10 @@ pub(crate) fn drop_marked(names: &mut [FileName], directory: &[u8]) -> u32
 {
     let mut pages = 0;
     for name in names.iter_mut() {
-        if name.is_in(directory) {
-            pages += name.gens.expunge();
+        if !name.is_in(directory) {
+            continue;
         }
+        pages += name.gens.expunge();
     }
     pages
 }
