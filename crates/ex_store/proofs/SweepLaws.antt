@@ -3,7 +3,7 @@ use Rattle.std.proofs.Common.{◌≡◌, ℕ, ◌+◌, ◌*◌, ◌<◌, ◌≤�
 use Rattle.std.specs.List.{list_all}
 use Rattle.std.specs.Ordering.{is_eq}
 use Rattle.std.proofs.lemmas.Bool.{and_from, and_parts, leb-true, not-true}
-use Rattle.std.proofs.lemmas.List.{drop_more, take_more_set}
+use Rattle.std.proofs.lemmas.List.{drop-set-lt, drop_more, take_more_set}
 use Rattle.std.proofs.lemmas.Bool.Decides.{nat_tests}
 use Rattle.std.proofs.lemmas.List.Sums.{sum_by-append, sum_by-cons}
 use Rattle.cm_files.specs.Catalogue.{ascends, by_bytes}
@@ -171,19 +171,13 @@ pages_within directory (row ∷ rows) short =
         omega (arith, few, rest, sum_by-cons (λ (it : File). page_count (length it.bytes)) row.file (map (λ (it : Row). it.file) (filter (λ (it : Row). is_in directory it && it.file.deleted) rows)))
     by false few rest = omega (arith, rest)
 
-drop_past_set : {X : Type 0} (xs : List X) (i : ℕ) (y : X) → drop (i + 1) (set xs i y) ≡ drop (i + 1) xs
-drop_past_set [] zero y = refl
-drop_past_set [] (suc i) y = refl
-drop_past_set (x ∷ xs) zero y = refl
-drop_past_set (x ∷ xs) (suc i) y = drop_past_set xs i y
-
 -- one turn of a loop that changes each element in place
 pub turn_done : {X : Type 0} (f : X → X) (xs whole : List X) (i : ℕ) (item new : X) → i < length xs → item ≡ get_or xs i item → new ≡ f item
     → take i xs ++ map f (drop i xs) ≡ whole → take (i + 1) (set xs i new) ++ map f (drop (i + 1) (set xs i new)) ≡ whole
 turn_done {X} f xs whole i item new within is made so_far =
     let split : drop i xs ≡ item ∷ drop (i + 1) xs = drop_more xs i item within ∙ ap (λ (it : X). it ∷ drop (i + 1) xs) (sym is) in
     ap (λ (front : List X). front ++ map f (drop (i + 1) (set xs i new))) (take_more_set xs i new within)
-    ∙ ap (λ (rest : List X). (take i xs ++ new ∷ []) ++ map f rest) (drop_past_set xs i new)
+    ∙ ap (λ (rest : List X). (take i xs ++ new ∷ []) ++ map f rest) (drop-set-lt (i + 1) xs i new (omega arith))
     ∙ ap (λ (it : X). (take i xs ++ it ∷ []) ++ map f (drop (i + 1) xs)) made
     ∙ append_assoc (take i xs) (f item ∷ []) (map f (drop (i + 1) xs))
     ∙ sym (ap (λ (rest : List X). take i xs ++ map f rest) split)
