@@ -151,13 +151,13 @@ impl Gens {
     }
 
     /// Marks the file at a place in the ascending order as deleted, or clears its mark.
-    pub fn set_mark(&mut self, i: u32, deleted: bool)
+    pub fn set_mark(&mut self, i: usize, deleted: bool)
         requires { i < length self.old.files }
         ensures { (d : File) → self.new ≡ record self.old {
           files = set self.old.files i (marked_as deleted (get_or self.old.files i d));
         } }
     {
-        change::set_mark_at(&mut self.files, i as usize, deleted);
+        change::set_mark_at(&mut self.files, i, deleted);
     }
 
     /// Takes the file of a generation out. The room stays.

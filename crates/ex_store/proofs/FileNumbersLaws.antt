@@ -1,5 +1,5 @@
 -- The numbers of the files of all names.
-use Rattle.std.proofs.Common.{◌≡◌, ℕ, zero, suc, ◌+◌, ◌-◌, ◌<◌, ◌≤◌, nat_lt, Bool, true, false, not, cond, List, [], ◌∷◌, ◌++◌, length, drop, get_or, map, take, slice_get, Some, refl, ap, sym, subst, ◌∙◌, arith}
+use Rattle.std.proofs.Common.{◌≡◌, ℕ, zero, suc, ◌+◌, ◌-◌, ◌<◌, ◌≤◌, nat_lt, Bool, true, false, not, cond, List, [], ◌∷◌, ◌++◌, length, drop, get_or, map, set, take, slice_get, Some, refl, ap, sym, subst, ◌∙◌, arith}
 use Rattle.std.specs.List.{list_all, prefix_len}
 use Rattle.std.specs.Ordering.{is_eq, is_gt, is_le, is_lt, nat_cmp, ordering_then}
 use Rattle.std.specs.declared.cmp.Ordering.{Ordering}
@@ -236,3 +236,54 @@ pub found_under : (names : List FileName) (i n : ℕ) → IsCounted 0 names → 
     → n ≡ prefix_len (λ name. nat_lt name.end (i + 1)) names → StandsUnder names 0 i n
 found_under names i n is within place =
     subst (λ (n : ℕ). StandsUnder names 0 i n) (sym place) (stands_under 0 names i is (omega arith) (omega (arith, within)))
+
+-- the file of a name by its number
+first_names : (names : List FileName) → rows_of (take 0 names) ≡ []
+first_names [] = refl
+first_names (name ∷ names) = refl
+
+pub row_numbered : (names : List FileName) (n at : ℕ) (d : FileName) → n < length names → at < length (get_or names n d).gens.files
+    → slice_get (rows_of names) (length (rows_of (take n names)) + at) ≡ slice_get (rows_under (get_or names n d)) at
+row_numbered [] n at d within inside = absurd (omega arith)
+row_numbered (name ∷ names) zero at d within inside =
+    ap (λ (m : ℕ). slice_get (rows_under name ++ rows_of names) (m + at)) (first_length (name ∷ names))
+    ∙ ap (slice_get (rows_under name ++ rows_of names)) (omega arith)
+    ∙ get_front (rows_under name) (rows_of names) at (omega (arith, length_under name))
+row_numbered (name ∷ names) (suc n) at d within inside =
+    let size = length_more name (take n names) in
+    get_behind (rows_under name) (rows_of names) (length (rows_of (take (suc n) (name ∷ names))) + at) (omega (arith, size, length_under name))
+    ∙ ap (slice_get (rows_of names)) (omega (arith, size, length_under name))
+    ∙ row_numbered names n at d (omega arith) inside
+
+set_front : {X : Type 0} (front more : List X) (i : ℕ) (y : X) → i < length front → set (front ++ more) i y ≡ set front i y ++ more
+set_front [] more i y within = absurd (omega arith)
+set_front (x ∷ front) more zero y within = refl
+set_front (x ∷ front) more (suc i) y within = ap (λ rest. x ∷ rest) (set_front front more i y (omega arith))
+
+set_behind : {X : Type 0} (front more : List X) (i : ℕ) (y : X) → length front ≤ i → set (front ++ more) i y ≡ front ++ set more (i - length front) y
+set_behind [] more i y past = ap (λ n. set more n y) (omega arith)
+set_behind (x ∷ front) more zero y past = absurd (omega arith)
+set_behind (x ∷ front) more (suc i) y past =
+    ap (λ rest. x ∷ rest) (set_behind front more i y (omega arith) ∙ ap (λ n. front ++ set more n y) (omega arith))
+
+pub rows_set_at : (names : List FileName) (n at : ℕ) (d new : FileName) (row : Row) → n < length names
+    → at < length (get_or names n d).gens.files → rows_under new ≡ set (rows_under (get_or names n d)) at row
+    → rows_of (set names n new) ≡ set (rows_of names) (length (rows_of (take n names)) + at) row
+rows_set_at [] n at d new row within inside is = absurd (omega arith)
+rows_set_at (name ∷ names) zero at d new row within inside is =
+    ap (λ own. own ++ rows_of names) is
+    ∙ sym (set_front (rows_under name) (rows_of names) at row (omega (arith, length_under name)))
+    ∙ ap (λ (m : ℕ). set (rows_under name ++ rows_of names) m row) (omega (arith, first_length (name ∷ names)))
+rows_set_at (name ∷ names) (suc n) at d new row within inside is =
+    let size = length_more name (take n names) in
+    ap (λ rest. rows_under name ++ rest) (rows_set_at names n at d new row (omega arith) inside is)
+    ∙ ap (λ (m : ℕ). rows_under name ++ set (rows_of names) m row) (omega (arith, size, length_under name))
+    ∙ sym (set_behind (rows_under name) (rows_of names) (length (rows_of (take (suc n) (name ∷ names))) + at) row (omega (arith, size, length_under name)))
+
+pub counted_set : (before : ℕ) (names : List FileName) (n : ℕ) (d new : FileName) → IsCounted before names → n < length names
+    → new.end ≡ (get_or names n d).end → length new.gens.files ≡ length (get_or names n d).gens.files → IsCounted before (set names n new)
+counted_set before [] n d new is within end size = absurd (omega arith)
+counted_set before (name ∷ names) zero d new is within end size =
+    (end ∙ is.0 ∙ ap (λ n. before + n) (sym size), subst (λ (n : ℕ). IsCounted n names) (sym end) is.1)
+counted_set before (name ∷ names) (suc n) d new is within end size =
+    (is.0, counted_set name.end names n d new is.1 (omega arith) end size)

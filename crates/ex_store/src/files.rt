@@ -1,10 +1,12 @@
 // The files of all names, by their number in ascending order.
-ghost use Rattle.std.specs.Prelude.{◌≡◌, ◌<◌, ◌≤◌, Some, length, slice_get, take, true};
+ghost use Rattle.std.specs.Prelude.{◌≡◌, ◌+◌, ◌<◌, ◌≤◌, Some, get_or, length, set, slice_get, take, true};
 ghost use Rattle.cm_files.specs.Catalogue.{ascends};
 ghost use Rattle.ex_store.specs.declared.limits.TheConstants.{ROW_LIMIT};
 ghost use Rattle.ex_store.specs.FileNames.{IsCounted, by_name, counted, rows_of, rows_under};
 ghost use Rattle.ex_store.specs.Lent.{row_of_view};
-ghost use Rattle.ex_store.specs.Rows.{end_in, first_in};
+ghost use Rattle.ex_store.specs.declared.file_name.FileName.{FileName as Name};
+ghost use Rattle.ex_store.specs.declared.row.Row.{Row};
+ghost use Rattle.ex_store.specs.Rows.{end_in, first_in, with_mark};
 
 use crate::RowView;
 use crate::file_name::FileName;
@@ -65,6 +67,20 @@ pub(crate) fn end_of(names: &[FileName], directory: &[u8]) -> usize
     files_before(names, n)
 }
 
+// The name that the file with this number stands under, and which of its files it is.
+fn place_of(names: &[FileName], i: usize) -> (usize, usize)
+    requires counted { IsCounted 0 names.now }
+    requires within { i < length (rows_of names.now) }
+    requires few { length (rows_of names.now) ≤ ROW_LIMIT }
+    ensures name { result.0 < length names.now }
+    ensures file { (d : Name) → result.1 < length (get_or names.now result.0 d).gens.files }
+    ensures number { length (rows_of (take result.0 names.now)) + result.1 ≡ i }
+{
+    let behind = i + 1;
+    let n = seek(names, |name| name.end < behind);
+    (n, i - files_before(names, n))
+}
+
 // A name, with the file at a place of its own.
 fn file_at(name: &FileName, i: usize) -> RowView<'_>
     requires { i < length name.now.gens.files }
@@ -85,7 +101,33 @@ pub(crate) fn row_at(names: &[FileName], i: usize) -> RowView<'_>
     requires few { length (rows_of names.now) ≤ ROW_LIMIT }
     ensures { slice_get (rows_of names.now) i ≡ Some (row_of_view result) }
 {
-    let behind = i + 1;
-    let n = seek(names, |name| name.end < behind);
-    file_at(&names[n], i - files_before(names, n))
+    let (n, at) = place_of(names, i);
+    file_at(&names[n], at)
+}
+
+// Gives the file at a place of a name a mark.
+fn mark_at(name: &mut FileName, i: usize, deleted: bool)
+    requires within { i < length name.old.gens.files }
+    ensures key { name.new.key ≡ name.old.key }
+    ensures end { name.new.end ≡ name.old.end }
+    ensures len { length name.new.gens.files ≡ length name.old.gens.files }
+    ensures rows { (d : Row) → rows_under name.new
+        ≡ set (rows_under name.old) i (with_mark deleted (get_or (rows_under name.old) i d)) }
+{
+    name.gens.set_mark(i, deleted);
+}
+
+// Gives the file with this number a mark.
+pub(crate) fn set_mark(names: &mut [FileName], i: usize, deleted: bool)
+    requires names { ascends by_name names.old ≡ true }
+    requires counted { IsCounted 0 names.old }
+    requires within { i < length (rows_of names.old) }
+    requires few { length (rows_of names.old) ≤ ROW_LIMIT }
+    ensures rows { (d : Row) → rows_of names.new
+        ≡ set (rows_of names.old) i (with_mark deleted (get_or (rows_of names.old) i d)) }
+    ensures ascend { ascends by_name names.new ≡ true }
+    ensures counted { IsCounted 0 names.new }
+{
+    let (n, at) = place_of(names, i);
+    mark_at(&mut names[n], at, deleted);
 }
