@@ -1,7 +1,7 @@
 // The generations of one file.
-ghost use Rattle.std.specs.Prelude.{◌≡◌, ◌<◌, ◌≤◌, ◌+◌, ◌↔◌, [], true, false, length, find, get_or, set, slice_get, Some, IsTrue, IsErr, IsOk, IfOk, OnErr, OnOk};
+ghost use Rattle.std.specs.Prelude.{◌≡◌, ◌<◌, ◌≤◌, ◌+◌, ◌↔◌, [], true, false, length, find, get_or, map, option_copied, set, slice_get, Some, IsTrue, IsErr, IsOk, IfOk, OnErr, OnOk};
 ghost use Rattle.ex_generations.specs.declared.file.File.{File};
-ghost use Rattle.ex_generations.specs.Generations.{IsAscending, changed, has, highest, is_generation, lowest, marked, marked_as, next_generation, pages, rewritten, unmarked, with_mark, without};
+ghost use Rattle.ex_generations.specs.Generations.{IsAscending, blank, changed, has, highest, is_generation, lowest, marked, marked_as, next_generation, pages, rewritten, unmarked, with_mark, without};
 ghost use Rattle.ex_generations.specs.Retention.{added, retained};
 
 use crate::{Bytes, FILE_LIMIT, File, GENERATION_LIMIT, GenFull, NoGen, change, search};
@@ -37,6 +37,15 @@ impl Gens {
         }
     }
 
+    /// The same files without their bytes.
+    pub fn blank(&self, alloc: Global) -> Result<Gens, NoMemory>
+        ensures { IfOk result (λ gens. gens.files ≡ map blank self.now.files) }
+    {
+        Ok(Gens {
+            files: change::blanks(alloc, &self.files)?,
+        })
+    }
+
     /// How many files there are, deleted ones included.
     pub fn len(&self) -> u32
         ensures length { result ≡ length self.now.files }
@@ -59,6 +68,13 @@ impl Gens {
         ensures ordered { IsAscending 0 self.now.files }
     {
         &self.files
+    }
+
+    /// The file of this generation, where there is one.
+    pub fn find(&self, generation: u32) -> Option<&File>
+        ensures { option_copied result ≡ find (is_generation generation) self.now.files }
+    {
+        search::find(&self.files, generation)
     }
 
     /// Whether there is a file of this generation.

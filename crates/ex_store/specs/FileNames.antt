@@ -1,5 +1,5 @@
 -- Files by name: each directory, name and type with its generations. A name without any is no file.
-use Rattle.std.specs.Prelude.{ℕ, ◌≡◌, ◌+◌, Bool, List, [], ◌∷◌, find, length, map, sum_by}
+use Rattle.std.specs.Prelude.{ℕ, ◌≡◌, ◌+◌, ◌||◌, Bool, List, [], ◌∷◌, find, length, map, sum_by}
 use Rattle.std.specs.List.{flat_map}
 use Rattle.std.specs.Option.{option_map_or}
 use Rattle.std.specs.Ordering.{is_eq, on}
@@ -57,3 +57,7 @@ bytes_of files = sum_by (λ file. length file.bytes) files
 -- a name of a directory
 abbrev pub is_under_directory : List ℕ → FileName → Bool
 is_under_directory directory name = is_eq (by_bytes name.key.directory directory)
+
+-- a name of either directory
+abbrev pub is_under_either : List ℕ → List ℕ → FileName → Bool
+is_under_either first second name = is_under_directory first name || is_under_directory second name

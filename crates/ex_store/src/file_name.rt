@@ -1,15 +1,16 @@
 // Files by name, as a plan has them while it is played: each directory, name and type with its generations.
-ghost use Rattle.std.specs.Prelude.{◌≡◌, ◌<◌, ◌≤◌, [], true, false, get_or, length, position, IfOk, IfSome, OnOk, Ok, Some, option_map};
+ghost use Rattle.std.specs.Prelude.{◌≡◌, ◌<◌, ◌≤◌, [], true, false, get_or, length, map, position, IfOk, IfSome, OnOk, Ok, Some, option_map};
 ghost use Rattle.std.specs.List.{prefix_len};
 ghost use Rattle.std.specs.Ordering.{is_lt};
 ghost use Rattle.cm_files.specs.Catalogue.{ascends};
 ghost use Rattle.ex_generations.specs.declared.file.TheConstants.{FILE_LIMIT, GENERATION_LIMIT};
 ghost use Rattle.ex_generations.specs.Generations.{has};
 ghost use Rattle.ex_store.specs.Adding.{numbered};
-ghost use Rattle.ex_store.specs.FileNames.{by_name, is_under, room_at, rooms_of, row_under, rows_of, rows_under};
+ghost use Rattle.ex_store.specs.Appending.{bytes_at};
+ghost use Rattle.ex_store.specs.FileNames.{by_name, is_under, is_under_either, room_at, rooms_of, row_under, rows_of, rows_under};
 ghost use Rattle.ex_store.specs.declared.file_name.FileName.{FileName as Name};
 ghost use Rattle.ex_store.specs.declared.key.FullName.{FullName as Full};
-ghost use Rattle.ex_store.specs.Rows.{added, by_key, filled, files_of, row_at, without};
+ghost use Rattle.ex_store.specs.Rows.{added, blank, by_key, filled, files_of, row_at, rows_in_either, without};
 
 use crate::key::key_cmp;
 use crate::{FullName, Key, Row};
@@ -69,6 +70,37 @@ impl FileName {
         if self.gens.has(generation) {
             self.gens.replace(generation, moment, bytes);
         }
+    }
+
+    // The same without the bytes of its files.
+    fn blank(&self, alloc: Global) -> Result<FileName, NoMemory>
+        ensures key { IfOk result (λ name. name.key ≡ self.now.key) }
+        ensures rows { IfOk result (λ name. rows_under name ≡ map blank (rows_under self.now)) }
+    {
+        Ok(FileName {
+            key: self.key.copy(),
+            gens: self.gens.blank(alloc)?,
+            end: 0,
+        })
+    }
+
+    // What the file of a generation holds; nothing where there is none.
+    fn bytes_at(&self, generation: u32) -> &[u8]
+        ensures { let full : Full = record { key = self.now.key; generation = generation } in
+            result.now ≡ bytes_at full (rows_under self.now) }
+    {
+        match self.gens.find(generation) {
+            Some(file) => file.bytes.as_slice(),
+            None => b"",
+        }
+    }
+
+    // Whether it is one of either directory.
+    fn is_in_either(&self, first: &[u8], second: &[u8]) -> bool
+        ensures { result ≡ is_under_either first.now second.now self.now }
+    {
+        let directory = self.key.directory.as_bytes();
+        directory.cmp(first).is_eq() || directory.cmp(second).is_eq()
     }
 
     // Takes the file of a generation out, where there is one.
@@ -229,5 +261,38 @@ pub(crate) fn fill(names: &mut [FileName], target: &FullName, moment: u64, bytes
 {
     if let Some(at) = position(names, &target.key) {
         names[at].fill(target.generation, moment, bytes);
+    }
+}
+
+// The names of two directories, with their files without their bytes.
+pub(crate) fn blanks(
+    alloc: Global,
+    names: &[FileName],
+    from: &[u8],
+    to: &[u8],
+) -> Result<Vec<FileName>, NoMemory>
+    requires { ascends by_name names.now ≡ true }
+    ensures rows { IfOk result (λ blanks.
+        rows_of blanks.items ≡ map blank (rows_in_either from.now to.now (rows_of names.now))) }
+    ensures ascend { IfOk result (λ blanks. ascends by_name blanks.items ≡ true) }
+{
+    let mut blanks = Vec::new(alloc);
+    for name in names {
+        if !name.is_in_either(from, to) {
+            continue;
+        }
+        blanks.push(name.blank(alloc)?)?;
+    }
+    Ok(blanks)
+}
+
+// What a file holds; nothing where it is not there.
+pub(crate) fn bytes_at<'a>(names: &'a [FileName], full: &FullName) -> &'a [u8]
+    requires { ascends by_name names.now ≡ true }
+    ensures { result.now ≡ bytes_at full.now (rows_of names.now) }
+{
+    match position(names, &full.key) {
+        Some(at) => names[at].bytes_at(full.generation),
+        None => b"",
     }
 }
