@@ -1,7 +1,7 @@
 -- Files by name: what is done with the generations of one name is done with its rows, and with no others.
 use Rattle.std.proofs.Common.{◌≡◌, ℕ, ◌<◌, ◌≤◌, ◌==◌, Bool, true, false, not, cond, zero, suc, List, [], ◌∷◌, ◌++◌, length, get_or, set, insert, map, position, Option, None, Some, refl, ap, arith, ◌∙◌, sym, subst, append-nil}
 use Rattle.std.specs.List.{list_all, list_any, prefix_len}
-use Rattle.std.specs.Option.{option_map}
+use Rattle.std.specs.Option.{option_map, option_map_or}
 use Rattle.std.specs.Ordering.{is_eq, is_gt, is_lt, nat_cmp, ordering_reverse, ordering_then}
 use Rattle.std.specs.declared.cmp.Ordering.{Ordering}
 use Rattle.std.specs.declared.cmp.Ordering.TheVariants.{Less, Equal, Greater}
@@ -16,6 +16,7 @@ use Rattle.ex_store.specs.declared.file_name.FileName.{FileName}
 use Rattle.ex_store.specs.declared.key.FullName.{FullName}
 use Rattle.ex_store.specs.declared.key.Key.{Key}
 use Rattle.ex_store.specs.declared.row.Row.{Row}
+use Rattle.ex_store.specs.Appending.{bytes_at}
 use Rattle.ex_store.specs.FileNames.{by_name, is_under, room_at, rooms_of, row_under, rows_of, rows_under}
 use Rattle.ex_store.specs.Rows.{added, by_key, by_row, filled, files_of, inserted, is_full, is_of, kept_newest, row_at, without}
 use Rattle.ex_store.proofs.AscendsLaws.{all_above, ascends_map, is_sorted, sorted_ascends}
@@ -506,3 +507,16 @@ room_nowhere key (name ∷ names) none =
 
 pub room_none : (key : Key) (names : List FileName) → position (is_under key) names ≡ None → room_at key (rooms_of names) ≡ 0
 room_none key names none = room_nowhere key names (none-from_position (is_under key) names none)
+
+-- what a file holds
+pub bytes_there : (full : FullName) (names : List FileName) (at : ℕ) (d : FileName) → ascends by_name names ≡ true
+    → position (is_under full.key) names ≡ Some at
+    → bytes_at (record { key = (get_or names at d).key; generation = full.generation }) (rows_under (get_or names at d)) ≡ bytes_at full (rows_of names)
+bytes_there full names at d ascend found =
+    let key : (get_or names at d).key ≡ full.key = key_is (get_or names at d).key full.key (under_found full.key names at d found) in
+    ap (λ (it : Key). bytes_at (record { key = it; generation = full.generation }) (rows_under (get_or names at d))) key
+    ∙ ap (λ (it : Option Row). option_map_or (λ (row : Row). row.file.bytes) it [])
+    (sym (row_at_at full names at d (sorted_ascends by_name by_name_total names ascend) (at_found full.key names at found)))
+
+pub bytes_absent : (full : FullName) (names : List FileName) → position (is_under full.key) names ≡ None → bytes_at full (rows_of names) ≡ []
+bytes_absent full names none = ap (λ (it : Option Row). option_map_or (λ (row : Row). row.file.bytes) it []) (row_at_absent full names none)

@@ -1,7 +1,7 @@
 -- The generations of one name as rows: what is done with the one is done with the others.
-use Rattle.std.proofs.Common.{◌≡◌, ℕ, ◌<◌, ◌≤◌, ◌==◌, ◌&&◌, Bool, true, false, not, cond, List, [], ◌∷◌, length, map, find, None, Some, refl, ap, arith, ◌∙◌, sym, subst}
+use Rattle.std.proofs.Common.{◌≡◌, ℕ, ◌<◌, ◌≤◌, ◌==◌, ◌&&◌, Bool, true, false, not, cond, List, [], ◌∷◌, length, map, find, None, Some, refl, ap, arith, ◌∙◌, sym, subst, Option}
 use Rattle.std.specs.List.{list_all}
-use Rattle.std.specs.Option.{option_map}
+use Rattle.std.specs.Option.{option_map, option_map_or}
 use Rattle.std.specs.Ordering.{is_eq, is_lt, nat_cmp, ordering_reverse, ordering_then}
 use Rattle.std.specs.declared.cmp.Ordering.{Ordering}
 use Rattle.std.specs.declared.cmp.Ordering.TheVariants.{Less, Equal, Greater}
@@ -16,6 +16,7 @@ use Rattle.ex_generations.specs.Generations as generations
 use Rattle.ex_generations.specs.Retention as retaining
 use Rattle.ex_store.specs.declared.key.Key.{Key}
 use Rattle.ex_store.specs.declared.row.Row.{Row}
+use Rattle.ex_store.specs.Appending.{bytes_at}
 use Rattle.ex_store.specs.FileNames.{row_under}
 use Rattle.ex_store.specs.Rows.{added, by_key, by_row, filled, files, files_of, is_full, is_of, row_at, without}
 use Rattle.ex_store.proofs.AscendsLaws.{all_above, ascends_sorted, is_sorted}
@@ -230,3 +231,16 @@ filled_none key generation moment bytes [] none = refl
 filled_none key generation moment bytes (file ∷ own) none =
     let parts : (is_generation generation file ≡ false) × (has generation own ≡ false) = or_parts _ _ none in
     rw (full_under key generation file, parts.0) (ap (λ more. row_under key file ∷ more) (filled_none key generation moment bytes own parts.1))
+
+-- what a file of a name holds
+pub bytes_under : (key : Key) (generation : ℕ) (own : List File)
+    → bytes_at (record { key = key; generation = generation }) (map (row_under key) own)
+    ≡ option_map_or (λ (file : File). file.bytes) (find (is_generation generation) own) []
+bytes_under key generation own =
+    ap (λ (it : Option Row). option_map_or (λ (row : Row). row.file.bytes) it []) (sym (row_at_under key generation own))
+    ∙ by (find (is_generation generation) own)
+  where
+    by : (it : Option File) → option_map_or (λ (row : Row). row.file.bytes) (option_map (row_under key) it) []
+        ≡ option_map_or (λ (file : File). file.bytes) it []
+    by None = refl
+    by (Some file) = refl
