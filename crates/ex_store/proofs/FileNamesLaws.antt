@@ -17,7 +17,7 @@ use Rattle.ex_store.specs.declared.key.FullName.{FullName}
 use Rattle.ex_store.specs.declared.key.Key.{Key}
 use Rattle.ex_store.specs.declared.row.Row.{Row}
 use Rattle.ex_store.specs.Appending.{bytes_at}
-use Rattle.ex_store.specs.FileNames.{by_name, is_under, room_at, rooms_of, row_under, rows_of, rows_under}
+use Rattle.ex_store.specs.FileNames.{by_name, is_under, wanted_at, room_at, rooms_of, row_under, rows_of, rows_under}
 use Rattle.ex_store.specs.Rows.{added, by_key, by_row, filled, files_of, inserted, is_full, is_of, kept_newest, row_at, without}
 use Rattle.ex_store.proofs.AscendsLaws.{all_above, ascends_map, is_sorted, sorted_ascends}
 use Rattle.ex_store.proofs.AreRowsLaws.{by_key_total}
@@ -470,7 +470,7 @@ rooms_set (name ∷ names) (suc at) new d key room =
     ap (λ rest. record { key = name.key; room = name.gens.room } ∷ rest) (rooms_set names at new d key room)
 
 -- the first name of a key
-abbrev IsFirst : Key → List FileName → ℕ → Type 0
+abbrev pub IsFirst : Key → List FileName → ℕ → Type 0
 IsFirst key [] i = ⊥
 IsFirst key (name ∷ names) zero = is_under key name ≡ true
 IsFirst key (name ∷ names) (suc i) = (is_under key name ≡ false) × IsFirst key names i
@@ -482,12 +482,36 @@ is_first key (name ∷ names) zero within there before = there name
 is_first key (name ∷ names) (suc i) within there before =
     (before 0 name (omega arith), is_first key names i (omega arith) there (λ k d less. before (suc k) d (omega arith)))
 
-first_found : (key : Key) (names : List FileName) (i : ℕ) → position (is_under key) names ≡ Some i → IsFirst key names i
+pub first_found : (key : Key) (names : List FileName) (i : ℕ) → position (is_under key) names ≡ Some i → IsFirst key names i
 first_found key [] i found = absurd (cc)
 first_found key (name ∷ names) i found =
     is_first key (name ∷ names) i (position-Some (is_under key) (name ∷ names) i name found).0
     (λ d. (position-Some (is_under key) (name ∷ names) i d found).1)
     (λ k d less. (position-Some (is_under key) (name ∷ names) i d found).2 k less)
+
+-- in names that ascend a name of the key is the first one
+only_first : (key : Key) (names : List FileName) (i : ℕ) → is_sorted by_name names ≡ true → IsAt key names i → IsFirst key names i
+only_first key [] i sorted at = absurd at
+only_first key (name ∷ names) zero sorted at = at
+only_first key (name ∷ names) (suc i) sorted at =
+    let parts = and_parts _ _ sorted in
+    (less_other (by_key name.key key) (below_at key name names i parts.0 at), only_first key names i parts.1 at)
+  where
+    less_other : (o : Ordering) → is_lt o ≡ true → is_eq o ≡ false
+    less_other Less less = refl
+    less_other Equal less = absurd (cc)
+    less_other Greater less = refl
+
+pub first_there : (key : Key) (names : List FileName) (i : ℕ) → ascends by_name names ≡ true → i < length names
+    → ((d : FileName) → is_under key (get_or names i d) ≡ true) → IsFirst key names i
+first_there key names i ascend within there =
+    only_first key names i (sorted_ascends by_name by_name_total names ascend) (is_at key names i within there)
+
+pub first_wanted : (key : Key) (names : List FileName) (i : ℕ) (d : FileName) → IsFirst key names i
+    → wanted_at key names ≡ (get_or names i d).wanted
+first_wanted key [] i d at = absurd at
+first_wanted key (name ∷ names) zero d at = rw at refl
+first_wanted key (name ∷ names) (suc i) d at = rw at.0 (first_wanted key names i d at.1)
 
 room_first : (key : Key) (names : List FileName) (i : ℕ) (d : FileName) → IsFirst key names i
     → room_at key (rooms_of names) ≡ (get_or names i d).gens.room

@@ -1,5 +1,5 @@
 -- Files by name: each directory, name and type with its generations. A name without any is no file.
-use Rattle.std.specs.Prelude.{ℕ, ◌≡◌, ◌+◌, ◌||◌, Bool, List, [], ◌∷◌, find, length, map, sum_by}
+use Rattle.std.specs.Prelude.{ℕ, ◌≡◌, ◌<◌, ◌≤◌, ◌+◌, ◌||◌, Bool, List, [], ◌∷◌, find, length, map, sum_by}
 use Rattle.std.specs.List.{flat_map}
 use Rattle.std.specs.Option.{option_map_or}
 use Rattle.std.specs.Ordering.{is_eq, on}
@@ -49,6 +49,22 @@ rooms_of names = map (λ name. record { key = name.key; room = name.gens.room })
 -- for how many files there is room under a key, and none where its name is not there
 abbrev pub room_at : Key → List NameRoom → ℕ
 room_at key rooms = option_map_or (λ it. it.room) (find (λ it. is_eq (by_key it.key key)) rooms) 0
+
+-- no file is to be put under any name
+abbrev pub unwanted : List FileName → List FileName
+unwanted names = map (λ (name : FileName). record name { wanted = 0 }) names
+
+-- how many files are to be put under a key
+abbrev pub wanted_at : Key → List FileName → ℕ
+wanted_at key names = option_map_or (λ name. name.wanted) (find (is_under key) names) 0
+
+-- there is room for the files that are to be put under each name
+abbrev pub HasRoom : FileName → Type 0
+HasRoom name = 0 < name.wanted → length name.gens.files + name.wanted ≤ name.gens.room
+
+abbrev pub HaveRoom : List FileName → Type 0
+HaveRoom [] = Unit {0}
+HaveRoom (name ∷ names) = HasRoom name × HaveRoom names
 
 -- the bytes of some files together
 abbrev pub bytes_of : List File → ℕ

@@ -7,9 +7,10 @@ ghost use Rattle.ex_generations.specs.declared.file.TheConstants.{FILE_LIMIT, GE
 ghost use Rattle.ex_generations.specs.Generations.{has};
 ghost use Rattle.ex_store.specs.Adding.{numbered};
 ghost use Rattle.ex_store.specs.Appending.{bytes_at};
-ghost use Rattle.ex_store.specs.FileNames.{by_name, is_under, is_under_either, room_at, rooms_of, row_under, rows_of, rows_under};
+ghost use Rattle.ex_store.specs.FileNames.{HaveRoom, by_name, is_under, is_under_either, room_at, rooms_of, row_under, rows_of, rows_under, wanted_at};
 ghost use Rattle.ex_store.specs.declared.file_name.FileName.{FileName as Name};
 ghost use Rattle.ex_store.specs.declared.key.FullName.{FullName as Full};
+ghost use Rattle.ex_store.specs.declared.key.Key.{Key as Named};
 ghost use Rattle.ex_store.specs.Rows.{added, blank, by_key, filled, files_of, row_at, rows_in_either, without};
 
 use crate::key::key_cmp;
@@ -27,6 +28,8 @@ pub(crate) struct FileName {
     pub(crate) gens: Gens,
     // How many files the names up to this one have, where they are counted.
     pub(crate) end: usize,
+    // How many files a plan is to put under it, while room is made.
+    pub(crate) wanted: usize,
 }
 
 impl FileName {
@@ -81,6 +84,7 @@ impl FileName {
             key: self.key.copy(),
             gens: self.gens.blank(alloc)?,
             end: 0,
+            wanted: 0,
         })
     }
 
@@ -176,12 +180,14 @@ pub(crate) fn numbered(names: &[FileName], key: &Key, generation: Gen) -> Result
 }
 
 // Where a name stands, which is entered at its place where it is not there yet.
-fn enter(names: &mut Vec<FileName>, alloc: Global, key: &Key) -> Result<usize, NoMemory>
+pub(crate) fn enter(names: &mut Vec<FileName>, alloc: Global, key: &Key) -> Result<usize, NoMemory>
     requires { ascends by_name names.old.items ≡ true }
     ensures rows { rows_of names.new.items ≡ rows_of names.old.items }
     ensures ascend { ascends by_name names.new.items ≡ true }
     ensures within { IfOk result (λ at. at < length names.new.items) }
     ensures there { IfOk result (λ at. (d : Name) → is_under key.now (get_or names.new.items at d) ≡ true) }
+    ensures wanted { (other : Named) → wanted_at other names.new.items ≡ wanted_at other names.old.items }
+    ensures room { HaveRoom names.old.items → HaveRoom names.new.items }
 {
     if let Some(at) = position(names, key) {
         return Ok(at);
@@ -193,6 +199,7 @@ fn enter(names: &mut Vec<FileName>, alloc: Global, key: &Key) -> Result<usize, N
             key: key.copy(),
             gens: Gens::new(alloc),
             end: 0,
+            wanted: 0,
         },
     )?;
     Ok(at)

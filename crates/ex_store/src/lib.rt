@@ -28,6 +28,7 @@ mod queue;
 mod readers;
 mod ready;
 mod rename;
+mod room;
 mod row;
 mod search;
 mod selection;
