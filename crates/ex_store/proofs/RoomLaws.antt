@@ -8,8 +8,10 @@ use Rattle.std.proofs.lemmas.List.{get_or_default}
 use Rattle.cm_files.specs.Catalogue.{ascends}
 use Rattle.ex_store.specs.declared.file_name.FileName.{FileName}
 use Rattle.ex_store.specs.declared.key.Key.{Key}
+use Rattle.ex_store.specs.declared.row.Row.{Row}
 use Rattle.ex_store.specs.FileNames.{HasRoom, HaveRoom, by_name, is_under, room_at, rooms_of, row_under, rows_of, rows_under, unwanted, wanted_at}
 use Rattle.ex_store.specs.Rows.{by_key, files_of}
+use Rattle.ex_store.proofs.AscendsLaws.{ascends_map}
 use Rattle.ex_store.proofs.FileNamesLaws.{IsFirst, files_found, first_found, first_there, first_wanted, room_found}
 use Rattle.ex_store.proofs.NamedFilesLaws.{key_is}
 use Rattle.ex_store.proofs.RowAtLaws.{none-from_position}
@@ -17,7 +19,7 @@ use Rattle.ex_store.proofs.RowAtLaws.{none-from_position}
 -- where nothing is wanted
 pub rows_unwanted : (names : List FileName) → rows_of (unwanted names) ≡ rows_of names
 rows_unwanted [] = refl
-rows_unwanted (name ∷ names) = ap (λ rest. map (λ file. record { key = name.key; file = file }) name.gens.files ++ rest) (rows_unwanted names)
+rows_unwanted (name ∷ names) = ap (λ rest. rows_under name ++ rest) (rows_unwanted names)
 
 pub keys_unwanted : (names : List FileName) → map (λ (name : FileName). name.key) (unwanted names) ≡ map (λ (name : FileName). name.key) names
 keys_unwanted [] = refl
@@ -159,3 +161,18 @@ pub rows_kept : (names : List FileName) (at : ℕ) (new d : FileName) → new.ke
 rows_kept [] at new d key files = refl
 rows_kept (name ∷ names) zero new d key files = λ j. map (row_under (key j)) (files j) ++ rows_of names
 rows_kept (name ∷ names) (suc at) new d key files = ap (λ rest. rows_under name ++ rest) (rows_kept names at new d key files)
+
+pub ascends_unwanted : (names : List FileName) → ascends by_name names ≡ true → ascends by_name (unwanted names) ≡ true
+ascends_unwanted names ascend =
+    sym (ascends_map by_key by_name (λ (name : FileName). name.key) (λ x y. refl) (unwanted names))
+    ∙ ap (ascends by_key) (keys_unwanted names)
+    ∙ ascends_map by_key by_name (λ (name : FileName). name.key) (λ x y. refl) names
+    ∙ ascend
+
+-- room for what is wanted is room for what is put
+pub room_for : (key : Key) (rows : List Row) (names : List FileName) (n : ℕ) → ascends by_name names ≡ true → HaveRoom names
+    → rows_of names ≡ rows → wanted_at key names ≡ n → 0 < n
+    → length (files_of key rows) + n ≤ room_at key (rooms_of names)
+room_for key rows names n ascend have same wanted some =
+    let size = ap (λ (it : List Row). length (files_of key it)) same in
+    omega (arith, size, wanted, some, room_wanted key names ascend have (omega (arith, some, wanted)))

@@ -41,8 +41,8 @@ impl FileName {
 }
 
 // No file is to be put under any name.
-fn want_none(names: &mut [FileName])
-    ensures { names.new ≡ unwanted names.old }
+fn want_none(names: &mut Vec<FileName>)
+    ensures { names.new.items ≡ unwanted names.old.items }
 {
     for name in names.iter_mut() {
         name.wanted = 0;

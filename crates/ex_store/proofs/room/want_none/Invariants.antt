@@ -4,5 +4,5 @@ use Rattle.ex_store.proofs.room.want_none.Given as goal
 
 abbrev pub invariant-loop-name : goal.invariant-loop-name
 invariant-loop-name l = record {
-  so_far : take l.name-index l.names ++ unwanted (drop l.name-index l.names) ≡ unwanted l.initial.names;
+  so_far : take l.name-index l.name-items ++ unwanted (drop l.name-index l.name-items) ≡ unwanted l.initial.name-items;
 }
