@@ -21,13 +21,18 @@ doable_next retention rows [] change more all = (and_parts _ _ all).0
 doable_next retention rows (first ∷ done) change more all =
     doable_next retention (rows_after retention rows first) done change more (and_parts _ _ all).1
 
+-- those that were done, the next one and what is left
+pub split_at : (items done : List RowChange) (change : RowChange)
+    → map (λ (each : RowChange). each) done ≡ take (length done) items → length done < length items
+    → change ≡ get_or items (length done) change → items ≡ done ++ change ∷ drop (length done + 1) items
+split_at items done change so_far within is =
+    sym (take-append-drop (length done) items)
+    ∙ ap (λ front. front ++ drop (length done) items) (sym so_far ∙ map-id done)
+    ∙ ap (λ rest. done ++ rest) (drop_more items (length done) change within ∙ ap (λ first. first ∷ drop (length done + 1) items) (sym is))
+
 pub doable_at : (retention : ℕ) (rows : List Row) (items done : List RowChange) (change : RowChange) → are_doable retention rows items ≡ true
     → map (λ (each : RowChange). each) done ≡ take (length done) items → length done < length items
     → change ≡ get_or items (length done) change → is_doable (rows_after_all retention rows done) change ≡ true
 doable_at retention rows items done change all so_far within is =
-    let split : items ≡ done ++ change ∷ drop (length done + 1) items =
-    sym (take-append-drop (length done) items)
-    ∙ ap (λ front. front ++ drop (length done) items) (sym so_far ∙ map-id done)
-    ∙ ap (λ rest. done ++ rest) (drop_more items (length done) change within ∙ ap (λ first. first ∷ drop (length done + 1) items) (sym is)) in
     doable_next retention rows done change (drop (length done + 1) items)
-    (subst (λ (each : List RowChange). are_doable retention rows each ≡ true) split all)
+    (subst (λ (each : List RowChange). are_doable retention rows each ≡ true) (split_at items done change so_far within is) all)

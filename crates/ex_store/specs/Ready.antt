@@ -1,9 +1,10 @@
 -- A plan that is ready to be done.
-use Rattle.std.specs.Prelude.{ℕ, ◌≡◌, ◌+◌, ◌<◌, ◌≤◌, ◌&&◌, Bool, true, false, not, List, [], ◌∷◌, length, Option, Some, None, Result, Ok, ◌++◌}
+use Rattle.std.specs.Prelude.{ℕ, ◌≡◌, ◌+◌, ◌<◌, ◌≤◌, ◌&&◌, nat_le, Bool, true, false, not, List, [], ◌∷◌, length, Option, Some, None, Result, Ok, ◌++◌}
 use Rattle.std.specs.List.{count_by, fold}
 use Rattle.std.specs.Option.{option_map_or}
 use Rattle.std.specs.Ordering.{is_eq}
 use Rattle.cm_fields.specs.declared.code.Code.{Code}
+use Rattle.ex_generations.specs.declared.file.TheConstants.{FILE_LIMIT}
 use Rattle.ex_generations.specs.Generations.{has}
 use Rattle.ex_store.specs.declared.directory.Definition.{Definition}
 use Rattle.ex_store.specs.declared.directory.Directory.{Directory}
@@ -21,7 +22,7 @@ use Rattle.ex_store.specs.FileNames.{room_at}
 use Rattle.ex_store.specs.Plan.{Planned}
 use Rattle.ex_store.specs.Rows.{added, by_key, filled, files_of, row_at, without}
 use Rattle.ex_store.specs.State.{StoreWithRoom, State}
-use Rattle.ex_store.specs.WellFormed.{AreRows, IsWellFormed}
+use Rattle.ex_store.specs.WellFormed.{AreRows, IsWellFormed, is_numbered}
 
 -- a directory to be made or changed; a logical name to be defined; how many generations are kept where files are
 -- added; what is done with the files, one after the other; what is put into the queue; and from which file to which
@@ -123,6 +124,12 @@ applied change state =
 -- what the plan makes, done on a state
 abbrev pub done_on : State → Change → Planned
 done_on state change = record { state = applied change state; pairs = change.pairs }
+
+-- what a change adds has a number and bytes that a file may have
+abbrev pub is_lawful : RowChange → Bool
+is_lawful (changes.Add row) = is_numbered row.file.generation && nat_le (length row.file.bytes) FILE_LIMIT
+is_lawful (changes.Move pair) = is_numbered pair.target.generation
+is_lawful (changes.Fill target moment bytes) = nat_le (length bytes) FILE_LIMIT
 
 -- the directory, name and type under which a change puts a file
 abbrev pub key_put : RowChange → Option Key

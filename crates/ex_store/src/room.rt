@@ -1,14 +1,17 @@
 // Room for the files that a plan puts under each name.
 ghost use Rattle.std.specs.Prelude.{ℕ, ◌≡◌, ◌<◌, ◌≤◌, ◌+◌, ◌^◌, true, length, option_copied, OnOk, if◌then◌else◌};
+ghost use Rattle.std.specs.List.{list_all};
 ghost use Rattle.std.specs.Ordering.{is_eq};
 ghost use Rattle.cm_files.specs.Catalogue.{ascends};
 ghost use Rattle.ex_store.specs.declared.key.Key.{Key as Named};
 ghost use Rattle.ex_store.specs.FileNames.{HasRoom, HaveRoom, by_name, room_at, rooms_of, rows_of, unwanted, wanted_at};
-ghost use Rattle.ex_store.specs.Ready.{count_under, key_put};
+ghost use Rattle.ex_store.specs.Ready.{are_doable, count_under, is_doable, is_lawful, key_put, moved, puts_under, rows_after, rows_after_all};
 ghost use Rattle.ex_store.specs.Rows.{by_key, files_of};
+ghost use Rattle.ex_store.specs.WellFormed.{is_numbered};
+ghost use Rattle.ex_store.specs.declared.ready.RowChange.TheVariants.{Move};
 
-use crate::file_name::{FileName, enter};
-use crate::{Key, RowChange};
+use crate::file_name::{FileName, enter, fill, put, remove};
+use crate::{Key, NamePair, Row, RowChange};
 use cm_io::NoMemory;
 use std::alloc::Global;
 
@@ -85,4 +88,58 @@ pub(crate) fn make_room(
         want(names, alloc, key)?;
     }
     Ok(())
+}
+
+// A file goes to another name that has room for it, and then so many unmarked generations are kept.
+fn rename(names: &mut [FileName], pair: NamePair, retention: u8)
+    requires names { ascends by_name names.old ≡ true }
+    requires doable { is_doable (rows_of names.old) (Move pair) ≡ true }
+    requires numbered { is_numbered pair.target.generation ≡ true }
+    requires room { length (files_of pair.target.key (rows_of names.old)) < room_at pair.target.key (rooms_of names.old) }
+    ensures rows { rows_of names.new ≡ moved retention pair (rows_of names.old) }
+    ensures ascend { ascends by_name names.new ≡ true }
+    ensures rooms { rooms_of names.new ≡ rooms_of names.old }
+{
+    let NamePair { source, target } = pair;
+    if let Some(file) = remove(names, &source) {
+        put(names, Row::new(target.key, target.generation, file.moment, file.bytes), retention);
+    }
+}
+
+// One change, where there is room for what it puts.
+fn change_name(names: &mut [FileName], change: RowChange, retention: u8)
+    requires names { ascends by_name names.old ≡ true }
+    requires lawful { is_lawful change ≡ true }
+    requires doable { is_doable (rows_of names.old) change ≡ true }
+    requires room { (key : Named) → puts_under key change ≡ true
+        → length (files_of key (rows_of names.old)) < room_at key (rooms_of names.old) }
+    ensures rows { rows_of names.new ≡ rows_after retention (rows_of names.old) change }
+    ensures ascend { ascends by_name names.new ≡ true }
+    ensures rooms { rooms_of names.new ≡ rooms_of names.old }
+{
+    match change {
+        RowChange::Add(row) => put(names, row, retention),
+        RowChange::Move(pair) => rename(names, pair, retention),
+        RowChange::Fill {
+            target,
+            moment,
+            bytes,
+        } => fill(names, &target, moment, bytes),
+    }
+}
+
+// All changes, one after the other, where there is room for what they put.
+pub(crate) fn change_names(names: &mut [FileName], changes: Vec<RowChange>, retention: u8)
+    requires names { ascends by_name names.old ≡ true }
+    requires lawful { list_all is_lawful changes.items ≡ true }
+    requires doable { are_doable retention (rows_of names.old) changes.items ≡ true }
+    requires room { (key : Named) → 0 < count_under key changes.items
+        → length (files_of key (rows_of names.old)) + count_under key changes.items ≤ room_at key (rooms_of names.old) }
+    ensures rows { rows_of names.new ≡ rows_after_all retention (rows_of names.old) changes.items }
+    ensures ascend { ascends by_name names.new ≡ true }
+    ensures rooms { rooms_of names.new ≡ rooms_of names.old }
+{
+    for change in changes {
+        change_name(names, change, retention);
+    }
 }
