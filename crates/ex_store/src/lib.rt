@@ -12,6 +12,7 @@ mod copy;
 mod define;
 mod directory;
 mod draft;
+mod entry;
 mod file_name;
 mod files;
 mod key;
