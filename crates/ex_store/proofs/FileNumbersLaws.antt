@@ -11,8 +11,9 @@ use Rattle.cm_files.specs.Catalogue.{ascends, by_bytes}
 use Rattle.ex_generations.specs.declared.file.File.{File}
 use Rattle.ex_store.specs.declared.file_name.FileName.{FileName}
 use Rattle.ex_store.specs.declared.row.Row.{Row}
-use Rattle.ex_store.specs.FileNames.{IsCounted, by_name, counted, row_under, rows_of, rows_under}
-use Rattle.ex_store.proofs.AscendsLaws.{sorted_ascends}
+use Rattle.ex_store.specs.FileNames.{AreNames, IsCounted, by_name, counted, rooms_of, row_under, rows_of, rows_under}
+use Rattle.ex_store.specs.Rows.{by_key}
+use Rattle.ex_store.proofs.AscendsLaws.{ascends_map, sorted_ascends}
 use Rattle.ex_store.proofs.FileNamesLaws.{by_name_total}
 use Rattle.ex_store.proofs.HalvingLaws.{rises_sorted}
 use Rattle.ex_store.proofs.RowsInLaws.{may_follow, rises}
@@ -30,6 +31,21 @@ pub keys_counted : (before : ℕ) (names : List FileName)
     → map (λ (name : FileName). name.key) (counted before names) ≡ map (λ (name : FileName). name.key) names
 keys_counted before [] = refl
 keys_counted before (name ∷ names) = ap (λ rest. name.key ∷ rest) (keys_counted (before + length name.gens.files) names)
+
+pub rooms_counted : (before : ℕ) (names : List FileName) → rooms_of (counted before names) ≡ rooms_of names
+rooms_counted before [] = refl
+rooms_counted before (name ∷ names) =
+    ap (λ rest. record { key = name.key; room = name.gens.room } ∷ rest) (rooms_counted (before + length name.gens.files) names)
+
+pub are_names : (names items : List FileName) → items ≡ counted 0 names → ascends by_name names ≡ true → AreNames items
+are_names names items is ascend =
+    subst AreNames (sym is) (record {
+      ascend = sym (ascends_map by_key by_name (λ (name : FileName). name.key) (λ x y. refl) (counted 0 names))
+          ∙ ap (ascends by_key) (keys_counted 0 names)
+          ∙ ascends_map by_key by_name (λ (name : FileName). name.key) (λ x y. refl) names
+          ∙ ascend;
+      counted = is_counted 0 names;
+    })
 
 length_under : (name : FileName) → length (rows_under name) ≡ length name.gens.files
 length_under name = length-map name.gens.files (row_under name.key)

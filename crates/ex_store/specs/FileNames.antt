@@ -1,11 +1,11 @@
 -- Files by name: each directory, name and type with its generations. A name without any is no file.
-use Rattle.std.specs.Prelude.{ℕ, ◌≡◌, ◌<◌, ◌≤◌, ◌+◌, ◌||◌, Bool, List, [], ◌∷◌, find, length, map, sum_by}
+use Rattle.std.specs.Prelude.{ℕ, ◌≡◌, ◌<◌, ◌≤◌, ◌+◌, ◌||◌, Bool, true, List, [], ◌∷◌, find, length, map, sum_by}
 use Rattle.std.specs.List.{flat_map}
 use Rattle.std.specs.Option.{option_map_or}
 use Rattle.std.specs.Ordering.{is_eq, on}
 use Rattle.std.specs.declared.cmp.Ordering.{Ordering}
 use Rattle.ex_generations.specs.declared.file.File.{File}
-use Rattle.cm_files.specs.Catalogue.{by_bytes}
+use Rattle.cm_files.specs.Catalogue.{ascends, by_bytes}
 use Rattle.ex_store.specs.declared.file_name.FileName.{FileName}
 use Rattle.ex_store.specs.declared.key.Key.{Key}
 use Rattle.ex_store.specs.declared.row.Row.{Row}
@@ -34,6 +34,11 @@ is_under key name = is_eq (by_key name.key key)
 abbrev pub IsCounted : ℕ → List FileName → Type 0
 IsCounted before [] = Unit {0}
 IsCounted before (name ∷ names) = (name.end ≡ before + length name.gens.files) × IsCounted name.end names
+
+-- the names of a store: each once, in ascending order, and counted
+pub record AreNames (names : List FileName) : Type 0 where
+  pub ascend : ascends by_name names ≡ true
+  pub counted : IsCounted 0 names
 
 -- the names, counted
 abbrev pub counted : ℕ → List FileName → List FileName

@@ -26,6 +26,11 @@ pub record NameRoom : Type 0 where
   pub key : Key
   pub room : ℕ
 
+-- files, and for how many of each name there is room
+pub record FilesWithRoom : Type 0 where
+  pub rows : List Row
+  pub rooms : List NameRoom
+
 -- the state, and for how many directories, logical names, files of each name and entries of the queue there is room
 pub record StoreWithRoom : Type 0 where
   pub state : State

@@ -13,9 +13,9 @@ use crate::file_name::FileName;
 use cm_text::seek;
 
 // Counts the files of the names.
-pub(crate) fn count(names: &mut [FileName])
-    requires { length (rows_of names.old) ≤ ROW_LIMIT }
-    ensures { names.new ≡ counted 0 names.old }
+pub(crate) fn count(names: &mut Vec<FileName>)
+    requires { length (rows_of names.old.items) ≤ ROW_LIMIT }
+    ensures { names.new.items ≡ counted 0 names.old.items }
 {
     let mut before = 0;
     for name in names.iter_mut() {

@@ -7,6 +7,7 @@ mod adding;
 mod append;
 mod apply;
 mod build;
+mod by_name;
 mod change;
 mod copy;
 mod define;

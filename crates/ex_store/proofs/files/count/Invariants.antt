@@ -5,6 +5,6 @@ use Rattle.ex_store.proofs.files.count.Given as goal
 
 abbrev pub invariant-loop-name : goal.invariant-loop-name
 invariant-loop-name l = record {
-  so_far : take l.name-index l.names ++ counted l.before (drop l.name-index l.names) ≡ counted 0 l.initial.names;
-  few : l.before + length (rows_of (drop l.name-index l.names)) ≤ ROW_LIMIT;
+  so_far : take l.name-index l.name-items ++ counted l.before (drop l.name-index l.name-items) ≡ counted 0 l.initial.name-items;
+  few : l.before + length (rows_of (drop l.name-index l.name-items)) ≤ ROW_LIMIT;
 }

@@ -50,14 +50,14 @@ pub loop-name-preserved : goal.loop-name-preserved
 loop-name-preserved c =
     let within : c.loop-name.name-index < length c.loop-name.names = omega (arith, c.loop-name-test.true, c.loop-name.auto.names) in
     let item = get_or c.loop-name.names c.loop-name.name-index c.name-item.result in
-    let new : FileName = record { key = item.key; gens = c.expunge-pages.new.self; end = item.end } in
+    let new : FileName = record { key = item.key; gens = c.expunge-pages.new.self; end = item.end; wanted = item.wanted } in
     let own : is_under_directory c.args.directory.now item ≡ true = sym c.is_in.ensures ∙ c.if-not-is_in.false in
     let there : item ≡ get_or c.loop-name.names c.loop-name.name-index item = get_or_default c.loop-name.names c.loop-name.name-index c.name-item.result item within in
     let left = left_is c.loop-name.names c.loop-name.name-index item new within there c.args.directory.now (pages (marked item.gens.files))
     (pages_own c.args.directory.now item (drop (c.loop-name.name-index + 1) c.loop-name.names) own) in
     record {
       swept_are = turn_done (swept c.args.directory.now) c.loop-name.names (map (swept c.args.directory.now) c.args.names.now) c.loop-name.name-index item new
-          within there (ap (λ (kept : Kept). record { key = item.key; gens = kept; end = item.end }) c.expunge-pages.ensures.kept ∙ sym (rw own refl)) c.loop-name.invariant.swept_are;
+          within there (ap (λ (kept : Kept). record { key = item.key; gens = kept; end = item.end; wanted = item.wanted }) c.expunge-pages.ensures.kept ∙ sym (rw own refl)) c.loop-name.invariant.swept_are;
       counted = omega (arith, left, c.expunge-pages.ensures.pages, c.loop-name.invariant.counted);
     }
 
