@@ -6,10 +6,11 @@ use Rattle.std.specs.declared.cmp.Ordering.{Ordering}
 use Rattle.std.specs.declared.cmp.Ordering.TheVariants.{Less, Equal, Greater}
 use Rattle.std.proofs.lemmas.Bool.{and_from, and_parts, lt-ltb, ltb-false, ltb-true}
 use Rattle.std.proofs.lemmas.Cmp.{nat_list_cmp_total}
-use Rattle.std.proofs.lemmas.List.{length-append, length-map}
+use Rattle.std.proofs.lemmas.List.{length-append, length-map, length-set}
 use Rattle.cm_files.specs.Catalogue.{ascends, by_bytes}
 use Rattle.ex_generations.specs.declared.file.File.{File}
 use Rattle.ex_store.specs.declared.file_name.FileName.{FileName}
+use Rattle.ex_store.specs.declared.limits.TheConstants.{ROW_LIMIT}
 use Rattle.ex_store.specs.declared.row.Row.{Row}
 use Rattle.ex_store.specs.FileNames.{AreNames, IsCounted, by_name, counted, rooms_of, row_under, rows_of, rows_under}
 use Rattle.ex_store.specs.Rows.{by_key}
@@ -37,14 +38,16 @@ rooms_counted before [] = refl
 rooms_counted before (name ∷ names) =
     ap (λ rest. record { key = name.key; room = name.gens.room } ∷ rest) (rooms_counted (before + length name.gens.files) names)
 
-pub are_names : (names items : List FileName) → items ≡ counted 0 names → ascends by_name names ≡ true → AreNames items
-are_names names items is ascend =
+pub are_names : (names items : List FileName) → items ≡ counted 0 names → ascends by_name names ≡ true → length (rows_of names) ≤ ROW_LIMIT
+    → AreNames items
+are_names names items is ascend few =
     subst AreNames (sym is) (record {
       ascend = sym (ascends_map by_key by_name (λ (name : FileName). name.key) (λ x y. refl) (counted 0 names))
           ∙ ap (ascends by_key) (keys_counted 0 names)
           ∙ ascends_map by_key by_name (λ (name : FileName). name.key) (λ x y. refl) names
           ∙ ascend;
       counted = is_counted 0 names;
+      few = rw (rows_counted 0 names) few;
     })
 
 length_under : (name : FileName) → length (rows_under name) ≡ length name.gens.files
@@ -303,3 +306,8 @@ counted_set before (name ∷ names) zero d new is within end size =
     (end ∙ is.0 ∙ ap (λ n. before + n) (sym size), subst (λ (n : ℕ). IsCounted n names) (sym end) is.1)
 counted_set before (name ∷ names) (suc n) d new is within end size =
     (is.0, counted_set name.end names n d new is.1 (omega arith) end size)
+
+-- as many files as before where one is marked
+pub few_set : (rows new : List Row) (i : ℕ) (made : Row → Row) → i < length rows → ((d : Row) → new ≡ set rows i (made d)) → length new ≡ length rows
+few_set [] new i made within is = absurd (omega (arith, within))
+few_set (row ∷ rows) new i made within is = ap (λ (it : List Row). length it) (is row) ∙ length-set (row ∷ rows) i (made row)

@@ -5,13 +5,14 @@ use Rattle.std.specs.Ordering.{is_eq}
 use Rattle.std.proofs.lemmas.Bool.{and_from, and_parts, leb-true, not-true}
 use Rattle.std.proofs.lemmas.List.{drop-set-lt, drop_more, take_more_set}
 use Rattle.std.proofs.lemmas.Bool.Decides.{nat_tests}
-use Rattle.std.proofs.lemmas.List.Sums.{sum_by-append, sum_by-cons}
+use Rattle.std.proofs.lemmas.List.Sums.{count_by-le-length, length-filter, sum_by-append, sum_by-cons}
 use Rattle.cm_files.specs.Catalogue.{ascends, by_bytes}
 use Rattle.ex_generations.specs.declared.file.File.{File}
 use Rattle.ex_generations.specs.declared.file.TheConstants.{FILE_LIMIT, PAGE_BYTES}
 use Rattle.ex_generations.specs.Generations.{marked, page_count, pages, unmarked}
 use Rattle.ex_store.specs.declared.file_name.FileName.{FileName}
 use Rattle.ex_store.specs.declared.key.Key.{Key}
+use Rattle.ex_store.specs.declared.limits.TheConstants.{ROW_LIMIT}
 use Rattle.ex_store.specs.declared.row.Row.{Row}
 use Rattle.ex_store.specs.FileNames.{by_name, bytes_of, is_under_directory, row_under, rows_of, rows_under}
 use Rattle.ex_store.specs.Rows.{by_key, expunged, is_in, is_short, pages_in, pages_marked, total}
@@ -189,3 +190,9 @@ ascends_swept directory names ascend =
     ∙ ap (ascends by_key) (keys_swept directory names)
     ∙ ascends_map by_key by_name (λ (name : FileName). name.key) (λ x y. refl) names
     ∙ ascend
+
+-- what is left is no more than there was
+pub few_left : (directory : List ℕ) (rows left : List Row) → left ≡ expunged directory rows → length rows ≤ ROW_LIMIT → length left ≤ ROW_LIMIT
+few_left directory rows left is few =
+    let test = λ (row : Row). not (is_in directory row && row.file.deleted) in
+    omega (arith, ap (λ (it : List Row). length it) is, few, length-filter test rows, count_by-le-length test rows)

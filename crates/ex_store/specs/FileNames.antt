@@ -8,6 +8,7 @@ use Rattle.ex_generations.specs.declared.file.File.{File}
 use Rattle.cm_files.specs.Catalogue.{ascends, by_bytes}
 use Rattle.ex_store.specs.declared.file_name.FileName.{FileName}
 use Rattle.ex_store.specs.declared.key.Key.{Key}
+use Rattle.ex_store.specs.declared.limits.TheConstants.{ROW_LIMIT}
 use Rattle.ex_store.specs.declared.row.Row.{Row}
 use Rattle.ex_store.specs.Rows.{by_key}
 use Rattle.ex_store.specs.State.{NameRoom}
@@ -35,10 +36,11 @@ abbrev pub IsCounted : ℕ → List FileName → Type 0
 IsCounted before [] = Unit {0}
 IsCounted before (name ∷ names) = (name.end ≡ before + length name.gens.files) × IsCounted name.end names
 
--- the names of a store: each once, in ascending order, and counted
+-- the names of a store: each once, in ascending order, and counted, with no more files than a store may have
 pub record AreNames (names : List FileName) : Type 0 where
   pub ascend : ascends by_name names ≡ true
   pub counted : IsCounted 0 names
+  pub few : length (rows_of names) ≤ ROW_LIMIT
 
 -- the names, counted
 abbrev pub counted : ℕ → List FileName → List FileName

@@ -58,8 +58,7 @@ impl Files {
 
     // The file with this number.
     pub(crate) fn row_at(&self, i: usize) -> RowView<'_>
-        requires within { i < length self.now.rows }
-        requires few { length self.now.rows ≤ ROW_LIMIT }
+        requires { i < length self.now.rows }
         ensures { slice_get self.now.rows i ≡ Some (row_of_view result) }
     {
         row_at(&self.names, i)
@@ -81,17 +80,16 @@ impl Files {
 
     // Gives the file with this number a mark.
     pub(crate) fn set_mark(&mut self, i: usize, deleted: bool)
-        requires within { i < length self.old.rows }
-        requires few { length self.old.rows ≤ ROW_LIMIT }
+        requires { i < length self.old.rows }
         ensures rows { (d : Filed) → self.new.rows
             ≡ set self.old.rows i (with_mark deleted (get_or self.old.rows i d)) }
+        ensures rooms { self.new.rooms ≡ self.old.rooms }
     {
         set_mark(&mut self.names, i, deleted);
     }
 
     // Makes room for what some changes put under each name.
     pub(crate) fn make_room(&mut self, alloc: Global, changes: &[RowChange]) -> Result<(), NoMemory>
-        requires few { length self.old.rows ≤ ROW_LIMIT }
         ensures rows { self.new.rows ≡ self.old.rows }
         ensures room { OnOk result ((key : Named) → 0 < count_under key changes.now
             → length (files_of key self.old.rows) + count_under key changes.now ≤ room_at key self.new.rooms) }
@@ -154,8 +152,7 @@ impl Files {
 
     // Expunges the files of a directory, and tells how many pages they had. A name without files is no name.
     pub(crate) fn expunge(&mut self, directory: &[u8]) -> u32
-        requires few { length self.old.rows ≤ ROW_LIMIT }
-        requires short { list_all is_short self.old.rows ≡ true }
+        requires { list_all is_short self.old.rows ≡ true }
         ensures rows { self.new.rows ≡ expunged directory.now self.old.rows }
         ensures pages { result ≡ pages_marked directory.now self.old.rows }
     {

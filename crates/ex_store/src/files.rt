@@ -2,7 +2,7 @@
 ghost use Rattle.std.specs.Prelude.{◌≡◌, ◌+◌, ◌<◌, ◌≤◌, Some, get_or, length, set, slice_get, take, true};
 ghost use Rattle.cm_files.specs.Catalogue.{ascends};
 ghost use Rattle.ex_store.specs.declared.limits.TheConstants.{ROW_LIMIT};
-ghost use Rattle.ex_store.specs.FileNames.{IsCounted, by_name, counted, rows_of, rows_under};
+ghost use Rattle.ex_store.specs.FileNames.{IsCounted, by_name, counted, rooms_of, rows_of, rows_under};
 ghost use Rattle.ex_store.specs.Lent.{row_of_view};
 ghost use Rattle.ex_store.specs.declared.file_name.FileName.{FileName as Name};
 ghost use Rattle.ex_store.specs.declared.row.Row.{Row};
@@ -111,6 +111,7 @@ fn mark_at(name: &mut FileName, i: usize, deleted: bool)
     ensures key { name.new.key ≡ name.old.key }
     ensures end { name.new.end ≡ name.old.end }
     ensures len { length name.new.gens.files ≡ length name.old.gens.files }
+    ensures room { name.new.gens.room ≡ name.old.gens.room }
     ensures rows { (d : Row) → rows_under name.new
         ≡ set (rows_under name.old) i (with_mark deleted (get_or (rows_under name.old) i d)) }
 {
@@ -125,6 +126,7 @@ pub(crate) fn set_mark(names: &mut [FileName], i: usize, deleted: bool)
     requires few { length (rows_of names.old) ≤ ROW_LIMIT }
     ensures rows { (d : Row) → rows_of names.new
         ≡ set (rows_of names.old) i (with_mark deleted (get_or (rows_of names.old) i d)) }
+    ensures rooms { rooms_of names.new ≡ rooms_of names.old }
     ensures ascend { ascends by_name names.new ≡ true }
     ensures counted { IsCounted 0 names.new }
 {

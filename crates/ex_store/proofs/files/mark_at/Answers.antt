@@ -20,3 +20,8 @@ returns-clause-rows c = λ (d : Row).
     ap (λ (kept : Kept). map under kept.files) (c.set_mark.ensures d.file)
     ∙ map-set under own c.args.i (marked_as c.args.deleted (get_or own c.args.i d.file))
     ∙ ap (λ (row : Row). set (map under own) c.args.i (with_mark c.args.deleted row)) (sym (get_or-map under own c.args.i d.file d c.requires.within))
+
+pub returns-clause-room : goal.returns-clause-room
+returns-clause-room c =
+    let none : File = record { generation = 0; deleted = c.args.deleted; moment = 0; bytes = [] } in
+    ap (λ (kept : Kept). kept.room) (c.set_mark.ensures none)

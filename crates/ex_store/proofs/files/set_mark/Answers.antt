@@ -4,7 +4,7 @@ use Rattle.ex_store.specs.declared.file_name.FileName.{FileName}
 use Rattle.ex_store.specs.declared.row.Row.{Row}
 use Rattle.ex_store.specs.FileNames.{rows_of, rows_under}
 use Rattle.ex_store.specs.Rows.{with_mark}
-use Rattle.ex_store.proofs.FileNamesLaws.{ascends_set}
+use Rattle.ex_store.proofs.FileNamesLaws.{ascends_set, rooms_set}
 use Rattle.ex_store.proofs.FileNumbersLaws.{counted_set, row_numbered, rows_set_at}
 use Rattle.ex_store.proofs.files.set_mark.Goals as goal
 
@@ -32,3 +32,8 @@ pub returns-clause-counted : goal.returns-clause-counted
 returns-clause-counted c =
     counted_set 0 c.args.names.now c.place_of-n.result.0 c.index-names-n.result c.mark_at.new.name c.requires.counted c.place_of-n.ensures.name
     c.mark_at.ensures.end c.mark_at.ensures.len
+
+pub returns-clause-rooms : goal.returns-clause-rooms
+returns-clause-rooms c =
+    rooms_set c.args.names.now c.place_of-n.result.0 c.mark_at.new.name c.index-names-n.result
+    c.mark_at.ensures.key c.mark_at.ensures.room

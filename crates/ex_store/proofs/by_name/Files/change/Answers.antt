@@ -19,6 +19,7 @@ invariant_of-self c =
     are_names c.change_names.new.names c.count.new.names.items
     (c.count.ensures ∙ ap (counted 0) (with_items_is c.self.inside.names c.change_names.new.names (omega (arith, c.change_names.auto.names, c.deref_mut.ensures.len))))
     c.change_names.ensures.ascend
+    (rw (c.change_names.ensures.rows, c.deref_mut.ensures.value, ap (λ (it : FilesWithRoom). it.rows) c.self.view_is) c.requires.few)
 
 pub returns-clause-rows : goal.returns-clause-rows
 returns-clause-rows c =

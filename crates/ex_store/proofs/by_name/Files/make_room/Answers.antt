@@ -9,6 +9,7 @@ use Rattle.ex_store.proofs.by_name.Files.make_room.Goals as goal
 
 pub invariant_of-self : goal.invariant_of-self
 invariant_of-self c = are_names c.make_room-made.new.names.items c.count.new.names.items c.count.ensures c.make_room-made.ensures.ascend
+    (rw c.make_room-made.ensures.rows c.self.invariant.few)
 
 pub returns-clause-rows : goal.returns-clause-rows
 returns-clause-rows c =
@@ -29,3 +30,4 @@ returns-clause-room c =
 
 pub invariant_of-self-2 : goal.invariant_of-self-2
 invariant_of-self-2 c = are_names c.make_room-made.new.names.items c.count.new.names.items c.count.ensures c.make_room-made.ensures.ascend
+    (rw c.make_room-made.ensures.rows c.self.invariant.few)
