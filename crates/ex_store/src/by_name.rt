@@ -1,23 +1,27 @@
 // The files of a store by name.
-ghost use Rattle.std.specs.Prelude.{◌≡◌, ◌+◌, ◌<◌, ◌≤◌, Some, [], get_or, length, map, set, slice_get, true, IfOk, OnOk};
+ghost use Rattle.std.specs.Prelude.{◌≡◌, ◌+◌, ◌<◌, ◌≤◌, Some, [], ◌∷◌, ◌++◌, get_or, length, map, set, slice_get, true, IfOk, OnErr, OnOk};
 ghost use Rattle.ex_store.specs.declared.limits.TheConstants.{ROW_LIMIT, STORE_LIMIT};
 ghost use Rattle.ex_store.specs.declared.key.Key.{Key as Named};
 ghost use Rattle.ex_store.specs.declared.row.Row.{Row as Filed};
-ghost use Rattle.ex_store.specs.FileNames.{by_name, room_at, rows_of};
+ghost use Rattle.ex_store.specs.FileNames.{by_name, room_at, row_under, rows_of};
 ghost use Rattle.ex_store.specs.Lent.{row_of_view};
 ghost use Rattle.ex_store.specs.Ready.{are_doable, count_under, is_lawful, rows_after_all};
-ghost use Rattle.ex_store.specs.Rows.{blank, end_in, expunged, files_of, first_in, is_short, pages_marked, rows_in_either, total, with_mark};
+ghost use Rattle.ex_store.specs.Rows.{blank, by_row, end_in, expunged, files_of, first_in, is_short, pages_in, pages_marked, rows_in_either, total, with_mark};
 ghost use Rattle.ex_store.specs.Adding.{numbered};
-ghost use Rattle.ex_store.specs.Appending.{bytes_at};
+ghost use Rattle.ex_store.specs.Appending.{bytes_at, found};
 ghost use Rattle.cm_files.specs.Catalogue.{ascends};
+ghost use Rattle.ex_generations.specs.declared.file.TheConstants.{FILE_LIMIT};
+ghost use Rattle.ex_store.specs.WellFormed.{is_numbered};
 ghost use Rattle.std.specs.List.{list_all};
 
-use crate::file_name::{FileName, blanks, bytes_at, numbered};
+use crate::file_name::{FileName, blanks, bytes_at, found, numbered};
 use crate::files::{count, end_of, first_of, len, row_at, set_mark};
 use crate::room::{change_names, make_room};
-use crate::sweep::{drop_empty, drop_marked, total};
+use crate::sweep::{drop_empty, drop_marked, pages_in, total};
 use crate::{FullName, Key, RowChange, RowView};
+use crate::key::key_cmp;
 use cm_fields::{Code, Gen};
+use ex_generations::File;
 use cm_io::NoMemory;
 use std::alloc::Global;
 use std::marker::Model;
@@ -160,5 +164,41 @@ impl Files {
         drop_empty(&mut self.names);
         count(&mut self.names);
         pages
+    }
+
+    // The generation of a name that is put behind, or none, where a new one is added.
+    pub(crate) fn found(&self, key: &Key, generation: Gen) -> Result<Option<u32>, Code>
+        ensures { result ≡ found generation (files_of key.now self.now.rows) }
+    {
+        found(&self.names, key, generation)
+    }
+
+    // The pages of a directory's files.
+    pub(crate) fn pages_in(&self, directory: &[u8]) -> u32
+        requires { list_all is_short self.now.rows ≡ true }
+        ensures { result ≡ pages_in directory.now self.now.rows }
+    {
+        pages_in(&self.names, directory)
+    }
+
+    // Adds a file that stands behind all others.
+    pub(crate) fn push(&mut self, alloc: Global, key: Key, file: File) -> Result<(), NoMemory>
+        requires ascend { ascends by_row (self.old.rows ++ row_under key file ∷ []) ≡ true }
+        requires few { length self.old.rows < ROW_LIMIT }
+        requires short { length file.bytes ≤ FILE_LIMIT }
+        requires number { is_numbered file.generation ≡ true }
+        ensures added { OnOk result (self.new.rows ≡ self.old.rows ++ row_under key file ∷ []) }
+        ensures refused { OnErr result (self.new.rows ≡ self.old.rows) }
+    {
+        let end = self.len() + 1;
+        if let Some(name) = self.names.last_mut() {
+            if key_cmp(&name.key, &key).is_eq() {
+                return name.push(file, end);
+            }
+        }
+        let mut name = FileName::new(alloc, key);
+        name.push(file, end)?;
+        self.names.push(name)?;
+        Ok(())
     }
 }

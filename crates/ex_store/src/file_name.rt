@@ -1,12 +1,12 @@
 // Files by name, as a plan has them while it is played: each directory, name and type with its generations.
-ghost use Rattle.std.specs.Prelude.{◌≡◌, ◌<◌, ◌≤◌, [], true, false, get_or, length, map, position, IfOk, IfSome, OnOk, Ok, Some, option_map};
+ghost use Rattle.std.specs.Prelude.{◌≡◌, ◌<◌, ◌≤◌, [], true, false, get_or, length, map, position, IfOk, IfSome, OnErr, OnOk, Ok, Some, option_map};
 ghost use Rattle.std.specs.List.{prefix_len};
 ghost use Rattle.std.specs.Ordering.{is_lt};
 ghost use Rattle.cm_files.specs.Catalogue.{ascends};
 ghost use Rattle.ex_generations.specs.declared.file.TheConstants.{FILE_LIMIT, GENERATION_LIMIT};
 ghost use Rattle.ex_generations.specs.Generations.{has};
 ghost use Rattle.ex_store.specs.Adding.{numbered};
-ghost use Rattle.ex_store.specs.Appending.{bytes_at};
+ghost use Rattle.ex_store.specs.Appending.{bytes_at, found};
 ghost use Rattle.ex_store.specs.FileNames.{HaveRoom, by_name, is_under, is_under_either, room_at, rooms_of, row_under, rows_of, rows_under, wanted_at};
 ghost use Rattle.ex_store.specs.declared.file_name.FileName.{FileName as Name};
 ghost use Rattle.ex_store.specs.declared.key.FullName.{FullName as Full};
@@ -33,6 +33,38 @@ pub(crate) struct FileName {
 }
 
 impl FileName {
+    // A name without files.
+    pub(crate) fn new(alloc: Global, key: Key) -> FileName
+        ensures key { result.key ≡ key }
+        ensures rows { result.gens.files ≡ [] }
+        ensures wanted { result.wanted ≡ 0 }
+    {
+        FileName {
+            key,
+            gens: Gens::new(alloc),
+            end: 0,
+            wanted: 0,
+        }
+    }
+
+    // Adds a file behind its others, with which the names up to this one have so many.
+    pub(crate) fn push(&mut self, file: File, end: usize) -> Result<(), NoMemory>
+        requires short { length file.bytes ≤ FILE_LIMIT }
+        requires from_one { 0 < file.generation }
+        requires to_limit { file.generation ≤ GENERATION_LIMIT }
+        requires absent { has file.generation self.old.gens.files ≡ false }
+        ensures key { self.new.key ≡ self.old.key }
+        ensures rows { OnOk result
+            (rows_under self.new ≡ added 0 (row_under self.old.key file) (rows_under self.old)) }
+        ensures end { OnOk result (self.new.end ≡ end) }
+        ensures refused { OnErr result (rows_under self.new ≡ rows_under self.old) }
+        ensures still { OnErr result (self.new.end ≡ self.old.end) }
+    {
+        self.add(file, 0)?;
+        self.end = end;
+        Ok(())
+    }
+
     // Adds a file, and then so many unmarked generations are kept.
     fn add(&mut self, file: File, retention: u8) -> Result<(), NoMemory>
         requires short { length file.bytes ≤ FILE_LIMIT }
@@ -301,5 +333,32 @@ pub(crate) fn bytes_at<'a>(names: &'a [FileName], full: &FullName) -> &'a [u8]
     match position(names, &full.key) {
         Some(at) => names[at].bytes_at(full.generation),
         None => b"",
+    }
+}
+
+// The generation that is put behind, beside these, or none, where a new one is added.
+fn found_beside(gens: &Gens, generation: Gen) -> Result<Option<u32>, Code>
+    ensures { result ≡ found generation gens.now.files }
+{
+    match generation {
+        Gen::Next => Ok(None),
+        Gen::Lowest => Ok(gens.lowest(false)),
+        Gen::Missing | Gen::Highest | Gen::All => Ok(gens.highest(false)),
+        Gen::Number(number) => match gens.find(number) {
+            Some(file) if file.deleted => Err(Code::NoFile),
+            Some(_) => Ok(Some(number)),
+            None => Ok(None),
+        },
+    }
+}
+
+// The generation of a name that is put behind, or none, where a new one is added.
+pub(crate) fn found(names: &[FileName], key: &Key, generation: Gen) -> Result<Option<u32>, Code>
+    requires { ascends by_name names.now ≡ true }
+    ensures { result ≡ found generation (files_of key.now (rows_of names.now)) }
+{
+    match position(names, key) {
+        Some(at) => found_beside(&names[at].gens, generation),
+        None => Ok(None),
     }
 }

@@ -9,7 +9,8 @@ ghost use Rattle.ex_store.specs.Rows.{expunged, is_short, pages_marked, with_mar
 ghost use Rattle.ex_store.specs.Selection.{meant, remarked};
 ghost use Rattle.ex_store.specs.State.{has_directory};
 
-use crate::{Place, Row, Store};
+use crate::by_name::Files;
+use crate::{Place, Store};
 use ex_generations::{Bytes, PAGE_BYTES};
 
 /// How many pages a file with these bytes has, at most 26: a page is 512 words of five characters, 2,560 bytes, and a
@@ -22,29 +23,15 @@ pub fn page_count(bytes: &Bytes) -> u32
     bytes.len().div_ceil(PAGE_BYTES) as u32
 }
 
-// Gives the rows at these places a mark.
-fn set_marks(rows: &mut [Row], positions: &[u16], deleted: bool)
-    requires { list_all (λ at. nat_lt at (length rows.old)) positions.now ≡ true }
-    ensures { rows.new ≡ all_changed_at (with_mark deleted) rows.old positions.now }
+// Gives the files at these places a mark.
+fn set_marks(files: &mut Files, positions: &[u16], deleted: bool)
+    requires { list_all (λ at. nat_lt at (length files.old.rows)) positions.now ≡ true }
+    ensures rows { files.new.rows ≡ all_changed_at (with_mark deleted) files.old.rows positions.now }
+    ensures rooms { files.new.rooms ≡ files.old.rooms }
 {
     for at in positions {
-        rows[usize::from(*at)].file.deleted = deleted;
+        files.set_mark(usize::from(*at), deleted);
     }
-}
-
-// The pages of a directory's rows that are marked.
-fn marked_pages(rows: &[Row], directory: &[u8]) -> u32
-    requires few { length rows.now ≤ ROW_LIMIT }
-    requires short { list_all is_short rows.now ≡ true }
-    ensures { result ≡ pages_marked directory.now rows.now }
-{
-    let mut pages = 0;
-    for row in rows {
-        if row.is_in(directory) && row.file.deleted {
-            pages += page_count(&row.file.bytes);
-        }
-    }
-    pages
 }
 
 impl Store {
@@ -56,7 +43,7 @@ impl Store {
         ensures count { result ≡ length (meant files.now.flags.deleted files.now self.old.state) }
     {
         let positions = self.positions(files, files.flags.deleted);
-        set_marks(&mut self.rows, &positions, true);
+        set_marks(&mut self.files, &positions, true);
         positions.len() as u32
     }
 
@@ -69,20 +56,16 @@ impl Store {
         ensures count { result ≡ length (meant files.now.flags.deleted files.now self.old.state) }
     {
         let positions = self.positions(files, files.flags.deleted);
-        set_marks(&mut self.rows, &positions, false);
+        set_marks(&mut self.files, &positions, false);
         positions.len() as u32
     }
 
     /// Removes the files of a directory that are marked as deleted, and tells how many pages they had.
     pub fn expunge(&mut self, directory: &str) -> u32
         requires { has_directory directory.now self.old.state.directories ≡ true }
-        ensures kept { self.new ≡ record self.old {
-          state = record self.old.state { rows = expunged directory.now self.old.state.rows };
-        } }
+        ensures kept { self.new.state ≡ record self.old.state { rows = expunged directory.now self.old.state.rows } }
         ensures pages { result ≡ pages_marked directory.now self.old.state.rows }
     {
-        let pages = marked_pages(&self.rows, directory.as_bytes());
-        self.rows.retain(|row| !(row.is_in(directory.as_bytes()) && row.file.deleted));
-        pages
+        self.files.expunge(directory.as_bytes())
     }
 }

@@ -58,7 +58,9 @@ impl Store {
             (length self.old.state.directories + count_made ready.now.directory ≤ self.new.directory_room) }
         ensures logical { OnOk result
             (length self.old.state.logical + count_made ready.now.definition ≤ self.new.logical_room) }
-        ensures rows { OnOk result (length self.old.state.rows + length ready.now.row_changes ≤ self.new.row_room) }
+        ensures names { OnOk result ((key : Named) → 0 < count_under key ready.now.row_changes
+            → length (files_of key self.old.state.rows) + count_under key ready.now.row_changes
+            ≤ room_at key self.new.name_rooms) }
         ensures queue { OnOk result (length self.old.state.queue + length ready.now.entries ≤ self.new.queue_room) }
     {
         if ready.directory.is_some() {
@@ -67,7 +69,7 @@ impl Store {
         if ready.definition.is_some() {
             self.logical.reserve(1)?;
         }
-        self.rows.reserve(ready.row_changes.len())?;
+        self.files.make_room(self.alloc, &ready.row_changes)?;
         self.queue.reserve(ready.entries.len())?;
         Ok(())
     }

@@ -4,7 +4,7 @@ ghost use Rattle.ex_store.specs.Adding.{new_row};
 ghost use Rattle.ex_store.specs.Lent.{row_of_view};
 ghost use Rattle.ex_store.specs.Rows.{blank, by_row, full_of, is_full, is_in, is_in_either};
 
-use crate::key::{full_cmp, key_cmp};
+use crate::key::{copy_of, full_cmp, key_cmp};
 use crate::{FullName, Key};
 use cm_text::Name;
 use ex_generations::{Bytes, File};
@@ -112,5 +112,28 @@ impl Row {
         ensures { result ≡ by_row self.now other.now }
     {
         key_cmp(&self.key, &other.key).then(self.file.generation.cmp(&other.file.generation))
+    }
+}
+
+impl<'a> RowView<'a> {
+    // Its directory, name and type.
+    pub(crate) fn key(&self) -> Key
+        ensures { result ≡ (row_of_view self.now).key }
+    {
+        Key {
+            directory: copy_of(self.directory),
+            name: copy_of(self.name),
+            kind: copy_of(self.kind),
+        }
+    }
+
+    // Its full name.
+    pub(crate) fn full_name(&self) -> FullName
+        ensures { result ≡ full_of (row_of_view self.now) }
+    {
+        FullName {
+            key: self.key(),
+            generation: self.file.generation,
+        }
     }
 }

@@ -1,7 +1,9 @@
 // What is told of all files, by name, and what is done with those of one directory.
-ghost use Rattle.std.specs.Prelude.{◌≡◌, ◌+◌, ◌≤◌, ◌<◌, true, length, sum_by};
+ghost use Rattle.std.specs.Prelude.{◌≡◌, ◌+◌, ◌*◌, ◌^◌, ◌≤◌, ◌<◌, nat_le, true, length, sum_by};
 ghost use Rattle.std.specs.List.{list_all};
 ghost use Rattle.cm_files.specs.Catalogue.{ascends};
+ghost use Rattle.ex_generations.specs.declared.file.TheConstants.{FILE_LIMIT};
+ghost use Rattle.ex_generations.specs.Generations.{pages};
 ghost use Rattle.ex_store.specs.declared.limits.TheConstants.{ROW_LIMIT, STORE_LIMIT};
 ghost use Rattle.ex_store.specs.FileNames.{by_name, bytes_of, is_under_directory, rows_of};
 ghost use Rattle.ex_store.specs.Rows.{expunged, is_short, pages_in, pages_marked, total};
@@ -69,4 +71,32 @@ pub(crate) fn drop_empty(names: &mut Vec<FileName>)
     ensures ascend { ascends by_name names.new.items ≡ true }
 {
     names.retain(|name| !name.gens.as_slice().is_empty());
+}
+
+// The pages of some files, behind so many.
+fn add_pages(files: &[File], before: u32) -> u32
+    requires short { list_all (λ file. nat_le (length file.bytes) FILE_LIMIT) files.now ≡ true }
+    requires few { before + 26 * length files.now < 2 ^ 32 }
+    ensures { result ≡ before + pages files.now }
+{
+    let mut all = before;
+    for file in files {
+        all += page_count(&file.bytes);
+    }
+    all
+}
+
+// The pages of a directory's files.
+pub(crate) fn pages_in(names: &[FileName], directory: &[u8]) -> u32
+    requires few { length (rows_of names.now) ≤ ROW_LIMIT }
+    requires short { list_all is_short (rows_of names.now) ≡ true }
+    ensures { result ≡ pages_in directory.now (rows_of names.now) }
+{
+    let mut pages = 0;
+    for name in names {
+        if name.is_in(directory) {
+            pages = add_pages(name.gens.as_slice(), pages);
+        }
+    }
+    pages
 }

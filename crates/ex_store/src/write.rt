@@ -7,10 +7,9 @@ ghost use Rattle.ex_store.specs.Ready.{applied, are_doable, done_on, of_files};
 ghost use Rattle.ex_store.specs.Rows.{full_of};
 ghost use Rattle.ex_store.specs.WellFormed.{IsWellFormed};
 
-use crate::adding::{admitted, numbered};
+use crate::adding::admitted;
 use crate::copy::moment_of;
 use crate::directory::retention_of;
-use crate::search::total;
 use crate::{NamePair, Place, Ready, Refusal, Row, RowChange, Store};
 use cm_fields::Code;
 use cm_io::NoMemory;
@@ -47,9 +46,9 @@ impl Store {
             return Err(Refusal::Code(Code::NameNeeded));
         }
         let key = to.own_key();
-        let number = numbered(&self.rows, &key, to.generation);
-        let files = self.rows.len();
-        let all = total(&self.rows);
+        let number = self.files.numbered(&key, to.generation);
+        let files = self.files.len();
+        let all = self.files.total();
         let generation = match admitted(number, files, all, bytes.len()) {
             Ok(generation) => generation,
             Err(code) => return Err(Refusal::Code(code)),
