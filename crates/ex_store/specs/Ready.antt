@@ -1,6 +1,6 @@
 -- A plan that is ready to be done.
 use Rattle.std.specs.Prelude.{ℕ, ◌≡◌, ◌+◌, ◌<◌, ◌≤◌, ◌&&◌, nat_le, Bool, true, false, not, List, [], ◌∷◌, length, Option, Some, None, Result, Ok, ◌++◌}
-use Rattle.std.specs.List.{count_by, fold}
+use Rattle.std.specs.List.{count_by, fold, list_all}
 use Rattle.std.specs.Option.{option_map_or}
 use Rattle.std.specs.Ordering.{is_eq}
 use Rattle.cm_fields.specs.declared.code.Code.{Code}
@@ -11,6 +11,7 @@ use Rattle.ex_store.specs.declared.directory.Directory.{Directory}
 use Rattle.ex_store.specs.declared.key.FullName.{FullName}
 use Rattle.ex_store.specs.declared.key.Key.{Key}
 use Rattle.ex_store.specs.declared.key.NamePair.{NamePair}
+use Rattle.ex_store.specs.declared.limits.TheConstants.{ROW_LIMIT}
 use Rattle.ex_store.specs.declared.queue.QueueEntry.{QueueEntry}
 use Rattle.ex_store.specs.declared.ready.RowChange.{RowChange}
 use Rattle.ex_store.specs.declared.ready.RowChange.TheVariants as changes
@@ -130,6 +131,11 @@ abbrev pub is_lawful : RowChange → Bool
 is_lawful (changes.Add row) = is_numbered row.file.generation && nat_le (length row.file.bytes) FILE_LIMIT
 is_lawful (changes.Move pair) = is_numbered pair.target.generation
 is_lawful (changes.Fill target moment bytes) = nat_le (length bytes) FILE_LIMIT
+
+-- what is ready: lawful changes, and no more pairs than there may be files
+pub record AreLawful (row_changes : List RowChange) (pairs : List NamePair) : Type 0 where
+  pub lawful : list_all is_lawful row_changes ≡ true
+  pub few : length pairs ≤ ROW_LIMIT
 
 -- the directory, name and type under which a change puts a file
 abbrev pub key_put : RowChange → Option Key

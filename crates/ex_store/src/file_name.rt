@@ -74,6 +74,8 @@ impl FileName {
         ensures key { self.new.key ≡ self.old.key }
         ensures rows { OnOk result
             (rows_under self.new ≡ added retention (row_under self.old.key file) (rows_under self.old)) }
+        ensures end { self.new.end ≡ self.old.end }
+        ensures refused { OnErr result (rows_under self.new ≡ rows_under self.old) }
     {
         self.gens.reserve(1)?;
         self.gens.add(file, retention);

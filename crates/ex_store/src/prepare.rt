@@ -1,8 +1,11 @@
 // Plans are prepared.
-ghost use Rattle.std.specs.Prelude.{ℕ, ◌≡◌, ◌≤◌, ◌+◌, true, length, IfOk, IfErr, OnOk, Ok};
+ghost use Rattle.std.specs.Prelude.{ℕ, ◌≡◌, ◌<◌, ◌≤◌, ◌+◌, true, length, IfOk, IfErr, OnOk, Ok};
+ghost use Rattle.ex_store.specs.Rows.{files_of};
+ghost use Rattle.ex_store.specs.FileNames.{room_at};
+ghost use Rattle.ex_store.specs.declared.key.Key.{Key as Named};
 ghost use Rattle.ex_store.specs.declared.plan.Plan.TheVariants as plans;
 ghost use Rattle.ex_store.specs.Plan.{IsRefused, MayPlan, planned};
-ghost use Rattle.ex_store.specs.Ready.{IsFor, applied, are_doable, count_made, done_on};
+ghost use Rattle.ex_store.specs.Ready.{IsFor, applied, are_doable, count_made, count_under, done_on};
 ghost use Rattle.ex_store.specs.WellFormed.{IsWellFormed};
 
 use crate::build::built;

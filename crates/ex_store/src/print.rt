@@ -1,6 +1,7 @@
 // Files are queued for printing.
 ghost use Rattle.std.specs.Prelude.{ℕ, ◌≡◌, ◌≤◌, true, length, map, nat_lt, IfOk, IfErr, Ok};
 ghost use Rattle.std.specs.List.{list_all};
+ghost use Rattle.ex_store.specs.Lent.{row_of_view};
 ghost use Rattle.ex_store.specs.declared.limits.TheConstants.{QUEUE_LIMIT, ROW_LIMIT};
 ghost use Rattle.ex_store.specs.declared.plan.Plan.TheVariants as plans;
 ghost use Rattle.ex_store.specs.Plan.{IsRefused, MayPlan, planned};
@@ -35,7 +36,7 @@ pub struct Request {
 
 // The name of the job that a file is printed in.
 fn job_of(request: &Request, row: RowView<'_>) -> Name
-    ensures { result ≡ (entry_for request.now (row_of_view row)).job }
+    ensures { result ≡ (entry_for request.now (row_of_view row.entry)).job }
 {
     match &request.job {
         Some(job) => copy_of(job),
@@ -45,7 +46,7 @@ fn job_of(request: &Request, row: RowView<'_>) -> Name
 
 // The entry of a file.
 fn entry_for(request: &Request, row: RowView<'_>) -> QueueEntry
-    ensures { result ≡ entry_for request.now (row_of_view row) }
+    ensures { result ≡ entry_for request.now (row_of_view row.entry) }
 {
     QueueEntry {
         file: row.full_name(),

@@ -4,6 +4,7 @@ ghost use Rattle.std.specs.List.{list_all};
 ghost use Rattle.cm_files.specs.Catalogue.{ascends};
 ghost use Rattle.ex_generations.specs.declared.file.TheConstants.{FILE_LIMIT};
 ghost use Rattle.ex_generations.specs.Generations.{has};
+ghost use Rattle.ex_store.specs.Lent.{row_of_view};
 ghost use Rattle.ex_store.specs.declared.limits.TheConstants.{ROW_LIMIT};
 ghost use Rattle.ex_store.specs.declared.plan.Plan.TheVariants as plans;
 ghost use Rattle.ex_store.specs.declared.ready.RowChange.TheVariants as changes;
@@ -64,8 +65,8 @@ fn simulate(
 ) -> Result<NamePair, Refusal>
     requires names { ascends by_name names.old.items ≡ true }
     requires number { may_number to.now.generation ≡ true }
-    ensures pair { IfOk result (λ pair. pair_for to.now row_of_view source (rows_of names.old.items) ≡ Ok pair) }
-    ensures refused { IfErr result (IsRefused (pair_for to.now row_of_view source (rows_of names.old.items))) }
+    ensures pair { IfOk result (λ pair. pair_for to.now row_of_view source.entry (rows_of names.old.items) ≡ Ok pair) }
+    ensures refused { IfErr result (IsRefused (pair_for to.now row_of_view source.entry (rows_of names.old.items))) }
     ensures rows { IfOk result (λ pair. rows_of names.new.items ≡ moved retention pair (rows_of names.old.items)) }
     ensures ascend { IfOk result (λ pair. ascends by_name names.new.items ≡ true) }
 {

@@ -16,10 +16,10 @@ set_marks-requires c =
     positions_fit (is_meant c.args.files.now.flags.deleted c.args.files.now c.args.self.now.state) c.args.self.now.state.rows
     c.deref_mut.result.now c.deref.result.now c.positions-positions.result.items (rows_are c) c.deref.ensures.0 c.positions-positions.ensures
 
-kept : (c : goal.After-len) → (with_items c.self.inside.rows c.set_marks.new.rows).items ≡ map (where_passing (is_meant c.args.files.now.flags.deleted c.args.files.now c.args.self.now.state) (with_mark false)) c.self.inside.rows.items
+kept : (c : goal.After-len) → (with_items c.self.inside.rows c.set_marks.new.rows).items ≡ map (where_passing (is_meant c.args.files.now.flags.deleted c.args.files.now c.args.self.now.state) (with_mark false)) c.self.inside.files.rows
 kept c =
     with_items_is c.self.inside.rows c.set_marks.new.rows (omega (arith, c.set_marks.auto.rows, c.deref_mut.ensures.len))
-    ∙ marked_rows (is_meant c.args.files.now.flags.deleted c.args.files.now c.args.self.now.state) false c.self.inside.rows.items
+    ∙ marked_rows (is_meant c.args.files.now.flags.deleted c.args.files.now c.args.self.now.state) false c.self.inside.files.rows
     c.deref_mut.result.now c.set_marks.new.rows c.deref.result.now c.positions-positions.result.items c.deref_mut.ensures.value c.deref.ensures.0
     (c.positions-positions.ensures ∙ ap (λ (held : StoreWithRoom). positions_from (is_meant c.args.files.now.flags.deleted c.args.files.now c.args.self.now.state) 0 held.state.rows) (sym c.self.view_is))
     c.set_marks.ensures
@@ -28,7 +28,7 @@ pub invariant_of-self : goal.invariant_of-self
 invariant_of-self c =
     rw (kept c)
     (well_formed_with_rows _ _ c.self.invariant
-    (rows_marked c.self.inside.directories.items c.self.inside.rows.items _ false c.self.invariant.draft.rows))
+    (rows_marked c.self.inside.directories.items c.self.inside.files.rows _ false c.self.invariant.draft.rows))
 
 pub returns-clause-unmarked : goal.returns-clause-unmarked
 returns-clause-unmarked c = rw (kept c, ← c.self.view_is)
