@@ -49,14 +49,14 @@ impl Simulation {
         requires number { is_numbered generation ≡ true }
         requires absent { has generation (files_of key (rows_of self.old.names.items)) ≡ false }
         ensures row_changes { OnOk result (self.new.row_changes.items
-            ≡ self.old.row_changes.items ++ changes.Add (new_row key moment row_of_view source.entry.file.bytes generation) ∷ []) }
+            ≡ self.old.row_changes.items ++ changes.Add (new_row key moment (row_of_view source.entry).file.bytes generation) ∷ []) }
         ensures pairs { OnOk result (self.new.pairs.items
             ≡ self.old.pairs.items ++ (record {
-              source = full_of row_of_view source.entry;
+              source = full_of (row_of_view source.entry);
               target = record { key = key; generation = generation };
             }) ∷ []) }
         ensures names { OnOk result (rows_of self.new.names.items
-            ≡ added retention (blank (new_row key moment row_of_view source.entry.file.bytes generation))
+            ≡ added retention (blank (new_row key moment (row_of_view source.entry).file.bytes generation))
             (rows_of self.old.names.items)) }
         ensures ascend { OnOk result (ascends by_name self.new.names.items ≡ true) }
     {

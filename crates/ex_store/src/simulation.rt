@@ -4,7 +4,7 @@ ghost use Rattle.std.specs.List.{list_all};
 ghost use Rattle.cm_files.specs.Catalogue.{ascends};
 ghost use Rattle.ex_store.specs.declared.limits.TheConstants.{ROW_LIMIT};
 ghost use Rattle.ex_store.specs.FileNames.{by_name, rows_of};
-ghost use Rattle.ex_store.specs.Ready.{of_files};
+ghost use Rattle.ex_store.specs.Ready.{is_lawful, of_files};
 ghost use Rattle.ex_store.specs.Rows.{blank, by_row, rows_in_either};
 ghost use Rattle.ex_store.specs.WellFormed.{is_numbered};
 
@@ -46,7 +46,8 @@ impl Simulation {
 
     // All that is to be done, where so many generations are kept.
     pub(crate) fn ready(self, alloc: Global, retention: u8) -> Ready
-        requires { length self.pairs.items ≤ ROW_LIMIT }
+        requires few { length self.pairs.items ≤ ROW_LIMIT }
+        requires lawful { list_all is_lawful self.row_changes.items ≡ true }
         ensures { result ≡ of_files retention self.row_changes.items self.pairs.items }
     {
         let Simulation {
