@@ -1,10 +1,11 @@
 -- Changes that can be done one after the other.
 use Rattle.std.proofs.Common.{◌≡◌, ◌+◌, ◌<◌, ℕ, true, List, [], ◌∷◌, ◌++◌, length, map, take, drop, get_or, refl, ap, subst, sym, ◌∙◌}
+use Rattle.std.specs.List.{list_all}
 use Rattle.std.proofs.lemmas.Bool.{and_from, and_parts}
 use Rattle.std.proofs.lemmas.List.{drop_more, map-id, take-append-drop}
 use Rattle.ex_store.specs.declared.ready.RowChange.{RowChange}
 use Rattle.ex_store.specs.declared.row.Row.{Row}
-use Rattle.ex_store.specs.Ready.{are_doable, is_doable, rows_after, rows_after_all}
+use Rattle.ex_store.specs.Ready.{are_doable, is_doable, is_lawful, rows_after, rows_after_all}
 
 -- a change more
 pub doable_more : (retention : ℕ) (rows : List Row) (done : List RowChange) (change : RowChange) → are_doable retention rows done ≡ true
@@ -36,3 +37,11 @@ pub doable_at : (retention : ℕ) (rows : List Row) (items done : List RowChange
 doable_at retention rows items done change all so_far within is =
     doable_next retention rows done change (drop (length done + 1) items)
     (subst (λ (each : List RowChange). are_doable retention rows each ≡ true) (split_at items done change so_far within is) all)
+
+-- lawful changes and one more
+pub lawful_more : (changes : List RowChange) (change : RowChange) → list_all is_lawful changes ≡ true → is_lawful change ≡ true
+    → list_all is_lawful (changes ++ change ∷ []) ≡ true
+lawful_more [] change all here = and_from _ _ here refl
+lawful_more (first ∷ changes) change all here =
+    let parts = and_parts _ _ all in
+    and_from _ _ parts.0 (lawful_more changes change parts.1 here)

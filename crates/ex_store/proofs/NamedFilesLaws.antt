@@ -1,5 +1,5 @@
 -- The generations of one name as rows: what is done with the one is done with the others.
-use Rattle.std.proofs.Common.{◌≡◌, ℕ, ◌<◌, ◌≤◌, ◌==◌, ◌&&◌, Bool, true, false, not, cond, List, [], ◌∷◌, length, map, find, None, Some, refl, ap, arith, ◌∙◌, sym, subst, Option}
+use Rattle.std.proofs.Common.{◌≡◌, ℕ, ◌<◌, ◌≤◌, ◌==◌, ◌&&◌, Bool, true, false, not, cond, List, [], ◌∷◌, length, map, find, None, Some, Ok, refl, ap, arith, ◌∙◌, sym, subst, Option}
 use Rattle.std.specs.List.{list_all}
 use Rattle.std.specs.Option.{option_map, option_map_or}
 use Rattle.std.specs.Ordering.{is_eq, is_lt, nat_cmp, ordering_reverse, ordering_then}
@@ -16,7 +16,9 @@ use Rattle.ex_generations.specs.Generations as generations
 use Rattle.ex_generations.specs.Retention as retaining
 use Rattle.ex_store.specs.declared.key.Key.{Key}
 use Rattle.ex_store.specs.declared.row.Row.{Row}
-use Rattle.ex_store.specs.Appending.{bytes_at}
+use Rattle.cm_fields.specs.declared.value.Gen.{Gen}
+use Rattle.cm_fields.specs.declared.value.Gen.TheVariants as gens
+use Rattle.ex_store.specs.Appending.{bytes_at, found}
 use Rattle.ex_store.specs.FileNames.{row_under}
 use Rattle.ex_store.specs.Rows.{added, by_key, by_row, filled, files, files_of, is_full, is_of, row_at, without}
 use Rattle.ex_store.proofs.AscendsLaws.{all_above, ascends_sorted, is_sorted}
@@ -244,3 +246,12 @@ bytes_under key generation own =
         ≡ option_map_or (λ (file : File). file.bytes) it []
     by None = refl
     by (Some file) = refl
+
+-- of no files none is put behind
+pub found_none : (generation : Gen) → found generation [] ≡ Ok None
+found_none gens.Missing = refl
+found_none gens.Highest = refl
+found_none gens.Next = refl
+found_none gens.Lowest = refl
+found_none gens.All = refl
+found_none (gens.Number number) = refl

@@ -67,6 +67,7 @@ fn simulate(
     requires number { may_number to.now.generation ≡ true }
     ensures pair { IfOk result (λ pair. pair_for to.now (row_of_view source.entry) (rows_of names.old.items) ≡ Ok pair) }
     ensures refused { IfErr result (IsRefused (pair_for to.now (row_of_view source.entry) (rows_of names.old.items))) }
+    ensures numbered { IfOk result (λ pair. is_numbered pair.target.generation ≡ true) }
     ensures rows { IfOk result (λ pair. rows_of names.new.items ≡ moved retention pair (rows_of names.old.items)) }
     ensures ascend { IfOk result (λ pair. ascends by_name names.new.items ≡ true) }
 {

@@ -12,6 +12,10 @@ use Rattle.ex_store.proofs.AllCopiedLaws.{all_numbered}
 use Rattle.ex_store.proofs.RenamedLaws.{IsRenaming, refused_so, renames_more, renames_refused, renaming_start}
 use Rattle.ex_store.specs.Lent.{row_of_view}
 use Rattle.ex_store.proofs.ElementsLaws.{viewed, all_at, place_within}
+use Rattle.std.specs.List.{list_all}
+use Rattle.ex_store.specs.Ready.{is_lawful}
+use Rattle.ex_store.specs.declared.ready.RowChange.TheVariants as changes
+use Rattle.ex_store.proofs.DoableLaws.{lawful_more}
 use Rattle.ex_store.proofs.PositionsLaws.{source_at}
 use Rattle.ex_store.proofs.rename.renames.Goals as goal
 
@@ -21,6 +25,7 @@ loop-at-init c = record {
       (renaming_start c.args.directories.now c.retention_of-retention.result c.args.from.now c.args.to.now c.args.files.now.rows c.args.positions.now c.requires.rows c.requires.distinct c.requires.inside);
   names = c.in-Ok.ensures.ascend;
   count = ap length c.in-Ok.ensures.pairs;
+  lawful = ap (list_all is_lawful) c.in-Ok.ensures.row_changes;
 }
 
 pub returns-in-Err-simulate-clause-refused : goal.returns-in-Err-simulate-clause-refused
@@ -46,4 +51,5 @@ loop-at-preserved c =
           c.in-Ok-simulate.ensures.pair);
       names = subst (λ (names : List FileName). ascends by_name names ≡ true) (sym c.in-Ok-rename.ensures.names) c.in-Ok-simulate.ensures.ascend;
       count = count;
+      lawful = rw c.in-Ok-rename.ensures.row_changes (lawful_more c.loop-at.simulation.row_changes.items (changes.Move c.in-Ok-simulate.pair) c.loop-at.invariant.lawful c.in-Ok-simulate.ensures.numbered);
     }
