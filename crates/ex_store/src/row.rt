@@ -117,8 +117,8 @@ impl Row {
 
 impl<'a> RowView<'a> {
     // Its directory, name and type.
-    pub(crate) fn key(&self) -> Key
-        ensures { result ≡ (row_of_view self.now).key }
+    pub(crate) fn key(self) -> Key
+        ensures { result ≡ (row_of_view self.entry).key }
     {
         Key {
             directory: copy_of(self.directory),
@@ -128,8 +128,8 @@ impl<'a> RowView<'a> {
     }
 
     // Its full name.
-    pub(crate) fn full_name(&self) -> FullName
-        ensures { result ≡ full_of (row_of_view self.now) }
+    pub(crate) fn full_name(self) -> FullName
+        ensures { result ≡ full_of (row_of_view self.entry) }
     {
         FullName {
             key: self.key(),

@@ -1,8 +1,8 @@
-use Rattle.std.proofs.Common.{◌≡◌, ℕ, ◌+◌, Ok, Err, List, [], length, length-append, ap, refl, drop, sym, subst, ◌∙◌, arith}
+use Rattle.std.proofs.Common.{◌≡◌, ℕ, ◌+◌, nat_le, Ok, Err, List, [], length, length-append, ap, refl, drop, sym, subst, ◌∙◌, arith}
 use Rattle.std.proofs.Math.ListN.{drop_of_length-le}
 use Rattle.ex_store.specs.declared.row.Row.{Row}
 use Rattle.ex_store.specs.Adding.{each_in_turn}
-use Rattle.ex_store.specs.Copying.{copied}
+use Rattle.ex_store.specs.Copying.{copied, key_from}
 use Rattle.ex_store.specs.State.{retention_of}
 use Rattle.ex_store.specs.FileNames.{rows_of}
 use Rattle.ex_store.specs.Positions.{elements_at}
@@ -12,6 +12,11 @@ use Rattle.ex_store.proofs.AllCopiedLaws.{IsCopying, admitted_free, all_numbered
 use Rattle.ex_store.specs.Lent.{row_of_view}
 use Rattle.ex_store.proofs.ElementsLaws.{viewed, all_at}
 use Rattle.std.proofs.lemmas.Bool.{and_from, and_parts}
+use Rattle.ex_store.specs.declared.ready.RowChange.TheVariants as changes
+use Rattle.ex_store.specs.Adding.{new_row}
+use Rattle.ex_generations.specs.declared.file.TheConstants.{FILE_LIMIT}
+use Rattle.ex_store.specs.WellFormed.{is_numbered}
+use Rattle.ex_store.proofs.RemarkedLaws.{row_short}
 use Rattle.ex_store.proofs.DoableLaws.{lawful_more}
 use Rattle.ex_store.proofs.PositionsLaws.{source_at}
 use Rattle.ex_store.proofs.copy.copies.Goals as goal
@@ -50,7 +55,7 @@ returns-in-Err-admitted-clause-refused c =
     let retention_is : c.retention_of-retention.result ≡ retention_of c.args.to.now.directory c.args.directories.now = c.retention_of-retention.ensures ∙ ap (λ (name : List ℕ). retention_of name c.args.directories.now) c.as_bytes-directory.ensures.value in
     subst (λ (retention : ℕ). each_in_turn (copied retention c.args.moment c.args.to.now) (elements_at c.args.files.now.rows c.args.positions.now) (record { rows = c.args.files.now.rows; pairs = [] }) ≡ Err c.in-Err-admitted.code) retention_is
     (copies_refused c.args.directories.now c.retention_of-retention.result c.args.moment c.args.to.now c.args.files.now.rows (elements_at c.args.files.now.rows c.args.positions.now) _ (row_of_view c.row_at-source.result) _ _ _ _ _ c.in-Err-admitted.code copying
-    (rw (← c.deref.ensures.value, ← c.key.ensures, ← c.key_from-key.ensures, ← c.len-size.ensures, ← c.numbered-number.ensures) (sym c.admitted.ensures ∙ c.in-Err-admitted.is)))
+    (rw (← c.deref.ensures.value, ← (c.key_from-key.ensures ∙ ap (key_from c.args.to.now) c.key.ensures), ← c.len-size.ensures, ← c.numbered-number.ensures) (sym c.admitted.ensures ∙ c.in-Err-admitted.is)))
 
 pub loop-at-preserved : goal.loop-at-preserved
 loop-at-preserved c =
@@ -61,13 +66,15 @@ loop-at-preserved c =
     record {
       copying = rw (c.in-Ok-copy.ensures.row_changes, c.in-Ok-copy.ensures.pairs, c.in-Ok-copy.ensures.names, c.key_from-key.ensures, c.key.ensures, c.moment_of.ensures, c.len-size.ensures)
           (copies_more c.args.directories.now c.retention_of-retention.result c.args.moment c.args.to.now c.args.files.now.rows (elements_at c.args.files.now.rows c.args.positions.now) _ (row_of_view c.row_at-source.result) _ _ _ _ _ c.in-Ok-admitted.generation c.requires.target form copying
-          (rw (← c.deref.ensures.value, ← c.key.ensures, ← c.key_from-key.ensures, ← c.len-size.ensures, ← c.numbered-number.ensures) (sym c.admitted.ensures ∙ c.in-Ok-admitted.is)));
+          (rw (← c.deref.ensures.value, ← (c.key_from-key.ensures ∙ ap (key_from c.args.to.now) c.key.ensures), ← c.len-size.ensures, ← c.numbered-number.ensures) (sym c.admitted.ensures ∙ c.in-Ok-admitted.is)));
       names = c.in-Ok-copy.ensures.ascend;
       count = count;
-      lawful = rw c.in-Ok-copy.ensures.row_changes (lawful_more _ _ c.loop-at.invariant.lawful (and_from _ _
+      lawful = rw c.in-Ok-copy.ensures.row_changes (lawful_more c.loop-at.simulation.row_changes.items
+          (changes.Add (new_row c.key_from-key.result c.moment_of.result (row_of_view c.row_at-source.result).file.bytes c.in-Ok-admitted.generation))
+          c.loop-at.invariant.lawful (and_from (is_numbered c.in-Ok-admitted.generation) (nat_le (length (row_of_view c.row_at-source.result).file.bytes) FILE_LIMIT)
           (admitted_free c.key_from-key.result c.args.to.now.generation c.len-size.result c.loop-at.count c.loop-at.bytes (rows_of c.deref.result.now)
           c.in-Ok-admitted.generation (counted_target c.args.to.now.generation c.requires.target.generation)
-          (rw (← c.numbered-number.ensures) (sym c.admitted.ensures ∙ c.in-Ok-admitted.is))).within (and_parts _ _ form).1));
+          (rw (← c.numbered-number.ensures) (sym c.admitted.ensures ∙ c.in-Ok-admitted.is))).within (row_short c.args.directories.now (row_of_view c.row_at-source.result) form)));
     }
 
 pub returns-clause-made : goal.returns-clause-made

@@ -28,6 +28,9 @@ loop-at-init c = record {
   lawful = ap (list_all is_lawful) c.in-Ok.ensures.row_changes;
 }
 
+pub row_at-source-requires : goal.row_at-source-requires
+row_at-source-requires c = place_within c.args.positions.now (length c.args.files.now.rows) c.loop-at.at-index c.from.result c.requires.within c.loop-at-test.true c.from.ensures
+
 pub returns-in-Err-simulate-clause-refused : goal.returns-in-Err-simulate-clause-refused
 returns-in-Err-simulate-clause-refused c =
     let at = source_at c.args.files.now.rows c.args.positions.now c.loop-at.at-index c.from.result (row_of_view c.row_at-source.result) c.requires.within c.loop-at-test.true c.from.ensures (viewed c.args.files.now.rows c.from.result (row_of_view c.row_at-source.result) c.row_at-source.ensures) in
