@@ -72,7 +72,8 @@ impl Gens {
 
     /// The file of this generation, where there is one.
     pub fn find(&self, generation: u32) -> Option<&File>
-        ensures { option_copied result ≡ find (is_generation generation) self.now.files }
+        ensures found { option_copied result ≡ find (is_generation generation) self.now.files }
+        ensures ordered { IsAscending 0 self.now.files }
     {
         search::find(&self.files, generation)
     }

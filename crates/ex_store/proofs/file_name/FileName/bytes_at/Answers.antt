@@ -8,10 +8,10 @@ use Rattle.ex_store.proofs.file_name.FileName.bytes_at.Goals as goal
 pub returns-in-Some : goal.returns-in-Some
 returns-in-Some c =
     c.as_slice.ensures
-    ∙ ap (λ (it : Option File). option_map_or (λ (file : File). file.bytes) it []) c.in-Some.ensures
+    ∙ ap (λ (it : Option File). option_map_or (λ (file : File). file.bytes) it []) c.in-Some.ensures.found
     ∙ sym (bytes_under c.args.self.now.key c.args.generation c.args.self.now.gens.files)
 
 pub returns-in-None : goal.returns-in-None
 returns-in-None c =
-    ap (λ (it : Option File). option_map_or (λ (file : File). file.bytes) it []) c.in-None.ensures
+    ap (λ (it : Option File). option_map_or (λ (file : File). file.bytes) it []) c.in-None.ensures.found
     ∙ sym (bytes_under c.args.self.now.key c.args.generation c.args.self.now.gens.files)
