@@ -3,7 +3,7 @@ ghost use Rattle.std.specs.Prelude.{◌≡◌, true, [], ◌∷◌, IfOk, IfErr,
 ghost use Rattle.ex_store.specs.declared.plan.Plan.TheVariants as plans;
 ghost use Rattle.ex_store.specs.declared.ready.RowChange.TheVariants as changes;
 ghost use Rattle.ex_store.specs.Plan.{IsRefused, MayPlan, planned};
-ghost use Rattle.ex_store.specs.Ready.{applied, are_doable, done_on, of_files};
+ghost use Rattle.ex_store.specs.Ready.{applied, are_doable, done_on, is_lawful, of_files};
 ghost use Rattle.ex_store.specs.Rows.{full_of};
 ghost use Rattle.ex_store.specs.WellFormed.{IsWellFormed};
 
@@ -18,6 +18,7 @@ use std::alloc::Global;
 
 // One row is added, which is its own source.
 fn one_add(alloc: Global, row: Row, retention: u8) -> Result<Ready, NoMemory>
+    requires { is_lawful (changes.Add row) ≡ true }
     ensures { IfOk result (λ ready. ready
         ≡ of_files retention (changes.Add row ∷ []) ((record { source = full_of row; target = full_of row }) ∷ [])) }
 {
