@@ -11,8 +11,8 @@ pub poured-requires-clause-short : goal.poured-requires-clause-short
 poured-requires-clause-short c =
     rw (c.in-Ok-from_slice.ensures.items, c.bytes_at.ensures) (bytes_short c.args.directories.now c.in-Ok.opening.target c.args.files.now.rows c.requires.rows.within)
 
-pub of_files-requires : goal.of_files-requires
-of_files-requires c =
+pub of_files-requires-clause-few : goal.of_files-requires-clause-few
+of_files-requires-clause-few c =
     few_pairs c.in-Ok.opening.target c.args.files.now.rows c.args.positions.now _ c.in-Ok-pairs_to.pairs.items c.in-Ok-pairs_to.ensures c.requires.few
 
 opens : (c : goal.After-of_files) → opened c.args.moment (own_key c.args.to.now) c.args.to.now.generation c.args.files.now.rows ≡ Ok c.in-Ok.opening

@@ -10,4 +10,4 @@ pub invariant_of-self : goal.invariant_of-self
 invariant_of-self c =
     rw c.expunge.ensures.rows
     (well_formed_with_rows _ _ c.self.invariant
-    (rows_left c.self.inside.directories.items c.self.inside.files.rows (λ row. not (is_in c.args.directory.now row && row.file.deleted)) c.self.invariant.draft.rows))
+    (rows_left c.self.inside.directories.items c.self.inside.files.rows (λ row. not (is_in c.as_bytes.result.now row && row.file.deleted)) c.self.invariant.draft.rows))
