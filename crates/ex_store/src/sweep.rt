@@ -76,7 +76,7 @@ pub(crate) fn drop_empty(names: &mut Vec<FileName>)
 // The pages of some files, behind so many.
 fn add_pages(files: &[File], before: u32) -> u32
     requires short { list_all (λ file. nat_le (length file.bytes) FILE_LIMIT) files.now ≡ true }
-    requires few { before + 26 * length files.now < 2 ^ 31 }
+    requires few { before + pages files.now < 2 ^ 32 }
     ensures { result ≡ before + pages files.now }
 {
     let mut all = before;
