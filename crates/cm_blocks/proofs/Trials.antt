@@ -42,11 +42,6 @@ trial_is_local s Comma flags = comma_is_local
 trial_is_local s Confirm flags = confirm_is_local
 trial_is_local s (Hook id) flags = run_is_local is_name (λ at. hook_of s.meanings.verdict id)
 
--- no decision looks further than the text
-pub trial_seen : (s : Setting) (function : Function) (flags : Flags) (rest : List ℕ) (at : ℕ)
-    → IsSeen (length rest) (trial s function flags rest at)
-trial_seen s function flags rest at = (trial_is_local s function flags).seen rest at
-
 -- the same of an answer to what stands in a text from a place on
 pub seen_from : (trial : List ℕ → ℕ → Try) → IsLocal trial → (text : List ℕ) (at : ℕ) (answer : Try)
     → answer ≡ trial (drop at text) at → IsSeen (length text - at) answer

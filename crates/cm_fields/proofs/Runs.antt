@@ -89,16 +89,3 @@ run_reaches is_part decide rest at value looked end is =
     reaches_accepted at (length rest) (by_run is_part decide rest at) value looked end
     (holds_of_choice (ReachesIfAccept at (length rest)) (prefix_len is_part rest == length rest) _ _ (λ _. tt)
     (λ ends. said_reaches at (length rest) _ _ _ (omega arith) (omega arith) (omega arith))) is
-
--- an accepted number, word or rest of a line
-pub number_reaches : (rest : List ℕ) (at : ℕ) (value : Value) (looked end : ℕ) → number rest at ≡ Accept value looked end
-    → Reaches at (length rest) looked end
-number_reaches = run_reaches is_word number_of
-
-pub word_reaches : (rest : List ℕ) (at : ℕ) (value : Value) (looked end : ℕ) → word rest at ≡ Accept value looked end
-    → Reaches at (length rest) looked end
-word_reaches rest at = run_reaches is_word (word_of at) rest at
-
-pub text_reaches : (rest : List ℕ) (at : ℕ) (value : Value) (looked end : ℕ) → text_field rest at ≡ Accept value looked end
-    → Reaches at (length rest) looked end
-text_reaches rest at = run_reaches is_inside (text_of at) rest at

@@ -238,10 +238,6 @@ part_bytes whole start text rest is =
 not_long : (start size : ℕ) → size ≤ NAME_LIMIT → is_long (Some (span start size)) ≡ false
 not_long start size short = grind (arith, nat_tests)
 
-no_point : prefix_len is_pattern (46 ∷ []) ≡ 0
-unfolding is_name is_word
-no_point = refl
-
 stops_at_point : (rest : List ℕ) → prefix_len is_pattern (46 ∷ rest) ≡ 0
 unfolding is_name is_word
 stops_at_point rest = refl

@@ -25,11 +25,6 @@ listing_append first phrase phrases more =
 abbrev pub left : Setting → List ℕ → ℕ → Bool → List Block → List ℕ
 left s atom at first blocks = listing first (flat_map (phrases s.graph s.meanings atom) (possible s atom at blocks))
 
--- a block that refuses gives none
-pub left_refused : (s : Setting) (atom : List ℕ) (at : ℕ) (first : Bool) (block : Block) (more : List Block)
-    → refuses (trial s block.function block.flags atom at) ≡ true → left s atom at first (block ∷ more) ≡ left s atom at first more
-left_refused s atom at first block more is = rw is refl
-
 -- any other gives its own, and what follows are further ones
 pub left_more : (s : Setting) (atom : List ℕ) (at : ℕ) (first : Bool) (block : Block) (more : List Block)
     → refuses (trial s block.function block.flags atom at) ≡ false

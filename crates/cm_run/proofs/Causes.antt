@@ -11,9 +11,6 @@ use Rattle.cm_run.specs.Cause.{Counts, KeyCount, ObeyCause, OverCount, RunCause,
 pub obey_cause_on : (a b c : ℕ) (result : Result Unit Stop) → b ≡ a → ObeyCause b c result → ObeyCause a c result
 obey_cause_on a b c result stays cause = subst (λ n. ObeyCause n c result) stays cause
 
-pub later_on : (a b c : ℕ) → b ≡ a → b ≤ c → a ≤ c
-later_on a b c stays more = subst (λ n. n ≤ c) stays more
-
 pub stroke_run : (a b c : Counts) (result : Result Unit Stop) → b ≡ a → StrokeCause b c result → RunCause a c result
 unfolding StrokeCause RunCause
 stroke_run a b c (Ok value) stays cause = cause ∙ stays

@@ -73,12 +73,3 @@ listed_first table from atom position entry is found =
     first_of from (drop from table) atom position entry size is at there
     ∙ ap (λ rest. (position, entry) ∷ listed_of (position + 1) rest atom)
     (drop-drop (size + 1) from table ∙ ap (λ place. drop place table) behind)
-
--- where none is, none is left
-pub listed_none : (table : List Entry) (from : ℕ) (atom : List ℕ) → next_listed table from atom ≡ None
-    → listed_from from table atom ≡ []
-listed_none table from atom is = by (listed_from from table atom) is
-  where
-    by : (listed : List (ℕ × Entry)) → first_place listed ≡ None → listed ≡ []
-    by [] is = refl
-    by (e ∷ more) is = cc

@@ -94,12 +94,6 @@ reduce-shared : (texts : List (List ℕ)) → AllBeginWith texts (unwrap_or (red
 reduce-shared [] = tt
 reduce-shared (text ∷ texts) = (fold-first text texts, fold-all text texts)
 
--- and that with all that they begin with
-reduce-longest : (texts : List (List ℕ)) (front : List ℕ) → texts ≢ [] → AllBeginWith texts front
-    → StartsWith (unwrap_or (reduce shared texts) []) front
-reduce-longest [] front some all = absurd (some refl)
-reduce-longest (text ∷ texts) front some all = fold-longest text texts front all.0 all.1
-
 pub common_is_shared : (table : List Entry) (atom : List ℕ) → AllBeginWith (rests table atom) (common table atom)
 unfolding common
 common_is_shared table atom = reduce-shared (rests table atom)

@@ -17,10 +17,6 @@ use Rattle.ex_image.proofs.Endings.{never_bad, one_bad, one_state}
 use Rattle.ex_image.proofs.RecordLaws.{record_takes}
 use Rattle.ex_image.proofs.Standing.{IsConnected, Stands, faultless_of}
 
--- what was read so far is a draft
-pub drafted : (bytes : List ℕ) (reading : Reading) (rest : List ℕ) → Makes bytes reading rest → IsDraft reading.state
-drafted bytes reading rest made = (makes_sound bytes reading rest made).draft
-
 -- and with a record more that may stand there
 pub drafted_more : (bytes : List ℕ) (reading : Reading) (rest : List ℕ) (entry : Entry) (content : List ℕ)
     → Makes bytes reading rest → MayStand reading (entry, content) → IsDraft (with_entry reading.state entry content)
@@ -33,14 +29,6 @@ pub drafted_read : (bytes : List ℕ) (reading : Reading) (rest : List ℕ) (par
     → Makes bytes reading rest → record_at reading rest ≡ Ok part → IsDraft (with_entry reading.state part.0.0 part.0.1)
 drafted_read bytes reading rest part made is =
     drafted_more bytes reading rest part.0.0 part.0.1 made (record_takes reading rest part is).stands
-
--- the directory that is connected by a record is there
-pub connected_read : (reading : Reading) (rest name content more : List ℕ)
-    → record_at reading rest ≡ Ok ((Connected name, content), more)
-    → has_directory name reading.state.directories ≡ true
-connected_read reading rest name content more is =
-    let taken = record_takes reading rest ((Connected name, content), more) is in
-    (faultless_of reading.state (Connected name) taken.stands.faultless).there
 
 -- a directory is connected
 abbrev pub is_connected : Tag → Bool

@@ -14,18 +14,6 @@ pub record Leaves (tells : Bool) (before now : Outside) (rest whole : List ℕ) 
   pub appended : Appends tells before now written Done
   pub joined : written ++ rest ≡ whole
 
--- before the first record all is left
-pub leaves_all : (tells : Bool) (before : Outside) (whole : List ℕ) → IsTrue before.is_open
-    → Leaves tells before before whole whole
-leaves_all tells before whole opened =
-    record { written = []; appended = appends_none tells before opened; joined = refl }
-
--- where nothing is left, the whole is appended
-pub leaves_none : (tells : Bool) (before now : Outside) (whole : List ℕ) → Leaves tells before now [] whole
-    → Appends tells before now whole Done
-leaves_none tells before now whole left =
-    subst (λ bytes. Appends tells before now bytes Done) (sym (append-nil left.written) ∙ left.joined) left.appended
-
 -- a piece more is appended
 pub leaves_less : (tells : Bool) (before now later : Outside) (rest piece more whole : List ℕ)
     → Leaves tells before now rest whole → rest ≡ piece ++ more → Appends tells now later piece Done

@@ -20,21 +20,10 @@ early_is (Some name) status.ImageTooLarge early = (λ is. cc, λ is. cc)
 early_is (Some name) (status.BadImage at kind) early = (λ is. cc, λ is. cc)
 early_is input result early = absurd early
 
-pub early_not_done : (P : Type 0) (input : Option (List ℕ)) (result why : Status) → result ≡ why → IsEarly input why → result ≡ status.Done → P
-early_not_done P input result why same early done = absurd ((early_is input why early).0 (sym same ∙ done))
-
-pub usage_not_done : (P : Type 0) (result : Status) → result ≡ status.Usage → result ≡ status.Done → P
-usage_not_done P result same done = absurd (cc)
-
 -- a status that is not Usage, where the words have a form
 pub no_usage : (asked : Option Form) (lines : Option ℕ) (form : Form) (result : Status) → Some form ≡ asked → (result ≡ status.Usage → ⊥)
     → (result ≡ status.Usage) ↔ ((asked ≡ None) × (lines ≡ None))
 no_usage asked lines form result is other = (λ same. absurd (other same), λ none. let wrong : Some form ≡ None = is ∙ none.0 in absurd (cc))
-
-pub early_no_usage : (asked : Option Form) (lines : Option ℕ) (form : Form) (result why : Status) → Some form ≡ asked → result ≡ why
-    → IsEarly form.input why → (result ≡ status.Usage) ↔ ((asked ≡ None) × (lines ≡ None))
-early_no_usage asked lines form result why is same early =
-    no_usage asked lines form result is (λ usage. (early_is form.input why early).1 (sym same ∙ usage))
 
 run_no_usage : (result : Status) → IsRun result → result ≡ status.Usage → ⊥
 run_no_usage result run usage = subst IsRun usage run
@@ -52,11 +41,6 @@ memory_cause disk (Some name) = λ tells. by (disk.files name)
     by None = inr (inr refl)
     by (Some bytes) = (λ longer. inr (inr refl), λ within. (λ at kind bad. inr (inr refl), λ start image. tt))
 
-pub memory_starts : (asked : Option Form) (disk : Disk) (form : Form) (result : Status) → Some form ≡ asked → result ≡ status.NoMemory
-    → StartCause disk asked result
-memory_starts asked disk form result is same =
-    subst (λ (it : Option Form). StartCause disk it result) is (subst (λ (it : Status). InputCause disk form.input it) (sym same) (memory_cause disk form.input))
-
 -- the message alone is tried on the screen
 pub tried_refused : (a : Scene) (screen : Told) (faults : ℕ) (why result : Status) → result ≡ why
     → Tried a.screen screen a.faults.screen faults [] (message why) → Refused a (with_screen a screen faults) result
@@ -64,12 +48,6 @@ tried_refused a screen faults why result same tried = record {
   screen = subst (λ (it : Status). Tried a.screen screen a.faults.screen faults [] (message it)) (sym same) tried;
   rest = refl;
 }
-
-pub stands_usage : (told : Type 0) (asked : Option Form) (lines : Option ℕ) (a b : Scene) (disk : Disk) (result : Status) → None ≡ asked
-    → None ≡ lines → result ≡ status.Usage → Refused a b result → Stands told asked lines a b disk disk result
-stands_usage told asked lines a b disk result is none usage refuses =
-    subst (λ (it : Option Form). Stands told it lines a b disk disk result) is
-    (subst (λ (it : Option ℕ). StandsBy it a b result) none (usage, refuses), refl)
 
 pub as_early : (input : Option (List ℕ)) (result why : Status) → result ≡ why → IsEarly input why → IsEarly input result
 as_early input result why same early = subst (λ (it : Status). IsEarly input it) (sym same) early

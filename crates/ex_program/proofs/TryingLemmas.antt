@@ -18,15 +18,6 @@ tried_joined before now f g first message tried = record {
   joined (inl all) = inl (ap (λ bytes. first ++ bytes) all.0, all.1)
   joined (inr rose) = inr rose
 
--- a prefix of the first bytes is a prefix of the message
-pub tried_cut : (before now : Told) (f g : ℕ) (first message : List ℕ) → AddsPart before now first → Rose f g → Tried before now f g [] (first ++ message)
-tried_cut before now f g first message adds rose = record {
-  part = adds.part;
-  is_part = record { rest = adds.is_part.rest ++ message; joined = sym (append_assoc adds.part adds.is_part.rest message) ∙ ap (λ bytes. bytes ++ message) adds.is_part.joined };
-  told = adds.added;
-  whole = inr rose;
-}
-
 -- a message behind what was shown, with no fault till then
 pub tried_since : (before middle now : Told) (f g h : ℕ) (given first message : List ℕ) → middle ≡ add before given → g ≡ f
     → Tried middle now g h first message → Tried before now f h (given ++ first) message
