@@ -189,3 +189,10 @@ inserted_at new [] low n a = refl
 inserted_at new (file ∷ more) low n a =
     let next : (file.generation ≡ new.generation → ⊥) × IsNew new more = behind new file more n in
     inserted_at-step new file more low a (inserted_at new more file.generation next.1 a.3) (order_of file.generation new.generation next.0)
+
+-- a generation that is not there is not found
+pub find_absent : (generation : ℕ) (files : List File) → has generation files ≡ false → find (is_generation generation) files ≡ None
+find_absent generation [] none = refl
+find_absent generation (file ∷ more) none =
+    let parts : (is_generation generation file ≡ false) × (has generation more ≡ false) = or_parts _ _ none in
+    rw parts.0 (find_absent generation more parts.1)

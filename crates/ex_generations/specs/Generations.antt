@@ -70,6 +70,10 @@ changed generation change files = map (λ file. if is_generation generation file
 abbrev pub marked_as : Bool → File → File
 marked_as deleted file = record file { deleted = deleted }
 
+-- the file without its bytes
+abbrev pub blank : File → File
+blank file = record file { bytes = [] }
+
 -- the file with this moment and these bytes
 abbrev pub rewritten : ℕ → List ℕ → File → File
 rewritten moment bytes file = record file { moment = moment; bytes = bytes }

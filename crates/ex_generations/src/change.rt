@@ -1,10 +1,13 @@
 // Changes of the generations of a file.
-ghost use Rattle.std.specs.Prelude.{◌≡◌, ◌<◌, ◌≤◌, ◌↔◌, true, false, IsErr, OnErr, length, insert, Some, vec_capacity, vec_len, find};
-ghost use Rattle.ex_generations.specs.Generations.{IsAscending, changed, has, inserted, is_generation, marked_as, rewritten, unmarked, without};
+ghost use Rattle.std.specs.Prelude.{◌≡◌, ◌<◌, ◌≤◌, ◌↔◌, true, false, IsErr, OnErr, length, get_or, insert, map, set, IfOk, Some, vec_capacity, vec_len, find};
+ghost use Rattle.ex_generations.specs.declared.file.File.{File as Generation};
+ghost use Rattle.ex_generations.specs.Generations.{IsAscending, blank, changed, has, inserted, is_generation, marked_as, rewritten, unmarked, without};
 ghost use Rattle.ex_generations.specs.Retention.{kept_newest, retained};
 
 use crate::search::{live, place, position};
 use crate::{Bytes, FILE_LIMIT, File, GENERATION_LIMIT, NoGen};
+use cm_io::NoMemory;
+use std::alloc::Global;
 
 // Puts a file at a place of a vector that has room for it.
 fn put_at(files: &mut Vec<File>, at: usize, file: File)
@@ -78,6 +81,34 @@ pub(crate) fn set_mark(files: &mut [File], generation: u32, deleted: bool) -> Re
         }
         None => Err(NoGen),
     }
+}
+
+// The files without their bytes.
+pub(crate) fn blanks(alloc: Global, files: &[File]) -> Result<Vec<File>, NoMemory>
+    requires { IsAscending 0 files.now }
+    ensures items { IfOk result (λ blanks. blanks.items ≡ map blank files.now) }
+    ensures ascending { IfOk result (λ blanks. IsAscending 0 blanks.items) }
+{
+    let mut blanks = Vec::new(alloc);
+    for file in files {
+        blanks.push(File {
+            generation: file.generation,
+            deleted: file.deleted,
+            moment: file.moment,
+            bytes: Bytes::new(Vec::new(alloc)),
+        })?;
+    }
+    Ok(blanks)
+}
+
+// Sets or clears the mark of the file at a place.
+pub(crate) fn set_mark_at(files: &mut [File], i: usize, deleted: bool)
+    requires ascending { IsAscending 0 files.old }
+    requires within { i < length files.old }
+    ensures set { (d : Generation) → files.new ≡ set files.old i (marked_as deleted (get_or files.old i d)) }
+    ensures ascending { IsAscending 0 files.new }
+{
+    files[i].deleted = deleted;
 }
 
 // Gives a file a moment and bytes.

@@ -1,6 +1,7 @@
 // The generations of one file.
-ghost use Rattle.std.specs.Prelude.{◌≡◌, ◌<◌, ◌≤◌, ◌+◌, ◌↔◌, [], true, false, length, find, slice_get, Some, IsTrue, IsErr, IsOk, IfOk, OnErr, OnOk};
-ghost use Rattle.ex_generations.specs.Generations.{IsAscending, changed, has, highest, is_generation, lowest, marked, marked_as, next_generation, pages, rewritten, unmarked, with_mark, without};
+ghost use Rattle.std.specs.Prelude.{◌≡◌, ◌<◌, ◌≤◌, ◌+◌, ◌↔◌, [], true, false, length, find, get_or, map, option_copied, set, slice_get, Some, IsTrue, IsErr, IsOk, IfOk, OnErr, OnOk};
+ghost use Rattle.ex_generations.specs.declared.file.File.{File};
+ghost use Rattle.ex_generations.specs.Generations.{IsAscending, blank, changed, has, highest, is_generation, lowest, marked, marked_as, next_generation, pages, rewritten, unmarked, with_mark, without};
 ghost use Rattle.ex_generations.specs.Retention.{added, retained};
 
 use crate::{Bytes, FILE_LIMIT, File, GENERATION_LIMIT, GenFull, NoGen, change, search};
@@ -36,6 +37,15 @@ impl Gens {
         }
     }
 
+    /// The same files without their bytes.
+    pub fn blank(&self, alloc: Global) -> Result<Gens, NoMemory>
+        ensures { IfOk result (λ gens. gens.files ≡ map blank self.now.files) }
+    {
+        Ok(Gens {
+            files: change::blanks(alloc, &self.files)?,
+        })
+    }
+
     /// How many files there are, deleted ones included.
     pub fn len(&self) -> u32
         ensures length { result ≡ length self.now.files }
@@ -50,6 +60,22 @@ impl Gens {
         ensures { slice_get self.now.files i ≡ Some result.now }
     {
         &self.files[i as usize]
+    }
+
+    /// The files, in ascending order of their generations.
+    pub fn as_slice(&self) -> &[File]
+        ensures value { result.now ≡ self.now.files }
+        ensures ordered { IsAscending 0 self.now.files }
+    {
+        &self.files
+    }
+
+    /// The file of this generation, where there is one.
+    pub fn find(&self, generation: u32) -> Option<&File>
+        ensures found { option_copied result ≡ find (is_generation generation) self.now.files }
+        ensures ordered { IsAscending 0 self.now.files }
+    {
+        search::find(&self.files, generation)
     }
 
     /// Whether there is a file of this generation.
@@ -105,7 +131,8 @@ impl Gens {
         requires from_one { 0 < file.generation }
         requires to_limit { file.generation ≤ GENERATION_LIMIT }
         requires absent { has file.generation self.old.files ≡ false }
-        ensures { self.new ≡ record self.old { files = added retention file self.old.files } }
+        ensures added { self.new ≡ record self.old { files = added retention file self.old.files } }
+        ensures ordered { IsAscending 0 self.old.files }
     {
         change::insert(&mut self.files, file);
         change::retain(&mut self.files, retention);
@@ -138,6 +165,16 @@ impl Gens {
         ensures err { OnErr result (self.new ≡ self.old) }
     {
         change::set_mark(&mut self.files, generation, false)
+    }
+
+    /// Marks the file at a place in the ascending order as deleted, or clears its mark.
+    pub fn set_mark(&mut self, i: usize, deleted: bool)
+        requires { i < length self.old.files }
+        ensures { (d : File) → self.new ≡ record self.old {
+          files = set self.old.files i (marked_as deleted (get_or self.old.files i d));
+        } }
+    {
+        change::set_mark_at(&mut self.files, i, deleted);
     }
 
     /// Takes the file of a generation out. The room stays.

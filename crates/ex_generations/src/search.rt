@@ -1,5 +1,5 @@
 // Searches through the generations of a file. A generation is found by halving.
-ghost use Rattle.std.specs.Prelude.{◌≡◌, ◌≤◌, ◌↔◌, false, length, Some, IfOk, IsErr, position, nat_lt};
+ghost use Rattle.std.specs.Prelude.{◌≡◌, ◌≤◌, ◌↔◌, false, find, length, option_copied, Some, IfOk, IsErr, position, nat_lt};
 ghost use Rattle.std.specs.List.{prefix_len};
 ghost use Rattle.ex_generations.specs.Generations.{IsAscending, has, highest, is_generation, lowest, marked, next_generation, page_count, pages, with_mark};
 ghost use Rattle.ex_generations.specs.Retention.{live};
@@ -24,6 +24,17 @@ pub(crate) fn position(files: &[File], generation: u32) -> Option<usize>
     match files.get(at) {
         Some(file) if file.generation == generation => Some(at),
         _ => None,
+    }
+}
+
+// The file of a generation, where there is one.
+pub(crate) fn find(files: &[File], generation: u32) -> Option<&File>
+    requires { IsAscending 0 files.now }
+    ensures { option_copied result ≡ find (is_generation generation) files.now }
+{
+    match position(files, generation) {
+        Some(at) => Some(&files[at]),
+        None => None,
     }
 }
 

@@ -21,7 +21,8 @@ use Rattle.ex_store.specs.Appending.{appended, bytes_at, found, opened, opening_
 use Rattle.ex_store.specs.Copying.{moment_of, own_key}
 use Rattle.ex_store.specs.Plan.{IsOneFile, has_plain_kind, has_plain_name}
 use Rattle.ex_store.specs.Positions.{elements_at}
-use Rattle.ex_store.specs.Ready.{are_doable, rows_after_all}
+use Rattle.ex_store.specs.declared.ready.RowChange.TheVariants as changes
+use Rattle.ex_store.specs.Ready.{are_doable, is_lawful, rows_after_all}
 use Rattle.ex_store.specs.Rows.{added, by_row, files_of, filled, full_of, is_full, row_at, total}
 use Rattle.ex_store.specs.WellFormed.{AreRows, is_file_name, is_file_type, is_row_among}
 use Rattle.ex_store.proofs.AdmittedLaws.{admitted_is, and_then_ok, counted_file, rows_added}
@@ -155,10 +156,16 @@ abbrev is_new : List Row → Option Row → Bool
 is_new rows None = true
 is_new rows (Some row) = not (has row.file.generation (files_of row.key rows))
 
+-- what is added may be
+abbrev is_lawful_new : Option Row → Bool
+is_lawful_new None = true
+is_lawful_new (Some row) = is_lawful (changes.Add row)
+
 -- the rows with the file that is put behind, and how many bytes they have
 record IsOpened (directories : List Directory) (retention : ℕ) (rows : List Row) (there : Opening) : Type 0 where
   are : AreRows directories (with_opened retention rows there.new)
   new : is_new rows there.new ≡ true
+  lawful : is_lawful_new there.new ≡ true
   room : total (with_opened retention rows there.new) + length (bytes_at there.target rows)
       ≤ total rows + length (bytes_at there.target (with_opened retention rows there.new))
 
@@ -191,6 +198,7 @@ new_opened directories retention moment to rows number are one admits =
     record {
       are = rows_added directories retention row rows are known form;
       new = ap not known.free.absent;
+      lawful = and_from _ _ known.free.within refl;
       room = omega (arith, none, same);
     }
 
@@ -199,7 +207,7 @@ opening_is : (directories : List Directory) (retention moment : ℕ) (to : Place
     → IsOpened directories retention rows there
 opening_is directories retention moment to rows (Some number) there are one is =
     let same : record { target = record { key = own_key to; generation = number }; new = None } ≡ there = cc in
-    subst (IsOpened directories retention rows) same (record { are = are; new = refl; room = omega arith })
+    subst (IsOpened directories retention rows) same (record { are = are; new = refl; lawful = refl; room = omega arith })
 opening_is directories retention moment to rows None there are one is =
     let parts = and_then_ok (λ number.
     let row = new_row (own_key to) (moment_of moment) [] number in
@@ -235,6 +243,21 @@ pub append_doable : (directories : List Directory) (retention moment : ℕ) (to 
 append_doable directories retention moment to rows there bytes done are one opens is =
     let known = opened_is directories retention moment to rows there are one opens in
     rw is (doable_opened retention rows there.target there.new (moment_of moment) bytes known.new)
+
+lawful_opened : (target : FullName) (new : Option Row) (moment : ℕ) (bytes : List ℕ) → is_lawful_new new ≡ true
+    → nat_le (length bytes) FILE_LIMIT ≡ true → list_all is_lawful (row_changes_of (record { target = target; new = new }) moment bytes) ≡ true
+lawful_opened target None moment bytes is short = and_from _ _ short refl
+lawful_opened target (Some row) moment bytes is short = and_from _ _ is (and_from _ _ short refl)
+
+-- they are lawful
+pub append_lawful : (directories : List Directory) (moment : ℕ) (to : Place) (rows sources : List Row) (there : Opening) (bytes : List ℕ) (done : List RowChange)
+    → AreRows directories rows → IsOneFile to directories → opened moment (own_key to) to.generation rows ≡ Ok there
+    → poured (total rows) (bytes_at there.target rows) sources ≡ Ok bytes → done ≡ row_changes_of there (moment_of moment) bytes
+    → list_all is_lawful done ≡ true
+append_lawful directories moment to rows sources there bytes done are one opens pours is =
+    let known = opened_is directories 0 moment to rows there are one opens in
+    let limits = poured_within (total rows) (bytes_at there.target rows) sources bytes pours (bytes_short directories there.target rows are.within) are.small in
+    rw is (lawful_opened there.target there.new (moment_of moment) bytes known.lawful (le-leb (length bytes) FILE_LIMIT limits.0))
 
 -- the rows behind the changes are those of a store
 pub append_sound : (directories : List Directory) (retention moment : ℕ) (to : Place) (rows sources : List Row) (there : Opening) (bytes : List ℕ) (done : List RowChange)

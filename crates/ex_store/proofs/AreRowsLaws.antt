@@ -137,10 +137,3 @@ absent_has key number (row ∷ rows) none =
         let parts = or_parts _ _ none in
         and_from _ _ (not_from_false _ parts.0) (rest parts.1)
     by false rest none = rest none
-
--- a row is put among rows that ascend, none of which has its full name
-pub ascends_inserted : (row : Row) (rows : List Row) → has row.file.generation (files_of row.key rows) ≡ false
-    → ascends by_row rows ≡ true → ascends by_row (inserted row rows) ≡ true
-ascends_inserted row rows none ascend =
-    ascends_sorted by_row (inserted row rows)
-    (sorted_inserted row rows (absent_has row.key row.file.generation rows none) (sorted_ascends by_row by_row_total rows ascend))

@@ -1,10 +1,11 @@
 -- Changes that can be done one after the other.
 use Rattle.std.proofs.Common.{◌≡◌, ◌+◌, ◌<◌, ℕ, true, List, [], ◌∷◌, ◌++◌, length, map, take, drop, get_or, refl, ap, subst, sym, ◌∙◌}
+use Rattle.std.specs.List.{list_all}
 use Rattle.std.proofs.lemmas.Bool.{and_from, and_parts}
 use Rattle.std.proofs.lemmas.List.{drop_more, map-id, take-append-drop}
 use Rattle.ex_store.specs.declared.ready.RowChange.{RowChange}
 use Rattle.ex_store.specs.declared.row.Row.{Row}
-use Rattle.ex_store.specs.Ready.{are_doable, is_doable, rows_after, rows_after_all}
+use Rattle.ex_store.specs.Ready.{are_doable, is_doable, is_lawful, rows_after, rows_after_all}
 
 -- a change more
 pub doable_more : (retention : ℕ) (rows : List Row) (done : List RowChange) (change : RowChange) → are_doable retention rows done ≡ true
@@ -21,13 +22,26 @@ doable_next retention rows [] change more all = (and_parts _ _ all).0
 doable_next retention rows (first ∷ done) change more all =
     doable_next retention (rows_after retention rows first) done change more (and_parts _ _ all).1
 
+-- those that were done, the next one and what is left
+pub split_at : (items done : List RowChange) (change : RowChange)
+    → map (λ (each : RowChange). each) done ≡ take (length done) items → length done < length items
+    → change ≡ get_or items (length done) change → items ≡ done ++ change ∷ drop (length done + 1) items
+split_at items done change so_far within is =
+    sym (take-append-drop (length done) items)
+    ∙ ap (λ front. front ++ drop (length done) items) (sym so_far ∙ map-id done)
+    ∙ ap (λ rest. done ++ rest) (drop_more items (length done) change within ∙ ap (λ first. first ∷ drop (length done + 1) items) (sym is))
+
 pub doable_at : (retention : ℕ) (rows : List Row) (items done : List RowChange) (change : RowChange) → are_doable retention rows items ≡ true
     → map (λ (each : RowChange). each) done ≡ take (length done) items → length done < length items
     → change ≡ get_or items (length done) change → is_doable (rows_after_all retention rows done) change ≡ true
 doable_at retention rows items done change all so_far within is =
-    let split : items ≡ done ++ change ∷ drop (length done + 1) items =
-    sym (take-append-drop (length done) items)
-    ∙ ap (λ front. front ++ drop (length done) items) (sym so_far ∙ map-id done)
-    ∙ ap (λ rest. done ++ rest) (drop_more items (length done) change within ∙ ap (λ first. first ∷ drop (length done + 1) items) (sym is)) in
     doable_next retention rows done change (drop (length done + 1) items)
-    (subst (λ (each : List RowChange). are_doable retention rows each ≡ true) split all)
+    (subst (λ (each : List RowChange). are_doable retention rows each ≡ true) (split_at items done change so_far within is) all)
+
+-- lawful changes and one more
+pub lawful_more : (changes : List RowChange) (change : RowChange) → list_all is_lawful changes ≡ true → is_lawful change ≡ true
+    → list_all is_lawful (changes ++ change ∷ []) ≡ true
+lawful_more [] change all here = and_from _ _ here refl
+lawful_more (first ∷ changes) change all here =
+    let parts = and_parts _ _ all in
+    and_from _ _ parts.0 (lawful_more changes change parts.1 here)

@@ -4,12 +4,13 @@ use Rattle.std.specs.List.{list_all}
 use Rattle.std.proofs.lemmas.Bool.{and_parts, leb-true}
 use Rattle.cm_text.specs.declared.name.TheConstants.{NAME_LIMIT}
 use Rattle.cm_files.specs.LogicalName.{is_logical_name}
+use Rattle.ex_generations.specs.declared.file.TheConstants.{FILE_LIMIT}
 use Rattle.ex_store.specs.declared.directory.Definition.{Definition}
 use Rattle.ex_store.specs.declared.directory.Directory.{Directory}
 use Rattle.ex_store.specs.declared.key.Key.{Key}
 use Rattle.ex_store.specs.declared.queue.QueueEntry.{QueueEntry}
 use Rattle.ex_store.specs.declared.row.Row.{Row}
-use Rattle.ex_store.specs.WellFormed.{is_definition_among, is_directory, is_entry_among, is_file_name, is_file_type, is_row_among}
+use Rattle.ex_store.specs.WellFormed.{is_definition_among, is_directory, is_entry_among, is_file_name, is_file_type, is_numbered, is_row_among}
 use Rattle.ex_store.proofs.StateLaws.{name_is_short}
 
 -- what is so of all is so of the last
@@ -52,6 +53,13 @@ pub record IsShort (key : Key) : Type 0 where
   pub directory : length key.directory ≤ NAME_LIMIT
   pub name : length key.name ≤ NAME_LIMIT
   pub kind : length key.kind ≤ NAME_LIMIT
+
+-- the last of some rows has a number and bytes that a file may have
+pub row_is_lawful : (directories : List Directory) (rows : List Row) (row : Row) → list_all (is_row_among directories) (rows ++ row ∷ []) ≡ true
+    → (is_numbered row.file.generation ≡ true) × (length row.file.bytes ≤ FILE_LIMIT)
+row_is_lawful directories rows row all =
+    let is = last_is (is_row_among directories) rows row all in
+    (second _ _ (first _ _ (first _ _ is)), leb-true _ _ (second _ _ is))
 
 -- a file that is added
 pub row_is_short : (directories : List Directory) (rows : List Row) (row : Row) → list_all is_directory directories ≡ true

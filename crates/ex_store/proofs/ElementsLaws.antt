@@ -1,15 +1,19 @@
 -- The elements at some places, one after the other.
-use Rattle.std.proofs.Common.{◌≡◌, ℕ, ◌+◌, ◌<◌, ◌≤◌, Bool, true, suc, zero, List, [], ◌∷◌, ◌++◌, length, get_or, drop, nat_lt, Option, Some, None, sym, ap, subst, ◌∙◌, arith}
+use Rattle.std.proofs.Common.{◌≡◌, ℕ, ◌+◌, ◌<◌, ◌≤◌, Bool, true, suc, zero, List, [], ◌∷◌, ◌++◌, length, get_or, drop, nat_lt, Option, Some, None, unwrap_or, sym, ap, subst, ◌∙◌, arith}
 use Rattle.std.specs.List.{list_all, slice_get}
 use Rattle.std.specs.Option.{option_to_list}
 use Rattle.std.proofs.lemmas.Bool.{and_parts, ltb-true}
 use Rattle.std.proofs.lemmas.List.{at_drop_more}
-use Rattle.std.proofs.lemmas.Option.{slice_get-get_or}
+use Rattle.std.proofs.lemmas.Option.{slice_get-get_or, unwrap_or-slice_get}
 use Rattle.ex_store.specs.Positions.{elements_at}
 
 -- the element at an index that is read
 pub get_some : {X : Type 0} (xs : List X) (i : ℕ) (x : X) → i < length xs → x ≡ get_or xs i x → slice_get xs i ≡ Some x
 get_some xs i x within is = slice_get-get_or xs i x within ∙ ap (λ y. Some y) (sym is)
+
+-- the element that was read at an index
+pub viewed : {X : Type 0} (xs : List X) (i : ℕ) (x : X) → slice_get xs i ≡ Some x → x ≡ get_or xs i x
+viewed {X} xs i x is = ap (λ (it : Option X). unwrap_or it x) (sym is) ∙ unwrap_or-slice_get xs i x
 
 -- what all pass, one of them passes
 pub all_at : {X : Type 0} (test : X → Bool) (xs : List X) (i : ℕ) (x : X) → list_all test xs ≡ true → slice_get xs i ≡ Some x

@@ -1,7 +1,7 @@
 -- Files by name: what is done with the generations of one name is done with its rows, and with no others.
-use Rattle.std.proofs.Common.{◌≡◌, ℕ, ◌<◌, ◌≤◌, ◌==◌, Bool, true, false, not, cond, zero, suc, List, [], ◌∷◌, ◌++◌, length, get_or, set, insert, map, position, Option, None, Some, refl, ap, arith, ◌∙◌, sym, subst, append-nil}
+use Rattle.std.proofs.Common.{◌≡◌, ℕ, ◌<◌, ◌≤◌, ◌==◌, Bool, true, false, not, cond, zero, suc, List, [], ◌∷◌, ◌++◌, length, get_or, set, take, insert, map, position, Option, None, Some, refl, ap, arith, ◌∙◌, sym, subst, append-nil}
 use Rattle.std.specs.List.{list_all, list_any, prefix_len}
-use Rattle.std.specs.Option.{option_map}
+use Rattle.std.specs.Option.{option_map, option_map_or}
 use Rattle.std.specs.Ordering.{is_eq, is_gt, is_lt, nat_cmp, ordering_reverse, ordering_then}
 use Rattle.std.specs.declared.cmp.Ordering.{Ordering}
 use Rattle.std.specs.declared.cmp.Ordering.TheVariants.{Less, Equal, Greater}
@@ -11,12 +11,14 @@ use Rattle.std.proofs.lemmas.Cmp.{on_total}
 use Rattle.std.proofs.lemmas.List.Quantifiers.{position-Some}
 use Rattle.cm_files.specs.Catalogue.{ascends}
 use Rattle.ex_generations.specs.declared.file.File.{File}
+use Rattle.ex_generations.specs.Generations.{rewritten}
 use Rattle.ex_store.specs.declared.file_name.FileName.{FileName}
 use Rattle.ex_store.specs.declared.key.FullName.{FullName}
 use Rattle.ex_store.specs.declared.key.Key.{Key}
 use Rattle.ex_store.specs.declared.row.Row.{Row}
-use Rattle.ex_store.specs.FileNames.{by_name, is_under, row_under, rows_of, rows_under}
-use Rattle.ex_store.specs.Rows.{added, by_key, by_row, files_of, inserted, is_full, is_of, kept_newest, row_at, without}
+use Rattle.ex_store.specs.Appending.{bytes_at}
+use Rattle.ex_store.specs.FileNames.{by_name, is_under, wanted_at, room_at, rooms_of, row_under, rows_of, rows_under}
+use Rattle.ex_store.specs.Rows.{added, by_key, by_row, filled, files_of, inserted, is_full, is_of, kept_newest, row_at, without}
 use Rattle.ex_store.proofs.AscendsLaws.{all_above, ascends_map, is_sorted, sorted_ascends}
 use Rattle.ex_store.proofs.AreRowsLaws.{by_key_total}
 use Rattle.ex_store.proofs.HalvingLaws.{full_stays, rises_sorted}
@@ -57,7 +59,7 @@ is_below key row = is_lt (by_key row.key key)
 abbrev is_above : Key → Row → Bool
 is_above key row = is_gt (by_key row.key key)
 
-all_append : {X : Type 0} (test : X → Bool) (xs ys : List X) → list_all test xs ≡ true → list_all test ys ≡ true
+pub all_append : {X : Type 0} (test : X → Bool) (xs ys : List X) → list_all test xs ≡ true → list_all test ys ≡ true
     → list_all test (xs ++ ys) ≡ true
 all_append test [] ys first rest = rest
 all_append test (x ∷ xs) ys first rest =
@@ -335,6 +337,12 @@ rows_entered (name ∷ names) zero new within is = ap (λ own. map (row_under ne
 rows_entered (name ∷ names) (suc at) new within is =
     ap (λ rest. rows_under name ++ rest) (rows_entered names at new (omega arith) is)
 
+pub front_entered : (names : List FileName) (at : ℕ) (new : FileName) → at ≤ length names → take at (insert names at new) ≡ take at names
+front_entered [] zero new within = refl
+front_entered [] (suc at) new within = absurd (omega arith)
+front_entered (name ∷ names) zero new within = refl
+front_entered (name ∷ names) (suc at) new within = ap (λ rest. name ∷ rest) (front_entered names at new (omega arith))
+
 pub ascends_entered : (key : Key) (names : List FileName) (at : ℕ) (new : FileName) → ascends by_name names ≡ true
     → at ≡ prefix_len (λ name. is_lt (by_key name.key key)) names → new.key ≡ key → position (is_under key) names ≡ None
     → ascends by_name (insert names at new) ≡ true
@@ -393,3 +401,152 @@ pub files_there : (key : Key) (names : List FileName) (at : ℕ) (d : FileName) 
     → ((d : FileName) → is_under key (get_or names at d) ≡ true) → files_of key (rows_of names) ≡ (get_or names at d).gens.files
 files_there key names at d ascend within there =
     files_at key names at d (sorted_ascends by_name by_name_total names ascend) (is_at key names at within there)
+
+-- a file is filled in between those below its key and those above it
+filled_lower : (full : FullName) (moment : ℕ) (bytes : List ℕ) (lower more : List Row) → none_of full.key lower ≡ true
+    → filled full moment bytes (lower ++ more) ≡ lower ++ filled full moment bytes more
+filled_lower full moment bytes [] more none = refl
+filled_lower full moment bytes (row ∷ lower) more none =
+    let parts : (not (is_of full.key row) ≡ true) × (none_of full.key lower ≡ true) = and_parts _ _ none in
+    rw (then_other (by_key row.key full.key) (nat_cmp row.file.generation full.generation) parts.0)
+    (ap (λ rest. row ∷ rest) (filled_lower full moment bytes lower more parts.1))
+
+filled_upper : (full : FullName) (moment : ℕ) (bytes : List ℕ) (own upper : List Row) → none_of full.key upper ≡ true
+    → filled full moment bytes (own ++ upper) ≡ filled full moment bytes own ++ upper
+filled_upper full moment bytes [] [] none = refl
+filled_upper full moment bytes [] (row ∷ upper) none =
+    let parts : (not (is_of full.key row) ≡ true) × (none_of full.key upper ≡ true) = and_parts _ _ none in
+    rw (then_other (by_key row.key full.key) (nat_cmp row.file.generation full.generation) parts.0)
+    (ap (λ rest. row ∷ rest) (filled_upper full moment bytes [] upper parts.1))
+filled_upper full moment bytes (row ∷ own) upper none = by (is_full full row) (filled_upper full moment bytes own upper none)
+  where
+    by : (b : Bool) → filled full moment bytes (own ++ upper) ≡ filled full moment bytes own ++ upper
+        → cond b ((record row { file = rewritten moment bytes row.file }) ∷ own ++ upper) (row ∷ filled full moment bytes (own ++ upper))
+        ≡ cond b ((record row { file = rewritten moment bytes row.file }) ∷ own) (row ∷ filled full moment bytes own) ++ upper
+    by true rest = refl
+    by false rest = ap (λ more. row ∷ more) rest
+
+filled_at : (full : FullName) (moment : ℕ) (bytes : List ℕ) (names : List FileName) (i : ℕ) (d new : FileName)
+    → is_sorted by_name names ≡ true → IsAt full.key names i
+    → rows_under new ≡ filled full moment bytes (rows_under (get_or names i d))
+    → rows_of (set names i new) ≡ filled full moment bytes (rows_of names)
+filled_at full moment bytes [] i d new sorted at is = absurd at
+filled_at full moment bytes (name ∷ names) zero d new sorted at is =
+    let parts = and_parts _ _ sorted in
+    ap (λ own. own ++ rows_of names) is
+    ∙ sym (filled_upper full moment bytes (rows_under name) (rows_of names) (none_above full.key (rows_of names) (above_names full.key name names at parts.0)))
+filled_at full moment bytes (name ∷ names) (suc i) d new sorted at is =
+    let parts = and_parts _ _ sorted in
+    ap (λ rest. rows_under name ++ rest) (filled_at full moment bytes names i d new parts.1 at is)
+    ∙ sym (filled_lower full moment bytes (rows_under name) (rows_of names)
+    (none_below full.key (rows_under name) (below_own full.key name.key name.gens.files (below_at full.key name names i parts.0 at))))
+
+pub filled_there : (full : FullName) (moment : ℕ) (bytes : List ℕ) (names : List FileName) (at : ℕ) (d new : FileName)
+    → ascends by_name names ≡ true → position (is_under full.key) names ≡ Some at
+    → rows_under new ≡ filled (record { key = (get_or names at d).key; generation = full.generation }) moment bytes (rows_under (get_or names at d))
+    → rows_of (set names at new) ≡ filled full moment bytes (rows_of names)
+filled_there full moment bytes names at d new ascend found made =
+    let key : (get_or names at d).key ≡ full.key = key_is (get_or names at d).key full.key (under_found full.key names at d found) in
+    filled_at full moment bytes names at d new (sorted_ascends by_name by_name_total names ascend) (at_found full.key names at found)
+    (made ∙ ap (λ (it : Key). filled (record { key = it; generation = full.generation }) moment bytes (rows_under (get_or names at d))) key)
+
+pub filled_absent : (full : FullName) (moment : ℕ) (bytes : List ℕ) (names : List FileName) → position (is_under full.key) names ≡ None
+    → filled full moment bytes (rows_of names) ≡ rows_of names
+filled_absent full moment bytes names none =
+    ap (filled full moment bytes) (sym (append-nil (rows_of names)))
+    ∙ filled_lower full moment bytes (rows_of names) [] (none_found_of full.key names none)
+    ∙ append-nil (rows_of names)
+
+-- a file is added under a name that was found
+pub added_found : (retention : ℕ) (row : Row) (names : List FileName) (at : ℕ) (d new : FileName) → ascends by_name names ≡ true
+    → position (is_under row.key) names ≡ Some at
+    → rows_under new ≡ added retention (row_under (get_or names at d).key row.file) (rows_under (get_or names at d))
+    → rows_of (set names at new) ≡ added retention row (rows_of names)
+added_found retention row names at d new ascend found made =
+    let key : (get_or names at d).key ≡ row.key = key_is (get_or names at d).key row.key (under_found row.key names at d found) in
+    added_at retention row names at d new (sorted_ascends by_name by_name_total names ascend) (at_found row.key names at found)
+    (made ∙ ap (λ (it : Key). added retention (row_under it row.file) (rows_under (get_or names at d))) key)
+
+-- the rooms of names
+pub rooms_set : (names : List FileName) (at : ℕ) (new d : FileName) → new.key ≡ (get_or names at d).key
+    → new.gens.room ≡ (get_or names at d).gens.room → rooms_of (set names at new) ≡ rooms_of names
+rooms_set [] at new d key room = refl
+rooms_set (name ∷ names) zero new d key room = λ j. record { key = key j; room = room j } ∷ rooms_of names
+rooms_set (name ∷ names) (suc at) new d key room =
+    ap (λ rest. record { key = name.key; room = name.gens.room } ∷ rest) (rooms_set names at new d key room)
+
+-- the first name of a key
+abbrev pub IsFirst : Key → List FileName → ℕ → Type 0
+IsFirst key [] i = ⊥
+IsFirst key (name ∷ names) zero = is_under key name ≡ true
+IsFirst key (name ∷ names) (suc i) = (is_under key name ≡ false) × IsFirst key names i
+
+is_first : (key : Key) (names : List FileName) (i : ℕ) → i < length names → ((d : FileName) → is_under key (get_or names i d) ≡ true)
+    → ((k : ℕ) (d : FileName) → k < i → is_under key (get_or names k d) ≡ false) → IsFirst key names i
+is_first key [] i within there before = absurd (omega arith)
+is_first key (name ∷ names) zero within there before = there name
+is_first key (name ∷ names) (suc i) within there before =
+    (before 0 name (omega arith), is_first key names i (omega arith) there (λ k d less. before (suc k) d (omega arith)))
+
+pub first_found : (key : Key) (names : List FileName) (i : ℕ) → position (is_under key) names ≡ Some i → IsFirst key names i
+first_found key [] i found = absurd (cc)
+first_found key (name ∷ names) i found =
+    is_first key (name ∷ names) i (position-Some (is_under key) (name ∷ names) i name found).0
+    (λ d. (position-Some (is_under key) (name ∷ names) i d found).1)
+    (λ k d less. (position-Some (is_under key) (name ∷ names) i d found).2 k less)
+
+-- in names that ascend a name of the key is the first one
+only_first : (key : Key) (names : List FileName) (i : ℕ) → is_sorted by_name names ≡ true → IsAt key names i → IsFirst key names i
+only_first key [] i sorted at = absurd at
+only_first key (name ∷ names) zero sorted at = at
+only_first key (name ∷ names) (suc i) sorted at =
+    let parts = and_parts _ _ sorted in
+    (less_other (by_key name.key key) (below_at key name names i parts.0 at), only_first key names i parts.1 at)
+  where
+    less_other : (o : Ordering) → is_lt o ≡ true → is_eq o ≡ false
+    less_other Less less = refl
+    less_other Equal less = absurd (cc)
+    less_other Greater less = refl
+
+pub first_there : (key : Key) (names : List FileName) (i : ℕ) → ascends by_name names ≡ true → i < length names
+    → ((d : FileName) → is_under key (get_or names i d) ≡ true) → IsFirst key names i
+first_there key names i ascend within there =
+    only_first key names i (sorted_ascends by_name by_name_total names ascend) (is_at key names i within there)
+
+pub first_wanted : (key : Key) (names : List FileName) (i : ℕ) (d : FileName) → IsFirst key names i
+    → wanted_at key names ≡ (get_or names i d).wanted
+first_wanted key [] i d at = absurd at
+first_wanted key (name ∷ names) zero d at = rw at refl
+first_wanted key (name ∷ names) (suc i) d at = rw at.0 (first_wanted key names i d at.1)
+
+room_first : (key : Key) (names : List FileName) (i : ℕ) (d : FileName) → IsFirst key names i
+    → room_at key (rooms_of names) ≡ (get_or names i d).gens.room
+room_first key [] i d at = absurd at
+room_first key (name ∷ names) zero d at = rw at refl
+room_first key (name ∷ names) (suc i) d at = rw at.0 (room_first key names i d at.1)
+
+pub room_found : (key : Key) (names : List FileName) (i : ℕ) (d : FileName) → position (is_under key) names ≡ Some i
+    → room_at key (rooms_of names) ≡ (get_or names i d).gens.room
+room_found key names i d found = room_first key names i d (first_found key names i found)
+
+room_nowhere : (key : Key) (names : List FileName) → list_any (is_under key) names ≡ false → room_at key (rooms_of names) ≡ 0
+room_nowhere key [] none = refl
+room_nowhere key (name ∷ names) none =
+    let parts : (is_under key name ≡ false) × (list_any (is_under key) names ≡ false) = or_parts _ _ none in
+    rw parts.0 (room_nowhere key names parts.1)
+
+pub room_none : (key : Key) (names : List FileName) → position (is_under key) names ≡ None → room_at key (rooms_of names) ≡ 0
+room_none key names none = room_nowhere key names (none-from_position (is_under key) names none)
+
+-- what a file holds
+pub bytes_there : (full : FullName) (names : List FileName) (at : ℕ) (d : FileName) → ascends by_name names ≡ true
+    → position (is_under full.key) names ≡ Some at
+    → bytes_at (record { key = (get_or names at d).key; generation = full.generation }) (rows_under (get_or names at d)) ≡ bytes_at full (rows_of names)
+bytes_there full names at d ascend found =
+    let key : (get_or names at d).key ≡ full.key = key_is (get_or names at d).key full.key (under_found full.key names at d found) in
+    ap (λ (it : Key). bytes_at (record { key = it; generation = full.generation }) (rows_under (get_or names at d))) key
+    ∙ ap (λ (it : Option Row). option_map_or (λ (row : Row). row.file.bytes) it [])
+    (sym (row_at_at full names at d (sorted_ascends by_name by_name_total names ascend) (at_found full.key names at found)))
+
+pub bytes_absent : (full : FullName) (names : List FileName) → position (is_under full.key) names ≡ None → bytes_at full (rows_of names) ≡ []
+bytes_absent full names none = ap (λ (it : Option Row). option_map_or (λ (row : Row). row.file.bytes) it []) (row_at_absent full names none)

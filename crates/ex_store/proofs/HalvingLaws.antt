@@ -1,19 +1,16 @@
 -- What a search by halving finds among rows that ascend.
-use Rattle.std.proofs.Common.{◌≡◌, ℕ, suc, ◌+◌, ◌<◌, ◌≤◌, ◌-◌, nat_lt, Bool, true, false, not, cond, List, [], ◌∷◌, length, filter, get_or, take, drop, position, Some, None, refl, ap, arith, ◌∙◌, sym}
+use Rattle.std.proofs.Common.{◌≡◌, ℕ, suc, ◌+◌, ◌<◌, nat_lt, Bool, true, false, not, cond, List, [], ◌∷◌, length, get_or, position, Some, None, refl, ap, arith, ◌∙◌, sym}
 use Rattle.std.specs.Cmp.{IsTotalOrder}
 use Rattle.std.specs.List.{list_all, position_or_len, prefix_len}
-use Rattle.std.specs.Ordering.{is_eq, is_gt, is_le, is_lt, nat_cmp, ordering_reverse, ordering_then}
+use Rattle.std.specs.Ordering.{is_eq, is_gt, is_lt, ordering_reverse}
 use Rattle.std.specs.declared.cmp.Ordering.{Ordering}
 use Rattle.std.specs.declared.cmp.Ordering.TheVariants.{Less, Equal, Greater}
 use Rattle.std.proofs.lemmas.Bool.{and_from, and_parts, le-ltb, lt-ltb}
-use Rattle.cm_files.specs.Catalogue.{ascends}
-use Rattle.ex_store.specs.declared.key.FullName.{FullName}
 use Rattle.ex_store.specs.declared.key.Key.{Key}
 use Rattle.ex_store.specs.declared.row.Row.{Row}
-use Rattle.ex_store.specs.Rows.{by_full, by_key, by_row, files, files_of, full_of, is_full, is_of}
-use Rattle.ex_store.proofs.AreRowsLaws.{by_full_total, by_key_total, by_row_total}
-use Rattle.ex_store.proofs.AscendsLaws.{all_above, is_sorted, sorted_ascends}
-use Rattle.ex_store.proofs.RowsInLaws.{Parts, block_within, may_follow, middle_slice, parts_of, rises}
+use Rattle.ex_store.specs.Rows.{by_key}
+use Rattle.ex_store.proofs.AscendsLaws.{all_above, is_sorted}
+use Rattle.ex_store.proofs.RowsInLaws.{may_follow, rises}
 
 follows_itself : (o : Ordering) → may_follow o o ≡ true
 follows_itself Less = refl
@@ -57,12 +54,6 @@ rises_sorted {X} {Y} compare under total part falls wanted (x ∷ xs) sorted =
         let parts = and_parts _ _ above in
         and_from _ _ (follows_of under total wanted (part x) (part y) (falls x y parts.0)) (behind more parts.1)
 
--- keys do not fall along rows, and neither do full names
-key_stays : (o : Ordering) (number : Ordering) → is_lt (ordering_then o number) ≡ true → is_gt o ≡ false
-key_stays Less number less = refl
-key_stays Equal number less = refl
-key_stays Greater number less = absurd (cc)
-
 pub full_stays : (o : Ordering) → is_lt o ≡ true → is_gt o ≡ false
 full_stays Less less = refl
 full_stays Equal less = refl
@@ -71,47 +62,6 @@ full_stays Greater less = absurd (cc)
 -- where a row stands beside a key, and beside a full name
 abbrev pub key_place : Key → Row → Ordering
 key_place key row = by_key row.key key
-
-abbrev pub full_place : FullName → Row → Ordering
-full_place full row = by_full (full_of row) full
-
-pub keys_rise : (key : Key) (rows : List Row) → ascends by_row rows ≡ true → rises (key_place key) rows ≡ true
-keys_rise key rows ascend =
-    rises_sorted by_row by_key by_key_total (λ (row : Row). row.key)
-    (λ x y less. key_stays (by_key x.key y.key) (nat_cmp x.file.generation y.file.generation) less) key rows
-    (sorted_ascends by_row by_row_total rows ascend)
-
-pub fulls_rise : (full : FullName) (rows : List Row) → ascends by_row rows ≡ true → rises (full_place full) rows ≡ true
-fulls_rise full rows ascend =
-    rises_sorted by_row by_full by_full_total full_of (λ x y less. full_stays (by_row x y) less) full rows
-    (sorted_ascends by_row by_row_total rows ascend)
-
--- how many rows stand before those of a key, and before those behind it
-abbrev pub first_of_key : Key → List Row → ℕ
-first_of_key key rows = prefix_len (λ row. is_lt (key_place key row)) rows
-
-abbrev pub end_of_key : Key → List Row → ℕ
-end_of_key key rows = prefix_len (λ row. is_le (key_place key row)) rows
-
--- the rows of a key stand together
-pub group : (key : Key) (rows : List Row) → ascends by_row rows ≡ true
-    → Parts (is_of key) rows (filter (is_of key) rows) (first_of_key key rows) (end_of_key key rows)
-group key rows ascend = parts_of (key_place key) rows (keys_rise key rows ascend)
-
-pub group_files : (key : Key) (rows slice : List Row) (first end : ℕ) → ascends by_row rows ≡ true → first ≡ first_of_key key rows
-    → end ≡ end_of_key key rows → slice ≡ take (end - first) (drop first rows) → files slice ≡ files_of key rows
-group_files key rows slice first end ascend starts ends is =
-    rw (is, starts, ends)
-    (ap files
-    (middle_slice (is_of key) rows (filter (is_of key) rows) (first_of_key key rows) (end_of_key key rows) (group key rows ascend)))
-
-pub group_within : (key : Key) (rows : List Row) (first end : ℕ) → ascends by_row rows ≡ true → first ≡ first_of_key key rows
-    → end ≡ end_of_key key rows → (first ≤ end) × (end ≤ length rows)
-group_within key rows first end ascend starts ends =
-    let bounds = block_within (is_of key) rows (filter (is_of key) rows) (first_of_key key rows) (end_of_key key rows) (group key rows ascend) in
-    let size = bounds.0 in
-    let last = bounds.1 in
-    (omega arith, omega arith)
 
 -- the first element at a place is the one behind those below it
 found_first : {X : Type 0} (place : X → Ordering) (xs : List X) (d : X)
@@ -203,12 +153,3 @@ pub none_there : {X : Type 0} (place : X → Ordering) (xs : List X) (at : ℕ) 
 none_there place xs at rise stands other =
     no_position (λ y. is_eq (place y)) xs
     (found_none place xs rise (λ d within. ap (λ (n : ℕ). is_eq (place (get_or xs n d))) (sym stands) ∙ other d (omega arith)))
-
-pub full_found : (full : FullName) (rows : List Row) (at : ℕ) (row : Row) → at ≡ prefix_len (λ other. is_lt (full_place full other)) rows
-    → at < length rows → row ≡ get_or rows at row → is_full full row ≡ true → Some at ≡ position (is_full full) rows
-full_found full = found_at (full_place full)
-
-pub full_none : (full : FullName) (rows : List Row) (at : ℕ) → ascends by_row rows ≡ true
-    → at ≡ prefix_len (λ other. is_lt (full_place full other)) rows
-    → ((d : Row) → at < length rows → is_full full (get_or rows at d) ≡ false) → None ≡ position (is_full full) rows
-full_none full rows at ascend = none_there (full_place full) rows at (fulls_rise full rows ascend)

@@ -1,16 +1,14 @@
 -- A row that goes behind all others.
-use Rattle.std.proofs.Common.{◌≡◌, ℕ, ◌<◌, ◌+◌, ◌&&◌, Bool, true, false, cond, List, [], ◌∷◌, ◌++◌, length, drop, get_or, map, filter, refl, ap, ◌∙◌, sym, append_assoc}
+use Rattle.std.proofs.Common.{◌≡◌, ◌&&◌, Bool, true, false, cond, List, [], ◌∷◌, ◌++◌, map, filter, refl, ap, ◌∙◌, sym}
 use Rattle.std.specs.List.{list_all, list_any}
 use Rattle.std.specs.Ordering.{is_eq, is_lt}
 use Rattle.std.proofs.lemmas.Bool.{and_from, and_parts}
-use Rattle.std.proofs.lemmas.List.{drop_more}
 use Rattle.cm_files.specs.Catalogue.{ascends}
 use Rattle.ex_generations.specs.Generations.{has, is_generation}
 use Rattle.ex_store.specs.declared.row.Row.{Row}
-use Rattle.ex_store.specs.Rows.{added, blank, by_row, files_of, full_of, inserted, is_full, is_in_either, is_of, rows_in_either}
-use Rattle.ex_store.proofs.AscendsLaws.{all_above, ascends_map, is_less, is_sorted, sorted_ascends}
+use Rattle.ex_store.specs.Rows.{added, by_row, files_of, full_of, inserted, is_full, is_of}
+use Rattle.ex_store.proofs.AscendsLaws.{all_above, is_less, is_sorted, sorted_ascends}
 use Rattle.ex_store.proofs.AreRowsLaws.{by_row_total, full_parts}
-use Rattle.ex_store.proofs.RowsInEitherLaws.{ascends_either}
 
 -- a row behind all others is added there
 none_full : (row other : Row) → is_lt (by_row other row) ≡ true → is_full (full_of row) other ≡ false
@@ -62,30 +60,3 @@ goes_last row front rest whole ascend is =
     ap (is_sorted by_row) is ∙ sorted_ascends by_row by_row_total whole ascend in
     let below = front_below row front rest sorted in
     record { absent = none_below_row row front below; added_is = inserted_last row front below }
-
--- the next row of two directories is added behind those before it
-pub record IsNext (from to : List ℕ) (rows : List Row) (i : ℕ) (row : Row) (front : List Row) : Type 0 where
-  pub last : GoesLast (blank row) front
-  pub whole : front ++ (blank row ∷ map blank (rows_in_either from to (drop (i + 1) rows))) ≡ map blank (rows_in_either from to rows)
-
-pub next_row : (from to : List ℕ) (rows : List Row) (i : ℕ) (row : Row) (front : List Row) → ascends by_row rows ≡ true
-    → i < length rows → row ≡ get_or rows i row → is_in_either from to row ≡ true
-    → front ++ map blank (rows_in_either from to (drop i rows)) ≡ map blank (rows_in_either from to rows)
-    → IsNext from to rows i row front
-next_row from to rows i row front ascend within is inside so_far =
-    let split : drop i rows ≡ row ∷ drop (i + 1) rows =
-    drop_more rows i row within ∙ ap (λ (it : Row). it ∷ drop (i + 1) rows) (sym is) in
-    let here : map blank (rows_in_either from to (row ∷ drop (i + 1) rows)) ≡ blank row ∷ map blank (rows_in_either from to (drop (i + 1) rows)) =
-    rw inside refl in
-    let whole : front ++ (blank row ∷ map blank (rows_in_either from to (drop (i + 1) rows))) ≡ map blank (rows_in_either from to rows) =
-    ap (λ rest. front ++ rest) (sym (ap (λ (it : List Row). map blank (rows_in_either from to it)) split ∙ here)) ∙ so_far in
-    record {
-      last = goes_last (blank row) front (map blank (rows_in_either from to (drop (i + 1) rows))) (map blank (rows_in_either from to rows))
-          (ascends_map by_row by_row blank (λ row other. refl) (rows_in_either from to rows) ∙ ascends_either from to rows ascend) whole;
-      whole = whole;
-    }
-
-pub next_whole : (row : Row) (front new rest whole : List Row) → GoesLast row front → new ≡ added 0 row front → front ++ (row ∷ rest) ≡ whole
-    → new ++ rest ≡ whole
-next_whole row front new rest whole last is all =
-    ap (λ (it : List Row). it ++ rest) (is ∙ last.added_is) ∙ append_assoc front (row ∷ []) rest ∙ all

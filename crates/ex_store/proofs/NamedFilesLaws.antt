@@ -1,23 +1,26 @@
 -- The generations of one name as rows: what is done with the one is done with the others.
-use Rattle.std.proofs.Common.{◌≡◌, ℕ, ◌<◌, ◌≤◌, ◌==◌, ◌&&◌, Bool, true, false, not, cond, List, [], ◌∷◌, length, map, find, None, Some, refl, ap, arith, ◌∙◌, sym, subst}
+use Rattle.std.proofs.Common.{◌≡◌, ℕ, ◌<◌, ◌≤◌, ◌==◌, ◌&&◌, ◌||◌, Bool, true, false, not, cond, List, [], ◌∷◌, length, map, find, None, Some, Ok, refl, ap, arith, ◌∙◌, sym, subst, Option}
 use Rattle.std.specs.List.{list_all}
-use Rattle.std.specs.Option.{option_map}
+use Rattle.std.specs.Option.{option_map, option_map_or}
 use Rattle.std.specs.Ordering.{is_eq, is_lt, nat_cmp, ordering_reverse, ordering_then}
 use Rattle.std.specs.declared.cmp.Ordering.{Ordering}
 use Rattle.std.specs.declared.cmp.Ordering.TheVariants.{Less, Equal, Greater}
-use Rattle.std.proofs.lemmas.Bool.{and_from, and_parts, or_parts}
+use Rattle.std.proofs.lemmas.Bool.{and_from, and_parts, eqb-true, ne_eqb, or_parts}
 use Rattle.std.proofs.lemmas.Bool.Decides.{nat_tests}
 use Rattle.std.proofs.lemmas.Map.Lookups.{exact_bytes}
 use Rattle.cm_files.specs.Catalogue.{ascends, by_bytes}
 use Rattle.ex_generations.specs.declared.file.File.{File}
 use Rattle.ex_generations.specs.declared.file.TheConstants.{FILE_LIMIT}
-use Rattle.ex_generations.specs.Generations.{IsAscending, has, is_generation}
+use Rattle.ex_generations.specs.Generations.{IsAscending, has, is_generation, unmarked}
 use Rattle.ex_generations.specs.Generations as generations
 use Rattle.ex_generations.specs.Retention as retaining
 use Rattle.ex_store.specs.declared.key.Key.{Key}
 use Rattle.ex_store.specs.declared.row.Row.{Row}
+use Rattle.cm_fields.specs.declared.value.Gen.{Gen}
+use Rattle.cm_fields.specs.declared.value.Gen.TheVariants as gens
+use Rattle.ex_store.specs.Appending.{bytes_at, found}
 use Rattle.ex_store.specs.FileNames.{row_under}
-use Rattle.ex_store.specs.Rows.{added, by_key, by_row, files, files_of, is_full, is_of, row_at, without}
+use Rattle.ex_store.specs.Rows.{added, by_key, by_row, filled, files, files_of, is_full, is_of, row_at, without}
 use Rattle.ex_store.proofs.AscendsLaws.{all_above, ascends_sorted, is_sorted}
 use Rattle.ex_store.proofs.AreRowsLaws.{all_added, by_key_total, full_parts}
 use Rattle.ex_store.proofs.FilesOfLaws.{files_added}
@@ -196,3 +199,130 @@ short_found generation low (first ∷ own) file ascend found =
     by true is rest =
         let same : first ≡ file = cc in subst (λ (it : File). length it.bytes ≤ FILE_LIMIT) same ascend.2
     by false is rest = rest is
+
+-- a file is given a moment and bytes
+changed_higher : (generation moment low : ℕ) (bytes : List ℕ) (own : List File) → generation ≤ low → IsAscending low own
+    → generations.changed generation (generations.rewritten moment bytes) own ≡ own
+changed_higher generation moment low bytes [] most ascend = refl
+changed_higher generation moment low bytes (file ∷ own) most ascend =
+    rw (other_number generation file.generation (omega (arith, ascend.0)))
+    (ap (λ rest. file ∷ rest) (changed_higher generation moment file.generation bytes own (omega (arith, ascend.0)) ascend.3))
+
+pub filled_under : (key : Key) (generation moment low : ℕ) (bytes : List ℕ) (own : List File) → IsAscending low own
+    → map (row_under key) (generations.changed generation (generations.rewritten moment bytes) own)
+    ≡ filled (record { key = key; generation = generation }) moment bytes (map (row_under key) own)
+filled_under key generation moment low bytes [] ascend = refl
+filled_under key generation moment low bytes (file ∷ own) ascend =
+    rw (full_under key generation file) (by (is_generation generation file) refl (filled_under key generation moment file.generation bytes own ascend.3))
+  where
+    by : (b : Bool) → is_generation generation file ≡ b
+        → map (row_under key) (generations.changed generation (generations.rewritten moment bytes) own)
+        ≡ filled (record { key = key; generation = generation }) moment bytes (map (row_under key) own)
+        → row_under key (cond b (generations.rewritten moment bytes file) file)
+        ∷ map (row_under key) (generations.changed generation (generations.rewritten moment bytes) own)
+        ≡ cond b ((record (row_under key file) { file = generations.rewritten moment bytes file }) ∷ map (row_under key) own)
+        (row_under key file ∷ filled (record { key = key; generation = generation }) moment bytes (map (row_under key) own))
+    by true is rest =
+        ap (λ (it : List File). row_under key (generations.rewritten moment bytes file) ∷ map (row_under key) it)
+        (changed_higher generation moment file.generation bytes own (omega (arith, same_number file.generation generation is)) ascend.3)
+    by false is rest = ap (λ more. row_under key file ∷ more) rest
+
+pub filled_none : (key : Key) (generation moment : ℕ) (bytes : List ℕ) (own : List File) → has generation own ≡ false
+    → map (row_under key) own ≡ filled (record { key = key; generation = generation }) moment bytes (map (row_under key) own)
+filled_none key generation moment bytes [] none = refl
+filled_none key generation moment bytes (file ∷ own) none =
+    let parts : (is_generation generation file ≡ false) × (has generation own ≡ false) = or_parts _ _ none in
+    rw (full_under key generation file, parts.0) (ap (λ more. row_under key file ∷ more) (filled_none key generation moment bytes own parts.1))
+
+-- what a file of a name holds
+pub bytes_under : (key : Key) (generation : ℕ) (own : List File)
+    → bytes_at (record { key = key; generation = generation }) (map (row_under key) own)
+    ≡ option_map_or (λ (file : File). file.bytes) (find (is_generation generation) own) []
+bytes_under key generation own =
+    ap (λ (it : Option Row). option_map_or (λ (row : Row). row.file.bytes) it []) (sym (row_at_under key generation own))
+    ∙ by (find (is_generation generation) own)
+  where
+    by : (it : Option File) → option_map_or (λ (row : Row). row.file.bytes) (option_map (row_under key) it) []
+        ≡ option_map_or (λ (file : File). file.bytes) it []
+    by None = refl
+    by (Some file) = refl
+
+-- of no files none is put behind
+pub found_none : (generation : Gen) → found generation [] ≡ Ok None
+found_none gens.Missing = refl
+found_none gens.Highest = refl
+found_none gens.Next = refl
+found_none gens.Lowest = refl
+found_none gens.All = refl
+found_none (gens.Number number) = refl
+
+-- a generation that is found is among the unmarked ones where it has no mark
+unmarked_above : (n low : ℕ) (own : List File) → n ≤ low → IsAscending low own → has n (unmarked own) ≡ false
+unmarked_above n low [] below ascending = refl
+unmarked_above n low (file ∷ own) below ascending = by file.deleted (unmarked_above n file.generation own (omega (arith, below, ascending.0)) ascending.3)
+  where
+    by : (b : Bool) → has n (unmarked own) ≡ false → has n (cond (not b) (file ∷ unmarked own) (unmarked own)) ≡ false
+    by true rest = rest
+    by false rest = rw (ne_eqb file.generation n (λ same. omega (arith, below, ascending.0, same))) rest
+
+-- what is found among a file and others
+first_is : (b : Bool) (first file : File) (rest : Option File) → b ≡ true → cond b (Some first) rest ≡ Some file → first ≡ file
+first_is true first file rest is there = cc
+first_is false first file rest is there = absurd (cc)
+
+rest_is : (b : Bool) (first : File) (rest it : Option File) → b ≡ false → cond b (Some first) rest ≡ it → rest ≡ it
+rest_is true first rest it is there = absurd (cc)
+rest_is false first rest it is there = there
+
+none_first : (b : Bool) (first : File) (rest : Option File) → cond b (Some first) rest ≡ None → b ≡ false
+none_first true first rest there = absurd (cc)
+none_first false first rest there = refl
+
+pub found_live : (n low : ℕ) (own : List File) (file : File) → IsAscending low own → find (is_generation n) own ≡ Some file
+    → has n (unmarked own) ≡ not file.deleted
+found_live n low [] file ascending there = absurd (cc)
+found_live n low (first ∷ own) file ascending there =
+    by (is_generation n first) refl first.deleted refl
+    (λ apart. found_live n first.generation own file ascending.3 (rest_is (is_generation n first) first (find (is_generation n) own) (Some file) apart there))
+  where
+    by : (b : Bool) → is_generation n first ≡ b → (d : Bool) → first.deleted ≡ d
+        → (is_generation n first ≡ false → has n (unmarked own) ≡ not file.deleted)
+        → has n (unmarked (first ∷ own)) ≡ not file.deleted
+    by true is true marked rest =
+        let same : first ≡ file = first_is (is_generation n first) first file (find (is_generation n) own) is there in
+        let at : first.generation ≡ n = eqb-true first.generation n is in
+        ap (λ (it : Bool). has n (cond (not it) (first ∷ unmarked own) (unmarked own))) marked
+        ∙ unmarked_above n first.generation own (omega (arith, at)) ascending.3
+        ∙ ap not (sym marked) ∙ ap (λ (it : File). not it.deleted) same
+    by true is false marked rest =
+        let same : first ≡ file = first_is (is_generation n first) first file (find (is_generation n) own) is there in
+        ap (λ (it : Bool). has n (cond (not it) (first ∷ unmarked own) (unmarked own))) marked
+        ∙ ap (λ (it : Bool). it || has n (unmarked own)) is
+        ∙ ap not (sym marked) ∙ ap (λ (it : File). not it.deleted) same
+    by false is true marked rest =
+        ap (λ (it : Bool). has n (cond (not it) (first ∷ unmarked own) (unmarked own))) marked ∙ rest is
+    by false is false marked rest =
+        ap (λ (it : Bool). has n (cond (not it) (first ∷ unmarked own) (unmarked own))) marked
+        ∙ ap (λ (it : Bool). it || has n (unmarked own)) is
+        ∙ rest is
+
+pub found_there : (n : ℕ) (own : List File) (file : File) → find (is_generation n) own ≡ Some file → has n own ≡ true
+found_there n [] file there = absurd (cc)
+found_there n (first ∷ own) file there =
+    by (is_generation n first) refl
+    (λ apart. found_there n own file (rest_is (is_generation n first) first (find (is_generation n) own) (Some file) apart there))
+  where
+    by : (b : Bool) → is_generation n first ≡ b → (is_generation n first ≡ false → has n own ≡ true) → has n (first ∷ own) ≡ true
+    by true is rest = ap (λ (it : Bool). it || has n own) is
+    by false is rest = ap (λ (it : Bool). it || has n own) is ∙ rest is
+
+pub found_nowhere : (n : ℕ) (own : List File) → find (is_generation n) own ≡ None → (has n own ≡ false) × (has n (unmarked own) ≡ false)
+found_nowhere n [] none = (refl, refl)
+found_nowhere n (first ∷ own) none =
+    let apart = none_first (is_generation n first) first (find (is_generation n) own) none in
+    let rest = found_nowhere n own (rest_is (is_generation n first) first (find (is_generation n) own) None apart none) in
+    (ap (λ (it : Bool). it || has n own) apart ∙ rest.0, mark first.deleted apart rest.1)
+  where
+    mark : (d : Bool) → is_generation n first ≡ false → has n (unmarked own) ≡ false → has n (cond (not d) (first ∷ unmarked own) (unmarked own)) ≡ false
+    mark true apart rest = rest
+    mark false apart rest = ap (λ (it : Bool). it || has n (unmarked own)) apart ∙ rest

@@ -180,6 +180,9 @@ rows_left directories rows keep are = record {
 }
 
 -- a file of a store has no more bytes than one may have
+pub row_short : (directories : List Directory) (row : Row) → is_row_among directories row ≡ true → is_short row ≡ true
+row_short directories row is = (and_parts _ _ is).1
+
 pub rows_short : (directories : List Directory) (rows : List Row) → AreRows directories rows → list_all is_short rows ≡ true
 rows_short directories rows are = all_more (is_row_among directories) is_short rows (λ row is. (and_parts _ _ is).1) are.within
 

@@ -1,10 +1,9 @@
 -- Where the row of a full name stands, and what a change there is.
-use Rattle.std.proofs.Common.{◌≡◌, ℕ, ◌+◌, ◌<◌, ◌≤◌, Bool, true, false, not, ◌||◌, cond, nat_lt, suc, zero, List, [], ◌∷◌, length, get_or, set, insert, remove, position, Some, None, refl, sym, ap, ◌∙◌, arith}
+use Rattle.std.proofs.Common.{◌≡◌, ℕ, ◌+◌, ◌<◌, ◌≤◌, Bool, true, false, not, ◌||◌, cond, nat_lt, suc, zero, List, [], ◌∷◌, length, get_or, insert, position, Some, None, refl, sym, ap, ◌∙◌, arith}
 use Rattle.std.specs.List.{list_any, position_or_len, prefix_len}
 use Rattle.std.specs.Ordering.{is_lt}
 use Rattle.std.proofs.lemmas.Bool.{ltb-false, or_parts}
 use Rattle.std.proofs.lemmas.List.Quantifiers.{position-Some}
-use Rattle.ex_generations.specs.Generations.{rewritten}
 use Rattle.ex_store.specs.declared.key.FullName.{FullName}
 use Rattle.ex_store.specs.declared.row.Row.{Row}
 use Rattle.ex_store.specs.Rows.{by_row, filled, inserted, is_full, row_at, without}
@@ -42,30 +41,13 @@ first-from_position full [] i e = absurd (cc)
 first-from_position full (row ∷ more) i e =
     first_at full (row ∷ more) i ((position-Some (is_full full) (row ∷ more) i row e).0) (λ d. (position-Some (is_full full) (row ∷ more) i d e).1) (λ k d less. (position-Some (is_full full) (row ∷ more) i d e).2 k less)
 
-remove_first : (full : FullName) (rows : List Row) (i : ℕ) → FirstAt full rows i → remove rows i ≡ without full rows
-remove_first full [] i at = absurd at
-remove_first full (row ∷ more) zero at = rw at
-remove_first full (row ∷ more) (suc i) at = rw at.0 (ap (λ rest. row ∷ rest) (remove_first full more i at.1))
-
 find_first : (full : FullName) (rows : List Row) (i : ℕ) (d : Row) → FirstAt full rows i → row_at full rows ≡ Some (get_or rows i d)
 find_first full [] i d at = absurd at
 find_first full (row ∷ more) zero d at = rw at
 find_first full (row ∷ more) (suc i) d at = rw at.0 (find_first full more i d at.1)
 
-fill_first : (full : FullName) (moment : ℕ) (bytes : List ℕ) (rows : List Row) (i : ℕ) (d : Row) → FirstAt full rows i → set rows i (record (get_or rows i d) { file = rewritten moment bytes (get_or rows i d).file }) ≡ filled full moment bytes rows
-fill_first full moment bytes [] i d at = absurd at
-fill_first full moment bytes (row ∷ more) zero d at = rw at
-fill_first full moment bytes (row ∷ more) (suc i) d at = rw at.0 (ap (λ rest. row ∷ rest) (fill_first full moment bytes more i d at.1))
-
--- the row at the place is the one of the full name, and the others are those without it
-pub remove_is : (full : FullName) (rows : List Row) (i : ℕ) → position (is_full full) rows ≡ Some i → remove rows i ≡ without full rows
-remove_is full rows i e = remove_first full rows i (first-from_position full rows i e)
-
 pub row_is : (full : FullName) (rows : List Row) (i : ℕ) (row : Row) → position (is_full full) rows ≡ Some i → row ≡ get_or rows i row → row_at full rows ≡ Some row
 row_is full rows i row e is = find_first full rows i row (first-from_position full rows i e) ∙ ap (λ other. Some other) (sym is)
-
-pub fill_is : (full : FullName) (moment : ℕ) (bytes : List ℕ) (rows : List Row) (i : ℕ) (d : Row) → position (is_full full) rows ≡ Some i → set rows i (record (get_or rows i d) { file = rewritten moment bytes (get_or rows i d).file }) ≡ filled full moment bytes rows
-fill_is full moment bytes rows i d e = fill_first full moment bytes rows i d (first-from_position full rows i e)
 
 none-any-cons : {X : Type 0} (p : X → Bool) (xs : List X) (b : Bool) → (length xs ≤ position_or_len p xs → list_any p xs ≡ false) → suc (length xs) ≤ cond (not b) (1 + position_or_len p xs) 0 → (b || list_any p xs) ≡ false
 none-any-cons p xs true rest le = absurd (omega arith)
@@ -103,9 +85,6 @@ filled-absent full moment bytes (row ∷ more) none =
 
 pub without_none : (full : FullName) (rows : List Row) → position (is_full full) rows ≡ None → without full rows ≡ rows
 without_none full rows e = without-absent full rows (none-from_position (is_full full) rows e)
-
-pub row_none : (full : FullName) (rows : List Row) → position (is_full full) rows ≡ None → row_at full rows ≡ None
-row_none full rows e = row_at-absent full rows (none-from_position (is_full full) rows e)
 
 pub filled_none : (full : FullName) (moment : ℕ) (bytes : List ℕ) (rows : List Row) → position (is_full full) rows ≡ None → filled full moment bytes rows ≡ rows
 filled_none full moment bytes rows e = filled-absent full moment bytes rows (none-from_position (is_full full) rows e)

@@ -14,7 +14,7 @@ use Rattle.ex_store.specs.declared.key.Key.{Key}
 use Rattle.ex_store.specs.declared.row.Row.{Row}
 use Rattle.ex_store.specs.Ready.{reinserted, with_name}
 use Rattle.ex_store.specs.Rows.{added, by_key, by_row, files_of, inserted, is_full, is_in_either, is_of, kept_newest, row_at, rows_in_either, with_mark, without}
-use Rattle.ex_store.proofs.AscendsLaws.{all_above, all_filter, ascends_filter, is_less, is_sorted, less_is, sorted_ascends}
+use Rattle.ex_store.proofs.AscendsLaws.{all_above, all_filter, is_less, is_sorted, less_is, sorted_ascends}
 use Rattle.ex_store.proofs.AreRowsLaws.{by_row_total}
 use Rattle.ex_store.proofs.CatalogueLaws.{text_itself}
 
@@ -200,6 +200,3 @@ pub reinserted_either : (from to : List ℕ) (retention : ℕ) (target : FullNam
 reinserted_either from to retention target rows None here ascend = refl
 reinserted_either from to retention target rows (Some row) here ascend =
     added_either from to retention (with_name target row) rows here ascend
-
-pub ascends_either : (from to : List ℕ) (rows : List Row) → ascends by_row rows ≡ true → ascends by_row (rows_in_either from to rows) ≡ true
-ascends_either from to rows ascend = ascends_filter by_row by_row_total (is_in_either from to) rows ascend

@@ -1,5 +1,5 @@
 -- The rows of one directory stand together.
-use Rattle.std.proofs.Common.{◌≡◌, ℕ, zero, suc, ◌+◌, ◌<◌, ◌≤◌, Bool, true, false, not, ◌&&◌, ◌||◌, ◌==◌, cond, List, [], ◌∷◌, ◌++◌, length, map, filter, get_or, slice_get, Some, None, Option, option_map, refl, ap, arith, ◌∙◌, sym, subst, ◌-◌, take, drop}
+use Rattle.std.proofs.Common.{◌≡◌, ℕ, zero, suc, ◌+◌, ◌<◌, ◌≤◌, Bool, true, false, not, ◌&&◌, ◌||◌, ◌==◌, cond, List, [], ◌∷◌, ◌++◌, length, map, filter, get_or, slice_get, Some, None, Option, option_map, refl, ap, arith, ◌∙◌, sym, subst}
 use Rattle.std.specs.List.{list_all, prefix_len}
 use Rattle.std.specs.Ordering.{is_eq, is_gt, is_le, is_lt, nat_cmp, ordering_reverse, ordering_then}
 use Rattle.std.specs.declared.cmp.Ordering.{Ordering}
@@ -348,26 +348,6 @@ block_within test xs middle first behind parts =
     let outer = length-append parts.lower (middle ++ parts.upper) in
     let inner = length-append middle parts.upper in
     (omega arith, omega arith)
-
-pub drop_front : {X : Type 0} (front more : List X) → drop (length front) (front ++ more) ≡ more
-drop_front [] more = refl
-drop_front (x ∷ front) more = drop_front front more
-
-pub take_front : {X : Type 0} (front more : List X) → take (length front) (front ++ more) ≡ front
-take_front [] more = refl
-take_front (x ∷ front) more = ap (λ rest. x ∷ rest) (take_front front more)
-
--- the middle part, as a slice of the whole
-pub middle_slice : {X : Type 0} (test : X → Bool) (xs middle : List X) (first behind : ℕ) → Parts test xs middle first behind
-    → take (behind - first) (drop first xs) ≡ middle
-middle_slice test xs middle first behind parts =
-    let start = parts.starts in
-    let end = parts.ends in
-    let size : behind - first ≡ length middle = omega arith in
-    let rest : drop first xs ≡ middle ++ parts.upper =
-    ap (λ (k : ℕ). drop k xs) start ∙ ap (drop (length parts.lower)) parts.whole
-    ∙ drop_front parts.lower (middle ++ parts.upper) in
-    ap (λ (k : ℕ). take k (drop first xs)) size ∙ ap (take (length middle)) rest ∙ take_front middle parts.upper
 
 -- the positions of what passes, among the rows of a directory
 positions_append : {X : Type 0} (test : X → Bool) (at : ℕ) (front more : List X)

@@ -1,12 +1,17 @@
 -- A plan that is ready to be done.
-use Rattle.std.specs.Prelude.{ℕ, ◌≡◌, ◌+◌, ◌≤◌, ◌&&◌, Bool, true, not, List, [], ◌∷◌, length, Option, Some, None, Result, Ok, ◌++◌}
-use Rattle.std.specs.List.{fold}
+use Rattle.std.specs.Prelude.{ℕ, ◌≡◌, ◌+◌, ◌<◌, ◌≤◌, ◌&&◌, nat_le, Bool, true, false, not, List, [], ◌∷◌, length, Option, Some, None, Result, Ok, ◌++◌}
+use Rattle.std.specs.List.{count_by, fold, list_all}
+use Rattle.std.specs.Option.{option_map_or}
+use Rattle.std.specs.Ordering.{is_eq}
 use Rattle.cm_fields.specs.declared.code.Code.{Code}
+use Rattle.ex_generations.specs.declared.file.TheConstants.{FILE_LIMIT}
 use Rattle.ex_generations.specs.Generations.{has}
 use Rattle.ex_store.specs.declared.directory.Definition.{Definition}
 use Rattle.ex_store.specs.declared.directory.Directory.{Directory}
 use Rattle.ex_store.specs.declared.key.FullName.{FullName}
+use Rattle.ex_store.specs.declared.key.Key.{Key}
 use Rattle.ex_store.specs.declared.key.NamePair.{NamePair}
+use Rattle.ex_store.specs.declared.limits.TheConstants.{ROW_LIMIT}
 use Rattle.ex_store.specs.declared.queue.QueueEntry.{QueueEntry}
 use Rattle.ex_store.specs.declared.ready.RowChange.{RowChange}
 use Rattle.ex_store.specs.declared.ready.RowChange.TheVariants as changes
@@ -14,10 +19,11 @@ use Rattle.ex_store.specs.declared.row.Row.{Row}
 use Rattle.ex_store.specs.Building.{with_directory}
 use Rattle.ex_store.specs.Adding.{Outcome, new_row}
 use Rattle.ex_store.specs.Defining.{with_definition}
+use Rattle.ex_store.specs.FileNames.{room_at}
 use Rattle.ex_store.specs.Plan.{Planned}
-use Rattle.ex_store.specs.Rows.{added, filled, files_of, row_at, without}
+use Rattle.ex_store.specs.Rows.{added, by_key, filled, files_of, row_at, without}
 use Rattle.ex_store.specs.State.{StoreWithRoom, State}
-use Rattle.ex_store.specs.WellFormed.{AreRows, IsWellFormed}
+use Rattle.ex_store.specs.WellFormed.{AreRows, IsWellFormed, is_numbered}
 
 -- a directory to be made or changed; a logical name to be defined; how many generations are kept where files are
 -- added; what is done with the files, one after the other; what is put into the queue; and from which file to which
@@ -120,6 +126,30 @@ applied change state =
 abbrev pub done_on : State → Change → Planned
 done_on state change = record { state = applied change state; pairs = change.pairs }
 
+-- what a change adds has a number and bytes that a file may have
+abbrev pub is_lawful : RowChange → Bool
+is_lawful (changes.Add row) = is_numbered row.file.generation && nat_le (length row.file.bytes) FILE_LIMIT
+is_lawful (changes.Move pair) = is_numbered pair.target.generation
+is_lawful (changes.Fill target moment bytes) = nat_le (length bytes) FILE_LIMIT
+
+-- what is ready: lawful changes, and no more pairs than there may be files
+pub record AreLawful (row_changes : List RowChange) (pairs : List NamePair) : Type 0 where
+  pub lawful : list_all is_lawful row_changes ≡ true
+  pub few : length pairs ≤ ROW_LIMIT
+
+-- the directory, name and type under which a change puts a file
+abbrev pub key_put : RowChange → Option Key
+key_put (changes.Add row) = Some row.key
+key_put (changes.Move pair) = Some pair.target.key
+key_put (changes.Fill target moment bytes) = None
+
+abbrev pub puts_under : Key → RowChange → Bool
+puts_under key change = option_map_or (λ it. is_eq (by_key it key)) (key_put change) false
+
+-- how many files some changes put under a key
+abbrev pub count_under : Key → List RowChange → ℕ
+count_under key changes = count_by (puts_under key) changes
+
 -- how many are made, of directories or of logical names
 abbrev pub count_made : {X : Type 0} → Option X → ℕ
 count_made None = 0
@@ -132,5 +162,6 @@ pub record IsFor (change : Change) (held : StoreWithRoom) : Type 0 where
   pub doable : are_doable change.retention held.state.rows change.row_changes ≡ true
   pub directories : length held.state.directories + count_made change.directory ≤ held.directory_room
   pub logical : length held.state.logical + count_made change.definition ≤ held.logical_room
-  pub rows : length held.state.rows + length change.row_changes ≤ held.row_room
+  pub names : (key : Key) → 0 < count_under key change.row_changes
+      → length (files_of key held.state.rows) + count_under key change.row_changes ≤ room_at key held.name_rooms
   pub queue : length held.state.queue + length change.entries ≤ held.queue_room

@@ -9,6 +9,7 @@ use Rattle.cm_files.specs.declared.row.LogicalName.{LogicalName}
 use Rattle.cm_files.specs.Catalogue.{Catalogue}
 use Rattle.ex_store.specs.declared.directory.Definition.{Definition}
 use Rattle.ex_store.specs.declared.directory.Directory.{Directory}
+use Rattle.ex_store.specs.declared.key.Key.{Key}
 use Rattle.ex_store.specs.declared.queue.QueueEntry.{QueueEntry}
 use Rattle.ex_store.specs.declared.row.Row.{Row}
 
@@ -20,12 +21,22 @@ pub record State : Type 0 where
   pub rows : List Row
   pub queue : List QueueEntry
 
--- the state, and for how many directories, logical names, files and entries of the queue there is room
+-- for how many files of a directory, name and type there is room
+pub record NameRoom : Type 0 where
+  pub key : Key
+  pub room : ℕ
+
+-- files, and for how many of each name there is room
+pub record FilesWithRoom : Type 0 where
+  pub rows : List Row
+  pub rooms : List NameRoom
+
+-- the state, and for how many directories, logical names, files of each name and entries of the queue there is room
 pub record StoreWithRoom : Type 0 where
   pub state : State
   pub directory_room : ℕ
   pub logical_room : ℕ
-  pub row_room : ℕ
+  pub name_rooms : List NameRoom
   pub queue_room : ℕ
 
 -- a directory has this name

@@ -1,40 +1,10 @@
 // Under which generation a file is added, or why it is refused.
-ghost use Rattle.std.specs.Prelude.{◌≡◌, ◌≤◌, true};
-ghost use Rattle.cm_files.specs.Catalogue.{ascends};
-ghost use Rattle.ex_generations.specs.declared.file.TheConstants.{FILE_LIMIT};
-ghost use Rattle.ex_store.specs.Adding.{and_then, limited, next_of, numbered};
-ghost use Rattle.ex_store.specs.Rows.{by_row, files, files_of};
+ghost use Rattle.std.specs.Prelude.{◌≡◌, ◌≤◌};
+ghost use Rattle.ex_store.specs.Adding.{and_then, limited};
 
 use crate::limits::{ROW_LIMIT, STORE_LIMIT};
-use crate::search::{has, rows_of, top};
-use crate::{Key, Row};
-use cm_fields::{Code, Gen};
-use ex_generations::{FILE_LIMIT, GENERATION_LIMIT};
-
-// The generation behind the highest of some rows.
-fn next_of(rows: &[Row]) -> Result<u32, Code>
-    ensures { result ≡ next_of (files rows.now) }
-{
-    let top = top(rows);
-    if top < GENERATION_LIMIT {
-        Ok(top + 1)
-    } else {
-        Err(Code::GenFull)
-    }
-}
-
-// The generation that a new row takes: a number that is given, and else the next.
-pub(crate) fn numbered(rows: &[Row], key: &Key, generation: Gen) -> Result<u32, Code>
-    requires { ascends by_row rows.now ≡ true }
-    ensures { result ≡ numbered generation (files_of key.now rows.now) }
-{
-    let own = rows_of(rows, key);
-    match generation {
-        Gen::Number(number) if has(own, number) => Err(Code::FileExists),
-        Gen::Number(number) => Ok(number),
-        _ => next_of(own),
-    }
-}
+use cm_fields::Code;
+use ex_generations::FILE_LIMIT;
 
 // One more file of this size, beside so many files of so many bytes: this generation, or the limit that is passed.
 pub(crate) fn limited(files: usize, bytes: usize, size: usize, generation: u32) -> Result<u32, Code>

@@ -5,52 +5,25 @@ ghost use Rattle.cm_files.specs.Catalogue.{ascends};
 ghost use Rattle.ex_store.specs.declared.limits.TheConstants.{ROW_LIMIT, STORE_LIMIT};
 ghost use Rattle.ex_generations.specs.declared.file.TheConstants.{FILE_LIMIT};
 ghost use Rattle.ex_store.specs.declared.plan.Plan.TheVariants as plans;
-ghost use Rattle.ex_store.specs.Appending.{appended, bytes_at, fitting, found, opened, pairs_to, poured, row_changes_of};
+ghost use Rattle.ex_store.specs.Appending.{appended, fitting, opened, pairs_to, poured, row_changes_of};
 ghost use Rattle.ex_store.specs.Copying.{moment_of};
 ghost use Rattle.ex_store.specs.Plan.{IsOneFile, IsRefused, MayPlan, planned};
 ghost use Rattle.ex_store.specs.Positions.{elements_at};
 ghost use Rattle.ex_store.specs.Ready.{IsMade, applied, are_doable, done_on};
-ghost use Rattle.ex_store.specs.Rows.{by_row, files_of, total};
+ghost use Rattle.ex_store.specs.Rows.{by_row, total};
 ghost use Rattle.ex_store.specs.State.{retention_of};
 ghost use Rattle.ex_store.specs.WellFormed.{AreRows, IsWellFormed};
 
-use crate::adding::{admitted, numbered};
+use crate::adding::admitted;
 use crate::copy::moment_of;
 use crate::directory::retention_of;
+use crate::files::Files;
 use crate::limits::STORE_LIMIT;
-use crate::search::{bottom_live, has, has_live, position, rows_of, top_live, total};
 use crate::{Directory, FullName, Key, NamePair, Place, Ready, Refusal, Row, RowChange, Store};
 use cm_fields::{Code, Gen};
 use cm_io::NoMemory;
 use ex_generations::{Bytes, FILE_LIMIT};
 use std::alloc::Global;
-
-// The generation that is put behind, or none, where a new one is added.
-fn found(rows: &[Row], key: &Key, generation: Gen) -> Result<Option<u32>, Code>
-    requires { ascends by_row rows.now ≡ true }
-    ensures { result ≡ found generation (files_of key.now rows.now) }
-{
-    let own = rows_of(rows, key);
-    match generation {
-        Gen::Next => Ok(None),
-        Gen::Lowest => Ok(bottom_live(own)),
-        Gen::Missing | Gen::Highest | Gen::All => Ok(top_live(own)),
-        Gen::Number(number) if has_live(own, number) => Ok(Some(number)),
-        Gen::Number(number) if has(own, number) => Err(Code::NoFile),
-        Gen::Number(_) => Ok(None),
-    }
-}
-
-// What a file holds; nothing where it is not there.
-fn bytes_at<'a>(rows: &'a [Row], full: &FullName) -> &'a [u8]
-    requires { ascends by_row rows.now ≡ true }
-    ensures { result.now ≡ bytes_at full.now rows.now }
-{
-    match position(rows, full) {
-        Some(at) => rows[at].file.bytes.as_slice(),
-        None => b"",
-    }
-}
 
 // These bytes more, behind so many of a file and beside so many in all: or the limit that is passed.
 fn fits(all: usize, size: usize, more: usize) -> Result<(), Code>
@@ -68,19 +41,19 @@ fn fits(all: usize, size: usize, more: usize) -> Result<(), Code>
 }
 
 // The bytes of the sources at these places, behind those.
-fn poured(rows: &[Row], positions: &[u16], bytes: Vec<u8>) -> Result<Bytes, Refusal>
-    requires within { list_all (λ at. nat_lt at (length rows.now)) positions.now ≡ true }
-    requires all { total rows.now ≤ STORE_LIMIT }
+fn poured(files: &Files, positions: &[u16], bytes: Vec<u8>) -> Result<Bytes, Refusal>
+    requires within { list_all (λ at. nat_lt at (length files.now.rows)) positions.now ≡ true }
+    requires all { total files.now.rows ≤ STORE_LIMIT }
     requires short { length bytes.items ≤ FILE_LIMIT }
     ensures ok { IfOk result (λ out.
-        poured (total rows.now) bytes.items (elements_at rows.now positions.now) ≡ Ok out) }
+        poured (total files.now.rows) bytes.items (elements_at files.now.rows positions.now) ≡ Ok out) }
     ensures refused { IfErr result (IsRefused
-        (poured (total rows.now) bytes.items (elements_at rows.now positions.now))) }
+        (poured (total files.now.rows) bytes.items (elements_at files.now.rows positions.now))) }
 {
     let mut bytes = bytes;
-    let mut all = total(rows);
+    let mut all = files.total();
     for at in positions {
-        let more = rows[usize::from(*at)].file.bytes.as_slice();
+        let more = files.row_at(usize::from(*at)).file.bytes.as_slice();
         match fits(all, bytes.len(), more.len()) {
             Ok(()) => {}
             Err(code) => return Err(Refusal::Code(code)),
@@ -96,17 +69,17 @@ fn poured(rows: &[Row], positions: &[u16], bytes: Vec<u8>) -> Result<Bytes, Refu
 // Each source goes to the target.
 fn pairs_to(
     alloc: Global,
-    rows: &[Row],
+    files: &Files,
     positions: &[u16],
     target: &FullName,
 ) -> Result<Vec<NamePair>, NoMemory>
-    requires { list_all (λ at. nat_lt at (length rows.now)) positions.now ≡ true }
-    ensures { IfOk result (λ pairs. pairs.items ≡ pairs_to target.now (elements_at rows.now positions.now)) }
+    requires { list_all (λ at. nat_lt at (length files.now.rows)) positions.now ≡ true }
+    ensures { IfOk result (λ pairs. pairs.items ≡ pairs_to target.now (elements_at files.now.rows positions.now)) }
 {
     let mut pairs = Vec::new(alloc);
     for at in positions {
         pairs.push(NamePair {
-            source: rows[usize::from(*at)].full_name(),
+            source: files.row_at(usize::from(*at)).full_name(),
             target: target.copy(),
         })?;
     }
@@ -123,16 +96,16 @@ struct Opening {
 // The file is there, or an empty one is added.
 fn opened(
     alloc: Global,
-    rows: &[Row],
+    files: &Files,
     key: Key,
     generation: Gen,
     moment: u64,
 ) -> Result<Opening, Code>
-    requires rows { ascends by_row rows.now ≡ true }
-    requires bytes { total rows.now ≤ STORE_LIMIT }
-    ensures { result ≡ opened moment key generation rows.now }
+    requires rows { ascends by_row files.now.rows ≡ true }
+    requires bytes { total files.now.rows ≤ STORE_LIMIT }
+    ensures { result ≡ opened moment key generation files.now.rows }
 {
-    let number = match found(rows, &key, generation) {
+    let number = match files.found(&key, generation) {
         Ok(Some(number)) => {
             let target = FullName {
                 key,
@@ -141,8 +114,8 @@ fn opened(
             return Ok(Opening { target, new: None });
         }
         Ok(None) => {
-            let number = numbered(rows, &key, generation);
-            match admitted(number, rows.len(), total(rows), 0) {
+            let number = files.numbered(&key, generation);
+            match admitted(number, files.len(), files.total(), 0) {
                 Ok(number) => number,
                 Err(code) => return Err(code),
             }
@@ -182,35 +155,35 @@ fn row_changes_of(
 fn appends(
     alloc: Global,
     directories: &[Directory],
-    rows: &[Row],
+    files: &Files,
     positions: &[u16],
     to: &Place,
     moment: u64,
 ) -> Result<Ready, Refusal>
-    requires rows { AreRows directories.now rows.now }
-    requires within { list_all (λ at. nat_lt at (length rows.now)) positions.now ≡ true }
+    requires rows { AreRows directories.now files.now.rows }
+    requires within { list_all (λ at. nat_lt at (length files.now.rows)) positions.now ≡ true }
     requires few { length positions.now ≤ ROW_LIMIT }
     requires target { IsOneFile to.now directories.now }
-    ensures made { let sources = elements_at rows.now positions.now in
-        IfOk result (IsMade directories.now rows.now
-        (appended (retention_of to.now.directory directories.now) moment to.now sources rows.now)) }
-    ensures refused { let sources = elements_at rows.now positions.now in
+    ensures made { let sources = elements_at files.now.rows positions.now in
+        IfOk result (IsMade directories.now files.now.rows
+        (appended (retention_of to.now.directory directories.now) moment to.now sources files.now.rows)) }
+    ensures refused { let sources = elements_at files.now.rows positions.now in
         IfErr result (IsRefused
-        (appended (retention_of to.now.directory directories.now) moment to.now sources rows.now)) }
+        (appended (retention_of to.now.directory directories.now) moment to.now sources files.now.rows)) }
 {
-    let opening = match opened(alloc, rows, to.own_key(), to.generation, moment) {
+    let opening = match opened(alloc, files, to.own_key(), to.generation, moment) {
         Ok(opening) => opening,
         Err(code) => return Err(Refusal::Code(code)),
     };
-    let old = match Vec::from_slice(alloc, bytes_at(rows, &opening.target)) {
+    let old = match Vec::from_slice(alloc, files.bytes_at(&opening.target)) {
         Ok(old) => old,
         Err(_) => return Err(Refusal::NoMemory),
     };
-    let bytes = match poured(rows, positions, old) {
+    let bytes = match poured(files, positions, old) {
         Ok(bytes) => bytes,
         Err(refusal) => return Err(refusal),
     };
-    let pairs = match pairs_to(alloc, rows, positions, &opening.target) {
+    let pairs = match pairs_to(alloc, files, positions, &opening.target) {
         Ok(pairs) => pairs,
         Err(NoMemory) => return Err(Refusal::NoMemory),
     };
@@ -238,7 +211,7 @@ impl Store {
         appends(
             self.alloc,
             &self.directories,
-            &self.rows,
+            &self.files,
             &positions,
             to,
             moment,

@@ -1,48 +1,10 @@
 // Plans are done.
-ghost use Rattle.std.specs.Prelude.{◌≡◌, ◌<◌, ◌≤◌, ◌+◌, true, [], ◌∷◌, ◌++◌, vec_capacity, vec_len};
-ghost use Rattle.cm_files.specs.Catalogue.{ascends};
-ghost use Rattle.ex_store.specs.Ready.{IsFor, applied, are_doable, is_doable, rows_after, rows_after_all};
-ghost use Rattle.ex_store.specs.Rows.{by_row};
+ghost use Rattle.std.specs.Prelude.{◌≡◌, ◌<◌, ◌≤◌, ◌+◌, [], ◌∷◌, ◌++◌, vec_capacity, vec_len};
+ghost use Rattle.ex_store.specs.Ready.{IsFor, applied};
 
 use crate::build::make;
-use crate::change::{add, fill};
 use crate::define::define;
-use crate::shift::move_row;
-use crate::{QueueEntry, Ready, Row, RowChange, Store};
-
-// One change, in a vector that has room for it.
-fn change_row(rows: &mut Vec<Row>, change: RowChange, retention: u8)
-    requires rows { ascends by_row rows.old.items ≡ true }
-    requires doable { is_doable rows.old.items change ≡ true }
-    requires room { vec_len rows.old < vec_capacity rows.old }
-    ensures items { rows.new.items ≡ rows_after retention rows.old.items change }
-    ensures ascend { ascends by_row rows.new.items ≡ true }
-    ensures len { vec_len rows.new ≤ vec_len rows.old + 1 }
-    ensures capacity { vec_capacity rows.new ≡ vec_capacity rows.old }
-{
-    match change {
-        RowChange::Add(row) => add(rows, row, retention),
-        RowChange::Move(pair) => move_row(rows, &pair, retention),
-        RowChange::Fill {
-            target,
-            moment,
-            bytes,
-        } => fill(rows, &target, moment, bytes),
-    }
-}
-
-// All changes, one after the other, in a vector that has room for them.
-fn change_rows(rows: &mut Vec<Row>, row_changes: Vec<RowChange>, retention: u8)
-    requires rows { ascends by_row rows.old.items ≡ true }
-    requires doable { are_doable retention rows.old.items row_changes.items ≡ true }
-    requires room { vec_len rows.old + vec_len row_changes ≤ vec_capacity rows.old }
-    ensures items { rows.new.items ≡ rows_after_all retention rows.old.items row_changes.items }
-    ensures capacity { vec_capacity rows.new ≡ vec_capacity rows.old }
-{
-    for change in row_changes {
-        change_row(rows, change, retention);
-    }
-}
+use crate::{QueueEntry, Ready, Store};
 
 // Puts an entry behind those of the queue, in a vector that has room for it.
 fn put_last(queue: &mut Vec<QueueEntry>, entry: QueueEntry)
@@ -87,7 +49,7 @@ impl Store {
         if let Some(definition) = definition {
             define(&mut self.logical, definition);
         }
-        change_rows(&mut self.rows, row_changes, retention);
+        self.files.change(row_changes, retention);
         enqueue(&mut self.queue, entries);
     }
 }

@@ -1,8 +1,9 @@
 // Files are copied.
-ghost use Rattle.std.specs.Prelude.{◌≡◌, ◌≤◌, true, false, [], ◌∷◌, ◌++◌, length, nat_lt, min, IfOk, IfErr, OnOk, Ok};
+ghost use Rattle.std.specs.Prelude.{◌≡◌, ◌≤◌, true, false, [], ◌∷◌, ◌++◌, length, nat_lt, IfOk, IfErr, OnOk, Ok};
 ghost use Rattle.std.specs.List.{list_all};
 ghost use Rattle.cm_files.specs.Catalogue.{ascends};
 ghost use Rattle.ex_generations.specs.Generations.{has};
+ghost use Rattle.ex_store.specs.Lent.{row_of_view};
 ghost use Rattle.ex_store.specs.declared.limits.TheConstants.{ROW_LIMIT};
 ghost use Rattle.ex_store.specs.declared.plan.Plan.TheVariants as plans;
 ghost use Rattle.ex_store.specs.declared.ready.RowChange.TheVariants as changes;
@@ -19,10 +20,10 @@ ghost use Rattle.ex_store.specs.WellFormed.{AreRows, IsWellFormed, is_numbered};
 use crate::adding::admitted;
 use crate::directory::retention_of;
 use crate::file_name::{add, numbered};
+use crate::files::Files;
 use crate::limits::MOMENT_LIMIT;
-use crate::search::total;
 use crate::simulation::Simulation;
-use crate::{Directory, Key, NamePair, Place, Ready, Refusal, Row, RowChange, Store};
+use crate::{Directory, Key, NamePair, Place, Ready, Refusal, Row, RowChange, RowView, Store};
 use cm_fields::Code;
 use cm_io::NoMemory;
 use std::alloc::Global;
@@ -38,7 +39,7 @@ impl Simulation {
     fn copy(
         &mut self,
         alloc: Global,
-        source: &Row,
+        source: RowView<'_>,
         key: Key,
         generation: u32,
         moment: u64,
@@ -48,14 +49,15 @@ impl Simulation {
         requires number { is_numbered generation ≡ true }
         requires absent { has generation (files_of key (rows_of self.old.names.items)) ≡ false }
         ensures row_changes { OnOk result (self.new.row_changes.items
-            ≡ self.old.row_changes.items ++ changes.Add (new_row key moment source.now.file.bytes generation) ∷ []) }
+            ≡ self.old.row_changes.items
+            ++ changes.Add (new_row key moment (row_of_view source.entry).file.bytes generation) ∷ []) }
         ensures pairs { OnOk result (self.new.pairs.items
             ≡ self.old.pairs.items ++ (record {
-              source = full_of source.now;
+              source = full_of (row_of_view source.entry);
               target = record { key = key; generation = generation };
             }) ∷ []) }
         ensures names { OnOk result (rows_of self.new.names.items
-            ≡ added retention (blank (new_row key moment source.now.file.bytes generation))
+            ≡ added retention (blank (new_row key moment (row_of_view source.entry).file.bytes generation))
             (rows_of self.old.names.items)) }
         ensures ascend { OnOk result (ascends by_name self.new.names.items ≡ true) }
     {
@@ -74,42 +76,42 @@ impl Simulation {
 fn copies(
     alloc: Global,
     directories: &[Directory],
-    rows: &[Row],
+    files: &Files,
     positions: &[u16],
     to: &Place,
     moment: u64,
 ) -> Result<Ready, Refusal>
-    requires rows { AreRows directories.now rows.now }
-    requires within { list_all (λ at. nat_lt at (length rows.now)) positions.now ≡ true }
+    requires rows { AreRows directories.now files.now.rows }
+    requires within { list_all (λ at. nat_lt at (length files.now.rows)) positions.now ≡ true }
     requires few { length positions.now ≤ ROW_LIMIT }
     requires target { IsTarget to.now directories.now }
-    ensures made { let sources = elements_at rows.now positions.now in
-        IfOk result (IsMade directories.now rows.now
-        (all_copied (retention_of to.now.directory directories.now) moment to.now sources rows.now)) }
-    ensures refused { let sources = elements_at rows.now positions.now in
+    ensures made { let sources = elements_at files.now.rows positions.now in
+        IfOk result (IsMade directories.now files.now.rows
+        (all_copied (retention_of to.now.directory directories.now) moment to.now sources files.now.rows)) }
+    ensures refused { let sources = elements_at files.now.rows positions.now in
         IfErr result (IsRefused
-        (all_copied (retention_of to.now.directory directories.now) moment to.now sources rows.now)) }
+        (all_copied (retention_of to.now.directory directories.now) moment to.now sources files.now.rows)) }
 {
     let directory = to.directory.as_bytes();
     let retention = retention_of(directories, directory);
-    let mut simulation = match Simulation::new(alloc, rows, directory, directory) {
+    let mut simulation = match Simulation::new(alloc, files, directory, directory) {
         Ok(simulation) => simulation,
         Err(NoMemory) => return Err(Refusal::NoMemory),
     };
-    let mut files = rows.len();
-    let mut bytes = total(rows);
+    let mut count = files.len();
+    let mut bytes = files.total();
     for at in positions {
-        let source = &rows[usize::from(*at)];
-        let key = to.key_from(&source.key);
+        let source = files.row_at(usize::from(*at));
+        let key = to.key_from(&source.key());
         let size = source.file.bytes.len();
         let number = numbered(&simulation.names, &key, to.generation);
-        let generation = match admitted(number, files, bytes, size) {
+        let generation = match admitted(number, count, bytes, size) {
             Ok(generation) => generation,
             Err(code) => return Err(Refusal::Code(code)),
         };
         match simulation.copy(alloc, source, key, generation, moment_of(moment), retention) {
             Ok(()) => {
-                files += 1;
+                count += 1;
                 bytes += size;
             }
             Err(NoMemory) => return Err(Refusal::NoMemory),
@@ -133,7 +135,7 @@ impl Store {
         copies(
             self.alloc,
             &self.directories,
-            &self.rows,
+            &self.files,
             &positions,
             to,
             moment,

@@ -5,6 +5,7 @@ ghost use Rattle.ex_store.specs.Lent.{queue_entry};
 ghost use Rattle.ex_store.specs.State.{has_directory, is_named};
 ghost use Rattle.ex_store.specs.WellFormed.{IsDraft};
 
+use crate::files::Files;
 use crate::{Definition, Directory, Key, Parts, QueueEntry, Queued, Row, Store};
 use cm_io::NoMemory;
 use cm_text::Name;
@@ -20,7 +21,7 @@ pub struct Draft {
     directories: Vec<Directory>,
     connected: Name,
     logical: Vec<Definition>,
-    rows: Vec<Row>,
+    files: Files,
     queue: Vec<QueueEntry>,
 }
 
@@ -34,7 +35,7 @@ impl Model for Draft {
       directories = it.directories.items;
       connected = it.connected;
       logical = it.logical.items;
-      rows = it.rows.items;
+      rows = it.files.rows;
       queue = it.queue.items;
     } };
 
@@ -42,7 +43,7 @@ impl Model for Draft {
       directories = it.directories.items;
       connected = it.connected;
       logical = it.logical.items;
-      rows = it.rows.items;
+      rows = it.files.rows;
       queue = it.queue.items;
     }) };
 }
@@ -57,7 +58,7 @@ impl Draft {
             directories: Vec::new(alloc),
             connected: Name::new(""),
             logical: Vec::new(alloc),
-            rows: Vec::new(alloc),
+            files: Files::new(alloc),
             queue: Vec::new(alloc),
         }
     }
@@ -120,7 +121,7 @@ impl Draft {
             name: Name::new(name),
             kind: Name::new(kind),
         };
-        self.rows.push(Row { key, file })?;
+        self.files.push(self.alloc, Row { key, file })?;
         Ok(())
     }
 
@@ -158,7 +159,7 @@ impl Draft {
             directories: &self.directories,
             connected: &self.connected,
             logical: &self.logical,
-            rows: &self.rows,
+            files: &self.files,
             queue: &self.queue,
         }
     }
@@ -173,7 +174,7 @@ impl Draft {
             directories: self.directories,
             connected: self.connected,
             logical: self.logical,
-            rows: self.rows,
+            files: self.files,
             queue: self.queue,
         }
     }

@@ -1,34 +1,71 @@
-// Files by name, as a plan has them while it is played: each directory, name and type with its generations.
-ghost use Rattle.std.specs.Prelude.{◌≡◌, ◌<◌, ◌≤◌, [], true, false, get_or, length, position, IfOk, IfSome, OnOk, Ok, Some, option_map};
+// Files by name: each directory, name and type with its generations, as a store has them, and a plan that is played.
+ghost use Rattle.std.specs.Prelude.{◌≡◌, ◌<◌, ◌≤◌, [], true, false, get_or, length, map, position, take, ◌+◌, IfOk, IfSome, OnErr, OnOk, Ok, option_map};
 ghost use Rattle.std.specs.List.{prefix_len};
 ghost use Rattle.std.specs.Ordering.{is_lt};
 ghost use Rattle.cm_files.specs.Catalogue.{ascends};
 ghost use Rattle.ex_generations.specs.declared.file.TheConstants.{FILE_LIMIT, GENERATION_LIMIT};
-ghost use Rattle.ex_generations.specs.Generations.{has};
+ghost use Rattle.ex_generations.specs.Generations.{IsAscending, has};
 ghost use Rattle.ex_store.specs.Adding.{numbered};
-ghost use Rattle.ex_store.specs.FileNames.{by_name, is_under, row_under, rows_of, rows_under};
+ghost use Rattle.ex_store.specs.Appending.{bytes_at, found};
+ghost use Rattle.ex_store.specs.FileNames.{HaveRoom, by_name, is_under, is_under_either, room_at, rooms_of, row_under, rows_of, rows_under, wanted_at};
 ghost use Rattle.ex_store.specs.declared.file_name.FileName.{FileName as Name};
 ghost use Rattle.ex_store.specs.declared.key.FullName.{FullName as Full};
-ghost use Rattle.ex_store.specs.Rows.{added, by_key, files_of, row_at, without};
+ghost use Rattle.ex_store.specs.declared.key.Key.{Key as Named};
+ghost use Rattle.ex_store.specs.Rows.{added, blank, by_key, filled, files_of, row_at, rows_in_either, without};
 
 use crate::key::key_cmp;
 use crate::{FullName, Key, Row};
 use cm_fields::{Code, Gen};
 use cm_io::NoMemory;
 use cm_text::seek;
-use ex_generations::{File, GenFull, Gens};
+use ex_generations::{Bytes, File, GenFull, Gens};
 use std::alloc::Global;
+use std::marker::Model;
 
 // A name and a type of a directory, and its generations.
 #[derive(Drop)]
 pub(crate) struct FileName {
     pub(crate) key: Key,
     pub(crate) gens: Gens,
+    // How many files the names up to this one have, where they are counted.
+    pub(crate) end: usize,
+    // How many files a plan is to put under it, while room is made.
+    pub(crate) wanted: usize,
 }
 
-impl FileName {
+// One of a list of names. It is on the heap, so that a name that is entered before it moves a pointer alone.
+#[derive(Drop)]
+pub(crate) struct Entry {
+    pub(crate) name: Box<FileName>,
+}
+
+impl Model for Entry {
+    ghost use Rattle.ex_store.specs.declared.file_name.FileName.{FileName};
+
+    ghost Value = { FileName };
+
+    ghost view = { λ it. it.name.value };
+}
+
+impl Entry {
+    // A name without files.
+    pub(crate) fn new(alloc: Global, key: Key) -> Result<Entry, NoMemory>
+        ensures { IfOk result (λ name. name
+            ≡ record { key = key; gens = record { files = []; room = 0 }; end = 0; wanted = 0 }) }
+    {
+        let name = FileName {
+            key,
+            gens: Gens::new(alloc),
+            end: 0,
+            wanted: 0,
+        };
+        Ok(Entry {
+            name: Box::new(alloc, name)?,
+        })
+    }
+
     // Adds a file, and then so many unmarked generations are kept.
-    fn add(&mut self, file: File, retention: u8) -> Result<(), NoMemory>
+    pub(crate) fn add(&mut self, file: File, retention: u8) -> Result<(), NoMemory>
         requires short { length file.bytes ≤ FILE_LIMIT }
         requires from_one { 0 < file.generation }
         requires to_limit { file.generation ≤ GENERATION_LIMIT }
@@ -36,44 +73,131 @@ impl FileName {
         ensures key { self.new.key ≡ self.old.key }
         ensures rows { OnOk result
             (rows_under self.new ≡ added retention (row_under self.old.key file) (rows_under self.old)) }
+        ensures few { length self.new.gens.files ≤ length self.old.gens.files + 1 }
+        ensures refused { OnErr result (rows_under self.new ≡ rows_under self.old) }
     {
-        self.gens.reserve(1)?;
-        self.gens.add(file, retention);
+        self.name.gens.reserve(1)?;
+        self.name.gens.add(file, retention);
         Ok(())
+    }
+
+    // Adds a file where there is room for it, and then so many unmarked generations are kept.
+    fn put(&mut self, file: File, retention: u8)
+        requires room { length self.old.gens.files < self.old.gens.room }
+        requires short { length file.bytes ≤ FILE_LIMIT }
+        requires from_one { 0 < file.generation }
+        requires to_limit { file.generation ≤ GENERATION_LIMIT }
+        requires absent { has file.generation self.old.gens.files ≡ false }
+        ensures key { self.new.key ≡ self.old.key }
+        ensures room { self.new.gens.room ≡ self.old.gens.room }
+        ensures rows { rows_under self.new ≡ added retention (row_under self.old.key file) (rows_under self.old) }
+    {
+        self.name.gens.add(file, retention);
+    }
+
+    // Gives the file of a generation another moment and other bytes, where there is one.
+    fn fill(&mut self, generation: u32, moment: u64, bytes: Bytes)
+        requires { length bytes ≤ FILE_LIMIT }
+        ensures key { self.new.key ≡ self.old.key }
+        ensures room { self.new.gens.room ≡ self.old.gens.room }
+        ensures rows { let full : Full = record { key = self.old.key; generation = generation } in
+            rows_under self.new ≡ filled full moment bytes (rows_under self.old) }
+    {
+        if self.name.gens.has(generation) {
+            self.name.gens.replace(generation, moment, bytes);
+        }
+    }
+
+    // The same without the bytes of its files.
+    fn blank(&self, alloc: Global) -> Result<Entry, NoMemory>
+        ensures key { IfOk result (λ name. name.key ≡ self.now.key) }
+        ensures rows { IfOk result (λ name. rows_under name ≡ map blank (rows_under self.now)) }
+    {
+        let name = FileName {
+            key: self.name.key.copy(),
+            gens: self.name.gens.blank(alloc)?,
+            end: 0,
+            wanted: 0,
+        };
+        Ok(Entry {
+            name: Box::new(alloc, name)?,
+        })
+    }
+
+    // What the file of a generation holds; nothing where there is none.
+    fn bytes_at(&self, generation: u32) -> &[u8]
+        ensures { let full : Full = record { key = self.now.key; generation = generation } in
+            result.now ≡ bytes_at full (rows_under self.now) }
+    {
+        match self.name.gens.find(generation) {
+            Some(file) => file.bytes.as_slice(),
+            None => b"",
+        }
+    }
+
+    // Its directory, name and type.
+    pub(crate) fn key(&self) -> &Key
+        ensures { result.now ≡ self.now.key }
+    {
+        &self.name.key
+    }
+
+    // Its generations.
+    fn gens(&self) -> &Gens
+        ensures { result.now ≡ self.now.gens }
+    {
+        &self.name.gens
+    }
+
+    // Its files, in ascending order of their generations.
+    pub(crate) fn files(&self) -> &[File]
+        ensures value { result.now ≡ self.now.gens.files }
+        ensures ordered { IsAscending 0 self.now.gens.files }
+    {
+        self.name.gens.as_slice()
+    }
+
+    // Whether it is one of either directory.
+    fn is_in_either(&self, first: &[u8], second: &[u8]) -> bool
+        ensures { result ≡ is_under_either first.now second.now self.now }
+    {
+        let directory = self.key().directory.as_bytes();
+        directory.cmp(first).is_eq() || directory.cmp(second).is_eq()
     }
 
     // Takes the file of a generation out, where there is one.
     fn remove(&mut self, generation: u32) -> Option<File>
         ensures key { self.new.key ≡ self.old.key }
+        ensures room { self.new.gens.room ≡ self.old.gens.room }
         ensures file { let full : Full = record { key = self.old.key; generation = generation } in
             option_map (row_under self.old.key) result ≡ row_at full (rows_under self.old) }
         ensures rows { let full : Full = record { key = self.old.key; generation = generation } in
             rows_under self.new ≡ without full (rows_under self.old) }
         ensures short { IfSome result (λ file. length file.bytes ≤ FILE_LIMIT) }
     {
-        if !self.gens.has(generation) {
+        if !self.name.gens.has(generation) {
             return None;
         }
-        Some(self.gens.remove(generation))
+        Some(self.name.gens.remove(generation))
     }
 }
 
 // How many names stand before the place of this one.
-fn place(names: &[FileName], key: &Key) -> usize
+fn place(names: &[Entry], key: &Key) -> usize
     requires { ascends by_name names.now ≡ true }
     ensures { result ≡ prefix_len (λ name. is_lt (by_key name.key key.now)) names.now }
 {
-    seek(names, |name| key_cmp(&name.key, key).is_lt())
+    seek(names, |entry| key_cmp(entry.key(), key).is_lt())
 }
 
 // Where a name stands.
-fn position(names: &[FileName], key: &Key) -> Option<usize>
+fn position(names: &[Entry], key: &Key) -> Option<usize>
     requires { ascends by_name names.now ≡ true }
     ensures { result ≡ position (is_under key.now) names.now }
 {
     let at = place(names, key);
     match names.get(at) {
-        Some(name) if key_cmp(&name.key, key).is_eq() => Some(at),
+        Some(entry) if key_cmp(entry.key(), key).is_eq() => Some(at),
         _ => None,
     }
 }
@@ -103,41 +227,40 @@ fn first_number(generation: Gen) -> u32
 }
 
 // The generation that a new file of a name takes: a number that is given, and else the next.
-pub(crate) fn numbered(names: &[FileName], key: &Key, generation: Gen) -> Result<u32, Code>
+pub(crate) fn numbered(names: &[Entry], key: &Key, generation: Gen) -> Result<u32, Code>
     requires { ascends by_name names.now ≡ true }
     ensures { result ≡ numbered generation (files_of key.now (rows_of names.now)) }
 {
     match position(names, key) {
-        Some(at) => numbered_beside(&names[at].gens, generation),
+        Some(at) => numbered_beside(names[at].gens(), generation),
         None => Ok(first_number(generation)),
     }
 }
 
 // Where a name stands, which is entered at its place where it is not there yet.
-fn enter(names: &mut Vec<FileName>, alloc: Global, key: &Key) -> Result<usize, NoMemory>
+pub(crate) fn enter(names: &mut Vec<Entry>, alloc: Global, key: &Key) -> Result<usize, NoMemory>
     requires { ascends by_name names.old.items ≡ true }
     ensures rows { rows_of names.new.items ≡ rows_of names.old.items }
     ensures ascend { ascends by_name names.new.items ≡ true }
     ensures within { IfOk result (λ at. at < length names.new.items) }
     ensures there { IfOk result (λ at. (d : Name) → is_under key.now (get_or names.new.items at d) ≡ true) }
+    ensures front { IfOk result (λ at. take at names.new.items ≡ take at names.old.items) }
+    ensures refused { OnErr result (names.new.items ≡ names.old.items) }
+    ensures wanted { (other : Named) → wanted_at other names.new.items ≡ wanted_at other names.old.items }
+    ensures room { HaveRoom names.old.items → HaveRoom names.new.items }
 {
     if let Some(at) = position(names, key) {
         return Ok(at);
     }
     let at = place(names, key);
-    names.insert(
-        at,
-        FileName {
-            key: key.copy(),
-            gens: Gens::new(alloc),
-        },
-    )?;
+    let entry = Entry::new(alloc, key.copy())?;
+    names.insert(at, entry)?;
     Ok(at)
 }
 
 // Adds a file under its name, and then so many unmarked generations are kept.
 pub(crate) fn add(
-    names: &mut Vec<FileName>,
+    names: &mut Vec<Entry>,
     alloc: Global,
     row: Row,
     retention: u8,
@@ -156,15 +279,107 @@ pub(crate) fn add(
 }
 
 // Takes the file of a full name out, where there is one.
-pub(crate) fn remove(names: &mut [FileName], full: &FullName) -> Option<File>
+pub(crate) fn remove(names: &mut [Entry], full: &FullName) -> Option<File>
     requires { ascends by_name names.old ≡ true }
     ensures file { option_map (row_under full.now.key) result ≡ row_at full.now (rows_of names.old) }
     ensures short { IfSome result (λ file. length file.bytes ≤ FILE_LIMIT) }
     ensures rows { rows_of names.new ≡ without full.now (rows_of names.old) }
     ensures ascend { ascends by_name names.new ≡ true }
+    ensures rooms { rooms_of names.new ≡ rooms_of names.old }
 {
     match position(names, &full.key) {
         Some(at) => names[at].remove(full.generation),
         None => None,
+    }
+}
+
+// Adds a file under a name that has room for it, and then so many unmarked generations are kept.
+pub(crate) fn put(names: &mut [Entry], row: Row, retention: u8)
+    requires names { ascends by_name names.old ≡ true }
+    requires room { length (files_of row.key (rows_of names.old)) < room_at row.key (rooms_of names.old) }
+    requires short { length row.file.bytes ≤ FILE_LIMIT }
+    requires from_one { 0 < row.file.generation }
+    requires to_limit { row.file.generation ≤ GENERATION_LIMIT }
+    requires absent { has row.file.generation (files_of row.key (rows_of names.old)) ≡ false }
+    ensures rows { rows_of names.new ≡ added retention row (rows_of names.old) }
+    ensures ascend { ascends by_name names.new ≡ true }
+    ensures rooms { rooms_of names.new ≡ rooms_of names.old }
+{
+    match position(names, &row.key) {
+        Some(at) => names[at].put(row.file, retention),
+        None => unreachable!(),
+    }
+}
+
+// Gives the file of a full name another moment and other bytes, where there is one.
+pub(crate) fn fill(names: &mut [Entry], target: &FullName, moment: u64, bytes: Bytes)
+    requires names { ascends by_name names.old ≡ true }
+    requires short { length bytes ≤ FILE_LIMIT }
+    ensures rows { rows_of names.new ≡ filled target.now moment bytes (rows_of names.old) }
+    ensures ascend { ascends by_name names.new ≡ true }
+    ensures rooms { rooms_of names.new ≡ rooms_of names.old }
+{
+    if let Some(at) = position(names, &target.key) {
+        names[at].fill(target.generation, moment, bytes);
+    }
+}
+
+// The names of two directories, with their files without their bytes.
+pub(crate) fn blanks(
+    alloc: Global,
+    names: &[Entry],
+    from: &[u8],
+    to: &[u8],
+) -> Result<Vec<Entry>, NoMemory>
+    requires { ascends by_name names.now ≡ true }
+    ensures rows { IfOk result (λ blanks.
+        rows_of blanks.items ≡ map blank (rows_in_either from.now to.now (rows_of names.now))) }
+    ensures ascend { IfOk result (λ blanks. ascends by_name blanks.items ≡ true) }
+{
+    let mut blanks = Vec::new(alloc);
+    for name in names {
+        if !name.is_in_either(from, to) {
+            continue;
+        }
+        blanks.push(name.blank(alloc)?)?;
+    }
+    Ok(blanks)
+}
+
+// What a file holds; nothing where it is not there.
+pub(crate) fn bytes_at<'a>(names: &'a [Entry], full: &FullName) -> &'a [u8]
+    requires { ascends by_name names.now ≡ true }
+    ensures { result.now ≡ bytes_at full.now (rows_of names.now) }
+{
+    match position(names, &full.key) {
+        Some(at) => names[at].bytes_at(full.generation),
+        None => b"",
+    }
+}
+
+// The generation that is put behind, beside these, or none, where a new one is added.
+fn found_beside(gens: &Gens, generation: Gen) -> Result<Option<u32>, Code>
+    ensures { result ≡ found generation gens.now.files }
+{
+    match generation {
+        Gen::Next => Ok(None),
+        Gen::Lowest => Ok(gens.lowest(false)),
+        Gen::Missing | Gen::Highest | Gen::All => Ok(gens.highest(false)),
+        Gen::Number(number) => match gens.find(number) {
+            Some(file) if file.deleted => Err(Code::NoFile),
+            Some(_) => Ok(Some(number)),
+            None => Ok(None),
+        },
+    }
+}
+
+// The generation of a name that is put behind, or none, where a new one is added.
+pub(crate) fn found(names: &[Entry], key: &Key, generation: Gen) -> Result<Option<u32>, Code>
+    requires { ascends by_name names.now ≡ true }
+    ensures { result ≡ found generation (files_of key.now (rows_of names.now)) }
+{
+    match position(names, key) {
+        Some(at) => found_beside(names[at].gens(), generation),
+        None => Ok(None),
     }
 }

@@ -1,7 +1,7 @@
 // What names a file: its directory, name, type and generation.
 ghost use Rattle.std.specs.Prelude.{◌≡◌};
 ghost use Rattle.ex_store.specs.Lent.{full_name, name_pair};
-ghost use Rattle.ex_store.specs.Rows.{by_full, by_key};
+ghost use Rattle.ex_store.specs.Rows.{by_key};
 
 use cm_text::Name;
 use std::cmp::Ordering;
@@ -62,13 +62,6 @@ pub(crate) fn key_cmp(key: &Key, other: &Key) -> Ordering
     let name = key.name.as_bytes().cmp(other.name.as_bytes());
     let kind = key.kind.as_bytes().cmp(other.kind.as_bytes());
     directory.then(name.then(kind))
-}
-
-// Which of two comes first, by the generation where the rest is the same.
-pub(crate) fn full_cmp(key: &Key, generation: u32, other: &FullName) -> Ordering
-    ensures { result ≡ by_full (record { key = key.now; generation = generation }) other.now }
-{
-    key_cmp(key, &other.key).then(generation.cmp(&other.generation))
 }
 
 // A name that is one of its own.

@@ -3,13 +3,13 @@ ghost use Rattle.std.specs.Prelude.{◌≡◌, ◌≤◌, true, false, length, n
 ghost use Rattle.std.specs.List.{list_all};
 ghost use Rattle.ex_generations.specs.declared.file.TheConstants.{FILE_LIMIT};
 ghost use Rattle.ex_generations.specs.Generations.{page_count};
-ghost use Rattle.ex_store.specs.declared.limits.TheConstants.{ROW_LIMIT};
 ghost use Rattle.ex_store.specs.Positions.{all_changed_at};
-ghost use Rattle.ex_store.specs.Rows.{expunged, is_short, pages_marked, with_mark};
+ghost use Rattle.ex_store.specs.Rows.{expunged, pages_marked, with_mark};
 ghost use Rattle.ex_store.specs.Selection.{meant, remarked};
 ghost use Rattle.ex_store.specs.State.{has_directory};
 
-use crate::{Place, Row, Store};
+use crate::files::Files;
+use crate::{Place, Store};
 use ex_generations::{Bytes, PAGE_BYTES};
 
 /// How many pages a file with these bytes has, at most 26: a page is 512 words of five characters, 2,560 bytes, and a
@@ -22,29 +22,15 @@ pub fn page_count(bytes: &Bytes) -> u32
     bytes.len().div_ceil(PAGE_BYTES) as u32
 }
 
-// Gives the rows at these places a mark.
-fn set_marks(rows: &mut [Row], positions: &[u16], deleted: bool)
-    requires { list_all (λ at. nat_lt at (length rows.old)) positions.now ≡ true }
-    ensures { rows.new ≡ all_changed_at (with_mark deleted) rows.old positions.now }
+// Gives the files at these places a mark.
+fn set_marks(files: &mut Files, positions: &[u16], deleted: bool)
+    requires { list_all (λ at. nat_lt at (length files.old.rows)) positions.now ≡ true }
+    ensures rows { files.new.rows ≡ all_changed_at (with_mark deleted) files.old.rows positions.now }
+    ensures rooms { files.new.rooms ≡ files.old.rooms }
 {
     for at in positions {
-        rows[usize::from(*at)].file.deleted = deleted;
+        files.set_mark(usize::from(*at), deleted);
     }
-}
-
-// The pages of a directory's rows that are marked.
-fn marked_pages(rows: &[Row], directory: &[u8]) -> u32
-    requires few { length rows.now ≤ ROW_LIMIT }
-    requires short { list_all is_short rows.now ≡ true }
-    ensures { result ≡ pages_marked directory.now rows.now }
-{
-    let mut pages = 0;
-    for row in rows {
-        if row.is_in(directory) && row.file.deleted {
-            pages += page_count(&row.file.bytes);
-        }
-    }
-    pages
 }
 
 impl Store {
@@ -56,7 +42,7 @@ impl Store {
         ensures count { result ≡ length (meant files.now.flags.deleted files.now self.old.state) }
     {
         let positions = self.positions(files, files.flags.deleted);
-        set_marks(&mut self.rows, &positions, true);
+        set_marks(&mut self.files, &positions, true);
         positions.len() as u32
     }
 
@@ -69,7 +55,7 @@ impl Store {
         ensures count { result ≡ length (meant files.now.flags.deleted files.now self.old.state) }
     {
         let positions = self.positions(files, files.flags.deleted);
-        set_marks(&mut self.rows, &positions, false);
+        set_marks(&mut self.files, &positions, false);
         positions.len() as u32
     }
 
@@ -81,8 +67,6 @@ impl Store {
         } }
         ensures pages { result ≡ pages_marked directory.now self.old.state.rows }
     {
-        let pages = marked_pages(&self.rows, directory.as_bytes());
-        self.rows.retain(|row| !(row.is_in(directory.as_bytes()) && row.file.deleted));
-        pages
+        self.files.expunge(directory.as_bytes())
     }
 }

@@ -1,37 +1,15 @@
 // The store as the catalogue that file specifications are looked up in.
-ghost use Rattle.std.specs.Prelude.{◌≡◌, ◌<◌, true, length, option_map, slice_get, Some};
-ghost use Rattle.cm_files.specs.Catalogue.{ascends, rows_of};
+ghost use Rattle.std.specs.Prelude.{◌≡◌, ◌<◌, length, option_map, slice_get, Some};
+ghost use Rattle.cm_files.specs.Catalogue.{rows_of};
 ghost use Rattle.ex_store.specs.Lent.{row_of_view};
-ghost use Rattle.ex_store.specs.Rows.{by_row, end_in, first_in, rows_in};
+ghost use Rattle.ex_store.specs.Rows.{first_in, rows_in};
 ghost use Rattle.ex_store.specs.State.{catalogue_of, defined, rows_numbered};
 
 use crate::directory::number_of;
-use crate::{Row, RowView, Store};
+use crate::{RowView, Store};
 use cm_files::Names;
-use cm_text::{equals, seek};
+use cm_text::equals;
 use ex_generations::File;
-
-// How many rows stand before those of a directory.
-pub(crate) fn first_of(rows: &[Row], directory: &[u8]) -> usize
-    requires { ascends by_row rows.now ≡ true }
-    ensures { result ≡ first_in directory.now rows.now }
-{
-    seek(
-        rows,
-        |row| row.key.directory.as_bytes().cmp(directory).is_lt(),
-    )
-}
-
-// How many rows stand before those behind a directory.
-fn end_of(rows: &[Row], directory: &[u8]) -> usize
-    requires { ascends by_row rows.now ≡ true }
-    ensures { result ≡ end_in directory.now rows.now }
-{
-    seek(
-        rows,
-        |row| row.key.directory.as_bytes().cmp(directory).is_le(),
-    )
-}
 
 impl Store {
     // The name of the directory with this number.
@@ -47,16 +25,17 @@ impl Store {
     fn first_row(&self, directory: &[u8]) -> usize
         ensures { result ≡ first_in directory.now self.now.state.rows }
     {
-        first_of(&self.rows, directory)
+        self.files.first_of(directory)
     }
 
     // A row of the directory with this number.
-    fn row_at(&self, directory: u16, i: u32) -> &Row
+    fn row_at(&self, directory: u16, i: u32) -> RowView<'_>
         requires directory { directory < length self.now.state.directories }
         requires row { i < length (rows_numbered directory self.now.state) }
-        ensures { slice_get (rows_numbered directory self.now.state) i ≡ Some result.now }
+        ensures { slice_get (rows_numbered directory self.now.state) i ≡ Some (row_of_view result) }
     {
-        &self.rows[self.first_row(self.name_of(directory)) + i as usize]
+        self.files
+            .row_at(self.first_row(self.name_of(directory)) + i as usize)
     }
 
     /// A file of the directory with this name, in ascending order of name, type and generation.
@@ -64,7 +43,8 @@ impl Store {
         requires { i < length (rows_in directory.now self.now.state.rows) }
         ensures { slice_get (rows_in directory.now self.now.state.rows) i ≡ Some (row_of_view result) }
     {
-        self.rows[self.first_row(directory.as_bytes()) + i as usize].lent()
+        let first = self.first_row(directory.as_bytes());
+        self.files.row_at(first + i as usize)
     }
 
     /// A file of the directory with this number, in ascending order of name, type and generation.
@@ -74,7 +54,7 @@ impl Store {
         ensures { option_map (λ row. row.file) (slice_get (rows_numbered directory self.now.state) i)
             ≡ Some result.now }
     {
-        &self.row_at(directory, i).file
+        self.row_at(directory, i).file
     }
 
     // Whether a logical name stands for a directory.
@@ -115,14 +95,14 @@ impl Names for Store {
 
     fn rows(&self, directory: u16) -> u32 {
         let name = self.name_of(directory);
-        (end_of(&self.rows, name) - first_of(&self.rows, name)) as u32
+        (self.files.end_of(name) - self.files.first_of(name)) as u32
     }
 
     fn row(&self, directory: u16, i: u32) -> cm_files::Row<'_> {
         let row = self.row_at(directory, i);
         cm_files::Row {
-            name: row.key.name.as_str(),
-            kind: row.key.kind.as_str(),
+            name: row.name.as_str(),
+            kind: row.kind.as_str(),
             generation: row.file.generation,
             deleted: row.file.deleted,
         }

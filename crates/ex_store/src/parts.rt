@@ -5,9 +5,8 @@ ghost use Rattle.ex_store.specs.State.{has_directory};
 ghost use Rattle.ex_store.specs.WellFormed.{IsWellFormed};
 
 use crate::directory::has_directory;
-use crate::{
-    Definition, DefinitionView, Directory, DirectoryView, QueueEntry, Row, RowView, Store,
-};
+use crate::files::Files;
+use crate::{Definition, DefinitionView, Directory, DirectoryView, QueueEntry, RowView, Store};
 use cm_text::Name;
 use std::marker::Model;
 
@@ -17,7 +16,7 @@ pub struct Parts<'a> {
     pub(crate) directories: &'a [Directory],
     pub(crate) connected: &'a Name,
     pub(crate) logical: &'a [Definition],
-    pub(crate) rows: &'a [Row],
+    pub(crate) files: &'a Files,
     pub(crate) queue: &'a [QueueEntry],
 }
 
@@ -30,7 +29,7 @@ impl<'a> Model for Parts<'a> {
       directories = it.directories.now;
       connected = it.connected.now;
       logical = it.logical.now;
-      rows = it.rows.now;
+      rows = it.files.now.rows;
       queue = it.queue.now;
     } };
 }
@@ -47,13 +46,6 @@ fn definition_at(logical: &[Definition], i: usize) -> DefinitionView<'_>
     ensures { slice_get logical.now i ≡ Some (definition_of_view result) }
 {
     logical[i].lent()
-}
-
-fn row_at(rows: &[Row], i: usize) -> RowView<'_>
-    requires { i < length rows.now }
-    ensures { slice_get rows.now i ≡ Some (row_of_view result) }
-{
-    rows[i].lent()
 }
 
 impl<'a> Parts<'a> {
@@ -112,7 +104,7 @@ impl<'a> Parts<'a> {
     pub fn rows(&self) -> usize
         ensures { result ≡ length self.now.rows }
     {
-        self.rows.len()
+        self.files.len()
     }
 
     /// A file, in ascending order of directory, name, type and generation.
@@ -120,7 +112,7 @@ impl<'a> Parts<'a> {
         requires { i < length self.now.rows }
         ensures { slice_get self.now.rows i ≡ Some (row_of_view result) }
     {
-        row_at(self.rows, i)
+        self.files.row_at(i)
     }
 
     /// The entries of the print queue, in the order in which they came.
@@ -141,7 +133,7 @@ impl Store {
             directories: &self.directories,
             connected: &self.connected,
             logical: &self.logical,
-            rows: &self.rows,
+            files: &self.files,
             queue: &self.queue,
         }
     }

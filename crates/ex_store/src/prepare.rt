@@ -1,8 +1,11 @@
 // Plans are prepared.
-ghost use Rattle.std.specs.Prelude.{ℕ, ◌≡◌, ◌≤◌, ◌+◌, true, length, IfOk, IfErr, OnOk, Ok};
+ghost use Rattle.std.specs.Prelude.{ℕ, ◌≡◌, ◌<◌, ◌≤◌, ◌+◌, true, length, IfOk, IfErr, OnOk, Ok};
+ghost use Rattle.ex_store.specs.Rows.{files_of};
+ghost use Rattle.ex_store.specs.FileNames.{room_at};
+ghost use Rattle.ex_store.specs.declared.key.Key.{Key as Named};
 ghost use Rattle.ex_store.specs.declared.plan.Plan.TheVariants as plans;
 ghost use Rattle.ex_store.specs.Plan.{IsRefused, MayPlan, planned};
-ghost use Rattle.ex_store.specs.Ready.{IsFor, applied, are_doable, count_made, done_on};
+ghost use Rattle.ex_store.specs.Ready.{IsFor, applied, are_doable, count_made, count_under, done_on};
 ghost use Rattle.ex_store.specs.WellFormed.{IsWellFormed};
 
 use crate::build::built;
@@ -58,7 +61,9 @@ impl Store {
             (length self.old.state.directories + count_made ready.now.directory ≤ self.new.directory_room) }
         ensures logical { OnOk result
             (length self.old.state.logical + count_made ready.now.definition ≤ self.new.logical_room) }
-        ensures rows { OnOk result (length self.old.state.rows + length ready.now.row_changes ≤ self.new.row_room) }
+        ensures names { OnOk result ((key : Named) → 0 < count_under key ready.now.row_changes
+            → length (files_of key self.old.state.rows) + count_under key ready.now.row_changes
+            ≤ room_at key self.new.name_rooms) }
         ensures queue { OnOk result (length self.old.state.queue + length ready.now.entries ≤ self.new.queue_room) }
     {
         if ready.directory.is_some() {
@@ -67,7 +72,7 @@ impl Store {
         if ready.definition.is_some() {
             self.logical.reserve(1)?;
         }
-        self.rows.reserve(ready.row_changes.len())?;
+        self.files.make_room(self.alloc, &ready.row_changes)?;
         self.queue.reserve(ready.entries.len())?;
         Ok(())
     }

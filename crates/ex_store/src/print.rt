@@ -1,6 +1,7 @@
 // Files are queued for printing.
 ghost use Rattle.std.specs.Prelude.{ℕ, ◌≡◌, ◌≤◌, true, length, map, nat_lt, IfOk, IfErr, Ok};
 ghost use Rattle.std.specs.List.{list_all};
+ghost use Rattle.ex_store.specs.Lent.{row_of_view};
 ghost use Rattle.ex_store.specs.declared.limits.TheConstants.{QUEUE_LIMIT, ROW_LIMIT};
 ghost use Rattle.ex_store.specs.declared.plan.Plan.TheVariants as plans;
 ghost use Rattle.ex_store.specs.Plan.{IsRefused, MayPlan, planned};
@@ -9,9 +10,10 @@ ghost use Rattle.ex_store.specs.Printing.{entry_for, limit_check, own_pairs};
 ghost use Rattle.ex_store.specs.Ready.{applied, are_doable, done_on, of_entries};
 ghost use Rattle.ex_store.specs.WellFormed.{IsWellFormed};
 
+use crate::files::Files;
 use crate::key::copy_of;
 use crate::limits::QUEUE_LIMIT;
-use crate::{NamePair, Place, QueueEntry, Ready, Refusal, Row, Store};
+use crate::{NamePair, Place, QueueEntry, Ready, Refusal, RowView, Store};
 use cm_fields::Code;
 use cm_io::NoMemory;
 use cm_text::Name;
@@ -33,18 +35,18 @@ pub struct Request {
 }
 
 // The name of the job that a file is printed in.
-fn job_of(request: &Request, row: &Row) -> Name
-    ensures { result ≡ (entry_for request.now row.now).job }
+fn job_of(request: &Request, row: RowView<'_>) -> Name
+    ensures { result ≡ (entry_for request.now (row_of_view row.entry)).job }
 {
     match &request.job {
         Some(job) => copy_of(job),
-        None => copy_of(&row.key.name),
+        None => copy_of(row.name),
     }
 }
 
 // The entry of a file.
-fn entry_for(request: &Request, row: &Row) -> QueueEntry
-    ensures { result ≡ entry_for request.now row.now }
+fn entry_for(request: &Request, row: RowView<'_>) -> QueueEntry
+    ensures { result ≡ entry_for request.now (row_of_view row.entry) }
 {
     QueueEntry {
         file: row.full_name(),
@@ -71,29 +73,29 @@ fn check_limit(queue: usize, more: usize) -> Result<(), Code>
 // An entry for each of the files at these places.
 fn entries_for(
     alloc: Global,
-    rows: &[Row],
+    files: &Files,
     positions: &[u16],
     request: &Request,
 ) -> Result<Vec<QueueEntry>, NoMemory>
-    requires { list_all (λ at. nat_lt at (length rows.now)) positions.now ≡ true }
+    requires { list_all (λ at. nat_lt at (length files.now.rows)) positions.now ≡ true }
     ensures { IfOk result (λ entries.
-        entries.items ≡ map (entry_for request.now) (elements_at rows.now positions.now)) }
+        entries.items ≡ map (entry_for request.now) (elements_at files.now.rows positions.now)) }
 {
     let mut entries = Vec::new(alloc);
     for at in positions {
-        entries.push(entry_for(request, &rows[usize::from(*at)]))?;
+        entries.push(entry_for(request, files.row_at(usize::from(*at))))?;
     }
     Ok(entries)
 }
 
 // Each of the files at these places is its own source.
-fn own_pairs(alloc: Global, rows: &[Row], positions: &[u16]) -> Result<Vec<NamePair>, NoMemory>
-    requires { list_all (λ at. nat_lt at (length rows.now)) positions.now ≡ true }
-    ensures { IfOk result (λ pairs. pairs.items ≡ own_pairs (elements_at rows.now positions.now)) }
+fn own_pairs(alloc: Global, files: &Files, positions: &[u16]) -> Result<Vec<NamePair>, NoMemory>
+    requires { list_all (λ at. nat_lt at (length files.now.rows)) positions.now ≡ true }
+    ensures { IfOk result (λ pairs. pairs.items ≡ own_pairs (elements_at files.now.rows positions.now)) }
 {
     let mut pairs = Vec::new(alloc);
     for at in positions {
-        let row = &rows[usize::from(*at)];
+        let row = files.row_at(usize::from(*at));
         pairs.push(NamePair {
             source: row.full_name(),
             target: row.full_name(),
@@ -105,17 +107,17 @@ fn own_pairs(alloc: Global, rows: &[Row], positions: &[u16]) -> Result<Vec<NameP
 // The files at these places are queued.
 fn queue_files(
     alloc: Global,
-    rows: &[Row],
+    files: &Files,
     positions: &[u16],
     request: &Request,
 ) -> Result<Ready, NoMemory>
-    requires within { list_all (λ at. nat_lt at (length rows.now)) positions.now ≡ true }
+    requires within { list_all (λ at. nat_lt at (length files.now.rows)) positions.now ≡ true }
     requires few { length positions.now ≤ ROW_LIMIT }
-    ensures { let files = elements_at rows.now positions.now in
+    ensures { let files = elements_at files.now.rows positions.now in
         IfOk result (λ ready. ready ≡ of_entries (map (entry_for request.now) files) (own_pairs files)) }
 {
-    let entries = entries_for(alloc, rows, positions, request)?;
-    let pairs = own_pairs(alloc, rows, positions)?;
+    let entries = entries_for(alloc, files, positions, request)?;
+    let pairs = own_pairs(alloc, files, positions)?;
     Ok(Ready::of_entries(alloc, entries, pairs))
 }
 
@@ -136,7 +138,7 @@ impl Store {
             Ok(()) => {}
             Err(code) => return Err(Refusal::Code(code)),
         }
-        match queue_files(self.alloc, &self.rows, &positions, request) {
+        match queue_files(self.alloc, &self.files, &positions, request) {
             Ok(ready) => Ok(ready),
             Err(NoMemory) => Err(Refusal::NoMemory),
         }

@@ -1,27 +1,10 @@
 // What a directory is told by its name.
-ghost use Rattle.std.specs.Prelude.{◌≡◌, ◌≤◌, true, length};
-ghost use Rattle.std.specs.List.{list_all};
-ghost use Rattle.ex_store.specs.declared.limits.TheConstants.{ROW_LIMIT};
-ghost use Rattle.ex_store.specs.Rows.{is_short, pages_in};
+ghost use Rattle.std.specs.Prelude.{◌≡◌};
+ghost use Rattle.ex_store.specs.Rows.{pages_in};
 ghost use Rattle.ex_store.specs.State.{retention_of};
 
+use crate::Store;
 use crate::directory::retention_of;
-use crate::{Row, Store, page_count};
-
-// The pages of a directory's rows.
-fn pages_in(rows: &[Row], directory: &[u8]) -> u32
-    requires few { length rows.now ≤ ROW_LIMIT }
-    requires short { list_all is_short rows.now ≡ true }
-    ensures { result ≡ pages_in directory.now rows.now }
-{
-    let mut pages = 0;
-    for row in rows {
-        if row.is_in(directory) {
-            pages += page_count(&row.file.bytes);
-        }
-    }
-    pages
-}
 
 impl Store {
     /// How many generations of each file the directory of this name keeps; 0 where it keeps all, or where there is no
@@ -37,6 +20,6 @@ impl Store {
     pub fn pages_in(&self, directory: &str) -> u32
         ensures { result ≡ pages_in directory.now self.now.state.rows }
     {
-        pages_in(&self.rows, directory.as_bytes())
+        self.files.pages_in(directory.as_bytes())
     }
 }

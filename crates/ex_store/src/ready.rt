@@ -1,8 +1,9 @@
 // A plan that is ready to be done.
-ghost use Rattle.std.specs.Prelude.{◌≡◌, ◌<◌, ◌≤◌, length, slice_get, Some};
+ghost use Rattle.std.specs.Prelude.{◌≡◌, ◌<◌, ◌≤◌, true, length, slice_get, Some};
+ghost use Rattle.std.specs.List.{list_all};
 ghost use Rattle.ex_store.specs.declared.limits.TheConstants.{ROW_LIMIT};
 ghost use Rattle.ex_store.specs.Lent.{name_pair};
-ghost use Rattle.ex_store.specs.Ready.{no_change, of_definition, of_directory, of_entries, of_files};
+ghost use Rattle.ex_store.specs.Ready.{is_lawful, no_change, of_definition, of_directory, of_entries, of_files};
 
 use crate::{Definition, Directory, FullName, NamePair, Pair, QueueEntry, Row};
 use ex_generations::Bytes;
@@ -36,9 +37,7 @@ pub struct Ready {
 }
 
 impl Model for Ready {
-    ghost use Rattle.std.specs.Prelude.{◌≤◌, length};
-    ghost use Rattle.ex_store.specs.Ready.{Change};
-    ghost use Rattle.ex_store.specs.declared.limits.TheConstants.{ROW_LIMIT};
+    ghost use Rattle.ex_store.specs.Ready.{AreLawful, Change};
 
     ghost Value = { Change };
 
@@ -51,7 +50,7 @@ impl Model for Ready {
       pairs = it.pairs.items;
     } };
 
-    ghost invariant = { λ it. length it.pairs.items ≤ ROW_LIMIT };
+    ghost invariant = { λ it. AreLawful it.row_changes.items it.pairs.items };
 }
 
 impl Ready {
@@ -94,7 +93,8 @@ impl Ready {
         row_changes: Vec<RowChange>,
         pairs: Vec<NamePair>,
     ) -> Ready
-        requires { length pairs.items ≤ ROW_LIMIT }
+        requires few { length pairs.items ≤ ROW_LIMIT }
+        requires lawful { list_all is_lawful row_changes.items ≡ true }
         ensures { result ≡ of_files retention row_changes.items pairs.items }
     {
         let mut ready = Ready::new(alloc);

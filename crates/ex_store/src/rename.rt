@@ -4,6 +4,7 @@ ghost use Rattle.std.specs.List.{list_all};
 ghost use Rattle.cm_files.specs.Catalogue.{ascends};
 ghost use Rattle.ex_generations.specs.declared.file.TheConstants.{FILE_LIMIT};
 ghost use Rattle.ex_generations.specs.Generations.{has};
+ghost use Rattle.ex_store.specs.Lent.{row_of_view};
 ghost use Rattle.ex_store.specs.declared.limits.TheConstants.{ROW_LIMIT};
 ghost use Rattle.ex_store.specs.declared.plan.Plan.TheVariants as plans;
 ghost use Rattle.ex_store.specs.declared.ready.RowChange.TheVariants as changes;
@@ -17,16 +18,17 @@ ghost use Rattle.ex_store.specs.State.{retention_of};
 ghost use Rattle.ex_store.specs.WellFormed.{AreRows, IsWellFormed, is_numbered};
 
 use crate::directory::retention_of;
-use crate::file_name::{FileName, add, numbered, remove};
+use crate::file_name::{Entry, add, numbered, remove};
+use crate::files::Files;
 use crate::simulation::Simulation;
-use crate::{Directory, FullName, NamePair, Place, Ready, Refusal, Row, RowChange, Store};
+use crate::{Directory, FullName, NamePair, Place, Ready, Refusal, Row, RowChange, RowView, Store};
 use cm_io::NoMemory;
 use ex_generations::File;
 use std::alloc::Global;
 
 // Adds a file that was taken out under another name, unmarked.
 fn reinsert(
-    names: &mut Vec<FileName>,
+    names: &mut Vec<Entry>,
     alloc: Global,
     target: &FullName,
     file: Option<File>,
@@ -55,21 +57,23 @@ fn reinsert(
 
 // A source is renamed in a simulation: it is taken out, and added under its new name. Which names it had and has.
 fn simulate(
-    names: &mut Vec<FileName>,
+    names: &mut Vec<Entry>,
     alloc: Global,
-    source: &Row,
+    source: RowView<'_>,
     to: &Place,
     retention: u8,
 ) -> Result<NamePair, Refusal>
     requires names { ascends by_name names.old.items ≡ true }
     requires number { may_number to.now.generation ≡ true }
-    ensures pair { IfOk result (λ pair. pair_for to.now source.now (rows_of names.old.items) ≡ Ok pair) }
-    ensures refused { IfErr result (IsRefused (pair_for to.now source.now (rows_of names.old.items))) }
+    ensures pair { IfOk result (λ pair.
+        pair_for to.now (row_of_view source.entry) (rows_of names.old.items) ≡ Ok pair) }
+    ensures refused { IfErr result (IsRefused (pair_for to.now (row_of_view source.entry) (rows_of names.old.items))) }
+    ensures numbered { IfOk result (λ pair. is_numbered pair.target.generation ≡ true) }
     ensures rows { IfOk result (λ pair. rows_of names.new.items ≡ moved retention pair (rows_of names.old.items)) }
     ensures ascend { IfOk result (λ pair. ascends by_name names.new.items ≡ true) }
 {
     let full = source.full_name();
-    let key = to.key_from(&source.key);
+    let key = to.key_from(&source.key());
     let file = remove(names, &full);
     let generation = match numbered(names, &key, to.generation) {
         Ok(generation) => generation,
@@ -104,31 +108,32 @@ impl Simulation {
 fn renames(
     alloc: Global,
     directories: &[Directory],
-    rows: &[Row],
+    files: &Files,
     positions: &[u16],
     from: &[u8],
     to: &Place,
 ) -> Result<Ready, Refusal>
-    requires rows { AreRows directories.now rows.now }
-    requires within { list_all (λ at. nat_lt at (length rows.now)) positions.now ≡ true }
+    requires rows { AreRows directories.now files.now.rows }
+    requires within { list_all (λ at. nat_lt at (length files.now.rows)) positions.now ≡ true }
     requires few { length positions.now ≤ ROW_LIMIT }
-    requires inside { list_all (is_in from.now) (elements_at rows.now positions.now) ≡ true }
-    requires distinct { AreDistinct (elements_at rows.now positions.now) }
+    requires inside { list_all (is_in from.now) (elements_at files.now.rows positions.now) ≡ true }
+    requires distinct { AreDistinct (elements_at files.now.rows positions.now) }
     requires target { IsTarget to.now directories.now }
-    ensures made { let sources = elements_at rows.now positions.now in
-        IfOk result (IsMade directories.now rows.now
-        (all_renamed (retention_of to.now.directory directories.now) to.now sources rows.now)) }
-    ensures refused { let sources = elements_at rows.now positions.now in
-        IfErr result (IsRefused (all_renamed (retention_of to.now.directory directories.now) to.now sources rows.now)) }
+    ensures made { let sources = elements_at files.now.rows positions.now in
+        IfOk result (IsMade directories.now files.now.rows
+        (all_renamed (retention_of to.now.directory directories.now) to.now sources files.now.rows)) }
+    ensures refused { let sources = elements_at files.now.rows positions.now in
+        IfErr result (IsRefused
+        (all_renamed (retention_of to.now.directory directories.now) to.now sources files.now.rows)) }
 {
     let directory = to.directory.as_bytes();
     let retention = retention_of(directories, directory);
-    let mut simulation = match Simulation::new(alloc, rows, from, directory) {
+    let mut simulation = match Simulation::new(alloc, files, from, directory) {
         Ok(simulation) => simulation,
         Err(NoMemory) => return Err(Refusal::NoMemory),
     };
     for at in positions {
-        let source = &rows[usize::from(*at)];
+        let source = files.row_at(usize::from(*at));
         let pair = match simulate(&mut simulation.names, alloc, source, to, retention) {
             Ok(pair) => pair,
             Err(refusal) => return Err(refusal),
@@ -157,7 +162,7 @@ impl Store {
         renames(
             self.alloc,
             &self.directories,
-            &self.rows,
+            &self.files,
             &positions,
             from.directory.as_bytes(),
             to,

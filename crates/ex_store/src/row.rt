@@ -2,14 +2,13 @@
 ghost use Rattle.std.specs.Prelude.{◌≡◌};
 ghost use Rattle.ex_store.specs.Adding.{new_row};
 ghost use Rattle.ex_store.specs.Lent.{row_of_view};
-ghost use Rattle.ex_store.specs.Rows.{blank, by_row, full_of, is_full, is_in, is_in_either};
+ghost use Rattle.ex_store.specs.Rows.{blank, full_of};
 
-use crate::key::{full_cmp, key_cmp};
+use crate::key::copy_of;
 use crate::{FullName, Key};
 use cm_text::Name;
 use ex_generations::{Bytes, File};
 use std::alloc::Global;
-use std::cmp::Ordering;
 
 /// A file of a store.
 #[derive(Debug, Drop)]
@@ -34,18 +33,6 @@ pub struct RowView<'a> {
 }
 
 impl Row {
-    // The same, lent.
-    pub(crate) fn lent(&self) -> RowView<'_>
-        ensures { row_of_view result ≡ self.now }
-    {
-        RowView {
-            directory: &self.key.directory,
-            name: &self.key.name,
-            kind: &self.key.kind,
-            file: &self.file,
-        }
-    }
-
     // A new file, unmarked.
     pub(crate) fn new(key: Key, generation: u32, moment: u64, bytes: Bytes) -> Row
         ensures { result ≡ new_row key moment bytes generation }
@@ -85,32 +72,27 @@ impl Row {
             generation: self.file.generation,
         }
     }
+}
 
-    // Whether it has this full name.
-    pub(crate) fn is_full(&self, full: &FullName) -> bool
-        ensures { result ≡ is_full full.now self.now }
+impl<'a> RowView<'a> {
+    // Its directory, name and type.
+    pub(crate) fn key(self) -> Key
+        ensures { result ≡ (row_of_view self.entry).key }
     {
-        full_cmp(&self.key, self.file.generation, full).is_eq()
+        Key {
+            directory: copy_of(self.directory),
+            name: copy_of(self.name),
+            kind: copy_of(self.kind),
+        }
     }
 
-    // Whether it is one of this directory.
-    pub(crate) fn is_in(&self, directory: &[u8]) -> bool
-        ensures { result ≡ is_in directory.now self.now }
+    // Its full name.
+    pub(crate) fn full_name(self) -> FullName
+        ensures { result ≡ full_of (row_of_view self.entry) }
     {
-        self.key.directory.as_bytes().cmp(directory).is_eq()
-    }
-
-    // Whether it is one of either directory.
-    pub(crate) fn is_in_either(&self, first: &[u8], second: &[u8]) -> bool
-        ensures { result ≡ is_in_either first.now second.now self.now }
-    {
-        self.is_in(first) || self.is_in(second)
-    }
-
-    // Which of two comes first.
-    pub(crate) fn cmp_with(&self, other: &Row) -> Ordering
-        ensures { result ≡ by_row self.now other.now }
-    {
-        key_cmp(&self.key, &other.key).then(self.file.generation.cmp(&other.file.generation))
+        FullName {
+            key: self.key(),
+            generation: self.file.generation,
+        }
     }
 }

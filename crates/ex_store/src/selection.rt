@@ -7,7 +7,6 @@ ghost use Rattle.ex_store.specs.Selection.{is_meant};
 
 use crate::directory::{has_directory, number_of};
 use crate::limits::ROW_LIMIT;
-use crate::names::first_of;
 use crate::{Place, Store};
 use arrayvec::ArrayVec;
 use cm_files::select;
@@ -30,7 +29,7 @@ impl Store {
     pub(crate) fn positions(&self, files: &Place, deleted: bool) -> ArrayVec<u16, ROW_LIMIT>
         ensures { result.items ≡ positions_from (is_meant deleted files.now self.now.state) 0 self.now.state.rows }
     {
-        let first = first_of(&self.rows, files.directory.as_bytes());
+        let first = self.files.first_of(files.directory.as_bytes());
         let mut positions = ArrayVec::new();
         let mut from = 0;
         while let Some(i) = self.select(files, deleted, from) {

@@ -4,12 +4,12 @@ ghost use Rattle.std.specs.List.{list_all};
 ghost use Rattle.cm_files.specs.Catalogue.{ascends};
 ghost use Rattle.ex_store.specs.declared.limits.TheConstants.{ROW_LIMIT};
 ghost use Rattle.ex_store.specs.FileNames.{by_name, rows_of};
-ghost use Rattle.ex_store.specs.Ready.{of_files};
-ghost use Rattle.ex_store.specs.Rows.{blank, by_row, rows_in_either};
-ghost use Rattle.ex_store.specs.WellFormed.{is_numbered};
+ghost use Rattle.ex_store.specs.Ready.{is_lawful, of_files};
+ghost use Rattle.ex_store.specs.Rows.{blank, rows_in_either};
 
-use crate::file_name::{FileName, add};
-use crate::{NamePair, Ready, Row, RowChange};
+use crate::file_name::Entry;
+use crate::files::Files;
+use crate::{NamePair, Ready, RowChange};
 use cm_io::NoMemory;
 use std::alloc::Global;
 
@@ -19,52 +19,34 @@ use std::alloc::Global;
 pub(crate) struct Simulation {
     pub(crate) row_changes: Vec<RowChange>,
     pub(crate) pairs: Vec<NamePair>,
-    pub(crate) names: Vec<FileName>,
-}
-
-// The files of two directories without their bytes.
-fn blanks(alloc: Global, rows: &[Row], from: &[u8], to: &[u8]) -> Result<Vec<FileName>, NoMemory>
-    requires rows { ascends by_row rows.now ≡ true }
-    requires numbers { list_all (λ row. is_numbered row.file.generation) rows.now ≡ true }
-    ensures rows { IfOk result (λ names. rows_of names.items ≡ map blank (rows_in_either from.now to.now rows.now)) }
-    ensures ascend { IfOk result (λ names. ascends by_name names.items ≡ true) }
-{
-    let mut names = Vec::new(alloc);
-    for row in rows {
-        if !row.is_in_either(from, to) {
-            continue;
-        }
-        add(&mut names, alloc, row.blank(alloc), 0)?;
-    }
-    Ok(names)
+    pub(crate) names: Vec<Entry>,
 }
 
 impl Simulation {
     // Nothing is done yet, with the files of two directories: of files that go, and of files that come.
     pub(crate) fn new(
         alloc: Global,
-        rows: &[Row],
+        files: &Files,
         from: &[u8],
         to: &[u8],
     ) -> Result<Simulation, NoMemory>
-        requires rows { ascends by_row rows.now ≡ true }
-        requires numbers { list_all (λ row. is_numbered row.file.generation) rows.now ≡ true }
         ensures row_changes { IfOk result (λ simulation. simulation.row_changes.items ≡ []) }
         ensures pairs { IfOk result (λ simulation. simulation.pairs.items ≡ []) }
         ensures names { IfOk result (λ simulation.
-            rows_of simulation.names.items ≡ map blank (rows_in_either from.now to.now rows.now)) }
+            rows_of simulation.names.items ≡ map blank (rows_in_either from.now to.now files.now.rows)) }
         ensures ascend { IfOk result (λ simulation. ascends by_name simulation.names.items ≡ true) }
     {
         Ok(Simulation {
             row_changes: Vec::new(alloc),
             pairs: Vec::new(alloc),
-            names: blanks(alloc, rows, from, to)?,
+            names: files.blanks(alloc, from, to)?,
         })
     }
 
     // All that is to be done, where so many generations are kept.
     pub(crate) fn ready(self, alloc: Global, retention: u8) -> Ready
-        requires { length self.pairs.items ≤ ROW_LIMIT }
+        requires few { length self.pairs.items ≤ ROW_LIMIT }
+        requires lawful { list_all is_lawful self.row_changes.items ≡ true }
         ensures { result ≡ of_files retention self.row_changes.items self.pairs.items }
     {
         let Simulation {

@@ -5,7 +5,8 @@ ghost use Rattle.ex_store.specs.Lent.{queue_entry};
 ghost use Rattle.ex_store.specs.State.{defined, first_state, has_directory, logical_name, undefined};
 
 use crate::directory::number_of;
-use crate::{Definition, Directory, Logical, QueueEntry, Queued, Row};
+use crate::files::Files;
+use crate::{Definition, Directory, Logical, QueueEntry, Queued};
 use cm_fields::Code;
 use cm_io::NoMemory;
 use cm_text::{Name, equals};
@@ -13,14 +14,14 @@ use std::alloc::Global;
 use std::marker::Model;
 
 /// The state of the file machine. Contracts see it as five flat lists and values, and for how many directories, logical
-/// names, files and entries of the queue there is room.
+/// names, files of each name and entries of the queue there is room.
 #[derive(Drop)]
 pub struct Store {
     pub(crate) alloc: Global,
     pub(crate) directories: Vec<Directory>,
     pub(crate) connected: Name,
     pub(crate) logical: Vec<Definition>,
-    pub(crate) rows: Vec<Row>,
+    pub(crate) files: Files,
     pub(crate) queue: Vec<QueueEntry>,
 }
 
@@ -36,12 +37,12 @@ impl Model for Store {
         directories = it.directories.items;
         connected = it.connected;
         logical = it.logical.items;
-        rows = it.rows.items;
+        rows = it.files.rows;
         queue = it.queue.items;
       };
       directory_room = vec_capacity it.directories;
       logical_room = vec_capacity it.logical;
-      row_room = vec_capacity it.rows;
+      name_rooms = it.files.rooms;
       queue_room = vec_capacity it.queue;
     } };
 
@@ -49,7 +50,7 @@ impl Model for Store {
       directories = it.directories.items;
       connected = it.connected;
       logical = it.logical.items;
-      rows = it.rows.items;
+      rows = it.files.rows;
       queue = it.queue.items;
     }) };
 }
@@ -71,7 +72,7 @@ impl Store {
             directories,
             connected: Name::new("OPERATOR"),
             logical: Vec::new(alloc),
-            rows: Vec::new(alloc),
+            files: Files::new(alloc),
             queue: Vec::new(alloc),
         })
     }

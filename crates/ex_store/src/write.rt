@@ -3,14 +3,13 @@ ghost use Rattle.std.specs.Prelude.{◌≡◌, true, [], ◌∷◌, IfOk, IfErr,
 ghost use Rattle.ex_store.specs.declared.plan.Plan.TheVariants as plans;
 ghost use Rattle.ex_store.specs.declared.ready.RowChange.TheVariants as changes;
 ghost use Rattle.ex_store.specs.Plan.{IsRefused, MayPlan, planned};
-ghost use Rattle.ex_store.specs.Ready.{applied, are_doable, done_on, of_files};
+ghost use Rattle.ex_store.specs.Ready.{applied, are_doable, done_on, is_lawful, of_files};
 ghost use Rattle.ex_store.specs.Rows.{full_of};
 ghost use Rattle.ex_store.specs.WellFormed.{IsWellFormed};
 
-use crate::adding::{admitted, numbered};
+use crate::adding::admitted;
 use crate::copy::moment_of;
 use crate::directory::retention_of;
-use crate::search::total;
 use crate::{NamePair, Place, Ready, Refusal, Row, RowChange, Store};
 use cm_fields::Code;
 use cm_io::NoMemory;
@@ -19,6 +18,7 @@ use std::alloc::Global;
 
 // One row is added, which is its own source.
 fn one_add(alloc: Global, row: Row, retention: u8) -> Result<Ready, NoMemory>
+    requires { is_lawful (changes.Add row) ≡ true }
     ensures { IfOk result (λ ready. ready
         ≡ of_files retention (changes.Add row ∷ []) ((record { source = full_of row; target = full_of row }) ∷ [])) }
 {
@@ -47,9 +47,9 @@ impl Store {
             return Err(Refusal::Code(Code::NameNeeded));
         }
         let key = to.own_key();
-        let number = numbered(&self.rows, &key, to.generation);
-        let files = self.rows.len();
-        let all = total(&self.rows);
+        let number = self.files.numbered(&key, to.generation);
+        let files = self.files.len();
+        let all = self.files.total();
         let generation = match admitted(number, files, all, bytes.len()) {
             Ok(generation) => generation,
             Err(code) => return Err(Refusal::Code(code)),

@@ -4,22 +4,31 @@ use Rattle.ex_store.specs.Copying.{own_key}
 use Rattle.ex_store.specs.Positions.{elements_at}
 use Rattle.ex_store.specs.Rows.{total}
 use Rattle.ex_store.specs.State.{retention_of}
-use Rattle.ex_store.proofs.AppendedLaws.{append_doable, append_ready, append_sound, bytes_short, few_pairs}
+use Rattle.ex_store.proofs.AppendedLaws.{append_doable, append_lawful, append_ready, append_sound, bytes_short, few_pairs}
 use Rattle.ex_store.proofs.append.appends.Goals as goal
 
 pub poured-requires-clause-short : goal.poured-requires-clause-short
 poured-requires-clause-short c =
-    rw (c.in-Ok-from_slice.ensures.items, c.bytes_at.ensures) (bytes_short c.args.directories.now c.in-Ok.opening.target c.args.rows.now c.requires.rows.within)
+    rw (c.in-Ok-from_slice.ensures.items, c.bytes_at.ensures) (bytes_short c.args.directories.now c.in-Ok.opening.target c.args.files.now.rows c.requires.rows.within)
 
-pub of_files-requires : goal.of_files-requires
-of_files-requires c =
-    few_pairs c.in-Ok.opening.target c.args.rows.now c.args.positions.now _ c.in-Ok-pairs_to.pairs.items c.in-Ok-pairs_to.ensures c.requires.few
+pub of_files-requires-clause-few : goal.of_files-requires-clause-few
+of_files-requires-clause-few c =
+    few_pairs c.in-Ok.opening.target c.args.files.now.rows c.args.positions.now _ c.in-Ok-pairs_to.pairs.items c.in-Ok-pairs_to.ensures c.requires.few
 
-opens : (c : goal.After-of_files) → opened c.args.moment (own_key c.args.to.now) c.args.to.now.generation c.args.rows.now ≡ Ok c.in-Ok.opening
+pub of_files-requires-clause-lawful : goal.of_files-requires-clause-lawful
+of_files-requires-clause-lawful c =
+    let opens : opened c.args.moment (own_key c.args.to.now) c.args.to.now.generation c.args.files.now.rows ≡ Ok c.in-Ok.opening =
+    rw (← c.own_key.ensures) (sym c.opened.ensures ∙ c.in-Ok.is) in
+    let pours : poured (total c.args.files.now.rows) (bytes_at c.in-Ok.opening.target c.args.files.now.rows) (elements_at c.args.files.now.rows c.args.positions.now) ≡ Ok c.in-Ok-poured.bytes =
+    rw (← c.bytes_at.ensures, ← c.in-Ok-from_slice.ensures.items) c.in-Ok-poured.ensures.ok in
+    append_lawful c.args.directories.now c.args.moment c.args.to.now c.args.files.now.rows (elements_at c.args.files.now.rows c.args.positions.now) c.in-Ok.opening c.in-Ok-poured.bytes
+    c.in-Ok-row_changes_of.row_changes.items c.requires.rows c.requires.target opens pours c.in-Ok-row_changes_of.ensures
+
+opens : (c : goal.After-of_files) → opened c.args.moment (own_key c.args.to.now) c.args.to.now.generation c.args.files.now.rows ≡ Ok c.in-Ok.opening
 opens c = rw (← c.own_key.ensures) (sym c.opened.ensures ∙ c.in-Ok.is)
 
 pours : (c : goal.After-of_files)
-    → poured (total c.args.rows.now) (bytes_at c.in-Ok.opening.target c.args.rows.now) (elements_at c.args.rows.now c.args.positions.now) ≡ Ok c.in-Ok-poured.bytes
+    → poured (total c.args.files.now.rows) (bytes_at c.in-Ok.opening.target c.args.files.now.rows) (elements_at c.args.files.now.rows c.args.positions.now) ≡ Ok c.in-Ok-poured.bytes
 pours c = rw (← c.bytes_at.ensures, ← c.in-Ok-from_slice.ensures.items) c.in-Ok-poured.ensures.ok
 
 pub returns-in-Ok-row_changes_of-clause-made : goal.returns-in-Ok-row_changes_of-clause-made
@@ -30,10 +39,10 @@ returns-in-Ok-row_changes_of-clause-made c =
     (record {
       files = refl;
       outcome = rw (← retention_is)
-          (append_ready c.retention_of-retention.result c.args.moment c.args.to.now c.args.rows.now (elements_at c.args.rows.now c.args.positions.now) c.in-Ok.opening c.in-Ok-poured.bytes
+          (append_ready c.retention_of-retention.result c.args.moment c.args.to.now c.args.files.now.rows (elements_at c.args.files.now.rows c.args.positions.now) c.in-Ok.opening c.in-Ok-poured.bytes
           c.in-Ok-row_changes_of.row_changes.items c.in-Ok-pairs_to.pairs.items (opens c) (pours c) c.in-Ok-row_changes_of.ensures c.in-Ok-pairs_to.ensures);
-      sound = append_sound c.args.directories.now c.retention_of-retention.result c.args.moment c.args.to.now c.args.rows.now (elements_at c.args.rows.now c.args.positions.now) c.in-Ok.opening c.in-Ok-poured.bytes
+      sound = append_sound c.args.directories.now c.retention_of-retention.result c.args.moment c.args.to.now c.args.files.now.rows (elements_at c.args.files.now.rows c.args.positions.now) c.in-Ok.opening c.in-Ok-poured.bytes
           c.in-Ok-row_changes_of.row_changes.items c.requires.rows c.requires.target (opens c) (pours c) c.in-Ok-row_changes_of.ensures;
-      doable = append_doable c.args.directories.now c.retention_of-retention.result c.args.moment c.args.to.now c.args.rows.now c.in-Ok.opening c.in-Ok-poured.bytes
+      doable = append_doable c.args.directories.now c.retention_of-retention.result c.args.moment c.args.to.now c.args.files.now.rows c.in-Ok.opening c.in-Ok-poured.bytes
           c.in-Ok-row_changes_of.row_changes.items c.requires.rows c.requires.target (opens c) c.in-Ok-row_changes_of.ensures;
     })

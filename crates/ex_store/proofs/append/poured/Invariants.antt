@@ -9,9 +9,9 @@ use Rattle.ex_store.proofs.append.poured.Given as goal
 
 abbrev pub invariant-loop-at : goal.invariant-loop-at
 invariant-loop-at l = record {
-  so_far : poured l.all l.bytes.items (elements_at l.rows (drop l.at-index l.positions))
-      ≡ poured (total l.rows) l.initial.bytes.items (elements_at l.rows l.positions);
-  within : list_all (λ at. nat_lt at (length l.rows)) (drop l.at-index l.positions) ≡ true;
+  so_far : poured l.all l.bytes.items (elements_at l.files.rows (drop l.at-index l.positions))
+      ≡ poured (total l.files.rows) l.initial.bytes.items (elements_at l.files.rows l.positions);
+  within : list_all (λ at. nat_lt at (length l.files.rows)) (drop l.at-index l.positions) ≡ true;
   small : l.all ≤ STORE_LIMIT;
   short : length l.bytes.items ≤ FILE_LIMIT;
 }

@@ -1,5 +1,5 @@
 use Rattle.std.proofs.Common.{sym, ap, ◌∙◌}
-use Rattle.ex_store.specs.declared.file_name.FileName.{FileName}
+use Rattle.ex_generations.specs.Generations.{Kept}
 use Rattle.ex_store.specs.Adding.{numbered}
 use Rattle.ex_store.proofs.FileNamesLaws.{files_absent, files_found}
 use Rattle.ex_store.proofs.file_name.numbered.Goals as goal
@@ -7,7 +7,7 @@ use Rattle.ex_store.proofs.file_name.numbered.Goals as goal
 pub returns-in-Some : goal.returns-in-Some
 returns-in-Some c =
     c.numbered_beside.ensures
-    ∙ ap (λ (it : FileName). numbered c.args.generation it.gens.files) (sym c.index-names-at.is)
+    ∙ ap (λ (kept : Kept). numbered c.args.generation kept.files) c.gens.ensures
     ∙ ap (numbered c.args.generation)
     (sym (files_found c.args.key.now c.args.names.now c.in-Some.at c.index-names-at.result c.requires (sym c.position.ensures ∙ c.in-Some.is) c.index-names-at.is))
 

@@ -3,23 +3,25 @@ use Rattle.std.proofs.lemmas.Bool.{both_ways, lt-ltb, ltb-true}
 use Rattle.std.proofs.lemmas.List.{get_or_default}
 use Rattle.std.specs.Option.{is_some}
 use Rattle.std.specs.Ordering.{is_eq}
+use Rattle.ex_store.specs.declared.key.Key.{Key}
 use Rattle.ex_store.specs.FileNames.{is_under}
+use Rattle.ex_store.specs.Rows.{by_key}
 use Rattle.ex_store.proofs.FileNamesLaws.{key_place, names_rise}
 use Rattle.ex_store.proofs.HalvingLaws.{found_at, none_there}
 use Rattle.ex_store.proofs.file_name.position.Goals as goal
 
 pub returns-in-Some : goal.returns-in-Some
 returns-in-Some c =
-    found_at (key_place c.args.key.now) c.args.names.now c.place-at.result c.in-Some.name.now c.place-at.ensures
+    found_at (key_place c.args.key.now) c.args.names.now c.place-at.result c.in-Some.entry.now c.place-at.ensures
     (ltb-true _ _ (sym c.in-Some.ensures.lookup.0)) c.in-Some.ensures.lookup.1
-    (ap is_eq (sym c.key_cmp.ensures) ∙ sym c.is_eq.ensures ∙ c.if-is_eq.true)
+    (ap (λ (it : Key). is_eq (by_key it c.args.key.now)) (sym c.key.ensures) ∙ ap is_eq (sym c.key_cmp.ensures) ∙ sym c.is_eq.ensures ∙ c.if-is_eq.true)
 
 pub returns-in_default : goal.returns-in_default
 returns-in_default c =
     none_there (key_place c.args.key.now) c.args.names.now c.place-at.result (names_rise c.args.key.now c.args.names.now c.requires) c.place-at.ensures
     (λ d within. ap (is_under c.args.key.now)
-    (sym (c.in-Some.ensures.lookup.1 ∙ get_or_default c.args.names.now c.place-at.result c.in-Some.name.now d within))
-    ∙ ap is_eq (sym c.key_cmp.ensures) ∙ sym c.is_eq.ensures ∙ c.if-is_eq.false)
+    (sym (c.in-Some.ensures.lookup.1 ∙ get_or_default c.args.names.now c.place-at.result c.in-Some.entry.now d within))
+    ∙ ap (λ (it : Key). is_eq (by_key it c.args.key.now)) (sym c.key.ensures) ∙ ap is_eq (sym c.key_cmp.ensures) ∙ sym c.is_eq.ensures ∙ c.if-is_eq.false)
 
 pub returns-in_default-2 : goal.returns-in_default-2
 returns-in_default-2 c =

@@ -1,5 +1,5 @@
 use Rattle.std.proofs.Common.{sym, ◌∙◌}
-use Rattle.ex_store.proofs.FileNamesLaws.{ascends_set, row_at_absent, row_at_there, without_absent, without_there}
+use Rattle.ex_store.proofs.FileNamesLaws.{ascends_set, rooms_set, row_at_absent, row_at_there, without_absent, without_there}
 use Rattle.ex_store.proofs.file_name.remove.Goals as goal
 
 pub returns-in-Some-clause-file : goal.returns-in-Some-clause-file
@@ -19,3 +19,6 @@ returns-in-None-clause-file c = sym (row_at_absent c.args.full.now c.args.names.
 
 pub returns-in-None-clause-rows : goal.returns-in-None-clause-rows
 returns-in-None-clause-rows c = sym (without_absent c.args.full.now c.args.names.now (sym c.position.ensures ∙ c.in-None.is))
+
+pub returns-in-Some-clause-rooms : goal.returns-in-Some-clause-rooms
+returns-in-Some-clause-rooms c = rooms_set c.args.names.now c.in-Some.at c.remove.new.self c.index-names-at.result c.remove.ensures.key c.remove.ensures.room

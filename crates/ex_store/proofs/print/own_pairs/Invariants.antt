@@ -6,7 +6,7 @@ use Rattle.ex_store.proofs.print.own_pairs.Given as goal
 
 abbrev pub invariant-loop-at : goal.invariant-loop-at
 invariant-loop-at l = record {
-  so_far : l.pairs.items ++ own_pairs (elements_at l.rows (drop l.at-index l.positions))
-      ≡ own_pairs (elements_at l.rows l.positions);
-  within : list_all (λ at. nat_lt at (length l.rows)) (drop l.at-index l.positions) ≡ true;
+  so_far : l.pairs.items ++ own_pairs (elements_at l.files.rows (drop l.at-index l.positions))
+      ≡ own_pairs (elements_at l.files.rows l.positions);
+  within : list_all (λ at. nat_lt at (length l.files.rows)) (drop l.at-index l.positions) ≡ true;
 }

@@ -4,4 +4,4 @@ use Rattle.ex_store.proofs.print.queue_files.Goals as goal
 
 pub of_entries-requires : goal.of_entries-requires
 of_entries-requires c =
-    rw c.in_ok-pairs.ensures (few_pairs c.args.rows.now c.args.positions.now ROW_LIMIT c.requires.few)
+    rw c.in_ok-pairs.ensures (few_pairs c.args.files.now.rows c.args.positions.now ROW_LIMIT c.requires.few)

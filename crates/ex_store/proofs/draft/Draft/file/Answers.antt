@@ -1,5 +1,5 @@
 use Rattle.ex_store.specs.declared.row.Row.{Row}
-use Rattle.ex_store.proofs.DraftLaws.{row_is_short}
+use Rattle.ex_store.proofs.DraftLaws.{row_is_lawful, row_is_short}
 use Rattle.ex_store.proofs.draft.Draft.file.Goals as goal
 
 pub new-requires : goal.new-requires
@@ -17,3 +17,9 @@ new-requires-3 c =
       file = c.args.file;
     } in
     (row_is_short c.args.self.now.directories c.args.self.now.rows row c.requires.directories_within c.requires.rows.within).kind
+
+pub push-requires-clause-short : goal.push-requires-clause-short
+push-requires-clause-short c = (row_is_lawful c.args.self.now.directories c.args.self.now.rows _ c.requires.rows.within).1
+
+pub push-requires-clause-number : goal.push-requires-clause-number
+push-requires-clause-number c = (row_is_lawful c.args.self.now.directories c.args.self.now.rows _ c.requires.rows.within).0

@@ -1,4 +1,4 @@
-use Rattle.std.proofs.Common.{arith, ap, subst, ◌∙◌}
+use Rattle.std.proofs.Common.{arith, ap, subst}
 use Rattle.ex_store.specs.WellFormed.{IsWellFormed}
 use Rattle.ex_store.proofs.RowsInLaws.{rows_between}
 use Rattle.ex_store.proofs.CatalogueLaws.{catalogue_lawful}
@@ -10,8 +10,7 @@ overflow_sub-result c =
     let well = subst (λ held. IsWellFormed held.state) c.self.view_is c.self.invariant in
     let rows = ap (λ held. held.state.rows) c.self.view_is in
     let counts = rows_between c.args.self.now.state well c.args.directory c.name_of-name.result.now c.name_of-name.ensures
-    c.first_of.result c.end_of.result c.deref.result.now c.deref-2.result.now (c.deref.ensures.value ∙ rows)
-    (c.deref-2.ensures.value ∙ rows) c.end_of.ensures c.first_of.ensures in
+    c.first_of.result c.end_of.result c.self.inside.files.rows c.self.inside.files.rows rows rows c.end_of.ensures c.first_of.ensures in
     let whole = counts.0 in
     omega arith
 
@@ -21,8 +20,7 @@ overflow_cast-result c =
     let well = subst (λ held. IsWellFormed held.state) c.self.view_is c.self.invariant in
     let rows = ap (λ held. held.state.rows) c.self.view_is in
     let counts = rows_between c.args.self.now.state well c.args.directory c.name_of-name.result.now c.name_of-name.ensures
-    c.first_of.result c.end_of.result c.deref.result.now c.deref-2.result.now (c.deref.ensures.value ∙ rows)
-    (c.deref-2.ensures.value ∙ rows) c.end_of.ensures c.first_of.ensures in
+    c.first_of.result c.end_of.result c.self.inside.files.rows c.self.inside.files.rows rows rows c.end_of.ensures c.first_of.ensures in
     let few = counts.1 in
     omega arith
 
@@ -32,8 +30,7 @@ returns-clause-value c =
     let well = subst (λ held. IsWellFormed held.state) c.self.view_is c.self.invariant in
     let rows = ap (λ held. held.state.rows) c.self.view_is in
     let counts = rows_between c.args.self.now.state well c.args.directory c.name_of-name.result.now c.name_of-name.ensures
-    c.first_of.result c.end_of.result c.deref.result.now c.deref-2.result.now (c.deref.ensures.value ∙ rows)
-    (c.deref-2.ensures.value ∙ rows) c.end_of.ensures c.first_of.ensures in
+    c.first_of.result c.end_of.result c.self.inside.files.rows c.self.inside.files.rows rows rows c.end_of.ensures c.first_of.ensures in
     let whole = counts.0 in
     omega arith
 

@@ -16,8 +16,8 @@ bounds c =
     let well = subst (λ held. IsWellFormed held.state) c.self.view_is c.self.invariant in
     let few = block_few state well directory in
     let first : c.first_of-first.result ≡ first_in directory state.rows =
-    c.first_of-first.ensures ∙ ap (λ text. first_in text c.deref.result.now) c.as_bytes.ensures.value
-    ∙ ap (first_in directory) (c.deref.ensures.value ∙ ap (λ held. held.state.rows) c.self.view_is) in
+    c.first_of-first.ensures ∙ ap (λ text. first_in text c.self.inside.files.rows) c.as_bytes.ensures.value
+    ∙ ap (first_in directory) (ap (λ held. held.state.rows) c.self.view_is) in
     let within = collects_within (is_meant c.args.deleted c.args.files.now state) c.first_of-first.result rows
     c.loop-i.positions.items c.loop-i.from c.in-Some.i c.loop-i.invariant (sym c.in-Some.is ∙ c.select.ensures) in
     let low = within.0 in
@@ -79,8 +79,8 @@ returns c =
     let directory = c.args.files.now.directory in
     let well = subst (λ held. IsWellFormed held.state) c.self.view_is c.self.invariant in
     let first : c.first_of-first.result ≡ first_in directory state.rows =
-    c.first_of-first.ensures ∙ ap (λ text. first_in text c.deref.result.now) c.as_bytes.ensures.value
-    ∙ ap (first_in directory) (c.deref.ensures.value ∙ ap (λ held. held.state.rows) c.self.view_is) in
+    c.first_of-first.ensures ∙ ap (λ text. first_in text c.self.inside.files.rows) c.as_bytes.ensures.value
+    ∙ ap (first_in directory) (ap (λ held. held.state.rows) c.self.view_is) in
     let test = is_meant c.args.deleted c.args.files.now state in
     collects_all test c.first_of-first.result (rows_in directory state.rows) c.loop-i.positions.items c.loop-i.from c.loop-i.invariant
     (sym c.in_default.is ∙ c.select.ensures)

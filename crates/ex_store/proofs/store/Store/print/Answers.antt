@@ -1,4 +1,4 @@
-use Rattle.std.proofs.Common.{◌≡◌, length, ap, arith, ◌∙◌, refl, subst}
+use Rattle.std.proofs.Common.{◌≡◌, length, ap, arith, refl, subst}
 use Rattle.std.proofs.lemmas.Grind.{common_steps}
 use Rattle.ex_store.specs.Plan.{sources}
 use Rattle.ex_store.specs.Positions.{elements_at}
@@ -22,15 +22,15 @@ returns-in-Err-clause-refused c = λ moment.
 pub queue_files-requires-clause-within : goal.queue_files-requires-clause-within
 queue_files-requires-clause-within c =
     positions_fit (is_meant c.args.files.now.flags.deleted c.args.files.now c.args.self.now.state) c.args.self.now.state.rows
-    c.deref.result.now c.deref-2.result.now c.positions-positions.result.items
-    (c.deref.ensures.value ∙ ap (λ (held : StoreWithRoom). held.state.rows) c.self.view_is) c.deref-2.ensures.0 c.positions-positions.ensures
+    c.self.inside.files.rows c.deref.result.now c.positions-positions.result.items
+    (ap (λ (held : StoreWithRoom). held.state.rows) c.self.view_is) c.deref.ensures.0 c.positions-positions.ensures
 
 pub returns-in-Ok-queue_files-clause-ready : goal.returns-in-Ok-queue_files-clause-ready
 returns-in-Ok-queue_files-clause-ready c = λ moment.
-    let files = elements_at c.deref.result.now c.deref-2.result.now in
+    let files = elements_at c.self.inside.files.rows c.deref.result.now in
     let are : files ≡ sources c.args.files.now c.args.self.now.state =
-    files_are c.args.self.now.state c.args.files.now c.deref.result.now c.deref-2.result.now c.positions-positions.result.items
-    (c.deref.ensures.value ∙ ap (λ (held : StoreWithRoom). held.state.rows) c.self.view_is) c.deref-2.ensures.0 c.positions-positions.ensures in
+    files_are c.args.self.now.state c.args.files.now c.self.inside.files.rows c.deref.result.now c.positions-positions.result.items
+    (ap (λ (held : StoreWithRoom). held.state.rows) c.self.view_is) c.deref.ensures.0 c.positions-positions.ensures in
     let items = ap (λ (held : StoreWithRoom). length held.state.queue) c.self.view_is in
     let queue : c.len.result ≡ length c.args.self.now.state.queue = grind (arith, common_steps, items, c.len.ensures) in
     planned_printed c.args.self.now.state c.args.files.now c.args.request.now files c.in-Ok-queue_files.ready tt moment are
@@ -40,10 +40,10 @@ returns-in-Ok-queue_files-clause-ready c = λ moment.
 
 pub returns-in-Ok-queue_files-clause-sound : goal.returns-in-Ok-queue_files-clause-sound
 returns-in-Ok-queue_files-clause-sound c =
-    let files = elements_at c.deref.result.now c.deref-2.result.now in
+    let files = elements_at c.self.inside.files.rows c.deref.result.now in
     let are : files ≡ sources c.args.files.now c.args.self.now.state =
-    files_are c.args.self.now.state c.args.files.now c.deref.result.now c.deref-2.result.now c.positions-positions.result.items
-    (c.deref.ensures.value ∙ ap (λ (held : StoreWithRoom). held.state.rows) c.self.view_is) c.deref-2.ensures.0 c.positions-positions.ensures in
+    files_are c.args.self.now.state c.args.files.now c.self.inside.files.rows c.deref.result.now c.positions-positions.result.items
+    (ap (λ (held : StoreWithRoom). held.state.rows) c.self.view_is) c.deref.ensures.0 c.positions-positions.ensures in
     let items = ap (λ (held : StoreWithRoom). length held.state.queue) c.self.view_is in
     let queue : c.len.result ≡ length c.args.self.now.state.queue = grind (arith, common_steps, items, c.len.ensures) in
     let well : IsWellFormed c.args.self.now.state = subst (λ (held : StoreWithRoom). IsWellFormed held.state) c.self.view_is c.self.invariant in

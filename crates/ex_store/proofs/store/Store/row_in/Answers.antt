@@ -1,23 +1,22 @@
-use Rattle.std.proofs.Common.{◌+◌, Some, arith, ap, sym, subst, ◌∙◌}
-use Rattle.std.proofs.lemmas.Option.{slice_get-get_or}
+use Rattle.std.proofs.Common.{arith, ap, subst, ◌∙◌}
 use Rattle.ex_store.specs.WellFormed.{IsWellFormed}
 use Rattle.ex_store.proofs.RowsInLaws.{row_in_stands}
 use Rattle.ex_store.proofs.store.Store.row_in.Goals as goal
 
-pub overflow_add-first_row : goal.overflow_add-first_row
-overflow_add-first_row c =
+pub overflow_add-first : goal.overflow_add-first
+overflow_add-first c =
     let well = subst (λ held. IsWellFormed held.state) c.self.view_is c.self.invariant in
-    let place = row_in_stands c.args.self.now.state well c.args.i c.first_row.result c.args.directory.now
-    c.self.inside.rows.items c.requires
+    let place = row_in_stands c.args.self.now.state well c.args.i c.first_row-first.result c.args.directory.now
+    c.self.inside.files.rows c.requires
     (let same = c.as_bytes.ensures in cc) (ap (λ held. held.state.rows) c.self.view_is) in
     let few = place.2 in
     omega arith
 
-pub index-requires : goal.index-requires
-index-requires c =
+pub row_at-requires : goal.row_at-requires
+row_at-requires c =
     let well = subst (λ held. IsWellFormed held.state) c.self.view_is c.self.invariant in
-    let place = row_in_stands c.args.self.now.state well c.args.i c.first_row.result c.args.directory.now
-    c.self.inside.rows.items c.requires
+    let place = row_in_stands c.args.self.now.state well c.args.i c.first_row-first.result c.args.directory.now
+    c.self.inside.files.rows c.requires
     (let same = c.as_bytes.ensures in cc) (ap (λ held. held.state.rows) c.self.view_is) in
     let within = place.0 in
     omega arith
@@ -25,8 +24,7 @@ index-requires c =
 pub returns : goal.returns
 returns c =
     let well = subst (λ held. IsWellFormed held.state) c.self.view_is c.self.invariant in
-    let place = row_in_stands c.args.self.now.state well c.args.i c.first_row.result c.args.directory.now
-    c.self.inside.rows.items c.requires
+    let place = row_in_stands c.args.self.now.state well c.args.i c.first_row-first.result c.args.directory.now
+    c.self.inside.files.rows c.requires
     (let same = c.as_bytes.ensures in cc) (ap (λ held. held.state.rows) c.self.view_is) in
-    place.1 ∙ slice_get-get_or c.self.inside.rows.items (c.first_row.result + c.args.i) c.index.result.now place.0
-    ∙ ap Some (sym (c.lent.ensures ∙ c.index.ensures))
+    place.1 ∙ c.row_at.ensures

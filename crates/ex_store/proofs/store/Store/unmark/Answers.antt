@@ -1,6 +1,4 @@
-use Rattle.std.proofs.Common.{◌≡◌, false, length, map, ap, sym, arith, ◌∙◌}
-use Rattle.std.specs.Vec.{with_items}
-use Rattle.std.proofs.lemmas.List.{with_items_is}
+use Rattle.std.proofs.Common.{◌≡◌, false, length, map, ap, refl, sym, ◌∙◌}
 use Rattle.ex_store.specs.Positions.{positions_from}
 use Rattle.ex_store.specs.Rows.{with_mark}
 use Rattle.ex_store.specs.Selection.{is_meant}
@@ -8,30 +6,26 @@ use Rattle.ex_store.specs.State.{StoreWithRoom}
 use Rattle.ex_store.proofs.RemarkedLaws.{length-positions_from, marked_rows, positions_fit, rows_marked, well_formed_with_rows, where_passing}
 use Rattle.ex_store.proofs.store.Store.unmark.Goals as goal
 
-rows_are : (c : goal.After-deref) → c.deref_mut.result.now ≡ c.args.self.now.state.rows
-rows_are c = c.deref_mut.ensures.value ∙ ap (λ (held : StoreWithRoom). held.state.rows) c.self.view_is
-
 pub set_marks-requires : goal.set_marks-requires
 set_marks-requires c =
     positions_fit (is_meant c.args.files.now.flags.deleted c.args.files.now c.args.self.now.state) c.args.self.now.state.rows
-    c.deref_mut.result.now c.deref.result.now c.positions-positions.result.items (rows_are c) c.deref.ensures.0 c.positions-positions.ensures
+    c.self.inside.files.rows c.deref.result.now c.positions-positions.result.items (ap (λ (held : StoreWithRoom). held.state.rows) c.self.view_is) c.deref.ensures.0 c.positions-positions.ensures
 
-kept : (c : goal.After-len) → (with_items c.self.inside.rows c.set_marks.new.rows).items ≡ map (where_passing (is_meant c.args.files.now.flags.deleted c.args.files.now c.args.self.now.state) (with_mark false)) c.self.inside.rows.items
+kept : (c : goal.After-len) → c.set_marks.new.files.rows ≡ map (where_passing (is_meant c.args.files.now.flags.deleted c.args.files.now c.args.self.now.state) (with_mark false)) c.self.inside.files.rows
 kept c =
-    with_items_is c.self.inside.rows c.set_marks.new.rows (omega (arith, c.set_marks.auto.rows, c.deref_mut.ensures.len))
-    ∙ marked_rows (is_meant c.args.files.now.flags.deleted c.args.files.now c.args.self.now.state) false c.self.inside.rows.items
-    c.deref_mut.result.now c.set_marks.new.rows c.deref.result.now c.positions-positions.result.items c.deref_mut.ensures.value c.deref.ensures.0
+    marked_rows (is_meant c.args.files.now.flags.deleted c.args.files.now c.args.self.now.state) false c.self.inside.files.rows
+    c.self.inside.files.rows c.set_marks.new.files.rows c.deref.result.now c.positions-positions.result.items refl c.deref.ensures.0
     (c.positions-positions.ensures ∙ ap (λ (held : StoreWithRoom). positions_from (is_meant c.args.files.now.flags.deleted c.args.files.now c.args.self.now.state) 0 held.state.rows) (sym c.self.view_is))
-    c.set_marks.ensures
+    c.set_marks.ensures.rows
 
 pub invariant_of-self : goal.invariant_of-self
 invariant_of-self c =
     rw (kept c)
     (well_formed_with_rows _ _ c.self.invariant
-    (rows_marked c.self.inside.directories.items c.self.inside.rows.items _ false c.self.invariant.draft.rows))
+    (rows_marked c.self.inside.directories.items c.self.inside.files.rows _ false c.self.invariant.draft.rows))
 
 pub returns-clause-unmarked : goal.returns-clause-unmarked
-returns-clause-unmarked c = rw (kept c, ← c.self.view_is)
+returns-clause-unmarked c = rw (kept c, c.set_marks.ensures.rooms, ← c.self.view_is)
 
 pub returns-clause-count : goal.returns-clause-count
 returns-clause-count c =

@@ -20,8 +20,8 @@ returns-in-Err-clause-refused c =
     let files : c.len-files.result ≡ length c.args.self.now.state.rows = grind (arith, common_steps, items, c.len-files.ensures) in
     let asked : c.admitted.result ≡ admitted (own_key c.args.to.now) c.args.to.now.generation (length c.args.bytes) c.args.self.now.state.rows =
     asked_is (own_key c.args.to.now) c.own_key-key.result c.args.to.now.generation (length c.args.bytes) c.len.result c.len-files.result c.total-all.result
-    c.args.self.now.state.rows c.deref.result.now c.admitted.result c.own_key-key.ensures (c.deref.ensures.value ∙ rows)
-    files (c.total-all.ensures ∙ ap total (c.deref-2.ensures.value ∙ rows)) c.len.ensures
+    c.args.self.now.state.rows c.self.inside.files.rows c.admitted.result c.own_key-key.ensures rows
+    files (c.total-all.ensures ∙ ap total rows) c.len.ensures
     (c.admitted.ensures ∙ ap (and_then (limited c.len-files.result c.total-all.result c.len.result)) c.numbered-number.ensures) in
     write_refused c.args.self.now.state c.args.to.now c.args.bytes c.args.moment c.in-Err.code (sym c.lacks_name.ensures ∙ c.if-lacks_name.false)
     (sym asked ∙ c.in-Err.is)
@@ -34,8 +34,8 @@ admits c =
     let files : c.len-files.result ≡ length c.args.self.now.state.rows = grind (arith, common_steps, items, c.len-files.ensures) in
     let asked : c.admitted.result ≡ admitted (own_key c.args.to.now) c.args.to.now.generation (length c.args.bytes) c.args.self.now.state.rows =
     asked_is (own_key c.args.to.now) c.own_key-key.result c.args.to.now.generation (length c.args.bytes) c.len.result c.len-files.result c.total-all.result
-    c.args.self.now.state.rows c.deref.result.now c.admitted.result c.own_key-key.ensures (c.deref.ensures.value ∙ rows)
-    files (c.total-all.ensures ∙ ap total (c.deref-2.ensures.value ∙ rows)) c.len.ensures
+    c.args.self.now.state.rows c.self.inside.files.rows c.admitted.result c.own_key-key.ensures rows
+    files (c.total-all.ensures ∙ ap total rows) c.len.ensures
     (c.admitted.ensures ∙ ap (and_then (limited c.len-files.result c.total-all.result c.len.result)) c.numbered-number.ensures) in
     sym asked ∙ c.in-Ok.is
 
@@ -49,8 +49,8 @@ adds c =
 pub returns-in-Ok-one_add-clause-ready : goal.returns-in-Ok-one_add-clause-ready
 returns-in-Ok-one_add-clause-ready c =
     let retention_is : c.retention_of-retention.result ≡ retention_at c.args.to.now c.args.self.now.state =
-    c.retention_of-retention.ensures ∙ ap (λ (name : List ℕ). retention_of name c.deref-3.result.now) c.as_bytes.ensures.value
-    ∙ ap (retention_of c.args.to.now.directory) (c.deref-3.ensures.value ∙ ap (λ (held : StoreWithRoom). held.state.directories) c.self.view_is) in
+    c.retention_of-retention.ensures ∙ ap (λ (name : List ℕ). retention_of name c.deref.result.now) c.as_bytes.ensures.value
+    ∙ ap (retention_of c.args.to.now.directory) (c.deref.ensures.value ∙ ap (λ (held : StoreWithRoom). held.state.directories) c.self.view_is) in
     write_ready c.args.self.now.state c.args.to.now c.args.bytes c.args.moment c.retention_of-retention.result c.in-Ok.generation c.in-Ok-one_add.ready (sym c.lacks_name.ensures ∙ c.if-lacks_name.false)
     (admits c) retention_is (adds c)
 

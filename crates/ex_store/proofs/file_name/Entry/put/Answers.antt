@@ -1,0 +1,16 @@
+use Rattle.std.proofs.Common.{◌≡◌, ap, map, subst, ◌∙◌}
+use Rattle.ex_generations.specs.Generations.{Kept, has}
+use Rattle.ex_store.specs.declared.file_name.FileName.{FileName}
+use Rattle.ex_store.specs.FileNames.{row_under, rows_under}
+use Rattle.ex_store.specs.Rows.{added}
+use Rattle.ex_store.proofs.NamedFilesLaws.{added_under}
+use Rattle.ex_store.proofs.file_name.Entry.put.Goals as goal
+
+pub returns-clause-rows : goal.returns-clause-rows
+returns-clause-rows c =
+    let old : FileName = c.deref_mut.result.now in
+    let is : old ≡ c.args.self.now = c.deref_mut.ensures.value ∙ c.self.view_is in
+    subst (λ (it : FileName). map (row_under old.key) c.add.new.self.files ≡ added c.args.retention (row_under it.key c.args.file) (rows_under it)) is
+    (ap (λ (kept : Kept). map (row_under old.key) kept.files) c.add.ensures.added
+    ∙ added_under c.args.retention old.key c.args.file old.gens.files c.add.ensures.ordered
+    (ap (λ (it : FileName). has c.args.file.generation it.gens.files) is ∙ c.requires.absent))

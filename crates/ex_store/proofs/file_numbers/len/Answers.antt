@@ -1,0 +1,6 @@
+use Rattle.std.proofs.Common.{length}
+use Rattle.ex_store.proofs.FileNumbersLaws.{counted_taken}
+use Rattle.ex_store.proofs.file_numbers.len.Goals as goal
+
+pub files_before-requires-clause-counted : goal.files_before-requires-clause-counted
+files_before-requires-clause-counted c = counted_taken 0 c.args.names.now (length c.args.names.now) c.requires

@@ -1,9 +1,0 @@
-use Rattle.std.proofs.Common.{◌≡◌, drop}
-use Rattle.ex_generations.specs.Generations.{has, unmarked}
-use Rattle.ex_store.specs.Rows.{files}
-use Rattle.ex_store.proofs.search.has_live.Given as goal
-
-abbrev pub invariant-loop-row : goal.invariant-loop-row
-invariant-loop-row l =
-    has l.generation (unmarked (files (drop l.row-index l.rows)))
-    ≡ has l.generation (unmarked (files l.rows))

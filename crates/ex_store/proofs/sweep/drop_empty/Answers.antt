@@ -1,0 +1,16 @@
+use Rattle.std.proofs.Common.{◌≡◌, filter, rules, ap, ◌∙◌}
+use Rattle.std.proofs.lemmas.Fn.{filter_same}
+use Rattle.cm_files.specs.Catalogue.{ascends}
+use Rattle.ex_store.specs.FileNames.{by_name, rows_of}
+use Rattle.ex_store.proofs.SweepLaws.{ascends_filled, has_files, rows_filled}
+use Rattle.ex_store.proofs.sweep.drop_empty.Goals as goal
+
+pub returns-clause-rows : goal.returns-clause-rows
+returns-clause-rows c =
+    let items : c.retain.new.self.items ≡ filter has_files c.args.names.now.items = filter_same _ _ _ (λ x b f' k. search rules) _ _ c.retain.ensures.filtered in
+    ap rows_of items ∙ rows_filled c.args.names.now.items
+
+pub returns-clause-ascend : goal.returns-clause-ascend
+returns-clause-ascend c =
+    let items : c.retain.new.self.items ≡ filter has_files c.args.names.now.items = filter_same _ _ _ (λ x b f' k. search rules) _ _ c.retain.ensures.filtered in
+    ap (ascends by_name) items ∙ ascends_filled c.args.names.now.items c.requires

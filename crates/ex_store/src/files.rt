@@ -1,0 +1,194 @@
+// The files of a store by name.
+ghost use Rattle.std.specs.Prelude.{◌≡◌, ◌+◌, ◌<◌, ◌≤◌, Some, [], ◌∷◌, ◌++◌, get_or, length, map, set, slice_get, true, IfOk, OnErr, OnOk};
+ghost use Rattle.ex_store.specs.declared.limits.TheConstants.{ROW_LIMIT, STORE_LIMIT};
+ghost use Rattle.ex_store.specs.declared.key.Key.{Key as Named};
+ghost use Rattle.ex_store.specs.declared.row.Row.{Row as Filed};
+ghost use Rattle.ex_store.specs.FileNames.{by_name, room_at, rows_of};
+ghost use Rattle.ex_store.specs.Lent.{row_of_view};
+ghost use Rattle.ex_store.specs.Ready.{are_doable, count_under, is_lawful, rows_after_all};
+ghost use Rattle.ex_store.specs.Rows.{blank, by_row, end_in, expunged, files_of, first_in, is_short, pages_in, pages_marked, rows_in_either, total, with_mark};
+ghost use Rattle.ex_store.specs.Adding.{numbered};
+ghost use Rattle.ex_store.specs.Appending.{bytes_at, found};
+ghost use Rattle.cm_files.specs.Catalogue.{ascends};
+ghost use Rattle.ex_generations.specs.declared.file.TheConstants.{FILE_LIMIT};
+ghost use Rattle.ex_store.specs.WellFormed.{is_numbered};
+ghost use Rattle.std.specs.List.{list_all};
+
+use crate::file_name::{Entry, blanks, bytes_at, found, numbered};
+use crate::file_numbers::{count, end_of, first_of, len, push, row_at, set_mark};
+use crate::room::{change_names, make_room};
+use crate::sweep::{drop_marked, pages_in, total};
+use crate::{FullName, Key, Row, RowChange, RowView};
+use cm_fields::{Code, Gen};
+use cm_io::NoMemory;
+use std::alloc::Global;
+use std::marker::Model;
+
+// The files by name, counted. Contracts see one flat list of them, and for how many of each name there is room.
+#[derive(Drop)]
+pub(crate) struct Files {
+    names: Vec<Entry>,
+}
+
+impl Model for Files {
+    ghost use Rattle.ex_store.specs.FileNames.{AreNames, rooms_of, rows_of};
+    ghost use Rattle.ex_store.specs.State.{FilesWithRoom};
+
+    ghost Value = { FilesWithRoom };
+
+    ghost view = { λ it. record { rows = rows_of it.names.items; rooms = rooms_of it.names.items } };
+
+    ghost invariant = { λ it. AreNames it.names.items };
+}
+
+impl Files {
+    // No file.
+    pub(crate) fn new(alloc: Global) -> Files
+        ensures { result.rows ≡ [] }
+    {
+        Files {
+            names: Vec::new(alloc),
+        }
+    }
+
+    // How many there are.
+    pub(crate) fn len(&self) -> usize
+        ensures { result ≡ length self.now.rows }
+    {
+        len(&self.names)
+    }
+
+    // The file with this number.
+    pub(crate) fn row_at(&self, i: usize) -> RowView<'_>
+        requires { i < length self.now.rows }
+        ensures { slice_get self.now.rows i ≡ Some (row_of_view result) }
+    {
+        row_at(&self.names, i)
+    }
+
+    // How many files stand before those of a directory.
+    pub(crate) fn first_of(&self, directory: &[u8]) -> usize
+        ensures { result ≡ first_in directory.now self.now.rows }
+    {
+        first_of(&self.names, directory)
+    }
+
+    // How many files stand before those behind a directory.
+    pub(crate) fn end_of(&self, directory: &[u8]) -> usize
+        ensures { result ≡ end_in directory.now self.now.rows }
+    {
+        end_of(&self.names, directory)
+    }
+
+    // Gives the file with this number a mark.
+    pub(crate) fn set_mark(&mut self, i: usize, deleted: bool)
+        requires { i < length self.old.rows }
+        ensures rows { (d : Filed) → self.new.rows
+            ≡ set self.old.rows i (with_mark deleted (get_or self.old.rows i d)) }
+        ensures rooms { self.new.rooms ≡ self.old.rooms }
+    {
+        set_mark(&mut self.names, i, deleted);
+    }
+
+    // Makes room for what some changes put under each name.
+    pub(crate) fn make_room(&mut self, alloc: Global, changes: &[RowChange]) -> Result<(), NoMemory>
+        ensures rows { self.new.rows ≡ self.old.rows }
+        ensures room { OnOk result ((key : Named) → 0 < count_under key changes.now
+            → length (files_of key self.old.rows) + count_under key changes.now ≤ room_at key self.new.rooms) }
+    {
+        let made = make_room(&mut self.names, alloc, changes);
+        count(&mut self.names, 0);
+        made?;
+        Ok(())
+    }
+
+    // All changes, one after the other, where there is room for what they put.
+    pub(crate) fn change(&mut self, changes: Vec<RowChange>, retention: u8)
+        requires lawful { list_all is_lawful changes.items ≡ true }
+        requires doable { are_doable retention self.old.rows changes.items ≡ true }
+        requires few { length (rows_after_all retention self.old.rows changes.items) ≤ ROW_LIMIT }
+        requires room { (key : Named) → 0 < count_under key changes.items
+            → length (files_of key self.old.rows) + count_under key changes.items ≤ room_at key self.old.rooms }
+        ensures rows { self.new.rows ≡ rows_after_all retention self.old.rows changes.items }
+        ensures rooms { self.new.rooms ≡ self.old.rooms }
+    {
+        change_names(&mut self.names, changes, retention);
+        count(&mut self.names, 0);
+    }
+
+    // The bytes of all files together.
+    pub(crate) fn total(&self) -> usize
+        requires { total self.now.rows ≤ STORE_LIMIT }
+        ensures { result ≡ total self.now.rows }
+    {
+        total(&self.names)
+    }
+
+    // The generation that a new file of a name takes: a number that is given, and else the next.
+    pub(crate) fn numbered(&self, key: &Key, generation: Gen) -> Result<u32, Code>
+        ensures { result ≡ numbered generation (files_of key.now self.now.rows) }
+    {
+        numbered(&self.names, key, generation)
+    }
+
+    // What a file holds; nothing where it is not there.
+    pub(crate) fn bytes_at(&self, full: &FullName) -> &[u8]
+        ensures { result.now ≡ bytes_at full.now self.now.rows }
+    {
+        bytes_at(&self.names, full)
+    }
+
+    // The names of two directories, with their files without their bytes.
+    pub(crate) fn blanks(
+        &self,
+        alloc: Global,
+        from: &[u8],
+        to: &[u8],
+    ) -> Result<Vec<Entry>, NoMemory>
+        ensures rows { IfOk result (λ names.
+            rows_of names.items ≡ map blank (rows_in_either from.now to.now self.now.rows)) }
+        ensures ascend { IfOk result (λ names. ascends by_name names.items ≡ true) }
+    {
+        blanks(alloc, &self.names, from, to)
+    }
+
+    // Expunges the files of a directory, and tells how many pages they had.
+    pub(crate) fn expunge(&mut self, directory: &[u8]) -> u32
+        requires { list_all is_short self.old.rows ≡ true }
+        ensures rows { self.new.rows ≡ expunged directory.now self.old.rows }
+        ensures rooms { self.new.rooms ≡ self.old.rooms }
+        ensures pages { result ≡ pages_marked directory.now self.old.rows }
+    {
+        let pages = drop_marked(&mut self.names, directory);
+        count(&mut self.names, 0);
+        pages
+    }
+
+    // The generation of a name that is put behind, or none, where a new one is added.
+    pub(crate) fn found(&self, key: &Key, generation: Gen) -> Result<Option<u32>, Code>
+        ensures { result ≡ found generation (files_of key.now self.now.rows) }
+    {
+        found(&self.names, key, generation)
+    }
+
+    // The pages of a directory's files.
+    pub(crate) fn pages_in(&self, directory: &[u8]) -> u32
+        requires { list_all is_short self.now.rows ≡ true }
+        ensures { result ≡ pages_in directory.now self.now.rows }
+    {
+        pages_in(&self.names, directory)
+    }
+
+    // Adds a file that goes behind all others.
+    pub(crate) fn push(&mut self, alloc: Global, row: Row) -> Result<(), NoMemory>
+        requires last { ascends by_row (self.old.rows ++ row ∷ []) ≡ true }
+        requires few { length self.old.rows < ROW_LIMIT }
+        requires short { length row.file.bytes ≤ FILE_LIMIT }
+        requires number { is_numbered row.file.generation ≡ true }
+        ensures added { OnOk result (self.new.rows ≡ self.old.rows ++ row ∷ []) }
+        ensures refused { OnErr result (self.new.rows ≡ self.old.rows) }
+    {
+        push(&mut self.names, alloc, row)?;
+        Ok(())
+    }
+}
