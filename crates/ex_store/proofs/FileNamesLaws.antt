@@ -8,8 +8,10 @@ use Rattle.std.specs.declared.cmp.Ordering.TheVariants.{Less, Equal, Greater}
 use Rattle.std.specs.Cmp.{IsTotalOrder}
 use Rattle.std.proofs.lemmas.Bool.{and_from, and_parts, not-true, not_from_false, or_parts}
 use Rattle.std.proofs.lemmas.Cmp.{on_total}
+use Rattle.std.proofs.lemmas.List.Folds.{list_all-append}
 use Rattle.std.proofs.lemmas.List.Quantifiers.{position-Some}
 use Rattle.cm_files.specs.Catalogue.{ascends}
+use Rattle.cm_files.proofs.Sections.{all_implies}
 use Rattle.ex_generations.specs.declared.file.File.{File}
 use Rattle.ex_generations.specs.Generations.{rewritten}
 use Rattle.ex_store.specs.declared.file_name.FileName.{FileName}
@@ -61,15 +63,7 @@ is_above key row = is_gt (by_key row.key key)
 
 pub all_append : {X : Type 0} (test : X → Bool) (xs ys : List X) → list_all test xs ≡ true → list_all test ys ≡ true
     → list_all test (xs ++ ys) ≡ true
-all_append test [] ys first rest = rest
-all_append test (x ∷ xs) ys first rest =
-    let parts = and_parts _ _ first in and_from _ _ parts.0 (all_append test xs ys parts.1 rest)
-
-all_imply : {X : Type 0} (test other : X → Bool) → ((x : X) → test x ≡ true → other x ≡ true) → (xs : List X)
-    → list_all test xs ≡ true → list_all other xs ≡ true
-all_imply test other implies [] all = refl
-all_imply test other implies (x ∷ xs) all =
-    let parts = and_parts _ _ all in and_from _ _ (implies x parts.0) (all_imply test other implies xs parts.1)
+all_append test xs ys first rest = list_all-append test xs ys ∙ and_from _ _ first rest
 
 below_own : (key under : Key) (own : List File) → is_lt (by_key under key) ≡ true → list_all (is_below key) (map (row_under under) own) ≡ true
 below_own key under [] less = refl
@@ -113,10 +107,10 @@ above_none Equal is = absurd (cc)
 above_none Greater is = refl
 
 none_below : (key : Key) (rows : List Row) → list_all (is_below key) rows ≡ true → none_of key rows ≡ true
-none_below key rows all = all_imply (is_below key) (λ row. not (is_of key row)) (λ row is. below_none (by_key row.key key) is) rows all
+none_below key rows all = all_implies (is_below key) (λ row. not (is_of key row)) (λ row is. below_none (by_key row.key key) is) rows all
 
 none_above : (key : Key) (rows : List Row) → list_all (is_above key) rows ≡ true → none_of key rows ≡ true
-none_above key rows all = all_imply (is_above key) (λ row. not (is_of key row)) (λ row is. above_none (by_key row.key key) is) rows all
+none_above key rows all = all_implies (is_above key) (λ row. not (is_of key row)) (λ row is. above_none (by_key row.key key) is) rows all
 
 -- a row is added behind those below its key, and before those above it
 then_less : (o p : Ordering) → is_lt o ≡ true → is_lt (ordering_then o p) ≡ true

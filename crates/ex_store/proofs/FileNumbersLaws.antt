@@ -1,6 +1,7 @@
 -- The numbers of the files of all names.
 use Rattle.std.proofs.Common.{◌≡◌, ℕ, zero, suc, ◌+◌, ◌-◌, ◌<◌, ◌≤◌, nat_lt, Bool, true, false, not, cond, List, [], ◌∷◌, ◌++◌, length, drop, get_or, map, set, take, slice_get, refl, ap, sym, subst, ◌∙◌, arith}
 use Rattle.std.specs.List.{list_all, prefix_len}
+use Rattle.std.specs.List.Sorted.{IsPartitionPoint, IsPartitionedBy}
 use Rattle.std.specs.Ordering.{is_gt, is_lt, ordering_then}
 use Rattle.std.specs.declared.cmp.Ordering.{Ordering}
 use Rattle.std.specs.declared.cmp.Ordering.TheVariants.{Less, Equal, Greater}
@@ -17,7 +18,7 @@ use Rattle.ex_store.specs.Rows.{by_key}
 use Rattle.ex_store.proofs.AscendsLaws.{ascends_map, sorted_ascends}
 use Rattle.ex_store.proofs.FileNamesLaws.{all_append, by_name_total}
 use Rattle.ex_store.proofs.HalvingLaws.{rises_sorted}
-use Rattle.ex_store.proofs.RowsInLaws.{may_follow, rises}
+use Rattle.ex_store.proofs.RowsInLaws.{may_follow, parted, prefix_from_point, rises}
 
 -- counting changes neither rows nor keys
 pub rows_counted : (before : ℕ) (names : List FileName) → rows_of (counted before names) ≡ rows_of names
@@ -272,6 +273,26 @@ prefix_rows test falls directory (name ∷ names) rise =
         (all_append (λ (row : Row). not (passes row.key.directory)) (rows_under name) (rows_of names)
         (own_all (λ it. not (passes it)) name name.gens.files (ap not is))
         (rows_all (λ it. not (passes it)) names (none names is (and_parts _ _ rise).0))))
+
+-- the names are parted at a directory
+directories_part : (test : Ordering → Bool)
+    → ((a b : Ordering) → may_follow a b ≡ true → test b ≡ true → test a ≡ true) → (directory : List ℕ) (names : List FileName)
+    → ascends by_name names ≡ true → IsPartitionedBy (λ name. test (by_bytes name.key.directory directory)) names
+directories_part test falls directory names ascend =
+    parted test falls (λ (name : FileName). by_bytes name.key.directory directory) names (directories_rise directory names ascend)
+
+-- the files of the names before the place that halving finds
+pub rows_before : (test : Ordering → Bool)
+    → ((a b : Ordering) → may_follow a b ≡ true → test b ≡ true → test a ≡ true) → (directory : List ℕ) (names : List FileName) (n : ℕ)
+    → ascends by_name names ≡ true → n ≤ length names
+    → (IsPartitionedBy (λ name. test (by_bytes name.key.directory directory)) names
+    → IsPartitionPoint (λ name. test (by_bytes name.key.directory directory) ≡ true) (λ name. test (by_bytes name.key.directory directory) ≡ false) names n)
+    → length (rows_of (take n names)) ≡ prefix_len (λ row. test (by_bytes row.key.directory directory)) (rows_of names)
+rows_before test falls directory names n ascend within point_from =
+    let point = point_from (directories_part test falls directory names ascend) in
+    ap (λ (m : ℕ). length (rows_of (take m names)))
+    (sym (prefix_from_point (λ (name : FileName). test (by_bytes name.key.directory directory)) names n within point.0 point.1))
+    ∙ prefix_rows test falls directory names (directories_rise directory names ascend)
 
 pub found_under : (names : List FileName) (i n : ℕ) → IsCounted 0 names → i < length (rows_of names)
     → n ≡ prefix_len (λ name. nat_lt name.end (i + 1)) names → StandsUnder names 0 i n

@@ -6,6 +6,7 @@ use Rattle.std.specs.declared.cmp.Ordering.{Ordering}
 use Rattle.cm_files.specs.Catalogue.{by_bytes}
 use Rattle.ex_generations.specs.declared.file.File.{File}
 use Rattle.ex_generations.specs.declared.file.TheConstants.{FILE_LIMIT}
+use Rattle.ex_generations.specs.Generations as generations
 use Rattle.ex_generations.specs.Generations.{marked_as, pages, rewritten}
 use Rattle.ex_generations.specs.Retention.{live}
 use Rattle.ex_store.specs.declared.key.FullName.{FullName}
@@ -122,7 +123,7 @@ end_in directory rows = prefix_len (λ row. is_le (by_bytes row.key.directory di
 
 -- a row without its bytes
 abbrev pub blank : Row → Row
-blank row = record row { file = record row.file { bytes = [] } }
+blank row = record row { file = generations.blank row.file }
 
 -- a file has no more bytes than one may have
 abbrev pub is_short : Row → Bool

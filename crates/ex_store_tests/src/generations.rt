@@ -77,6 +77,14 @@ fn a_file_is_replaced(rt: HostRuntime) {
 }
 
 #[test]
+fn a_blank_has_no_bytes(rt: HostRuntime) {
+    tells(
+        &rt,
+        "1 2-; replace 1 77 new; blank; remove 1 -> 1 2-; 1@77= 2-@5=; 1@77=new",
+    );
+}
+
+#[test]
 fn retention_may_come_alone(rt: HostRuntime) {
     tells(
         &rt,

@@ -70,6 +70,22 @@ fn put_ends(told: &mut String, gens: &Gens) -> Result<(), AllocError> {
     write!(told, " {lowest:?} {highest:?}")
 }
 
+// Each file of a blank of the generations.
+fn put_blank(
+    rt: &(impl Abort + AllocGlobal),
+    gens: &Gens,
+    told: &mut String,
+) -> Result<(), AllocError> {
+    let blank = gens.blank(rt.alloc()).expect(rt, "memory");
+    for i in 0..blank.len() {
+        if i > 0 {
+            told.push(' ')?;
+        }
+        put_whole(told, blank.file(i))?;
+    }
+    Ok(())
+}
+
 // What comes of a step that names a generation, or a number.
 fn put_change(
     rt: &(impl Abort + AllocGlobal),
@@ -103,6 +119,7 @@ fn put_step(
         "files" => put_numbers(told, gens),
         "next" => write!(told, "{:?}", gens.next()),
         "ends" => put_ends(told, gens),
+        "blank" => put_blank(rt, gens, told),
         "expunge" => write!(told, "{}", gens.expunge()),
         _ => put_change(rt, gens, verb, rest, told),
     }
