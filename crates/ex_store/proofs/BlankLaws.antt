@@ -5,6 +5,7 @@ use Rattle.std.specs.Ordering.{is_lt}
 use Rattle.cm_fields.specs.declared.value.Gen.{Gen}
 use Rattle.cm_fields.specs.declared.value.Gen.TheVariants.{Missing, Highest, Next, Lowest, All, Number}
 use Rattle.ex_generations.specs.declared.file.File.{File}
+use Rattle.ex_generations.specs.Generations as generations
 use Rattle.ex_generations.specs.Generations.{has, highest, is_generation, unmarked}
 use Rattle.ex_generations.specs.Retention.{live}
 use Rattle.ex_store.specs.declared.key.FullName.{FullName}
@@ -14,43 +15,39 @@ use Rattle.ex_store.specs.Adding.{next_of, numbered}
 use Rattle.ex_store.specs.Ready.{reinserted, with_name}
 use Rattle.ex_store.specs.Rows.{added, blank, by_row, files_of, inserted, is_full, is_of, kept_newest, retained, row_at, with_mark, without}
 
--- a file without its bytes
-abbrev blank_file : File → File
-blank_file file = record file { bytes = [] }
-
-files_blank : (key : Key) (rows : List Row) → files_of key (map blank rows) ≡ map blank_file (files_of key rows)
+files_blank : (key : Key) (rows : List Row) → files_of key (map blank rows) ≡ map generations.blank (files_of key rows)
 files_blank key [] = refl
 files_blank key (row ∷ rows) = by (is_of key row) (files_blank key rows)
   where
-    by : (b : Bool) → files_of key (map blank rows) ≡ map blank_file (files_of key rows)
+    by : (b : Bool) → files_of key (map blank rows) ≡ map generations.blank (files_of key rows)
         → map (λ (each : Row). each.file) (cond b (blank row ∷ filter (is_of key) (map blank rows)) (filter (is_of key) (map blank rows)))
-        ≡ map blank_file (map (λ (each : Row). each.file) (cond b (row ∷ filter (is_of key) rows) (filter (is_of key) rows)))
-    by true rest = ap (λ files. blank_file row.file ∷ files) rest
+        ≡ map generations.blank (map (λ (each : Row). each.file) (cond b (row ∷ filter (is_of key) rows) (filter (is_of key) rows)))
+    by true rest = ap (λ files. generations.blank row.file ∷ files) rest
     by false rest = rest
 
-live_blank : (files : List File) → live (map blank_file files) ≡ live files
+live_blank : (files : List File) → live (map generations.blank files) ≡ live files
 live_blank [] = refl
 live_blank (file ∷ files) = by file.deleted (live_blank files)
   where
-    by : (b : Bool) → live (map blank_file files) ≡ live files
-        → length (cond (not b) (blank_file file ∷ unmarked (map blank_file files)) (unmarked (map blank_file files)))
+    by : (b : Bool) → live (map generations.blank files) ≡ live files
+        → length (cond (not b) (generations.blank file ∷ unmarked (map generations.blank files)) (unmarked (map generations.blank files)))
         ≡ length (cond (not b) (file ∷ unmarked files) (unmarked files))
     by true rest = rest
     by false rest = ap (λ n. suc n) rest
 
-has_blank : (number : ℕ) (files : List File) → has number (map blank_file files) ≡ has number files
+has_blank : (number : ℕ) (files : List File) → has number (map generations.blank files) ≡ has number files
 has_blank number [] = refl
 has_blank number (file ∷ files) = ap (λ rest. is_generation number file || rest) (has_blank number files)
 
-highest_blank : (files : List File) → highest (map blank_file files) ≡ highest files
+highest_blank : (files : List File) → highest (map generations.blank files) ≡ highest files
 highest_blank [] = refl
 highest_blank (file ∷ files) =
     ap (λ rest. Some (option_map_or (max file.generation) rest file.generation)) (highest_blank files)
 
-next_blank : (files : List File) → next_of (map blank_file files) ≡ next_of files
+next_blank : (files : List File) → next_of (map generations.blank files) ≡ next_of files
 next_blank files = rw (highest_blank files)
 
-numbered_files : (generation : Gen) (files : List File) → numbered generation (map blank_file files) ≡ numbered generation files
+numbered_files : (generation : Gen) (files : List File) → numbered generation (map generations.blank files) ≡ numbered generation files
 numbered_files Missing files = next_blank files
 numbered_files Highest files = next_blank files
 numbered_files Next files = next_blank files

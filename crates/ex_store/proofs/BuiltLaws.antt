@@ -1,17 +1,13 @@
 -- A directory is made, or keeps another number of generations: what is well formed stays so.
-use Rattle.std.proofs.Common.{◌≡◌, ℕ, ◌+◌, ◌<◌, ◌≤◌, suc, Bool, true, false, cond, ◌&&◌, ◌||◌, nat_le, List, [], ◌∷◌, length, insert, map, find, Option, Some, None, unwrap_or, Ok, Err, IfSome, refl, ap, sym, subst, ◌∙◌, arith}
+use Rattle.std.proofs.Common.{◌≡◌, ℕ, ◌<◌, ◌≤◌, Bool, true, false, cond, ◌&&◌, ◌||◌, nat_le, List, [], ◌∷◌, length, map, find, is_some, Option, Some, None, unwrap_or, Ok, Err, IfSome, refl, ap, sym, subst, ◌∙◌, arith}
 use Rattle.std.specs.Cmp.{IsTotalOrder}
-use Rattle.std.specs.Cmp.Lexicographic.{on_texts}
-use Rattle.std.specs.List.{list_all, prefix_len}
+use Rattle.std.specs.Cmp.Lexicographic.{on_texts, texts_ties}
+use Rattle.std.specs.List.{list_all, list_any}
 use Rattle.std.specs.Option.{option_map}
-use Rattle.std.specs.Ordering.{is_lt, on, ordering_reverse}
+use Rattle.std.specs.Ordering.{is_eq, is_lt}
 use Rattle.std.specs.Str.{bytes_eq}
-use Rattle.std.specs.declared.cmp.Ordering.{Ordering}
-use Rattle.std.specs.declared.cmp.Ordering.TheVariants.{Less, Equal, Greater}
-use Rattle.std.proofs.lemmas.Bool.{and_from, and_parts, both_ways, le-leb, leb-false, leb-true, or_parts, or_right}
+use Rattle.std.proofs.lemmas.Bool.{and_from, and_parts, both_ways, le-leb, leb-false, leb-true, lt-leb, or_parts, or_right}
 use Rattle.std.proofs.lemmas.List.{append-nil, length-map}
-use Rattle.std.proofs.lemmas.Map.Lookups.{exact_bytes}
-use Rattle.std.proofs.lemmas.Slice.Eq.{bytes_eq-Decides}
 use Rattle.cm_fields.specs.declared.code.Code.{Code}
 use Rattle.cm_fields.specs.declared.code.Code.TheVariants.{DirLimit}
 use Rattle.cm_files.specs.Catalogue.{ascends, by_bytes, is_directory_name}
@@ -21,72 +17,30 @@ use Rattle.ex_store.specs.declared.limits.TheConstants.{DIRECTORY_LIMIT, RETENTI
 use Rattle.ex_store.specs.declared.plan.Plan.TheVariants as plans
 use Rattle.ex_store.specs.declared.queue.QueueEntry.{QueueEntry}
 use Rattle.ex_store.specs.declared.row.Row.{Row}
-use Rattle.ex_store.specs.Building.{built, directory_inserted, new_retention, with_directory}
+use Rattle.ex_store.specs.Building.{built, by_directory, new_retention, with_directory}
+use Rattle.ex_store.specs.Insertion.{insertion}
 use Rattle.ex_store.specs.Plan.{planned}
 use Rattle.ex_store.specs.Ready.{Change, applied, done_on, of_directory}
 use Rattle.ex_store.specs.State.{State, has_directory, is_named}
 use Rattle.ex_store.specs.WellFormed.{IsWellFormed, is_definition_among, is_directory, is_entry_among, is_row_among}
 use Rattle.ex_store.proofs.AscendsLaws.{ascends_map}
+use Rattle.ex_store.proofs.ElementsLaws.{found_any}
+use Rattle.ex_store.proofs.InsertionLaws.{inserted_all, inserted_ascends, inserted_length}
 
 -- the directory of a name keeps as many generations
 abbrev pub kept_as : List ℕ → ℕ → Directory → Directory
 kept_as name retention other = cond (is_named name other) (record other { retention = retention }) other
 
--- the place of a new directory
-abbrev pub place_of : Directory → List Directory → ℕ
-place_of new directories = prefix_len (λ other. is_lt (by_bytes other.name new.name)) directories
+pub by_directory_total : IsTotalOrder by_directory
+by_directory_total = on_texts (λ (directory : Directory). directory.name)
 
-one-add : (n : ℕ) → 1 + n ≡ suc n
-one-add n = omega arith
-
--- a directory is inserted at its place
-pub inserted_at : (new : Directory) (directories : List Directory) → insert directories (place_of new directories) new ≡ directory_inserted new directories
-inserted_at new [] = refl
-inserted_at new (other ∷ more) = by (is_lt (by_bytes other.name new.name)) (inserted_at new more)
-  where
-    by : (below : Bool) → insert more (place_of new more) new ≡ directory_inserted new more
-        → insert (other ∷ more) (cond below (1 + place_of new more) 0) new
-        ≡ cond below (other ∷ directory_inserted new more) (new ∷ other ∷ more)
-    by true rest = rw (one-add (place_of new more)) (ap (λ others. other ∷ others) rest)
-    by false rest = refl
-
--- directories by their names
-abbrev by_name : Directory → Directory → Ordering
-by_name = on (λ directory. directory.name) by_bytes
-
-by_name_total : IsTotalOrder by_name
-by_name_total = on_texts (λ (directory : Directory). directory.name)
-
--- of two names that differ, the one that does not stand below the other stands above it
-turned : (o : Ordering) → (o ≡ Equal → ⊥) → is_lt o ≡ false → is_lt (ordering_reverse o) ≡ true
-turned Less differ below = absurd (cc)
-turned Equal differ below = absurd (differ refl)
-turned Greater differ below = refl
-
-above : (new other : Directory) → is_named new.name other ≡ false → is_lt (by_name other new) ≡ false → is_lt (by_name new other) ≡ true
-above new other named below =
-    let differ = λ (same : by_name other new ≡ Equal). both_ways _ named ((bytes_eq-Decides other.name new.name).1 (exact_bytes other.name new.name same)) in
-    subst (λ (o : Ordering). is_lt o ≡ true) (sym (by_name_total.antisymm new other)) (turned (by_name other new) differ below)
-
--- with a new directory among them, the directories ascend still
-inserted_ascends : (new : Directory) (directories : List Directory) → ascends by_name directories ≡ true
-    → has_directory new.name directories ≡ false → ascends by_name (directory_inserted new directories) ≡ true
-inserted_ascends new [] ascend absent = refl
-inserted_ascends new (other ∷ []) ascend absent = by (is_lt (by_name other new)) refl
-  where
-    by : (below : Bool) → is_lt (by_name other new) ≡ below → ascends by_name (cond below (other ∷ new ∷ []) (new ∷ other ∷ [])) ≡ true
-    by true is = and_from _ _ is refl
-    by false is = and_from _ _ (above new other (or_parts _ _ absent).0 is) refl
-inserted_ascends new (other ∷ next ∷ more) ascend absent =
-    by (is_lt (by_name other new)) (is_lt (by_name next new)) refl
-    (inserted_ascends new (next ∷ more) (and_parts _ _ ascend).1 (or_parts _ _ absent).1)
-  where
-    by : (below under : Bool) → is_lt (by_name other new) ≡ below
-        → ascends by_name (cond under (next ∷ directory_inserted new more) (new ∷ next ∷ more)) ≡ true
-        → ascends by_name (cond below (other ∷ cond under (next ∷ directory_inserted new more) (new ∷ next ∷ more)) (new ∷ other ∷ next ∷ more)) ≡ true
-    by true true is rest = and_from _ _ (and_parts _ _ ascend).0 rest
-    by true false is rest = and_from _ _ is rest
-    by false under is rest = and_from _ _ (above new other (or_parts _ _ absent).0 is) ascend
+-- a directory that is not there differs from all in its name
+apart : (new : Directory) (directories : List Directory) → has_directory new.name directories ≡ false
+    → list_any (λ other. is_eq (by_directory other new)) directories ≡ false
+apart new [] absent = refl
+apart new (other ∷ more) absent =
+    let parts = or_parts _ _ absent in
+    rw (sym (texts_ties other.name new.name) ∙ parts.0, apart new more parts.1) refl
 
 -- the names stay where a directory keeps another number
 kept_name : (name : List ℕ) (retention : ℕ) (other : Directory) → (kept_as name retention other).name ≡ other.name
@@ -96,13 +50,13 @@ kept_name name retention other = by (is_named name other)
     by true = refl
     by false = refl
 
-kept_order : (name : List ℕ) (retention : ℕ) (other next : Directory) → by_name (kept_as name retention other) (kept_as name retention next) ≡ by_name other next
+kept_order : (name : List ℕ) (retention : ℕ) (other next : Directory) → by_directory (kept_as name retention other) (kept_as name retention next) ≡ by_directory other next
 kept_order name retention other next =
     ap (λ text. by_bytes text (kept_as name retention next).name) (kept_name name retention other)
     ∙ ap (by_bytes other.name) (kept_name name retention next)
 
-kept_ascends : (name : List ℕ) (retention : ℕ) (directories : List Directory) → ascends by_name (map (kept_as name retention) directories) ≡ ascends by_name directories
-kept_ascends name retention directories = ascends_map by_name by_name (kept_as name retention) (kept_order name retention) directories
+kept_ascends : (name : List ℕ) (retention : ℕ) (directories : List Directory) → ascends by_directory (map (kept_as name retention) directories) ≡ ascends by_directory directories
+kept_ascends name retention directories = ascends_map by_directory by_directory (kept_as name retention) (kept_order name retention) directories
 
 pub kept_has : (x name : List ℕ) (retention : ℕ) (directories : List Directory) → has_directory x (map (kept_as name retention) directories) ≡ has_directory x directories
 kept_has x name retention [] = refl
@@ -121,35 +75,16 @@ kept_within name retention (other ∷ more) few within =
     by false = (and_parts _ _ within).0
 
 pub inserted_has : (x : List ℕ) (new : Directory) (directories : List Directory) → has_directory x directories ≡ true
-    → has_directory x (directory_inserted new directories) ≡ true
+    → has_directory x (insertion by_directory new directories) ≡ true
 inserted_has x new [] there = absurd (cc)
-inserted_has x new (other ∷ more) there = by (is_lt (by_name other new)) (is_named x other) refl there (inserted_has x new more)
+inserted_has x new (other ∷ more) there = by (is_lt (by_directory other new)) (is_named x other) refl there (inserted_has x new more)
   where
     by : (below named : Bool) → is_named x other ≡ named → (named || has_directory x more) ≡ true
-        → (has_directory x more ≡ true → has_directory x (directory_inserted new more) ≡ true)
-        → has_directory x (cond below (other ∷ directory_inserted new more) (new ∷ other ∷ more)) ≡ true
+        → (has_directory x more ≡ true → has_directory x (insertion by_directory new more) ≡ true)
+        → has_directory x (cond below (other ∷ insertion by_directory new more) (new ∷ other ∷ more)) ≡ true
     by true true is there rest = rw is refl
     by true false is there rest = rw is (rest there)
     by false named is there rest = or_right (is_named x new) (has_directory x (other ∷ more)) (rw is there)
-
-inserted_within : (new : Directory) (directories : List Directory) → is_directory new ≡ true → list_all is_directory directories ≡ true
-    → list_all is_directory (directory_inserted new directories) ≡ true
-inserted_within new [] is within = and_from _ _ is refl
-inserted_within new (other ∷ more) is within = by (is_lt (by_name other new)) (inserted_within new more is (and_parts _ _ within).1)
-  where
-    by : (below : Bool) → list_all is_directory (directory_inserted new more) ≡ true
-        → list_all is_directory (cond below (other ∷ directory_inserted new more) (new ∷ other ∷ more)) ≡ true
-    by true rest = and_from _ _ (and_parts _ _ within).0 rest
-    by false rest = and_from _ _ is within
-
-inserted_length : (new : Directory) (directories : List Directory) → length (directory_inserted new directories) ≡ length directories + 1
-inserted_length new [] = refl
-inserted_length new (other ∷ more) = by (is_lt (by_name other new)) (inserted_length new more)
-  where
-    by : (below : Bool) → length (directory_inserted new more) ≡ length more + 1
-        → length (cond below (other ∷ directory_inserted new more) (new ∷ other ∷ more)) ≡ length (other ∷ more) + 1
-    by true rest = omega arith
-    by false rest = omega arith
 
 -- how many generations it keeps is within the limit
 found_retention : (name : List ℕ) (directories : List Directory) → list_all is_directory directories ≡ true
@@ -169,7 +104,7 @@ kept_limit name (Some count) directories few within = few
 
 -- what a list of directories has to be
 record AreDirectories (directories : List Directory) : Type 0 where
-  ascend : ascends by_name directories ≡ true
+  ascend : ascends by_directory directories ≡ true
   within : list_all is_directory directories ≡ true
   few : length directories ≤ DIRECTORY_LIMIT
 
@@ -183,7 +118,7 @@ with_more : (made : Directory) (directories : List Directory) → AreDirectories
 with_more made directories are is room = by (has_directory made.name directories) refl
   where
     by : (there : Bool) → has_directory made.name directories ≡ there
-        → AreMore directories (cond there (map (kept_as made.name made.retention) directories) (directory_inserted made directories))
+        → AreMore directories (cond there (map (kept_as made.name made.retention) directories) (insertion by_directory made directories))
     by true known = record {
       are = record {
         ascend = kept_ascends made.name made.retention directories ∙ are.ascend;
@@ -194,12 +129,37 @@ with_more made directories are is room = by (has_directory made.name directories
     }
     by false new = record {
       are = record {
-        ascend = inserted_ascends made directories are.ascend new;
-        within = inserted_within made directories is are.within;
-        few = omega (arith, inserted_length made directories, room new);
+        ascend = inserted_ascends by_directory by_directory_total made directories are.ascend (apart made directories new);
+        within = inserted_all by_directory is_directory made directories is are.within;
+        few = omega (arith, inserted_length by_directory made directories, room new);
       };
       there = λ x there. inserted_has x made directories there;
     }
+
+-- what is made of a name that is there, and of one that is not
+has_found : (name : List ℕ) (directories : List Directory)
+    → has_directory name directories
+    ≡ is_some (option_map (λ (directory : Directory). directory.retention) (find (is_named name) directories))
+has_found name directories = sym (found_any (λ (directory : Directory). directory.retention) (is_named name) directories)
+
+pub built_kept : (name : List ℕ) (retention : Option ℕ) (directories : List Directory) (kept : ℕ)
+    → option_map (λ (directory : Directory). directory.retention) (find (is_named name) directories) ≡ Some kept
+    → built name retention directories ≡ Ok (record { name = name; retention = unwrap_or retention kept })
+built_kept name retention directories kept is =
+    rw (has_found name directories ∙ ap is_some is, is) refl
+
+pub built_new : (name : List ℕ) (retention : Option ℕ) (directories : List Directory)
+    → option_map (λ (directory : Directory). directory.retention) (find (is_named name) directories) ≡ None
+    → length directories < DIRECTORY_LIMIT
+    → built name retention directories ≡ Ok (record { name = name; retention = unwrap_or retention 1 })
+built_new name retention directories is room =
+    rw (has_found name directories ∙ ap is_some is, is, lt-leb DIRECTORY_LIMIT (length directories) room) refl
+
+pub built_full : (name : List ℕ) (retention : Option ℕ) (directories : List Directory)
+    → option_map (λ (directory : Directory). directory.retention) (find (is_named name) directories) ≡ None
+    → DIRECTORY_LIMIT ≤ length directories → built name retention directories ≡ Err DirLimit
+built_full name retention directories is full =
+    rw (has_found name directories ∙ ap is_some is, le-leb DIRECTORY_LIMIT (length directories) full) refl
 
 built_parts : (name : List ℕ) (retention : Option ℕ) (directories : List Directory) (made : Directory) → built name retention directories ≡ Ok made
     → (record { name = name; retention = new_retention name retention directories } ≡ made) × (has_directory name directories ≡ false → length directories < DIRECTORY_LIMIT)

@@ -1,9 +1,7 @@
 -- The catalogue of a state that is well formed is a catalogue.
 use Rattle.std.proofs.Common.{◌≡◌, ℕ, suc, ◌+◌, ◌<◌, Bool, true, false, not, ◌||◌, cond, List, [], ◌∷◌, length, map, refl, ap, arith, ◌∙◌, sym, subst}
-use Rattle.std.specs.Cmp.{IsTotalOrder}
-use Rattle.std.specs.Cmp.Lexicographic.{on_texts}
 use Rattle.std.specs.List.{list_all}
-use Rattle.std.specs.Ordering.{is_lt, nat_cmp, on, ordering_reverse, ordering_then}
+use Rattle.std.specs.Ordering.{is_lt, nat_cmp, ordering_reverse, ordering_then}
 use Rattle.std.specs.declared.cmp.Ordering.{Ordering}
 use Rattle.std.specs.declared.cmp.Ordering.TheVariants.{Less, Equal, Greater}
 use Rattle.std.proofs.lemmas.Bool.{and_from, and_parts, le-leb, lt-ltb}
@@ -16,17 +14,12 @@ use Rattle.cm_files.proofs.LogicalNames.{short_name}
 use Rattle.ex_store.specs.declared.directory.Definition.{Definition}
 use Rattle.ex_store.specs.declared.directory.Directory.{Directory}
 use Rattle.ex_store.specs.declared.row.Row.{Row}
+use Rattle.ex_store.specs.Building.{by_directory}
 use Rattle.ex_store.specs.Rows.{by_row}
 use Rattle.ex_store.specs.State.{State, catalogue_of, file_row, has_directory, is_named, logical_name, number_of}
 use Rattle.ex_store.specs.WellFormed.{IsWellFormed, is_definition_among, is_directory, is_row_among}
 use Rattle.ex_store.proofs.AscendsLaws.{all_above, ascends_map, is_less, is_sorted, sorted_ascends}
-
--- directories by their names
-abbrev pub by_name : Directory → Directory → Ordering
-by_name = on (λ directory. directory.name) by_bytes
-
-pub by_name_total : IsTotalOrder by_name
-by_name_total = on_texts (λ (directory : Directory). directory.name)
+use Rattle.ex_store.proofs.BuiltLaws.{by_directory_total}
 
 pub named : (name : List ℕ) (directory : Directory) → is_named name directory ≡ true → directory.name ≡ name
 named name directory is = (bytes_eq-Decides directory.name name).0 is
@@ -41,14 +34,14 @@ text_itself text = itself (by_bytes text text) (nat_list_cmp_total.antisymm text
 
 -- a directory that stands below others, and the name of one of them
 pub below_name : (directory : Directory) (directories : List Directory) (name : List ℕ)
-    → all_above by_name directory directories ≡ true → has_directory name directories ≡ true
+    → all_above by_directory directory directories ≡ true → has_directory name directories ≡ true
     → by_bytes directory.name name ≡ Less
 below_name directory [] name above there = absurd (cc)
 below_name directory (first ∷ directories) name above there =
     by (is_named name first) refl (and_parts _ _ above).0
     (λ later. below_name directory directories name (and_parts _ _ above).1 later) there
   where
-    by : (is : Bool) → is_named name first ≡ is → is_lt (by_name directory first) ≡ true
+    by : (is : Bool) → is_named name first ≡ is → is_lt (by_directory directory first) ≡ true
         → (has_directory name directories ≡ true → by_bytes directory.name name ≡ Less)
         → (is || has_directory name directories) ≡ true → by_bytes directory.name name ≡ Less
     by true is less rest there =
@@ -65,7 +58,7 @@ above_first n = grind (arith, nat_tests)
 below_next : (n : ℕ) → nat_cmp 0 (1 + n) ≡ Less
 below_next n = grind (arith, nat_tests)
 
-pub number_order : (directories : List Directory) (a b : List ℕ) → is_sorted by_name directories ≡ true
+pub number_order : (directories : List Directory) (a b : List ℕ) → is_sorted by_directory directories ≡ true
     → has_directory a directories ≡ true → has_directory b directories ≡ true
     → nat_cmp (number_of a directories) (number_of b directories) ≡ by_bytes a b
 number_order [] a b sorted has_a has_b = absurd (cc)
@@ -74,7 +67,7 @@ number_order (first ∷ directories) a b sorted has_a has_b =
     (λ later_a later_b. number_order directories a b (and_parts _ _ sorted).1 later_a later_b) has_a has_b
   where
     by : (is_a is_b : Bool) → is_named a first ≡ is_a → is_named b first ≡ is_b
-        → all_above by_name first directories ≡ true
+        → all_above by_directory first directories ≡ true
         → (has_directory a directories ≡ true → has_directory b directories ≡ true
         → nat_cmp (number_of a directories) (number_of b directories) ≡ by_bytes a b)
         → (is_a || has_directory a directories) ≡ true → (is_b || has_directory b directories) ≡ true
@@ -115,7 +108,7 @@ grouped Equal Equal kind generation = refl
 grouped Equal Greater kind generation = refl
 grouped Greater name kind generation = refl
 
-pub row_order : (directories : List Directory) (row other : Row) → is_sorted by_name directories ≡ true
+pub row_order : (directories : List Directory) (row other : Row) → is_sorted by_directory directories ≡ true
     → has_directory row.key.directory directories ≡ true → has_directory other.key.directory directories ≡ true
     → by_file (file_row directories row) (file_row directories other) ≡ by_row row other
 row_order directories row other sorted there other_there =
@@ -130,7 +123,7 @@ pub directory_there : (directories : List Directory) (row : Row) → is_row_amon
 directory_there directories row is =
     (and_parts _ _ (and_parts _ _ (and_parts _ _ (and_parts _ _ (and_parts _ _ is).0).0).0).0).0
 
-rows_ascend : (directories : List Directory) (rows : List Row) → is_sorted by_name directories ≡ true
+rows_ascend : (directories : List Directory) (rows : List Row) → is_sorted by_directory directories ≡ true
     → list_all (is_row_among directories) rows ≡ true → ascends by_row rows ≡ true
     → ascends by_file (map (file_row directories) rows) ≡ true
 rows_ascend directories [] sorted within ascend = refl
@@ -172,11 +165,11 @@ definition_within directories entry is =
 
 pub catalogue_lawful : (state : State) → IsWellFormed state → IsCatalogue (catalogue_of state)
 catalogue_lawful state well =
-    let sorted = sorted_ascends by_name by_name_total state.directories well.draft.directories_ascend in
+    let sorted = sorted_ascends by_directory by_directory_total state.directories well.draft.directories_ascend in
     let many : length (map (λ (directory : Directory). directory.name) state.directories) ≡ length state.directories =
     length-map state.directories (λ directory. directory.name) in
     record {
-      directories_ascend = ascends_map by_bytes by_name (λ directory. directory.name) (λ a b. refl) state.directories
+      directories_ascend = ascends_map by_bytes by_directory (λ directory. directory.name) (λ a b. refl) state.directories
           ∙ well.draft.directories_ascend;
       directory_names = all_map is_directory is_directory_name (λ directory. directory.name) (λ directory is. (and_parts _ _ is).0)
           state.directories well.draft.directories_within;

@@ -1,10 +1,11 @@
 -- A logical name is defined: what is well formed stays so, and what the plan comes to.
-use Rattle.std.proofs.Common.{◌≡◌, ℕ, zero, suc, ◌+◌, ◌<◌, ◌≤◌, nat_le, Bool, true, false, not, cond, ◌&&◌, List, [], ◌∷◌, ◌++◌, length, map, take, get_or, codes, Ok, Err, refl, ap, sym, subst, ◌∙◌, arith}
+use Rattle.std.proofs.Common.{◌≡◌, ℕ, zero, suc, ◌+◌, ◌<◌, ◌≤◌, nat_le, Bool, true, false, not, cond, ◌&&◌, List, [], ◌∷◌, ◌++◌, length, map, take, get_or, slice_index, codes, Ok, Err, refl, ap, sym, subst, ◌∙◌, arith}
 use Rattle.std.specs.Char.{is_ascii_alphabetic, is_ascii_lowercase, to_ascii_lowercase, to_ascii_uppercase}
 use Rattle.std.specs.Cmp.{Equal-is, IsTotalOrder}
 use Rattle.std.specs.Cmp.Lexicographic.{on_texts}
 use Rattle.std.specs.List.{list_all, list_any}
 use Rattle.std.specs.Ordering.{is_eq}
+use Rattle.std.specs.Str.{IsAscii}
 use Rattle.std.proofs.lemmas.Bool.{and_from, and_parts, both_ways, leb-false, or_parts}
 use Rattle.std.proofs.lemmas.Bool.Decides.{nat_tests}
 use Rattle.std.proofs.lemmas.List.{append-nil, length-map, take_all}
@@ -24,6 +25,7 @@ use Rattle.ex_store.specs.declared.limits.TheConstants.{LOGICAL_LIMIT}
 use Rattle.ex_store.specs.declared.plan.Plan.TheVariants as plans
 use Rattle.ex_store.specs.declared.queue.QueueEntry.{QueueEntry}
 use Rattle.ex_store.specs.Defining.{by_definition, definition_of, redirection, with_definition}
+use Rattle.ex_store.specs.Entries.{is_kept, is_kept_name}
 use Rattle.ex_store.specs.Insertion.{insertion}
 use Rattle.ex_store.specs.Plan.{planned}
 use Rattle.ex_store.specs.Ready.{Change, applied, done_on, of_definition}
@@ -36,15 +38,25 @@ use Rattle.ex_store.proofs.InsertionLaws.{inserted_all, inserted_ascends, insert
 abbrev pub up : List ℕ → List ℕ
 up text = map to_ascii_uppercase text
 
--- a capital of a name is an ASCII byte
-name_is_ascii : (byte : ℕ) → is_name byte ≡ true → to_ascii_uppercase byte < 128
+-- the upper case of an ASCII byte is one
+upper_is_ascii : (byte : ℕ) → byte < 128 → to_ascii_uppercase byte < 128
+upper_is_ascii byte is = grind (arith, nat_tests)
+
+pub upper_fits : (text : List ℕ) (i : ℕ) → IsAscii text → to_ascii_uppercase (get_or text i 0) < 128
+upper_fits text i ascii = upper_is_ascii (get_or text i 0) (ascii i)
+
+-- a name is ASCII
+name_is_ascii : (byte : ℕ) → is_name byte ≡ true → byte < 128
 unfolding is_name is_word
 name_is_ascii byte is = grind (arith, nat_tests)
 
-all_ascii : (text : List ℕ) (i : ℕ) → list_all is_name text ≡ true → i < length text → to_ascii_uppercase (get_or text i 0) < 128
-all_ascii [] i all below = absurd (omega arith)
-all_ascii (first ∷ more) zero all below = name_is_ascii first (and_parts _ _ all).0
-all_ascii (first ∷ more) (suc i) all below = all_ascii more i (and_parts _ _ all).1 (omega arith)
+all_ascii : (text : List ℕ) → list_all is_name text ≡ true → IsAscii text
+all_ascii [] all = λ i. omega arith
+all_ascii (first ∷ more) all = λ i. at i (all_ascii more (and_parts _ _ all).1)
+  where
+    at : (i : ℕ) → IsAscii more → slice_index (first ∷ more) i < 128
+    at zero rest = name_is_ascii first (and_parts _ _ all).0
+    at (suc i) rest = rest i
 
 -- the parts of what a logical name is
 record IsLogical (name : List ℕ) : Type 0 where
@@ -77,9 +89,8 @@ unfolding is_logical_name
 logical_from name is =
     and_from _ _ (and_from _ _ (and_from _ _ (and_from _ _ (and_from _ _ is.short is.begins) is.names) is.no_ps) is.no_dsk) is.no_tty
 
-pub upper_fits : (name items : List ℕ) (i : ℕ) → is_logical_name name ≡ true → items ≡ name → i < length items
-    → to_ascii_uppercase (get_or items i 0) < 128
-upper_fits name items i logical same below = all_ascii items i (rw same (logical_parts name logical).names) below
+pub logical_is_ascii : (name : List ℕ) → is_logical_name name ≡ true → IsAscii name
+logical_is_ascii name logical = all_ascii name (logical_parts name logical).names
 
 -- one byte more of a text in upper case
 pub upper_more : (text : List ℕ) (i byte : ℕ) → i < length text → byte ≡ get_or text i byte
@@ -95,7 +106,7 @@ pub upper_all : (text : List ℕ) (i : ℕ) → length text ≤ i → up (take i
 upper_all text i all = ap up (take_all i text all)
 
 -- a text in upper case is equal to what the text is equal to
-lower_up : (text : List ℕ) → map to_ascii_lowercase (up text) ≡ map to_ascii_lowercase text
+pub lower_up : (text : List ℕ) → map to_ascii_lowercase (up text) ≡ map to_ascii_lowercase text
 lower_up [] = refl
 lower_up (byte ∷ text) = rw (lowercase-uppercase byte, lower_up text) refl
 
@@ -149,7 +160,7 @@ upper_logical name logical =
     })
 
 -- the name stays where a logical name stands for another directory
-redirected_name : (new entry : Definition) → (redirection new entry).name ≡ entry.name
+pub redirected_name : (new entry : Definition) → (redirection new entry).name ≡ entry.name
 redirected_name new entry = by (equals entry.name new.name)
   where
     by : (same : Bool) → (cond same (record entry { directory = new.directory }) entry).name ≡ entry.name
@@ -240,6 +251,15 @@ defined_parts name directory logical made is =
     by true full known limit is = record { is = cc; room = λ absent. absurd (both_ways _ absent known) }
     by false true known limit is = absurd (cc)
     by false false known limit is = record { is = cc; room = λ absent. leb-false LOGICAL_LIMIT (length logical) limit }
+
+-- it is in upper case
+pub defined_kept : (name directory : List ℕ) (logical : List Definition) (made : Definition) → is_logical_name name ≡ true
+    → definition_of name directory logical ≡ Ok made → is_kept made ≡ true
+defined_kept name directory logical made named is =
+    let parts = logical_parts name named in
+    let kept : is_kept_name (up name) ≡ true =
+    and_from _ _ (rw (length-map name to_ascii_uppercase) parts.short) (upper_name name parts.names) in
+    ap is_kept (sym (defined_parts name directory logical made is).is) ∙ kept
 
 well_formed_with_logical : (state : State) (logical : List Definition) → IsWellFormed state
     → AreDefinitions state.directories logical → IsWellFormed (record state { logical = logical })

@@ -1,7 +1,7 @@
 -- A state with one part more: the names of that part are short.
 use Rattle.std.proofs.Common.{◌≡◌, ℕ, ◌≤◌, Bool, true, ◌&&◌, nat_le, List, [], ◌∷◌, ◌++◌, length}
 use Rattle.std.specs.List.{list_all}
-use Rattle.std.proofs.lemmas.Bool.{and_parts, leb-true}
+use Rattle.std.proofs.lemmas.Bool.{and_from, and_parts, le-leb, leb-true}
 use Rattle.cm_text.specs.declared.name.TheConstants.{NAME_LIMIT}
 use Rattle.cm_files.specs.LogicalName.{is_logical_name}
 use Rattle.ex_generations.specs.declared.file.TheConstants.{FILE_LIMIT}
@@ -10,6 +10,7 @@ use Rattle.ex_store.specs.declared.directory.Directory.{Directory}
 use Rattle.ex_store.specs.declared.key.Key.{Key}
 use Rattle.ex_store.specs.declared.queue.QueueEntry.{QueueEntry}
 use Rattle.ex_store.specs.declared.row.Row.{Row}
+use Rattle.ex_store.specs.Entries.{is_kept}
 use Rattle.ex_store.specs.WellFormed.{is_definition_among, is_directory, is_entry_among, is_file_name, is_file_type, is_numbered, is_row_among}
 use Rattle.ex_store.proofs.StateLaws.{name_is_short}
 
@@ -47,6 +48,13 @@ definition_is_short directories entries entry within all =
       logical_name_is_short entry.name (second _ _ (first _ _ is)),
       name_is_short entry.directory directories within (first _ _ (first _ _ is)),
     )
+
+-- it is in upper case
+pub definition_is_kept : (directories : List Directory) (entries : List Definition) (entry : Definition)
+    → list_all (is_definition_among directories) (entries ++ entry ∷ []) ≡ true → is_kept entry ≡ true
+definition_is_kept directories entries entry all =
+    let is = last_is (is_definition_among directories) entries entry all in
+    and_from _ _ (le-leb _ _ (logical_name_is_short entry.name (second _ _ (first _ _ is)))) (second _ _ is)
 
 -- the names of a file
 pub record IsShort (key : Key) : Type 0 where

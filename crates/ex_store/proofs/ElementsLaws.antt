@@ -1,7 +1,7 @@
 -- The elements at some places, one after the other.
-use Rattle.std.proofs.Common.{◌≡◌, ℕ, ◌+◌, ◌<◌, ◌≤◌, Bool, true, suc, zero, List, [], ◌∷◌, ◌++◌, length, get_or, drop, nat_lt, Option, Some, None, unwrap_or, sym, ap, subst, ◌∙◌, arith}
-use Rattle.std.specs.List.{list_all, slice_get}
-use Rattle.std.specs.Option.{option_to_list}
+use Rattle.std.proofs.Common.{◌≡◌, ℕ, ◌+◌, ◌<◌, ◌≤◌, Bool, true, false, ◌||◌, cond, suc, zero, List, [], ◌∷◌, ◌++◌, length, get_or, drop, find, nat_lt, Option, Some, None, is_some, unwrap_or, refl, sym, ap, subst, ◌∙◌, arith}
+use Rattle.std.specs.List.{list_all, list_any, slice_get}
+use Rattle.std.specs.Option.{option_map, option_to_list}
 use Rattle.std.proofs.lemmas.Bool.{and_parts, ltb-true}
 use Rattle.std.proofs.lemmas.List.{at_drop_more}
 use Rattle.std.proofs.lemmas.Option.{slice_get-get_or, unwrap_or-slice_get}
@@ -14,6 +14,16 @@ get_some xs i x within is = slice_get-get_or xs i x within ∙ ap (λ y. Some y)
 -- the element that was read at an index
 pub viewed : {X : Type 0} (xs : List X) (i : ℕ) (x : X) → slice_get xs i ≡ Some x → x ≡ get_or xs i x
 viewed {X} xs i x is = ap (λ (it : Option X). unwrap_or it x) (sym is) ∙ unwrap_or-slice_get xs i x
+
+-- where one passes, what is told of the first is told
+pub found_any : {X Y : Type 0} (told : X → Y) (test : X → Bool) (xs : List X) → is_some (option_map told (find test xs)) ≡ list_any test xs
+found_any told test [] = refl
+found_any told test (x ∷ xs) = by (test x) (found_any told test xs)
+  where
+    by : (passes : Bool) → is_some (option_map told (find test xs)) ≡ list_any test xs
+        → is_some (option_map told (cond passes (Some x) (find test xs))) ≡ (passes || list_any test xs)
+    by true rest = refl
+    by false rest = rest
 
 -- what all pass, one of them passes
 pub all_at : {X : Type 0} (test : X → Bool) (xs : List X) (i : ℕ) (x : X) → list_all test xs ≡ true → slice_get xs i ≡ Some x

@@ -9,7 +9,8 @@ use Rattle.ex_store.specs.declared.plan.Plan.TheVariants as plans
 use Rattle.ex_store.specs.declared.queue.QueueEntry.{QueueEntry}
 use Rattle.ex_store.specs.declared.row.Row.{Row}
 use Rattle.ex_store.specs.Adding.{Outcome, and_then}
-use Rattle.ex_store.specs.Building.{built, directory_inserted, with_directory}
+use Rattle.ex_store.specs.Building.{built, by_directory, with_directory}
+use Rattle.ex_store.specs.Insertion.{insertion}
 use Rattle.ex_store.specs.Defining.{definition_of, with_definition}
 use Rattle.ex_store.specs.Plan.{Planned, planned, sources, with_rows}
 use Rattle.ex_store.specs.Printing.{entries_for, own_pairs}
@@ -69,7 +70,7 @@ with_there : (made : Directory) (directories : List Directory) (name : List ℕ)
     → has_directory name (with_directory made directories) ≡ true
 with_there made directories name there = by (has_directory made.name directories)
   where
-    by : (b : Bool) → has_directory name (cond b (map (kept_as made.name made.retention) directories) (directory_inserted made directories)) ≡ true
+    by : (b : Bool) → has_directory name (cond b (map (kept_as made.name made.retention) directories) (insertion by_directory made directories)) ≡ true
     by true = kept_has name made.name made.retention directories ∙ there
     by false = inserted_has name made directories there
 

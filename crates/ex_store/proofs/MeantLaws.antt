@@ -62,14 +62,12 @@ all_meant_in deleted place state rows =
     (meant_in deleted place state) (kept_pass (is_meant deleted place state) rows)
 
 -- a walk over the catalogue's rows of the directory finds the first that is meant
-pub walk_meant : (state : State) → IsWellFormed state → (deleted : Bool) (place : Place) (from n : ℕ) (text : List ℕ)
-    → (items : List Directory) (w : Wanted) → has_directory place.directory state.directories ≡ true → n ≡ number_of text items
-    → text ≡ place.directory → items ≡ state.directories → w ≡ wanted_of deleted place
+pub walk_meant : (state : State) → IsWellFormed state → (deleted : Bool) (place : Place) (from n : ℕ) (w : Wanted)
+    → has_directory place.directory state.directories ≡ true → n ≡ number_of place.directory state.directories
+    → w ≡ wanted_of deleted place
     → position_from (is_selected w (rows_of (catalogue_of state) n)) from (drop from (rows_of (catalogue_of state) n))
     ≡ position_from (is_meant deleted place state) from (drop from (rows_in place.directory state.rows))
-walk_meant state well deleted place from n text items w there is texts lists same =
-    let number : n ≡ number_of place.directory state.directories =
-    is ∙ ap (λ each. number_of each items) texts ∙ ap (number_of place.directory) lists in
+walk_meant state well deleted place from n w there number same =
     let f = file_row state.directories in
     let inside = rows_in place.directory state.rows in
     let rows : rows_of (catalogue_of state) n ≡ map f inside =
@@ -83,11 +81,28 @@ walk_meant state well deleted place from n text items w there is texts lists sam
     (is_meant deleted place state) (meant_inside deleted place state) from (drop from inside)
     (all_drop (is_in place.directory) from inside (kept_pass (is_in place.directory) state.rows))
 
--- a directory that was asked for is there
-pub found_there : (directories items : List Directory) (name text : List ℕ) (found : Bool) → found ≡ has_directory text items
-    → found ≡ true → text ≡ name → items ≡ directories → has_directory name directories ≡ true
-found_there directories items name text found told is texts lists =
-    sym (ap (λ each. has_directory each items) texts ∙ ap (has_directory name) lists) ∙ (sym told ∙ is)
+-- a directory that is looked for: its number, where it is there
+pub found_there : (name text : List ℕ) (directories items : List Directory) (n : ℕ)
+    → Some n ≡ cond (has_directory text items) (Some (number_of text items)) None → text ≡ name → items ≡ directories
+    → (has_directory name directories ≡ true) × (n ≡ number_of name directories)
+found_there name text directories items n told texts lists =
+    by (has_directory name directories) refl (rw (← texts, ← lists) told)
+  where
+    by : (there : Bool) → has_directory name directories ≡ there → Some n ≡ cond there (Some (number_of name directories)) None
+        → (has_directory name directories ≡ true) × (n ≡ number_of name directories)
+    by true is told = (is, cc)
+    by false is told = absurd (cc)
+
+pub not_there : (name text : List ℕ) (directories items : List Directory)
+    → None ≡ cond (has_directory text items) (Some (number_of text items)) None → text ≡ name → items ≡ directories
+    → has_directory name directories ≡ false
+not_there name text directories items told texts lists =
+    by (has_directory name directories) refl (rw (← texts, ← lists) told)
+  where
+    by : (there : Bool) → has_directory name directories ≡ there → None ≡ cond there (Some (number_of name directories)) None
+        → has_directory name directories ≡ false
+    by true is told = absurd (cc)
+    by false is told = is
 
 -- where there is no such directory it has no rows, and none is meant
 lacks_rows : (directories : List Directory) (name : List ℕ) → has_directory name directories ≡ false → (rows : List Row)
@@ -104,12 +119,10 @@ lacks_rows directories name lacks (row ∷ rows) all =
         absurd (both_ways _ lacks (ap (λ each. has_directory each directories) (sym same) ∙ there))
     by false is there rest = rest
 
-pub nothing_meant : (state : State) → IsWellFormed state → (deleted : Bool) (place : Place) (from : ℕ) (text : List ℕ)
-    → (items : List Directory) → has_directory text items ≡ false → text ≡ place.directory → items ≡ state.directories
+pub nothing_meant : (state : State) → IsWellFormed state → (deleted : Bool) (place : Place) (from : ℕ)
+    → has_directory place.directory state.directories ≡ false
     → None ≡ position_from (is_meant deleted place state) from (drop from (rows_in place.directory state.rows))
-nothing_meant state well deleted place from text items lacks texts lists =
-    let none : has_directory place.directory state.directories ≡ false =
-    sym (ap (λ each. has_directory each items) texts ∙ ap (has_directory place.directory) lists) ∙ lacks in
+nothing_meant state well deleted place from none =
     let rows = lacks_rows state.directories place.directory none state.rows well.draft.rows.within in
     sym (ap (λ (each : List Row). position_from (is_meant deleted place state) from (drop from each)) rows ∙ nowhere from)
   where
@@ -236,6 +249,15 @@ positions_meant state well deleted place =
     positions_within (is_meant deleted place state) (is_in place.directory) (meant_in deleted place state) state.rows
     (rows_in place.directory state.rows) (first_in place.directory state.rows) (end_in place.directory state.rows)
     (block place.directory state.rows well.draft.rows.ascend)
+
+-- without such a directory there are none
+pub nowhere_meant : (state : State) → IsWellFormed state → (deleted : Bool) (place : Place)
+    → has_directory place.directory state.directories ≡ false
+    → positions_from (is_meant deleted place state) 0 state.rows ≡ []
+nowhere_meant state well deleted place none =
+    positions_meant state well deleted place
+    ∙ ap (λ (rows : List Row). positions_from (is_meant deleted place state) (first_in place.directory state.rows) rows)
+    (lacks_rows state.directories place.directory none state.rows well.draft.rows.within)
 
 -- and they are few
 pub block_few : (state : State) → IsWellFormed state → (directory : List ℕ)

@@ -17,12 +17,14 @@ use Rattle.cm_files.specs.Catalogue.{ascends, by_bytes, rows_of}
 use Rattle.ex_store.specs.declared.directory.Directory.{Directory}
 use Rattle.ex_store.specs.declared.row.Row.{Row}
 use Rattle.ex_store.specs.Positions.{positions_from}
+use Rattle.ex_store.specs.Building.{by_directory}
 use Rattle.ex_store.specs.Rows.{by_row, end_in, first_in, is_in, rows_in}
 use Rattle.ex_store.specs.State.{State, catalogue_of, file_row, has_directory, is_named, number_of, rows_numbered}
 use Rattle.ex_store.specs.WellFormed.{IsWellFormed, is_row_among}
 use Rattle.ex_store.proofs.AscendsLaws.{all_above, is_less, is_sorted, sorted_ascends}
 use Rattle.ex_store.proofs.ElementsLaws.{all_at}
-use Rattle.ex_store.proofs.CatalogueLaws.{below_name, by_name, by_name_total, directory_there, named, number_order, text_itself}
+use Rattle.ex_store.proofs.BuiltLaws.{by_directory_total}
+use Rattle.ex_store.proofs.CatalogueLaws.{below_name, directory_there, named, number_order, text_itself}
 use Rattle.ex_store.proofs.AreRowsLaws.{by_row_total}
 
 -- what may stand behind an element of this place
@@ -242,7 +244,7 @@ prefix_from_point test (x ∷ xs) at bound before behind =
     prefix_len_is test (x ∷ xs) at x bound (λ k below. before k x (omega arith) below) (λ below. behind at x (omega arith) below)
 
 -- a directory by its number
-pub number_at : (directories : List Directory) (n : ℕ) (directory : Directory) → is_sorted by_name directories ≡ true
+pub number_at : (directories : List Directory) (n : ℕ) (directory : Directory) → is_sorted by_directory directories ≡ true
     → slice_get directories n ≡ Some directory
     → (has_directory directory.name directories ≡ true) × (number_of directory.name directories ≡ n)
 number_at [] n directory sorted is = absurd (cc)
@@ -288,7 +290,7 @@ pub rows_by_number : (state : State) → IsWellFormed state → (name : List ℕ
     → has_directory name state.directories ≡ true
     → rows_numbered (number_of name state.directories) state ≡ rows_in name state.rows
 rows_by_number state well name there =
-    let sorted = sorted_ascends by_name by_name_total state.directories well.draft.directories_ascend in
+    let sorted = sorted_ascends by_directory by_directory_total state.directories well.draft.directories_ascend in
     filter_same (is_row_among state.directories)
     (λ row. number_of row.key.directory state.directories == number_of name state.directories) (is_in name)
     (λ row is.
@@ -299,7 +301,7 @@ rows_by_number state well name there =
 pub rows_at_number : (state : State) → IsWellFormed state → (n : ℕ) (directory : Directory)
     → slice_get state.directories n ≡ Some directory → rows_numbered n state ≡ rows_in directory.name state.rows
 rows_at_number state well n directory is =
-    let sorted = sorted_ascends by_name by_name_total state.directories well.draft.directories_ascend in
+    let sorted = sorted_ascends by_directory by_directory_total state.directories well.draft.directories_ascend in
     let number = number_at state.directories n directory sorted is in
     subst (λ (k : ℕ). rows_numbered k state ≡ rows_in directory.name state.rows) number.1
     (rows_by_number state well directory.name number.0)

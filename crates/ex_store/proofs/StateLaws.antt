@@ -1,18 +1,16 @@
 -- The first state, and states with another connected directory or fewer logical names.
-use Rattle.std.proofs.Common.{◌≡◌, ℕ, ◌<◌, ◌≤◌, Bool, true, false, not, ◌||◌, List, [], ◌∷◌, length, filter, slice_get, get_or, Some, refl, ap, arith, subst, ◌∙◌}
+use Rattle.std.proofs.Common.{◌≡◌, ℕ, ◌≤◌, Bool, true, false, not, ◌||◌, List, [], ◌∷◌, length, filter, refl, ap, arith, subst}
 use Rattle.std.specs.Cmp.Lexicographic.{on_texts}
 use Rattle.std.specs.List.{list_all, list_any}
-use Rattle.std.specs.Option.{option_map}
 use Rattle.std.proofs.lemmas.Bool.{and_parts, leb-true, or_parts}
 use Rattle.std.proofs.lemmas.List.Sums.{count_by-le-length, length-filter}
-use Rattle.std.proofs.lemmas.Option.{slice_get_read}
 use Rattle.std.proofs.lemmas.Slice.Eq.{bytes_eq-Decides}
 use Rattle.cm_text.specs.Bytes.{is_name, is_word}
 use Rattle.cm_text.specs.Case.{equals}
 use Rattle.cm_text.specs.declared.name.TheConstants.{NAME_LIMIT}
 use Rattle.ex_store.specs.declared.directory.Definition.{Definition}
 use Rattle.ex_store.specs.declared.directory.Directory.{Directory}
-use Rattle.ex_store.specs.State.{State, first_state, has_directory, is_named, logical_name, number_of}
+use Rattle.ex_store.specs.State.{State, first_state, has_directory, is_named}
 use Rattle.ex_store.specs.WellFormed.{IsWellFormed, is_definition_among, is_directory}
 use Rattle.ex_store.proofs.AscendsLaws.{all_filter, ascends_filter}
 
@@ -73,12 +71,3 @@ fewer_well_formed state keep well = record {
   };
   connected_there = well.connected_there;
 }
-
--- a logical name that is read, as it is told
-pub logical_is : (directories known : List Directory) (logical : List Definition) (i at : ℕ) (entry : Definition) (name directory : List ℕ) (number : ℕ)
-    → i < length logical → at ≡ i → entry ≡ get_or logical at entry → name ≡ entry.name → directory ≡ entry.directory
-    → known ≡ directories → number ≡ number_of directory known
-    → option_map (logical_name directories) (slice_get logical i) ≡ Some (record { name = name; directory = number })
-logical_is directories known logical i at entry name directory number below place is named meant same numbered =
-    let there : slice_get logical i ≡ Some entry = slice_get_read logical (length logical) i entry refl below (is ∙ ap (λ n. get_or logical n entry) place) in
-    ap (option_map (logical_name directories)) there ∙ rw (numbered, meant, same, named)

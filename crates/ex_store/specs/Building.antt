@@ -1,18 +1,18 @@
 -- A directory is made, or keeps another number of generations.
-use Rattle.std.specs.Prelude.{ℕ, nat_le, if◌then◌else◌, List, [], ◌∷◌, length, map, find, Option, unwrap_or, option_map, Result, Ok, Err}
-use Rattle.std.specs.Ordering.{is_lt}
+use Rattle.std.specs.Prelude.{ℕ, nat_le, if◌then◌else◌, List, length, map, find, Option, unwrap_or, option_map, Result, Ok, Err}
+use Rattle.std.specs.Ordering.{on}
+use Rattle.std.specs.declared.cmp.Ordering.{Ordering}
 use Rattle.cm_fields.specs.declared.code.Code.{Code}
 use Rattle.cm_fields.specs.declared.code.Code.TheVariants.{DirLimit}
 use Rattle.cm_files.specs.Catalogue.{by_bytes}
 use Rattle.ex_store.specs.declared.directory.Directory.{Directory}
 use Rattle.ex_store.specs.declared.limits.TheConstants.{DIRECTORY_LIMIT}
+use Rattle.ex_store.specs.Insertion.{insertion}
 use Rattle.ex_store.specs.State.{has_directory, is_named}
 
--- the directory at its place
-abbrev pub directory_inserted : Directory → List Directory → List Directory
-directory_inserted new [] = new ∷ []
-directory_inserted new (other ∷ more) =
-    if is_lt (by_bytes other.name new.name) then other ∷ directory_inserted new more else new ∷ other ∷ more
+-- directories by their names
+abbrev pub by_directory : Directory → Directory → Ordering
+by_directory = on (λ directory. directory.name) by_bytes
 
 -- the directory of its name keeps as many generations; or it stands at its place, where there is none of its name
 abbrev pub with_directory : Directory → List Directory → List Directory
@@ -20,7 +20,7 @@ with_directory new directories =
     if has_directory new.name directories
     then map (λ other.
     if is_named new.name other then record other { retention = new.retention } else other) directories
-    else directory_inserted new directories
+    else insertion by_directory new directories
 
 -- how many generations it keeps: as is asked, or as before, and a new one keeps 1
 abbrev pub new_retention : List ℕ → Option ℕ → List Directory → ℕ

@@ -4,6 +4,7 @@ pub mod Building
 pub mod Copying
 pub mod Defining
 pub mod Draft
+pub mod Entries
 pub mod Forms
 pub mod Insertion
 pub mod Lent

@@ -19,6 +19,7 @@ use Rattle.ex_store.specs.declared.row.Row.{Row}
 use Rattle.ex_store.specs.Building.{with_directory}
 use Rattle.ex_store.specs.Adding.{Outcome, new_row}
 use Rattle.ex_store.specs.Defining.{with_definition}
+use Rattle.ex_store.specs.Entries.{is_kept}
 use Rattle.ex_store.specs.FileNames.{room_at}
 use Rattle.ex_store.specs.Plan.{Planned}
 use Rattle.ex_store.specs.Rows.{added, by_key, filled, files_of, row_at, without}
@@ -132,8 +133,10 @@ is_lawful (changes.Add row) = is_numbered row.file.generation && nat_le (length 
 is_lawful (changes.Move pair) = is_numbered pair.target.generation
 is_lawful (changes.Fill target moment bytes) = nat_le (length bytes) FILE_LIMIT
 
--- what is ready: lawful changes, and no more pairs than there may be files
-pub record AreLawful (row_changes : List RowChange) (pairs : List NamePair) : Type 0 where
+-- what is ready: a logical name as it is kept, lawful changes, and no more pairs than there may be files
+pub record AreLawful (definition : Option Definition) (row_changes : List RowChange) (pairs : List NamePair)
+    : Type 0 where
+  pub kept : option_map_or is_kept definition true ≡ true
   pub lawful : list_all is_lawful row_changes ≡ true
   pub few : length pairs ≤ ROW_LIMIT
 
@@ -160,8 +163,8 @@ count_made (Some made) = 1
 pub record IsFor (change : Change) (held : StoreWithRoom) : Type 0 where
   pub sound : IsWellFormed (applied change held.state)
   pub doable : are_doable change.retention held.state.rows change.row_changes ≡ true
-  pub directories : length held.state.directories + count_made change.directory ≤ held.directory_room
-  pub logical : length held.state.logical + count_made change.definition ≤ held.logical_room
+  pub directories : count_made change.directory ≤ held.spare_directories
+  pub logical : count_made change.definition ≤ held.spare_logical
   pub names : (key : Key) → 0 < count_under key change.row_changes
       → length (files_of key held.state.rows) + count_under key change.row_changes ≤ room_at key held.name_rooms
   pub queue : length held.state.queue + length change.entries ≤ held.queue_room

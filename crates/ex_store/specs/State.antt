@@ -31,11 +31,17 @@ pub record FilesWithRoom : Type 0 where
   pub rows : List Row
   pub rooms : List NameRoom
 
--- the state, and for how many directories, logical names, files of each name and entries of the queue there is room
+-- the elements of a list, and for how many more there is room
+pub record WithSpare (X : Type 0) : Type 0 where
+  pub list : List X
+  pub spare : ℕ
+
+-- the state, for how many more directories and logical names there is room, and for how many files of each name and
+-- entries of the queue
 pub record StoreWithRoom : Type 0 where
   pub state : State
-  pub directory_room : ℕ
-  pub logical_room : ℕ
+  pub spare_directories : ℕ
+  pub spare_logical : ℕ
   pub name_rooms : List NameRoom
   pub queue_room : ℕ
 

@@ -16,10 +16,10 @@ ghost use Rattle.ex_store.specs.WellFormed.{AreRows, IsWellFormed};
 
 use crate::adding::admitted;
 use crate::copy::moment_of;
-use crate::directory::retention_of;
+use crate::directories::Directories;
 use crate::files::Files;
 use crate::limits::STORE_LIMIT;
-use crate::{Directory, FullName, Key, NamePair, Place, Ready, Refusal, Row, RowChange, Store};
+use crate::{FullName, Key, NamePair, Place, Ready, Refusal, Row, RowChange, Store};
 use cm_fields::{Code, Gen};
 use cm_io::NoMemory;
 use ex_generations::{Bytes, FILE_LIMIT};
@@ -154,22 +154,22 @@ fn row_changes_of(
 // The sources at these places are put behind one file.
 fn appends(
     alloc: Global,
-    directories: &[Directory],
+    directories: &Directories,
     files: &Files,
     positions: &[u16],
     to: &Place,
     moment: u64,
 ) -> Result<Ready, Refusal>
-    requires rows { AreRows directories.now files.now.rows }
+    requires rows { AreRows directories.now.list files.now.rows }
     requires within { list_all (λ at. nat_lt at (length files.now.rows)) positions.now ≡ true }
     requires few { length positions.now ≤ ROW_LIMIT }
-    requires target { IsOneFile to.now directories.now }
+    requires target { IsOneFile to.now directories.now.list }
     ensures made { let sources = elements_at files.now.rows positions.now in
-        IfOk result (IsMade directories.now files.now.rows
-        (appended (retention_of to.now.directory directories.now) moment to.now sources files.now.rows)) }
+        IfOk result (IsMade directories.now.list files.now.rows
+        (appended (retention_of to.now.directory directories.now.list) moment to.now sources files.now.rows)) }
     ensures refused { let sources = elements_at files.now.rows positions.now in
         IfErr result (IsRefused
-        (appended (retention_of to.now.directory directories.now) moment to.now sources files.now.rows)) }
+        (appended (retention_of to.now.directory directories.now.list) moment to.now sources files.now.rows)) }
 {
     let opening = match opened(alloc, files, to.own_key(), to.generation, moment) {
         Ok(opening) => opening,
@@ -189,7 +189,7 @@ fn appends(
     };
     match row_changes_of(alloc, opening, moment, bytes) {
         Ok(row_changes) => {
-            let retention = retention_of(directories, to.directory.as_bytes());
+            let retention = directories.retention_of(to.directory.as_str());
             Ok(Ready::of_files(alloc, retention, row_changes, pairs))
         }
         Err(NoMemory) => Err(Refusal::NoMemory),

@@ -2,8 +2,6 @@
 ghost use Rattle.std.specs.Prelude.{◌≡◌, ◌<◌, ◌≤◌, ◌+◌, [], ◌∷◌, ◌++◌, vec_capacity, vec_len};
 ghost use Rattle.ex_store.specs.Ready.{IsFor, applied};
 
-use crate::build::make;
-use crate::define::define;
 use crate::{QueueEntry, Ready, Store};
 
 // Puts an entry behind those of the queue, in a vector that has room for it.
@@ -44,10 +42,10 @@ impl Store {
             ..
         } = ready;
         if let Some(directory) = directory {
-            make(&mut self.directories, directory);
+            self.directories.make(directory);
         }
         if let Some(definition) = definition {
-            define(&mut self.logical, definition);
+            self.logical.define(definition);
         }
         self.files.change(row_changes, retention);
         enqueue(&mut self.queue, entries);

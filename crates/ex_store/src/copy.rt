@@ -18,12 +18,12 @@ ghost use Rattle.ex_store.specs.State.{retention_of};
 ghost use Rattle.ex_store.specs.WellFormed.{AreRows, IsWellFormed, is_numbered};
 
 use crate::adding::admitted;
-use crate::directory::retention_of;
+use crate::directories::Directories;
 use crate::file_name::{add, numbered};
 use crate::files::Files;
 use crate::limits::MOMENT_LIMIT;
 use crate::simulation::Simulation;
-use crate::{Directory, Key, NamePair, Place, Ready, Refusal, Row, RowChange, RowView, Store};
+use crate::{Key, NamePair, Place, Ready, Refusal, Row, RowChange, RowView, Store};
 use cm_fields::Code;
 use cm_io::NoMemory;
 use std::alloc::Global;
@@ -75,25 +75,25 @@ impl Simulation {
 // The sources at these places are copied, one after the other. This touches the rows of the target's directory alone.
 fn copies(
     alloc: Global,
-    directories: &[Directory],
+    directories: &Directories,
     files: &Files,
     positions: &[u16],
     to: &Place,
     moment: u64,
 ) -> Result<Ready, Refusal>
-    requires rows { AreRows directories.now files.now.rows }
+    requires rows { AreRows directories.now.list files.now.rows }
     requires within { list_all (λ at. nat_lt at (length files.now.rows)) positions.now ≡ true }
     requires few { length positions.now ≤ ROW_LIMIT }
-    requires target { IsTarget to.now directories.now }
+    requires target { IsTarget to.now directories.now.list }
     ensures made { let sources = elements_at files.now.rows positions.now in
-        IfOk result (IsMade directories.now files.now.rows
-        (all_copied (retention_of to.now.directory directories.now) moment to.now sources files.now.rows)) }
+        IfOk result (IsMade directories.now.list files.now.rows
+        (all_copied (retention_of to.now.directory directories.now.list) moment to.now sources files.now.rows)) }
     ensures refused { let sources = elements_at files.now.rows positions.now in
         IfErr result (IsRefused
-        (all_copied (retention_of to.now.directory directories.now) moment to.now sources files.now.rows)) }
+        (all_copied (retention_of to.now.directory directories.now.list) moment to.now sources files.now.rows)) }
 {
     let directory = to.directory.as_bytes();
-    let retention = retention_of(directories, directory);
+    let retention = directories.retention_of(to.directory.as_str());
     let mut simulation = match Simulation::new(alloc, files, directory, directory) {
         Ok(simulation) => simulation,
         Err(NoMemory) => return Err(Refusal::NoMemory),

@@ -1,8 +1,4 @@
-// Directories and logical names.
-ghost use Rattle.std.specs.Prelude.{◌≡◌, ◌<◌};
-ghost use Rattle.ex_store.specs.Lent.{definition_of_view, directory_of_view};
-ghost use Rattle.ex_store.specs.State.{has_directory, retention_of, number_of};
-
+// Directories and logical names, as they are made and as they are told.
 use cm_text::Name;
 
 /// A directory.
@@ -48,59 +44,4 @@ pub struct Logical<'a> {
     pub name: &'a str,
     /// The number of the directory that it stands for.
     pub directory: u16,
-}
-
-impl Directory {
-    // The same, lent.
-    pub(crate) fn lent(&self) -> DirectoryView<'_>
-        ensures { directory_of_view result ≡ self.now }
-    {
-        DirectoryView {
-            name: &self.name,
-            retention: self.retention,
-        }
-    }
-}
-
-impl Definition {
-    // The same, lent.
-    pub(crate) fn lent(&self) -> DefinitionView<'_>
-        ensures { definition_of_view result ≡ self.now }
-    {
-        DefinitionView {
-            name: &self.name,
-            directory: &self.directory,
-        }
-    }
-}
-
-// How many directories stand before the one of this name.
-pub(crate) fn number_of(directories: &[Directory], name: &[u8]) -> usize
-    ensures { result ≡ number_of name.now directories.now }
-{
-    directories
-        .iter()
-        .take_while(|directory| directory.name.as_bytes() != name)
-        .count()
-}
-
-// Whether there is a directory of this name.
-pub(crate) fn has_directory(directories: &[Directory], name: &[u8]) -> bool
-    ensures { result ≡ has_directory name.now directories.now }
-{
-    directories
-        .iter()
-        .any(|directory| directory.name.as_bytes() == name)
-}
-
-// How many generations the directory of this name keeps.
-pub(crate) fn retention_of(directories: &[Directory], name: &[u8]) -> u8
-    ensures { result ≡ retention_of name.now directories.now }
-{
-    for directory in directories {
-        if directory.name.as_bytes() == name {
-            return directory.retention;
-        }
-    }
-    0
 }

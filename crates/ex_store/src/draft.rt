@@ -5,7 +5,9 @@ ghost use Rattle.ex_store.specs.Lent.{queue_entry};
 ghost use Rattle.ex_store.specs.State.{has_directory, is_named};
 ghost use Rattle.ex_store.specs.WellFormed.{IsDraft};
 
+use crate::directories::Directories;
 use crate::files::Files;
+use crate::logical_names::LogicalNames;
 use crate::{Definition, Directory, Key, Parts, QueueEntry, Queued, Row, Store};
 use cm_io::NoMemory;
 use cm_text::Name;
@@ -18,9 +20,9 @@ use std::marker::Model;
 #[derive(Drop)]
 pub struct Draft {
     alloc: Global,
-    directories: Vec<Directory>,
+    directories: Directories,
     connected: Name,
-    logical: Vec<Definition>,
+    logical: LogicalNames,
     files: Files,
     queue: Vec<QueueEntry>,
 }
@@ -32,17 +34,17 @@ impl Model for Draft {
     ghost Value = { State };
 
     ghost view = { λ it. record {
-      directories = it.directories.items;
+      directories = it.directories.list;
       connected = it.connected;
-      logical = it.logical.items;
+      logical = it.logical.list;
       rows = it.files.rows;
       queue = it.queue.items;
     } };
 
     ghost invariant = { λ it. IsDraft (record {
-      directories = it.directories.items;
+      directories = it.directories.list;
       connected = it.connected;
-      logical = it.logical.items;
+      logical = it.logical.list;
       rows = it.files.rows;
       queue = it.queue.items;
     }) };
@@ -55,9 +57,9 @@ impl Draft {
     {
         Draft {
             alloc,
-            directories: Vec::new(alloc),
+            directories: Directories::new(alloc),
             connected: Name::new(""),
-            logical: Vec::new(alloc),
+            logical: LogicalNames::new(alloc),
             files: Files::new(alloc),
             queue: Vec::new(alloc),
         }
@@ -142,12 +144,7 @@ impl Draft {
         ensures { result
             ≡ option_map (λ directory. directory.retention) (find (is_named directory.now) self.now.directories) }
     {
-        for added in &self.directories {
-            if added.name.as_bytes() == directory.as_bytes() {
-                return Some(added.retention);
-            }
-        }
-        None
+        self.directories.retention(directory)
     }
 
     /// All that was added, and the connected directory.

@@ -5,10 +5,8 @@ ghost use Rattle.ex_store.specs.Lent.{row_of_view};
 ghost use Rattle.ex_store.specs.Rows.{first_in, rows_in};
 ghost use Rattle.ex_store.specs.State.{catalogue_of, defined, rows_numbered};
 
-use crate::directory::number_of;
 use crate::{RowView, Store};
 use cm_files::Names;
-use cm_text::equals;
 use ex_generations::File;
 
 impl Store {
@@ -18,7 +16,7 @@ impl Store {
         ensures { option_map (λ directory. directory.name) (slice_get self.now.state.directories directory)
             ≡ Some result.now }
     {
-        self.directories[usize::from(directory)].name.as_bytes()
+        self.directories.at(usize::from(directory)).name.as_bytes()
     }
 
     // How many rows stand before those of a directory.
@@ -61,9 +59,7 @@ impl Store {
     pub(crate) fn is_defined(&self, name: &str) -> bool
         ensures { result ≡ defined name.now self.now.state }
     {
-        self.logical
-            .iter()
-            .any(|entry| equals(entry.name.as_bytes(), name.as_bytes()))
+        self.logical.has(name.as_bytes())
     }
 }
 
@@ -77,20 +73,16 @@ impl Names for Store {
     }
 
     fn directory(&self, i: u16) -> &str {
-        self.directories[usize::from(i)].name.as_str()
+        self.directories.at(usize::from(i)).name.as_str()
     }
 
     fn connected(&self) -> u16 {
-        number_of(&self.directories, self.connected.as_bytes()) as u16
+        self.directories.number_of(self.connected.as_str()) as u16
     }
 
     fn logical(&self, name: &[u8]) -> Option<u16> {
-        for entry in &self.logical {
-            if equals(entry.name.as_bytes(), name) {
-                return Some(number_of(&self.directories, entry.directory.as_bytes()) as u16);
-            }
-        }
-        None
+        let directory = self.logical.find(name)?;
+        Some(self.directories.number_of(directory.as_str()) as u16)
     }
 
     fn rows(&self, directory: u16) -> u32 {

@@ -4,18 +4,19 @@ ghost use Rattle.ex_store.specs.Lent.{definition_of_view, directory_of_view, row
 ghost use Rattle.ex_store.specs.State.{has_directory};
 ghost use Rattle.ex_store.specs.WellFormed.{IsWellFormed};
 
-use crate::directory::has_directory;
+use crate::directories::Directories;
 use crate::files::Files;
-use crate::{Definition, DefinitionView, Directory, DirectoryView, QueueEntry, RowView, Store};
+use crate::logical_names::LogicalNames;
+use crate::{DefinitionView, DirectoryView, QueueEntry, RowView, Store};
 use cm_text::Name;
 use std::marker::Model;
 
 /// All that a store holds, as it is lent to one who writes it down, element by element. Contracts see its state.
 #[derive(Drop)]
 pub struct Parts<'a> {
-    pub(crate) directories: &'a [Directory],
+    pub(crate) directories: &'a Directories,
     pub(crate) connected: &'a Name,
-    pub(crate) logical: &'a [Definition],
+    pub(crate) logical: &'a LogicalNames,
     pub(crate) files: &'a Files,
     pub(crate) queue: &'a [QueueEntry],
 }
@@ -26,26 +27,12 @@ impl<'a> Model for Parts<'a> {
     ghost Value = { State };
 
     ghost view = { λ it. record {
-      directories = it.directories.now;
+      directories = it.directories.now.list;
       connected = it.connected.now;
-      logical = it.logical.now;
+      logical = it.logical.now.list;
       rows = it.files.now.rows;
       queue = it.queue.now;
     } };
-}
-
-fn directory_at(directories: &[Directory], i: usize) -> DirectoryView<'_>
-    requires { i < length directories.now }
-    ensures { slice_get directories.now i ≡ Some (directory_of_view result) }
-{
-    directories[i].lent()
-}
-
-fn definition_at(logical: &[Definition], i: usize) -> DefinitionView<'_>
-    requires { i < length logical.now }
-    ensures { slice_get logical.now i ≡ Some (definition_of_view result) }
-{
-    logical[i].lent()
 }
 
 impl<'a> Parts<'a> {
@@ -61,14 +48,14 @@ impl<'a> Parts<'a> {
         requires { i < length self.now.directories }
         ensures { slice_get self.now.directories i ≡ Some (directory_of_view result) }
     {
-        directory_at(self.directories, i)
+        self.directories.at(i)
     }
 
     /// Whether there is a directory of this name.
     pub fn has_directory(&self, name: &str) -> bool
         ensures { result ≡ has_directory name.now self.now.directories }
     {
-        has_directory(self.directories, name.as_bytes())
+        self.directories.has(name)
     }
 
     /// The name of the connected directory.
@@ -90,14 +77,7 @@ impl<'a> Parts<'a> {
         requires { i < length self.now.logical }
         ensures { slice_get self.now.logical i ≡ Some (definition_of_view result) }
     {
-        definition_at(self.logical, i)
-    }
-
-    /// The logical names, in ascending order.
-    pub fn definitions(&self) -> &[Definition]
-        ensures { result.now ≡ self.now.logical }
-    {
-        self.logical
+        self.logical.at(i)
     }
 
     /// How many files there are, those that are marked deleted too.

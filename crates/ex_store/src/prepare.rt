@@ -58,19 +58,19 @@ impl Store {
     fn make_room(&mut self, ready: &Ready) -> Result<(), NoMemory>
         ensures state { self.new.state ≡ self.old.state }
         ensures directories { OnOk result
-            (length self.old.state.directories + count_made ready.now.directory ≤ self.new.directory_room) }
+            (count_made ready.now.directory ≤ self.new.spare_directories) }
         ensures logical { OnOk result
-            (length self.old.state.logical + count_made ready.now.definition ≤ self.new.logical_room) }
+            (count_made ready.now.definition ≤ self.new.spare_logical) }
         ensures names { OnOk result ((key : Named) → 0 < count_under key ready.now.row_changes
             → length (files_of key self.old.state.rows) + count_under key ready.now.row_changes
             ≤ room_at key self.new.name_rooms) }
         ensures queue { OnOk result (length self.old.state.queue + length ready.now.entries ≤ self.new.queue_room) }
     {
         if ready.directory.is_some() {
-            self.directories.reserve(1)?;
+            self.directories.reserve()?;
         }
         if ready.definition.is_some() {
-            self.logical.reserve(1)?;
+            self.logical.reserve()?;
         }
         self.files.make_room(self.alloc, &ready.row_changes)?;
         self.queue.reserve(ready.entries.len())?;

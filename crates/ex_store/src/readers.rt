@@ -4,7 +4,6 @@ ghost use Rattle.ex_store.specs.Rows.{pages_in};
 ghost use Rattle.ex_store.specs.State.{retention_of};
 
 use crate::Store;
-use crate::directory::retention_of;
 
 impl Store {
     /// How many generations of each file the directory of this name keeps; 0 where it keeps all, or where there is no
@@ -12,7 +11,7 @@ impl Store {
     pub fn retention_in(&self, directory: &str) -> u8
         ensures { result ≡ retention_of directory.now self.now.state.directories }
     {
-        retention_of(&self.directories, directory.as_bytes())
+        self.directories.retention_of(directory)
     }
 
     /// How many pages the files of the directory of this name have, those that are marked deleted too; 0 where there is

@@ -2,6 +2,7 @@
 ghost use Rattle.std.specs.Prelude.{◌≡◌, ◌<◌, ◌≤◌, true, length, slice_get, Some};
 ghost use Rattle.std.specs.List.{list_all};
 ghost use Rattle.ex_store.specs.declared.limits.TheConstants.{ROW_LIMIT};
+ghost use Rattle.ex_store.specs.Entries.{is_kept};
 ghost use Rattle.ex_store.specs.Lent.{name_pair};
 ghost use Rattle.ex_store.specs.Ready.{is_lawful, no_change, of_definition, of_directory, of_entries, of_files};
 
@@ -50,7 +51,7 @@ impl Model for Ready {
       pairs = it.pairs.items;
     } };
 
-    ghost invariant = { λ it. AreLawful it.row_changes.items it.pairs.items };
+    ghost invariant = { λ it. AreLawful it.definition it.row_changes.items it.pairs.items };
 }
 
 impl Ready {
@@ -79,6 +80,7 @@ impl Ready {
 
     // A logical name is to be defined.
     pub(crate) fn of_definition(alloc: Global, definition: Definition) -> Ready
+        requires { is_kept definition ≡ true }
         ensures { result ≡ of_definition definition }
     {
         let mut ready = Ready::new(alloc);

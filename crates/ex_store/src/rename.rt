@@ -17,11 +17,11 @@ ghost use Rattle.ex_store.specs.Rows.{files_of, is_in};
 ghost use Rattle.ex_store.specs.State.{retention_of};
 ghost use Rattle.ex_store.specs.WellFormed.{AreRows, IsWellFormed, is_numbered};
 
-use crate::directory::retention_of;
+use crate::directories::Directories;
 use crate::file_name::{Entry, add, numbered, remove};
 use crate::files::Files;
 use crate::simulation::Simulation;
-use crate::{Directory, FullName, NamePair, Place, Ready, Refusal, Row, RowChange, RowView, Store};
+use crate::{FullName, NamePair, Place, Ready, Refusal, Row, RowChange, RowView, Store};
 use cm_io::NoMemory;
 use ex_generations::File;
 use std::alloc::Global;
@@ -107,27 +107,27 @@ impl Simulation {
 // the rows of that directory and of the target's.
 fn renames(
     alloc: Global,
-    directories: &[Directory],
+    directories: &Directories,
     files: &Files,
     positions: &[u16],
     from: &[u8],
     to: &Place,
 ) -> Result<Ready, Refusal>
-    requires rows { AreRows directories.now files.now.rows }
+    requires rows { AreRows directories.now.list files.now.rows }
     requires within { list_all (λ at. nat_lt at (length files.now.rows)) positions.now ≡ true }
     requires few { length positions.now ≤ ROW_LIMIT }
     requires inside { list_all (is_in from.now) (elements_at files.now.rows positions.now) ≡ true }
     requires distinct { AreDistinct (elements_at files.now.rows positions.now) }
-    requires target { IsTarget to.now directories.now }
+    requires target { IsTarget to.now directories.now.list }
     ensures made { let sources = elements_at files.now.rows positions.now in
-        IfOk result (IsMade directories.now files.now.rows
-        (all_renamed (retention_of to.now.directory directories.now) to.now sources files.now.rows)) }
+        IfOk result (IsMade directories.now.list files.now.rows
+        (all_renamed (retention_of to.now.directory directories.now.list) to.now sources files.now.rows)) }
     ensures refused { let sources = elements_at files.now.rows positions.now in
         IfErr result (IsRefused
-        (all_renamed (retention_of to.now.directory directories.now) to.now sources files.now.rows)) }
+        (all_renamed (retention_of to.now.directory directories.now.list) to.now sources files.now.rows)) }
 {
     let directory = to.directory.as_bytes();
-    let retention = retention_of(directories, directory);
+    let retention = directories.retention_of(to.directory.as_str());
     let mut simulation = match Simulation::new(alloc, files, from, directory) {
         Ok(simulation) => simulation,
         Err(NoMemory) => return Err(Refusal::NoMemory),

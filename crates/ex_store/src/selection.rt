@@ -1,11 +1,11 @@
 // Which files a place means.
-ghost use Rattle.std.specs.Prelude.{◌≡◌, drop};
+ghost use Rattle.std.specs.Prelude.{◌≡◌, true, drop};
 ghost use Rattle.std.specs.List.{position_from};
 ghost use Rattle.ex_store.specs.Positions.{positions_from};
 ghost use Rattle.ex_store.specs.Rows.{rows_in};
 ghost use Rattle.ex_store.specs.Selection.{is_meant};
+ghost use Rattle.ex_store.specs.State.{has_directory, number_of};
 
-use crate::directory::{has_directory, number_of};
 use crate::limits::ROW_LIMIT;
 use crate::{Place, Store};
 use arrayvec::ArrayVec;
@@ -18,10 +18,19 @@ impl Store {
         ensures { let rows = rows_in files.now.directory self.now.state.rows in
             result ≡ position_from (is_meant deleted files.now self.now.state) from (drop from rows) }
     {
-        if !has_directory(&self.directories, files.directory.as_bytes()) {
-            return None;
-        }
-        let directory = number_of(&self.directories, files.directory.as_bytes()) as u16;
+        let directory = self.directories.find(files.directory.as_str())?;
+        self.next_meant(directory as u16, files, deleted, from)
+    }
+
+    // The same, where the place's directory has this number.
+    fn next_meant(&self, directory: u16, files: &Place, deleted: bool, from: u32) -> Option<u32>
+        requires there { has_directory files.now.directory self.now.state.directories ≡ true }
+        requires number { directory ≡ number_of files.now.directory self.now.state.directories }
+        ensures { let rows = rows_in files.now.directory self.now.state.rows in
+            result ≡ position_from (is_meant deleted files.now self.now.state) from (drop from rows) }
+    {
+        // A use of a field, for the proof: the state is well formed.
+        let _ = &self.directories;
         select(self, directory, &files.sought(deleted), from)
     }
 
@@ -29,10 +38,13 @@ impl Store {
     pub(crate) fn positions(&self, files: &Place, deleted: bool) -> ArrayVec<u16, ROW_LIMIT>
         ensures { result.items ≡ positions_from (is_meant deleted files.now self.now.state) 0 self.now.state.rows }
     {
-        let first = self.files.first_of(files.directory.as_bytes());
         let mut positions = ArrayVec::new();
+        let Some(directory) = self.directories.find(files.directory.as_str()) else {
+            return positions;
+        };
+        let first = self.files.first_of(files.directory.as_bytes());
         let mut from = 0;
-        while let Some(i) = self.select(files, deleted, from) {
+        while let Some(i) = self.next_meant(directory as u16, files, deleted, from) {
             positions.push((first + i as usize) as u16);
             from = i + 1;
         }

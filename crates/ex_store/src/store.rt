@@ -4,23 +4,24 @@ ghost use Rattle.cm_fields.specs.declared.code.Code.TheVariants.{NoDefinition};
 ghost use Rattle.ex_store.specs.Lent.{queue_entry};
 ghost use Rattle.ex_store.specs.State.{defined, first_state, has_directory, logical_name, undefined};
 
-use crate::directory::number_of;
+use crate::directories::Directories;
 use crate::files::Files;
-use crate::{Definition, Directory, Logical, QueueEntry, Queued};
+use crate::logical_names::LogicalNames;
+use crate::{Directory, Logical, QueueEntry, Queued};
 use cm_fields::Code;
 use cm_io::NoMemory;
-use cm_text::{Name, equals};
+use cm_text::Name;
 use std::alloc::Global;
 use std::marker::Model;
 
-/// The state of the file machine. Contracts see it as five flat lists and values, and for how many directories, logical
-/// names, files of each name and entries of the queue there is room.
+/// The state of the file machine. Contracts see it as five flat lists and values, for how many more directories and
+/// logical names there is room, and for how many files of each name and entries of the queue.
 #[derive(Drop)]
 pub struct Store {
     pub(crate) alloc: Global,
-    pub(crate) directories: Vec<Directory>,
+    pub(crate) directories: Directories,
     pub(crate) connected: Name,
-    pub(crate) logical: Vec<Definition>,
+    pub(crate) logical: LogicalNames,
     pub(crate) files: Files,
     pub(crate) queue: Vec<QueueEntry>,
 }
@@ -34,22 +35,22 @@ impl Model for Store {
 
     ghost view = { λ it. record {
       state = record {
-        directories = it.directories.items;
+        directories = it.directories.list;
         connected = it.connected;
-        logical = it.logical.items;
+        logical = it.logical.list;
         rows = it.files.rows;
         queue = it.queue.items;
       };
-      directory_room = vec_capacity it.directories;
-      logical_room = vec_capacity it.logical;
+      spare_directories = it.directories.spare;
+      spare_logical = it.logical.spare;
       name_rooms = it.files.rooms;
       queue_room = vec_capacity it.queue;
     } };
 
     ghost invariant = { λ it. IsWellFormed (record {
-      directories = it.directories.items;
+      directories = it.directories.list;
       connected = it.connected;
-      logical = it.logical.items;
+      logical = it.logical.list;
       rows = it.files.rows;
       queue = it.queue.items;
     }) };
@@ -65,13 +66,13 @@ impl Store {
             name: Name::new("OPERATOR"),
             retention: 1,
         };
-        let mut directories = Vec::new(alloc);
+        let mut directories = Directories::new(alloc);
         directories.push(operator)?;
         Ok(Store {
             alloc,
             directories,
             connected: Name::new("OPERATOR"),
-            logical: Vec::new(alloc),
+            logical: LogicalNames::new(alloc),
             files: Files::new(alloc),
             queue: Vec::new(alloc),
         })
@@ -93,12 +94,11 @@ impl Store {
         ensures answer { result ≡ (if defined name.now self.old.state then Ok tt else Err NoDefinition) }
         ensures gone { self.new ≡ record self.old { state = undefined name.now self.old.state } }
     {
-        if !self.is_defined(name) {
-            return Err(Code::NoDefinition);
+        if self.logical.remove(name.as_bytes()) {
+            Ok(())
+        } else {
+            Err(Code::NoDefinition)
         }
-        self.logical
-            .retain(|entry| !equals(entry.name.as_bytes(), name.as_bytes()));
-        Ok(())
     }
 
     /// How many generations of each file the directory with this number keeps; 0 where it keeps all.
@@ -107,7 +107,7 @@ impl Store {
         ensures { option_map (λ directory. directory.retention) (slice_get self.now.state.directories directory)
             ≡ Some result }
     {
-        self.directories[usize::from(directory)].retention
+        self.directories.at(usize::from(directory)).retention
     }
 
     /// How many logical names there are.
@@ -123,10 +123,10 @@ impl Store {
         ensures { option_map (logical_name self.now.state.directories) (slice_get self.now.state.logical i)
             ≡ Some (record { name = result.name.now; directory = result.directory }) }
     {
-        let entry = &self.logical[usize::from(i)];
+        let entry = self.logical.at(usize::from(i));
         Logical {
             name: entry.name.as_str(),
-            directory: number_of(&self.directories, entry.directory.as_bytes()) as u16,
+            directory: self.directories.number_of(entry.directory.as_str()) as u16,
         }
     }
 

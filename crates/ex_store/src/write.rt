@@ -9,7 +9,6 @@ ghost use Rattle.ex_store.specs.WellFormed.{IsWellFormed};
 
 use crate::adding::admitted;
 use crate::copy::moment_of;
-use crate::directory::retention_of;
 use crate::{NamePair, Place, Ready, Refusal, Row, RowChange, Store};
 use cm_fields::Code;
 use cm_io::NoMemory;
@@ -55,7 +54,7 @@ impl Store {
             Err(code) => return Err(Refusal::Code(code)),
         };
         let row = Row::new(key, generation, moment_of(moment), bytes);
-        let retention = retention_of(&self.directories, to.directory.as_bytes());
+        let retention = self.directories.retention_of(to.directory.as_str());
         match one_add(self.alloc, row, retention) {
             Ok(ready) => Ok(ready),
             Err(NoMemory) => Err(Refusal::NoMemory),

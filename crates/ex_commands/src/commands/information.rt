@@ -6,7 +6,7 @@ ghost use Rattle.std.specs.List.{flat_map, list_all};
 ghost use Rattle.cm_blocks.specs.declared.function.Role.TheVariants as roles;
 ghost use Rattle.cm_io.specs.Writer.{Writes};
 ghost use Rattle.cm_state.specs.Roles.{field_of};
-ghost use Rattle.ex_store.specs.Lent.{full_name};
+ghost use Rattle.ex_store.specs.Lent.{definition_of_view, full_name};
 ghost use Rattle.ex_store.specs.WellFormed.{is_day};
 ghost use Rattle.ex_commands.specs.declared.command.Command.TheVariants as commands;
 ghost use Rattle.ex_commands.specs.Commands.Information.{after_text, definition_line, directory_line, directory_lines, entry_line, is_shown, note_text, pages_line, quoted_byte, retention_line, tells, told, version_line, wishes_text};
@@ -26,7 +26,7 @@ use cm_io::{Sink, Writer};
 use cm_state::Session;
 use cm_text::end_of_line;
 use ex_grammar::{DIRECTORY_TOPIC, ExecRules, LOGICAL_NAMES, OUTPUT_REQUESTS, VERSION};
-use ex_store::{Definition, Full, FullName, QueueEntry, Store, form_text};
+use ex_store::{DefinitionView, Full, FullName, Parts, QueueEntry, Store, form_text};
 
 /// What a line of INFORMATION commands.
 pub(crate) fn read(session: &Session<ExecRules>) -> Command
@@ -81,22 +81,23 @@ fn put_directory_lines<S: Sink>(store: &Store, out: &mut Writer<'_, S>)
 
 // Puts a logical name, and the directory that it stands for.
 #[tactic(auto, using(cm_io::proofs::Texts::texts), unfolding(crate::specs::Commands::Information::definition_line))]
-fn put_definition<S: Sink>(entry: &Definition, out: &mut Writer<'_, S>)
-    ensures { Writes S.Sink out.old out.new (definition_line entry.now) }
+fn put_definition<S: Sink>(it: DefinitionView<'_>, out: &mut Writer<'_, S>)
+    ensures { Writes S.Sink out.old out.new (definition_line (definition_of_view it.entry)) }
 {
     out.put(space());
-    out.put(entry.name.as_bytes());
+    out.put(it.name.as_bytes());
     out.put(stands_for());
-    put_directory(entry.directory.as_str(), out);
+    put_directory(it.directory.as_str(), out);
     out.put(end_of_line());
 }
 
 // Tells about the logical names.
-fn put_definitions<S: Sink>(entries: &[Definition], out: &mut Writer<'_, S>)
-    ensures { Writes S.Sink out.old out.new (flat_map definition_line entries.now) }
+#[tactic(auto, using(cm_io::proofs::Texts::turns))]
+fn put_definitions<S: Sink>(parts: &Parts<'_>, out: &mut Writer<'_, S>)
+    ensures { Writes S.Sink out.old out.new (flat_map definition_line parts.now.logical) }
 {
-    for entry in entries {
-        put_definition(entry, out);
+    for i in 0..parts.logicals() {
+        put_definition(parts.logical(i), out);
     }
 }
 
@@ -209,7 +210,7 @@ fn put_told<S: Sink>(store: &Store, what: u16, out: &mut Writer<'_, S>)
 {
     match what {
         DIRECTORY_TOPIC => put_directory_lines(store, out),
-        LOGICAL_NAMES => put_definitions(store.parts().definitions(), out),
+        LOGICAL_NAMES => put_definitions(&store.parts(), out),
         OUTPUT_REQUESTS => put_entries(store.parts().queue(), out),
         VERSION => put_version(out),
         _ => {}

@@ -22,6 +22,20 @@ undefine Home; logicals -> Ok(()); 3 AB-1=2 ABC=2 HOMES=0",
     );
 }
 
+#[test]
+fn a_text_that_no_name_can_be_stands_for_nothing(rt: HostRuntime) {
+    let mut store = store_behind(&rt, "define HOME OPERATOR");
+    in_turn(
+        &rt,
+        &mut store,
+        "\
+logical HOME2; logical HOM; logical home -> None; None; Some(0)
+logical HOMÉ; logical AAAAAAAAAAAAAAAAAAAAAAAAAAAAAAAAAAAAAAAA -> None; None
+undefine HOMÉ; undefine AAAAAAAAAAAAAAAAAAAAAAAAAAAAAAAAAAAAAAAA -> Err(NoDefinition); Err(NoDefinition)
+logicals -> 1 HOME=0",
+    );
+}
+
 // The steps that define so many logical names.
 fn defines(alloc: Global, count: u32) -> Result<String, AllocError> {
     let mut steps = String::from_str(alloc, "build SMITH")?;

@@ -9,7 +9,7 @@ use Rattle.ex_store.proofs.append.appends.Goals as goal
 
 pub poured-requires-clause-short : goal.poured-requires-clause-short
 poured-requires-clause-short c =
-    rw (c.in-Ok-from_slice.ensures.items, c.bytes_at.ensures) (bytes_short c.args.directories.now c.in-Ok.opening.target c.args.files.now.rows c.requires.rows.within)
+    rw (c.in-Ok-from_slice.ensures.items, c.bytes_at.ensures) (bytes_short c.args.directories.now.list c.in-Ok.opening.target c.args.files.now.rows c.requires.rows.within)
 
 pub of_files-requires-clause-few : goal.of_files-requires-clause-few
 of_files-requires-clause-few c =
@@ -21,7 +21,7 @@ of_files-requires-clause-lawful c =
     rw (← c.own_key.ensures) (sym c.opened.ensures ∙ c.in-Ok.is) in
     let pours : poured (total c.args.files.now.rows) (bytes_at c.in-Ok.opening.target c.args.files.now.rows) (elements_at c.args.files.now.rows c.args.positions.now) ≡ Ok c.in-Ok-poured.bytes =
     rw (← c.bytes_at.ensures, ← c.in-Ok-from_slice.ensures.items) c.in-Ok-poured.ensures.ok in
-    append_lawful c.args.directories.now c.args.moment c.args.to.now c.args.files.now.rows (elements_at c.args.files.now.rows c.args.positions.now) c.in-Ok.opening c.in-Ok-poured.bytes
+    append_lawful c.args.directories.now.list c.args.moment c.args.to.now c.args.files.now.rows (elements_at c.args.files.now.rows c.args.positions.now) c.in-Ok.opening c.in-Ok-poured.bytes
     c.in-Ok-row_changes_of.row_changes.items c.requires.rows c.requires.target opens pours c.in-Ok-row_changes_of.ensures
 
 opens : (c : goal.After-of_files) → opened c.args.moment (own_key c.args.to.now) c.args.to.now.generation c.args.files.now.rows ≡ Ok c.in-Ok.opening
@@ -33,16 +33,16 @@ pours c = rw (← c.bytes_at.ensures, ← c.in-Ok-from_slice.ensures.items) c.in
 
 pub returns-in-Ok-row_changes_of-clause-made : goal.returns-in-Ok-row_changes_of-clause-made
 returns-in-Ok-row_changes_of-clause-made c =
-    let retention_is : c.retention_of-retention.result ≡ retention_of c.args.to.now.directory c.args.directories.now =
-    c.retention_of-retention.ensures ∙ ap (λ (name : List ℕ). retention_of name c.args.directories.now) c.as_bytes.ensures.value in
+    let retention_is : c.retention_of-retention.result ≡ retention_of c.args.to.now.directory c.args.directories.now.list =
+    c.retention_of-retention.ensures ∙ ap (λ (name : List ℕ). retention_of name c.args.directories.now.list) c.as_str.ensures.value in
     rw c.of_files.ensures
     (record {
       files = refl;
       outcome = rw (← retention_is)
           (append_ready c.retention_of-retention.result c.args.moment c.args.to.now c.args.files.now.rows (elements_at c.args.files.now.rows c.args.positions.now) c.in-Ok.opening c.in-Ok-poured.bytes
           c.in-Ok-row_changes_of.row_changes.items c.in-Ok-pairs_to.pairs.items (opens c) (pours c) c.in-Ok-row_changes_of.ensures c.in-Ok-pairs_to.ensures);
-      sound = append_sound c.args.directories.now c.retention_of-retention.result c.args.moment c.args.to.now c.args.files.now.rows (elements_at c.args.files.now.rows c.args.positions.now) c.in-Ok.opening c.in-Ok-poured.bytes
+      sound = append_sound c.args.directories.now.list c.retention_of-retention.result c.args.moment c.args.to.now c.args.files.now.rows (elements_at c.args.files.now.rows c.args.positions.now) c.in-Ok.opening c.in-Ok-poured.bytes
           c.in-Ok-row_changes_of.row_changes.items c.requires.rows c.requires.target (opens c) (pours c) c.in-Ok-row_changes_of.ensures;
-      doable = append_doable c.args.directories.now c.retention_of-retention.result c.args.moment c.args.to.now c.args.files.now.rows c.in-Ok.opening c.in-Ok-poured.bytes
+      doable = append_doable c.args.directories.now.list c.retention_of-retention.result c.args.moment c.args.to.now c.args.files.now.rows c.in-Ok.opening c.in-Ok-poured.bytes
           c.in-Ok-row_changes_of.row_changes.items c.requires.rows c.requires.target (opens c) c.in-Ok-row_changes_of.ensures;
     })

@@ -25,7 +25,7 @@ pub loop-at-init : goal.loop-at-init
 loop-at-init c = record {
   copying = record {
     on = rw (c.in-Ok.ensures.row_changes, c.in-Ok.ensures.pairs, c.in-Ok.ensures.names, c.as_bytes-directory.ensures.value)
-        (way_start (copied c.retention_of-retention.result c.args.moment c.args.to.now) c.args.directories.now c.retention_of-retention.result c.args.to.now.directory c.args.to.now.directory
+        (way_start (copied c.retention_of-retention.result c.args.moment c.args.to.now) c.args.directories.now.list c.retention_of-retention.result c.args.to.now.directory c.args.to.now.directory
         c.args.files.now.rows (elements_at c.args.files.now.rows c.args.positions.now) c.requires.rows);
     files_are = rw c.in-Ok.ensures.row_changes c.len-count.ensures;
     bytes_are = rw c.in-Ok.ensures.row_changes c.total-bytes.ensures;
@@ -51,21 +51,21 @@ copy-requires-clause-absent c =
 pub returns-in-Err-admitted-clause-refused : goal.returns-in-Err-admitted-clause-refused
 returns-in-Err-admitted-clause-refused c =
     let at = source_at c.args.files.now.rows c.args.positions.now c.loop-at.at-index c.from.result (row_of_view c.row_at-source.result) c.requires.within c.loop-at-test.true c.from.ensures (viewed c.args.files.now.rows c.from.result (row_of_view c.row_at-source.result) c.row_at-source.ensures) in
-    let copying = subst (λ (left : List Row). IsCopying c.args.directories.now c.retention_of-retention.result c.args.moment c.args.to.now c.args.files.now.rows (elements_at c.args.files.now.rows c.args.positions.now) left c.loop-at.simulation.row_changes.items c.loop-at.simulation.pairs.items (rows_of c.loop-at.simulation.names.items) c.loop-at.count c.loop-at.bytes) at.more c.loop-at.invariant.copying in
-    let retention_is : c.retention_of-retention.result ≡ retention_of c.args.to.now.directory c.args.directories.now = c.retention_of-retention.ensures ∙ ap (λ (name : List ℕ). retention_of name c.args.directories.now) c.as_bytes-directory.ensures.value in
+    let copying = subst (λ (left : List Row). IsCopying c.args.directories.now.list c.retention_of-retention.result c.args.moment c.args.to.now c.args.files.now.rows (elements_at c.args.files.now.rows c.args.positions.now) left c.loop-at.simulation.row_changes.items c.loop-at.simulation.pairs.items (rows_of c.loop-at.simulation.names.items) c.loop-at.count c.loop-at.bytes) at.more c.loop-at.invariant.copying in
+    let retention_is : c.retention_of-retention.result ≡ retention_of c.args.to.now.directory c.args.directories.now.list = c.retention_of-retention.ensures ∙ ap (λ (name : List ℕ). retention_of name c.args.directories.now.list) c.as_str.ensures.value in
     subst (λ (retention : ℕ). each_in_turn (copied retention c.args.moment c.args.to.now) (elements_at c.args.files.now.rows c.args.positions.now) (record { rows = c.args.files.now.rows; pairs = [] }) ≡ Err c.in-Err-admitted.code) retention_is
-    (copies_refused c.args.directories.now c.retention_of-retention.result c.args.moment c.args.to.now c.args.files.now.rows (elements_at c.args.files.now.rows c.args.positions.now) _ (row_of_view c.row_at-source.result) _ _ _ _ _ c.in-Err-admitted.code copying
+    (copies_refused c.args.directories.now.list c.retention_of-retention.result c.args.moment c.args.to.now c.args.files.now.rows (elements_at c.args.files.now.rows c.args.positions.now) _ (row_of_view c.row_at-source.result) _ _ _ _ _ c.in-Err-admitted.code copying
     (rw (← c.deref.ensures.value, ← (c.key_from-key.ensures ∙ ap (key_from c.args.to.now) c.key.ensures), ← c.len-size.ensures, ← c.numbered-number.ensures) (sym c.admitted.ensures ∙ c.in-Err-admitted.is)))
 
 pub loop-at-preserved : goal.loop-at-preserved
 loop-at-preserved c =
     let at = source_at c.args.files.now.rows c.args.positions.now c.loop-at.at-index c.from.result (row_of_view c.row_at-source.result) c.requires.within c.loop-at-test.true c.from.ensures (viewed c.args.files.now.rows c.from.result (row_of_view c.row_at-source.result) c.row_at-source.ensures) in
-    let copying = subst (λ (left : List Row). IsCopying c.args.directories.now c.retention_of-retention.result c.args.moment c.args.to.now c.args.files.now.rows (elements_at c.args.files.now.rows c.args.positions.now) left c.loop-at.simulation.row_changes.items c.loop-at.simulation.pairs.items (rows_of c.loop-at.simulation.names.items) c.loop-at.count c.loop-at.bytes) at.more c.loop-at.invariant.copying in
+    let copying = subst (λ (left : List Row). IsCopying c.args.directories.now.list c.retention_of-retention.result c.args.moment c.args.to.now c.args.files.now.rows (elements_at c.args.files.now.rows c.args.positions.now) left c.loop-at.simulation.row_changes.items c.loop-at.simulation.pairs.items (rows_of c.loop-at.simulation.names.items) c.loop-at.count c.loop-at.bytes) at.more c.loop-at.invariant.copying in
     let count : length c.copy.new.self.pairs.items ≡ c.loop-at.at-index + 1 = rw c.in-Ok-copy.ensures.pairs (length-append _ _ ∙ ap (λ n. n + 1) c.loop-at.invariant.count) in
-    let form = all_at (is_row_among c.args.directories.now) c.args.files.now.rows at.there.0 (row_of_view c.row_at-source.result) c.requires.rows.within at.there.1 in
+    let form = all_at (is_row_among c.args.directories.now.list) c.args.files.now.rows at.there.0 (row_of_view c.row_at-source.result) c.requires.rows.within at.there.1 in
     record {
       copying = rw (c.in-Ok-copy.ensures.row_changes, c.in-Ok-copy.ensures.pairs, c.in-Ok-copy.ensures.names, c.key_from-key.ensures, c.key.ensures, c.moment_of.ensures, c.len-size.ensures)
-          (copies_more c.args.directories.now c.retention_of-retention.result c.args.moment c.args.to.now c.args.files.now.rows (elements_at c.args.files.now.rows c.args.positions.now) _ (row_of_view c.row_at-source.result) _ _ _ _ _ c.in-Ok-admitted.generation c.requires.target form copying
+          (copies_more c.args.directories.now.list c.retention_of-retention.result c.args.moment c.args.to.now c.args.files.now.rows (elements_at c.args.files.now.rows c.args.positions.now) _ (row_of_view c.row_at-source.result) _ _ _ _ _ c.in-Ok-admitted.generation c.requires.target form copying
           (rw (← c.deref.ensures.value, ← (c.key_from-key.ensures ∙ ap (key_from c.args.to.now) c.key.ensures), ← c.len-size.ensures, ← c.numbered-number.ensures) (sym c.admitted.ensures ∙ c.in-Ok-admitted.is)));
       names = c.in-Ok-copy.ensures.ascend;
       count = count;
@@ -74,14 +74,14 @@ loop-at-preserved c =
           c.loop-at.invariant.lawful (and_from (is_numbered c.in-Ok-admitted.generation) (nat_le (length (row_of_view c.row_at-source.result).file.bytes) FILE_LIMIT)
           (admitted_free c.key_from-key.result c.args.to.now.generation c.len-size.result c.loop-at.count c.loop-at.bytes (rows_of c.deref.result.now)
           c.in-Ok-admitted.generation (counted_target c.args.to.now.generation c.requires.target.generation)
-          (rw (← c.numbered-number.ensures) (sym c.admitted.ensures ∙ c.in-Ok-admitted.is))).within (row_short c.args.directories.now (row_of_view c.row_at-source.result) form)));
+          (rw (← c.numbered-number.ensures) (sym c.admitted.ensures ∙ c.in-Ok-admitted.is))).within (row_short c.args.directories.now.list (row_of_view c.row_at-source.result) form)));
     }
 
 pub returns-clause-made : goal.returns-clause-made
 returns-clause-made c =
     let none : drop c.loop-at.at-index c.args.positions.now ≡ [] = drop_of_length-le c.args.positions.now (omega arith) in
-    let copying = subst (λ (left : List ℕ). IsCopying c.args.directories.now c.retention_of-retention.result c.args.moment c.args.to.now c.args.files.now.rows (elements_at c.args.files.now.rows c.args.positions.now) (elements_at c.args.files.now.rows left) c.loop-at.simulation.row_changes.items c.loop-at.simulation.pairs.items (rows_of c.loop-at.simulation.names.items) c.loop-at.count c.loop-at.bytes) none c.loop-at.invariant.copying in
-    let retention_is : c.retention_of-retention.result ≡ retention_of c.args.to.now.directory c.args.directories.now = c.retention_of-retention.ensures ∙ ap (λ (name : List ℕ). retention_of name c.args.directories.now) c.as_bytes-directory.ensures.value in
+    let copying = subst (λ (left : List ℕ). IsCopying c.args.directories.now.list c.retention_of-retention.result c.args.moment c.args.to.now c.args.files.now.rows (elements_at c.args.files.now.rows c.args.positions.now) (elements_at c.args.files.now.rows left) c.loop-at.simulation.row_changes.items c.loop-at.simulation.pairs.items (rows_of c.loop-at.simulation.names.items) c.loop-at.count c.loop-at.bytes) none c.loop-at.invariant.copying in
+    let retention_is : c.retention_of-retention.result ≡ retention_of c.args.to.now.directory c.args.directories.now.list = c.retention_of-retention.ensures ∙ ap (λ (name : List ℕ). retention_of name c.args.directories.now.list) c.as_str.ensures.value in
     rw c.ready.ensures (record {
       files = refl;
       outcome = subst (λ (retention : ℕ). each_in_turn (copied retention c.args.moment c.args.to.now) (elements_at c.args.files.now.rows c.args.positions.now) (record { rows = c.args.files.now.rows; pairs = [] }) ≡ Ok (outcome_at c.retention_of-retention.result c.args.files.now.rows c.loop-at.simulation.row_changes.items c.loop-at.simulation.pairs.items)) retention_is

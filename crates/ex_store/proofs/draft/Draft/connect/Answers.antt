@@ -5,5 +5,5 @@ use Rattle.ex_store.proofs.draft.Draft.connect.Goals as goal
 
 pub new-self-inside-requires : goal.new-self-inside-requires
 new-self-inside-requires c =
-    let there : has_directory c.args.name.now c.self.inside.directories.items ≡ true = rw (← c.self.view_is) at c.requires in
-    name_is_short c.args.name.now c.self.inside.directories.items c.self.invariant.directories_within there
+    let there : has_directory c.args.name.now c.self.inside.directories.list ≡ true = rw (← c.self.view_is) at c.requires in
+    name_is_short c.args.name.now c.self.inside.directories.list c.self.invariant.directories_within there

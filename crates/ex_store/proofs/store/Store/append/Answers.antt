@@ -1,4 +1,4 @@
-use Rattle.std.proofs.Common.{◌≡◌, ℕ, true, List, Result, ap, subst, ◌∙◌}
+use Rattle.std.proofs.Common.{◌≡◌, ℕ, true, List, Result, ap, subst}
 use Rattle.std.proofs.lemmas.Result.{IfErr-weaker, IfOk-weaker}
 use Rattle.cm_fields.specs.declared.code.Code.{Code}
 use Rattle.ex_store.specs.declared.directory.Directory.{Directory}
@@ -19,14 +19,14 @@ use Rattle.ex_store.proofs.store.Store.append.Goals as goal
 pub appends-requires-clause-within : goal.appends-requires-clause-within
 appends-requires-clause-within c =
     positions_fit (is_meant c.args.from.now.flags.deleted c.args.from.now c.args.self.now.state) c.args.self.now.state.rows
-    c.self.inside.files.rows c.deref-2.result.now c.positions-positions.result.items
-    (ap (λ (held : StoreWithRoom). held.state.rows) c.self.view_is) c.deref-2.ensures.0 c.positions-positions.ensures
+    c.self.inside.files.rows c.deref.result.now c.positions-positions.result.items
+    (ap (λ (held : StoreWithRoom). held.state.rows) c.self.view_is) c.deref.ensures.0 c.positions-positions.ensures
 
-over : (c : goal.After-appends) → IsOver c.args.self.now.state c.args.from.now c.deref.result.now (elements_at c.self.inside.files.rows c.deref-2.result.now) c.self.inside.files.rows
+over : (c : goal.After-appends) → IsOver c.args.self.now.state c.args.from.now c.self.inside.directories.list (elements_at c.self.inside.files.rows c.deref.result.now) c.self.inside.files.rows
 over c =
-    is_over c.args.self.now.state c.args.from.now c.deref.result.now c.self.inside.files.rows c.deref-2.result.now c.positions-positions.result.items
-    (c.deref.ensures.value ∙ ap (λ (held : StoreWithRoom). held.state.directories) c.self.view_is)
-    (ap (λ (held : StoreWithRoom). held.state.rows) c.self.view_is) c.deref-2.ensures.0 c.positions-positions.ensures
+    is_over c.args.self.now.state c.args.from.now c.self.inside.directories.list c.self.inside.files.rows c.deref.result.now c.positions-positions.result.items
+    (ap (λ (held : StoreWithRoom). held.state.directories) c.self.view_is)
+    (ap (λ (held : StoreWithRoom). held.state.rows) c.self.view_is) c.deref.ensures.0 c.positions-positions.ensures
 
 -- an appending, of any directories, sources and rows
 abbrev append : ℕ → Place → List Directory → List Row → List Row → Result Outcome Code
@@ -36,14 +36,14 @@ pub returns-clause-ready : goal.returns-clause-ready
 unfolding planned
 returns-clause-ready c =
     IfOk-weaker c.appends.result _ _ (λ (ready : Change) made.
-    made_by (append c.args.moment c.args.to.now) c.args.self.now.state c.args.from.now c.deref.result.now _ c.self.inside.files.rows ready (over c) made)
+    made_by (append c.args.moment c.args.to.now) c.args.self.now.state c.args.from.now c.self.inside.directories.list _ c.self.inside.files.rows ready (over c) made)
     c.appends.ensures.made
 
 pub returns-clause-refused : goal.returns-clause-refused
 unfolding planned
 returns-clause-refused c =
     IfErr-weaker c.appends.result _ _ (λ (refusal : Refusal) refused.
-    refused_by (append c.args.moment c.args.to.now) c.args.self.now.state c.args.from.now c.deref.result.now _ c.self.inside.files.rows refusal (over c) refused)
+    refused_by (append c.args.moment c.args.to.now) c.args.self.now.state c.args.from.now c.self.inside.directories.list _ c.self.inside.files.rows refusal (over c) refused)
     c.appends.ensures.refused
 
 pub returns-clause-doable : goal.returns-clause-doable

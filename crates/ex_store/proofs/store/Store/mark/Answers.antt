@@ -22,7 +22,7 @@ pub invariant_of-self : goal.invariant_of-self
 invariant_of-self c =
     rw (kept c)
     (well_formed_with_rows _ _ c.self.invariant
-    (rows_marked c.self.inside.directories.items c.self.inside.files.rows _ true c.self.invariant.draft.rows))
+    (rows_marked c.self.inside.directories.list c.self.inside.files.rows _ true c.self.invariant.draft.rows))
 
 pub returns-clause-marked : goal.returns-clause-marked
 returns-clause-marked c = rw (kept c, c.set_marks.ensures.rooms, ← c.self.view_is)

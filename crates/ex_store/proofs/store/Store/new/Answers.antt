@@ -3,5 +3,5 @@ use Rattle.ex_store.proofs.store.Store.new.Goals as goal
 
 pub invariant_of-result : goal.invariant_of-result
 invariant_of-result c =
-    rw (c.in_ok-push.ensures.items, c.new-directories.ensures.items, c.new.ensures, c.new-2.ensures, c.new-3.ensures.items, c.new-4.ensures, c.new-5.ensures.items)
+    rw (c.in_ok-push.ensures.added, c.new-directories.ensures, c.new.ensures, c.new-2.ensures, c.new-3.ensures, c.new-4.ensures, c.new-5.ensures.items)
     first_well_formed

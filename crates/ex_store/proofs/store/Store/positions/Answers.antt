@@ -1,14 +1,16 @@
-use Rattle.std.proofs.Common.{◌≡◌, ◌+◌, ◌<◌, length, ap, arith, sym, subst, ◌∙◌}
+use Rattle.std.proofs.Common.{◌≡◌, ◌+◌, ◌<◌, ◌≤◌, true, length, ap, arith, sym, subst, ◌∙◌}
+use Rattle.std.proofs.lemmas.List.Sums.{prefix_len-le-length}
 use Rattle.ex_store.specs.Positions.{positions_from}
 use Rattle.ex_store.specs.Rows.{first_in, rows_in}
 use Rattle.ex_store.specs.Selection.{is_meant}
+use Rattle.ex_store.specs.State.{has_directory, number_of}
 use Rattle.ex_store.specs.WellFormed.{IsWellFormed}
-use Rattle.ex_store.proofs.MeantLaws.{block_few, collects_all, collects_more, collects_none, collects_within, positions_meant}
+use Rattle.ex_store.proofs.MeantLaws.{block_few, collects_all, collects_more, collects_none, collects_within, found_there, not_there, nowhere_meant, positions_meant}
 use Rattle.ex_store.proofs.store.Store.positions.Goals as goal
 
 -- what the steps before each push give
 bounds : (c : goal.After-positions-1)
-    → (length c.loop-i.positions.items < 4096) × (c.first_of-first.result + c.in-Some.i < 4096)
+    → (length c.loop-i.positions.items < 4096) × (c.first_of-first.result + c.in-Some-next_meant.i < 4096)
 bounds c =
     let state = c.args.self.now.state in
     let directory = c.args.files.now.directory in
@@ -19,7 +21,7 @@ bounds c =
     c.first_of-first.ensures ∙ ap (λ text. first_in text c.self.inside.files.rows) c.as_bytes.ensures.value
     ∙ ap (first_in directory) (ap (λ held. held.state.rows) c.self.view_is) in
     let within = collects_within (is_meant c.args.deleted c.args.files.now state) c.first_of-first.result rows
-    c.loop-i.positions.items c.loop-i.from c.in-Some.i c.loop-i.invariant (sym c.in-Some.is ∙ c.select.ensures) in
+    c.loop-i.positions.items c.loop-i.from c.in-Some-next_meant.i c.loop-i.invariant (sym c.in-Some-next_meant.is ∙ c.next_meant.ensures) in
     let low = within.0 in
     let high = within.1 in
     let size = c.loop-i.invariant.few in
@@ -50,7 +52,7 @@ overflow_add-from c =
     let few = block_few c.args.self.now.state well c.args.files.now.directory in
     let within = collects_within (is_meant c.args.deleted c.args.files.now c.args.self.now.state) c.first_of-first.result
     (rows_in c.args.files.now.directory c.args.self.now.state.rows)
-    c.loop-i.positions.items c.loop-i.from c.in-Some.i c.loop-i.invariant (sym c.in-Some.is ∙ c.select.ensures) in
+    c.loop-i.positions.items c.loop-i.from c.in-Some-next_meant.i c.loop-i.invariant (sym c.in-Some-next_meant.is ∙ c.next_meant.ensures) in
     let high = within.1 in
     omega arith
 
@@ -59,7 +61,7 @@ pub loop-i-smaller : goal.loop-i-smaller
 loop-i-smaller c =
     let within = collects_within (is_meant c.args.deleted c.args.files.now c.args.self.now.state) c.first_of-first.result
     (rows_in c.args.files.now.directory c.args.self.now.state.rows)
-    c.loop-i.positions.items c.loop-i.from c.in-Some.i c.loop-i.invariant (sym c.in-Some.is ∙ c.select.ensures) in
+    c.loop-i.positions.items c.loop-i.from c.in-Some-next_meant.i c.loop-i.invariant (sym c.in-Some-next_meant.is ∙ c.next_meant.ensures) in
     let low = within.0 in
     let high = within.1 in
     omega arith
@@ -69,8 +71,8 @@ pub loop-i-preserved : goal.loop-i-preserved
 loop-i-preserved c =
     collects_more (is_meant c.args.deleted c.args.files.now c.args.self.now.state) c.first_of-first.result
     (rows_in c.args.files.now.directory c.args.self.now.state.rows)
-    c.loop-i.positions.items c.push.new.self.items c.loop-i.from c.in-Some.i c.loop-i.invariant
-    (sym c.in-Some.is ∙ c.select.ensures) c.push.ensures.items
+    c.loop-i.positions.items c.push.new.self.items c.loop-i.from c.in-Some-next_meant.i c.loop-i.invariant
+    (sym c.in-Some-next_meant.is ∙ c.next_meant.ensures) c.push.ensures.items
 
 -- src/selection.rt:28:5
 pub returns : goal.returns
@@ -83,6 +85,38 @@ returns c =
     ∙ ap (first_in directory) (ap (λ held. held.state.rows) c.self.view_is) in
     let test = is_meant c.args.deleted c.args.files.now state in
     collects_all test c.first_of-first.result (rows_in directory state.rows) c.loop-i.positions.items c.loop-i.from c.loop-i.invariant
-    (sym c.in_default.is ∙ c.select.ensures)
+    (sym c.in_default-next_meant.is ∙ c.next_meant.ensures)
     ∙ ap (λ at. positions_from test at (rows_in directory state.rows)) first
     ∙ sym (positions_meant state well c.args.deleted c.args.files.now)
+
+-- src/selection.rt:49:13
+pub returns-in_default : goal.returns-in_default
+returns-in_default c =
+    let state = c.args.self.now.state in
+    let well = subst (λ held. IsWellFormed held.state) c.self.view_is c.self.invariant in
+    c.new-positions.ensures
+    ∙ sym (nowhere_meant state well c.args.deleted c.args.files.now
+    (not_there c.args.files.now.directory c.as_str.result.now state.directories c.self.inside.directories.list
+    (sym c.in_default.is ∙ c.find.ensures) c.as_str.ensures.value (ap (λ held. held.state.directories) c.self.view_is)))
+
+-- the directory is there
+there : (c : goal.At-loop-i)
+    → (has_directory c.args.files.now.directory c.args.self.now.state.directories ≡ true)
+    × (c.in-Some.directory ≡ number_of c.args.files.now.directory c.args.self.now.state.directories)
+there c =
+    found_there c.args.files.now.directory c.as_str.result.now c.args.self.now.state.directories c.self.inside.directories.list
+    c.in-Some.directory (sym c.in-Some.is ∙ c.find.ensures) c.as_str.ensures.value (ap (λ held. held.state.directories) c.self.view_is)
+
+-- src/selection.rt:53:45
+pub overflow_cast-directory : goal.overflow_cast-directory
+overflow_cast-directory c =
+    let directories = c.args.self.now.state.directories in
+    let well = subst (λ held. IsWellFormed held.state) c.self.view_is c.self.invariant in
+    let within : number_of c.args.files.now.directory directories ≤ length directories = prefix_len-le-length _ directories in
+    omega (arith, within, (there c).1, well.draft.few_directories)
+
+pub next_meant-requires-clause-there : goal.next_meant-requires-clause-there
+next_meant-requires-clause-there c = (there c).0
+
+pub next_meant-requires-clause-number : goal.next_meant-requires-clause-number
+next_meant-requires-clause-number c = (there c).1

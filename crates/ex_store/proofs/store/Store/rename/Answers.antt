@@ -1,4 +1,4 @@
-use Rattle.std.proofs.Common.{◌≡◌, true, List, Result, ap, subst, ◌∙◌}
+use Rattle.std.proofs.Common.{◌≡◌, true, List, Result, ap, subst}
 use Rattle.std.proofs.lemmas.Result.{IfErr-weaker, IfOk-weaker}
 use Rattle.cm_fields.specs.declared.code.Code.{Code}
 use Rattle.cm_files.specs.Catalogue.{ascends}
@@ -24,14 +24,14 @@ use Rattle.ex_store.proofs.store.Store.rename.Goals.{After-as_bytes}
 pub renames-requires-clause-within : goal.renames-requires-clause-within
 renames-requires-clause-within c =
     positions_fit (is_meant c.args.from.now.flags.deleted c.args.from.now c.args.self.now.state) c.args.self.now.state.rows
-    c.self.inside.files.rows c.deref-2.result.now c.positions-positions.result.items
-    (ap (λ (held : StoreWithRoom). held.state.rows) c.self.view_is) c.deref-2.ensures.0 c.positions-positions.ensures
+    c.self.inside.files.rows c.deref.result.now c.positions-positions.result.items
+    (ap (λ (held : StoreWithRoom). held.state.rows) c.self.view_is) c.deref.ensures.0 c.positions-positions.ensures
 
-over : (c : After-as_bytes) → IsOver c.args.self.now.state c.args.from.now c.deref.result.now (elements_at c.self.inside.files.rows c.deref-2.result.now) c.self.inside.files.rows
+over : (c : After-as_bytes) → IsOver c.args.self.now.state c.args.from.now c.self.inside.directories.list (elements_at c.self.inside.files.rows c.deref.result.now) c.self.inside.files.rows
 over c =
-    is_over c.args.self.now.state c.args.from.now c.deref.result.now c.self.inside.files.rows c.deref-2.result.now c.positions-positions.result.items
-    (c.deref.ensures.value ∙ ap (λ (held : StoreWithRoom). held.state.directories) c.self.view_is)
-    (ap (λ (held : StoreWithRoom). held.state.rows) c.self.view_is) c.deref-2.ensures.0 c.positions-positions.ensures
+    is_over c.args.self.now.state c.args.from.now c.self.inside.directories.list c.self.inside.files.rows c.deref.result.now c.positions-positions.result.items
+    (ap (λ (held : StoreWithRoom). held.state.directories) c.self.view_is)
+    (ap (λ (held : StoreWithRoom). held.state.rows) c.self.view_is) c.deref.ensures.0 c.positions-positions.ensures
 
 pub renames-requires-clause-inside : goal.renames-requires-clause-inside
 renames-requires-clause-inside c =
@@ -52,14 +52,14 @@ pub returns-clause-ready : goal.returns-clause-ready
 unfolding planned
 returns-clause-ready c =
     IfOk-weaker c.renames.result _ _ (λ (ready : Change) made moment.
-    made_by (rename c.args.to.now) c.args.self.now.state c.args.from.now c.deref.result.now _ c.self.inside.files.rows ready (over (goal.at.returns-clause-ready c).After-as_bytes) made)
+    made_by (rename c.args.to.now) c.args.self.now.state c.args.from.now c.self.inside.directories.list _ c.self.inside.files.rows ready (over (goal.at.returns-clause-ready c).After-as_bytes) made)
     c.renames.ensures.made
 
 pub returns-clause-refused : goal.returns-clause-refused
 unfolding planned
 returns-clause-refused c = λ moment.
     IfErr-weaker c.renames.result _ _ (λ (refusal : Refusal) refused.
-    refused_by (rename c.args.to.now) c.args.self.now.state c.args.from.now c.deref.result.now _ c.self.inside.files.rows refusal (over (goal.at.returns-clause-refused c).After-as_bytes) refused)
+    refused_by (rename c.args.to.now) c.args.self.now.state c.args.from.now c.self.inside.directories.list _ c.self.inside.files.rows refusal (over (goal.at.returns-clause-refused c).After-as_bytes) refused)
     c.renames.ensures.refused
 
 pub returns-clause-doable : goal.returns-clause-doable

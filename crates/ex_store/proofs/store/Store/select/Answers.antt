@@ -1,49 +1,36 @@
-use Rattle.std.proofs.Common.{arith, ap, sym, subst, ◌∙◌}
-use Rattle.std.proofs.lemmas.List.{length-map}
-use Rattle.ex_store.specs.declared.directory.Directory.{Directory}
+use Rattle.std.proofs.Common.{◌≡◌, ◌≤◌, true, length, ap, arith, sym, subst, ◌∙◌}
+use Rattle.std.proofs.lemmas.List.Sums.{prefix_len-le-length}
+use Rattle.ex_store.specs.State.{has_directory, number_of}
 use Rattle.ex_store.specs.WellFormed.{IsWellFormed}
-use Rattle.cm_files.specs.Selection.{wanted}
-use Rattle.ex_store.proofs.CatalogueLaws.{number_found}
-use Rattle.ex_store.proofs.MeantLaws.{found_there, nothing_meant, walk_meant}
+use Rattle.ex_store.proofs.MeantLaws.{found_there, not_there, nothing_meant}
 use Rattle.ex_store.proofs.store.Store.select.Goals as goal
 
-pub returns-then-not-has_directory : goal.returns-then-not-has_directory
-returns-then-not-has_directory c =
+pub returns-in_err-directory : goal.returns-in_err-directory
+returns-in_err-directory c =
+    let state = c.args.self.now.state in
     let well = subst (λ held. IsWellFormed held.state) c.self.view_is c.self.invariant in
-    nothing_meant c.args.self.now.state well c.args.deleted c.args.files.now c.args.from
-    c.as_bytes.result.now c.deref.result.now (sym c.has_directory.ensures ∙ c.if-not-has_directory.true) c.as_bytes.ensures.value
-    (c.deref.ensures.value ∙ ap (λ held. held.state.directories) c.self.view_is)
+    c.from_residual.ensures
+    ∙ nothing_meant state well c.args.deleted c.args.files.now c.args.from
+    (not_there c.args.files.now.directory c.as_str.result.now state.directories c.self.inside.directories.list
+    (sym c.in_err-directory.was ∙ c.find.ensures) c.as_str.ensures.value (ap (λ held. held.state.directories) c.self.view_is))
+
+-- and it is there
+there : (c : goal.In_ok-directory)
+    → (has_directory c.args.files.now.directory c.args.self.now.state.directories ≡ true)
+    × (c.in_ok-directory.directory ≡ number_of c.args.files.now.directory c.args.self.now.state.directories)
+there c =
+    found_there c.args.files.now.directory c.as_str.result.now c.args.self.now.state.directories c.self.inside.directories.list
+    c.in_ok-directory.directory (sym c.in_ok-directory.was ∙ c.find.ensures) c.as_str.ensures.value (ap (λ held. held.state.directories) c.self.view_is)
 
 pub overflow_cast-directory : goal.overflow_cast-directory
 overflow_cast-directory c =
-    let well = subst (λ held. IsWellFormed held.state) c.self.view_is c.self.invariant in
     let directories = c.args.self.now.state.directories in
-    let there = found_there c.args.self.now.state.directories c.deref.result.now c.args.files.now.directory c.as_bytes.result.now
-    c.has_directory.result c.has_directory.ensures c.if-not-has_directory.false c.as_bytes.ensures.value
-    (c.deref.ensures.value ∙ ap (λ held. held.state.directories) c.self.view_is) in
-    let within = number_found directories c.args.files.now.directory there c.number_of-directory.result
-    c.as_bytes-2.result.now c.deref-2.result.now c.number_of-directory.ensures c.as_bytes-2.ensures.value
-    (c.deref-2.ensures.value ∙ ap (λ held. held.state.directories) c.self.view_is) in
-    let few = well.draft.few_directories in
-    let sizes = length-map directories (λ (directory : Directory). directory.name) in
-    omega arith
-
-pub select-requires : goal.select-requires
-select-requires c =
-    let there = found_there c.args.self.now.state.directories c.deref.result.now c.args.files.now.directory c.as_bytes.result.now
-    c.has_directory.result c.has_directory.ensures c.if-not-has_directory.false c.as_bytes.ensures.value
-    (c.deref.ensures.value ∙ ap (λ held. held.state.directories) c.self.view_is) in
-    number_found c.args.self.now.state.directories c.args.files.now.directory there c.number_of-directory.result
-    c.as_bytes-2.result.now c.deref-2.result.now c.number_of-directory.ensures c.as_bytes-2.ensures.value
-    (c.deref-2.ensures.value ∙ ap (λ held. held.state.directories) c.self.view_is)
-
-pub returns : goal.returns
-returns c =
     let well = subst (λ held. IsWellFormed held.state) c.self.view_is c.self.invariant in
-    let there = found_there c.args.self.now.state.directories c.deref.result.now c.args.files.now.directory c.as_bytes.result.now
-    c.has_directory.result c.has_directory.ensures c.if-not-has_directory.false c.as_bytes.ensures.value
-    (c.deref.ensures.value ∙ ap (λ held. held.state.directories) c.self.view_is) in
-    c.select.ensures
-    ∙ walk_meant c.args.self.now.state well c.args.deleted c.args.files.now c.args.from c.number_of-directory.result
-    c.as_bytes-2.result.now c.deref-2.result.now (wanted c.sought.result) there c.number_of-directory.ensures
-    c.as_bytes-2.ensures.value (c.deref-2.ensures.value ∙ ap (λ held. held.state.directories) c.self.view_is) c.sought.ensures
+    let within : number_of c.args.files.now.directory directories ≤ length directories = prefix_len-le-length _ directories in
+    omega (arith, within, (there c).1, well.draft.few_directories)
+
+pub next_meant-requires-clause-there : goal.next_meant-requires-clause-there
+next_meant-requires-clause-there c = (there c).0
+
+pub next_meant-requires-clause-number : goal.next_meant-requires-clause-number
+next_meant-requires-clause-number c = (there c).1

@@ -49,8 +49,8 @@ adds c =
 pub returns-in-Ok-one_add-clause-ready : goal.returns-in-Ok-one_add-clause-ready
 returns-in-Ok-one_add-clause-ready c =
     let retention_is : c.retention_of-retention.result ≡ retention_at c.args.to.now c.args.self.now.state =
-    c.retention_of-retention.ensures ∙ ap (λ (name : List ℕ). retention_of name c.deref.result.now) c.as_bytes.ensures.value
-    ∙ ap (retention_of c.args.to.now.directory) (c.deref.ensures.value ∙ ap (λ (held : StoreWithRoom). held.state.directories) c.self.view_is) in
+    c.retention_of-retention.ensures ∙ ap (λ (name : List ℕ). retention_of name c.self.inside.directories.list) c.as_str.ensures.value
+    ∙ ap (retention_of c.args.to.now.directory) (ap (λ (held : StoreWithRoom). held.state.directories) c.self.view_is) in
     write_ready c.args.self.now.state c.args.to.now c.args.bytes c.args.moment c.retention_of-retention.result c.in-Ok.generation c.in-Ok-one_add.ready (sym c.lacks_name.ensures ∙ c.if-lacks_name.false)
     (admits c) retention_is (adds c)
 
