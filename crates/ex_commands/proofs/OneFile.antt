@@ -54,8 +54,8 @@ use Rattle.ex_commands.specs.Command.{command_of, named}
 use Rattle.ex_commands.specs.Commands.Copy.{copies, is_token}
 use Rattle.ex_commands.specs.Commands.Print.{after_in, copies_in, form_in, job_in, note_in}
 use Rattle.ex_commands.specs.Line.{Line, between, directory_in, directory_name, flags_of, has_subs, keyword_code, on, place_by, place_in, said_of, upper}
+use Rattle.ex_store.proofs.SelectionLaws.{meant_all}
 use Rattle.ex_commands.proofs.Capitals.{up}
-use Rattle.ex_commands.proofs.Files.{files_all}
 use Rattle.ex_commands.proofs.Fitting.{reads_single}
 use Rattle.ex_commands.proofs.Places.{spec_kind, spec_name}
 use Rattle.ex_commands.proofs.Resolving.{resolves}
@@ -97,7 +97,7 @@ meant_count place state =
     let test = is_selected (wanted_of place.flags.deleted place) (map f inside) in
     let same = filter_same (is_in place.directory) (is_meant place.flags.deleted place state) (λ row. test (f row))
     (meant_inside place.flags.deleted place state) inside (kept_pass (is_in place.directory) state.rows) in
-    ap length (sym (files_all place state))
+    ap length (sym (meant_all place.flags.deleted place state))
     ∙ ap length same
     ∙ sym (length-map (filter (λ row. test (f row)) inside) f)
     ∙ ap length (sym (filter_of_map test f inside))

@@ -3,7 +3,6 @@ pub mod Answer
 pub mod Command
 pub mod Commands
 pub mod Effect
-pub mod Files
 pub mod Line
 pub mod Outcome
 pub mod Replies

@@ -1,14 +1,14 @@
 // Lines for each of some files are put.
 #![tactic(auto, using(cm_io::proofs::Texts::texts))]
 
-ghost use Rattle.std.specs.Prelude.{◌≡◌, ◌≤◌, [], ◌∷◌, filter, length};
-ghost use Rattle.std.specs.List.{flat_map};
+ghost use Rattle.std.specs.Prelude.{◌≡◌, ◌≤◌, true, [], ◌∷◌, filter, length};
+ghost use Rattle.std.specs.List.{flat_map, list_all};
 ghost use Rattle.cm_io.specs.Writer.{Writes};
 ghost use Rattle.ex_generations.specs.declared.file.TheConstants.{FILE_LIMIT};
-ghost use Rattle.ex_store.specs.declared.limits.TheConstants.{MOMENT_LIMIT};
+ghost use Rattle.ex_store.specs.declared.limits.TheConstants.{MOMENT_LIMIT, ROW_LIMIT};
 ghost use Rattle.ex_store.specs.Lent.{row_of_view};
-ghost use Rattle.ex_store.specs.Plan.{IsSource, sources};
-ghost use Rattle.ex_commands.specs.Files.{IsNumber};
+ghost use Rattle.ex_store.specs.Plan.{sources};
+ghost use Rattle.ex_store.specs.WellFormed.{is_row_among};
 ghost use Rattle.ex_commands.specs.Replies.{day_number, day_of, ends_line, heading, held_text, is_within, line_of, listed_line, marked_line, measures_text, total_line};
 
 use crate::names::{full_of, put_directory, put_file, put_full};
@@ -18,7 +18,7 @@ use cm_dates::day_text;
 use cm_io::{Sink, Writer};
 use cm_text::end_of_line;
 use ex_generations::File;
-use ex_store::{Place, RowView, Store, page_count};
+use ex_store::{Place, RowView, Selection, Store, page_count};
 
 // The seconds of a day.
 pub(crate) const DAY_SECONDS: u64 = 86_400;
@@ -41,15 +41,13 @@ pub enum Lines {
     Held,
 }
 
-/// The number of the first file that a place means, among those of its directory with this number or a later one; none
-/// where there is no such file.
-pub(crate) fn next_file(store: &Store, files: &Place, from: u32) -> Option<u32>
-    requires { IsSource files.now store.now.state }
-    ensures { IsNumber files.now store.now.state from result }
+/// The files that a place means, one after the other, marked or not as the place says.
+pub(crate) fn sources<'a, 'b>(store: &'a Store, files: &'b Place) -> Selection<'a, 'b>
+    ensures value { result ≡ sources files.now store.now.state }
+    ensures lawful { list_all (is_row_among store.now.state.directories) result ≡ true }
+    ensures few { length result ≤ ROW_LIMIT }
 {
-    // A use of the parts, for the proof: what a store holds is well formed.
-    let _ = store.parts();
-    store.select(files, files.flags.deleted, from)
+    store.selection(files, files.flags.deleted)
 }
 
 // The day of a moment.
@@ -81,15 +79,11 @@ fn count_within(days: Days, row: RowView<'_>) -> u32
 /// How many files of these days a place means.
 #[tactic(auto)]
 pub(crate) fn count_files(store: &Store, files: &Place, days: Days) -> u32
-    requires { IsSource files.now store.now.state }
     ensures { result ≡ length (filter (is_within days) (sources files.now store.now.state)) }
 {
     let mut count = 0;
-    let mut from = 0;
-    while let Some(at) = next_file(store, files, from) {
-        let row = store.row_in(files.directory.as_str(), at);
+    for row in sources(store, files) {
         count += count_within(days, row);
-        from = at + 1;
     }
     count
 }
@@ -193,14 +187,10 @@ pub(crate) fn put_lines<S: Sink>(
     lines: Lines,
     out: &mut Writer<'_, S>,
 )
-    requires { IsSource files.now store.now.state }
     ensures { Writes S.Sink out.old out.new (flat_map (line_of lines) (sources files.now store.now.state)) }
 {
-    let mut from = 0;
-    while let Some(at) = next_file(store, files, from) {
-        let row = store.row_in(files.directory.as_str(), at);
+    for row in sources(store, files) {
         put_row(lines, row, out);
-        from = at + 1;
     }
 }
 

@@ -82,22 +82,20 @@ walk_meant state well deleted place from n w there number same =
     (all_drop (is_in place.directory) from inside (kept_pass (is_in place.directory) state.rows))
 
 -- a directory that is looked for: its number, where it is there
-pub found_there : (name text : List ℕ) (directories items : List Directory) (n : ℕ)
-    → Some n ≡ cond (has_directory text items) (Some (number_of text items)) None → text ≡ name → items ≡ directories
+pub found_there : (name : List ℕ) (directories : List Directory) (n : ℕ)
+    → Some n ≡ cond (has_directory name directories) (Some (number_of name directories)) None
     → (has_directory name directories ≡ true) × (n ≡ number_of name directories)
-found_there name text directories items n told texts lists =
-    by (has_directory name directories) refl (rw (← texts, ← lists) told)
+found_there name directories n told = by (has_directory name directories) refl told
   where
     by : (there : Bool) → has_directory name directories ≡ there → Some n ≡ cond there (Some (number_of name directories)) None
         → (has_directory name directories ≡ true) × (n ≡ number_of name directories)
     by true is told = (is, cc)
     by false is told = absurd (cc)
 
-pub not_there : (name text : List ℕ) (directories items : List Directory)
-    → None ≡ cond (has_directory text items) (Some (number_of text items)) None → text ≡ name → items ≡ directories
+pub not_there : (name : List ℕ) (directories : List Directory)
+    → None ≡ cond (has_directory name directories) (Some (number_of name directories)) None
     → has_directory name directories ≡ false
-not_there name text directories items told texts lists =
-    by (has_directory name directories) refl (rw (← texts, ← lists) told)
+not_there name directories told = by (has_directory name directories) refl told
   where
     by : (there : Bool) → has_directory name directories ≡ there → None ≡ cond there (Some (number_of name directories)) None
         → has_directory name directories ≡ false
@@ -105,7 +103,7 @@ not_there name text directories items told texts lists =
     by false is told = is
 
 -- where there is no such directory it has no rows, and none is meant
-lacks_rows : (directories : List Directory) (name : List ℕ) → has_directory name directories ≡ false → (rows : List Row)
+pub lacks_rows : (directories : List Directory) (name : List ℕ) → has_directory name directories ≡ false → (rows : List Row)
     → list_all (is_row_among directories) rows ≡ true → rows_in name rows ≡ []
 lacks_rows directories name lacks [] all = refl
 lacks_rows directories name lacks (row ∷ rows) all =
@@ -118,17 +116,6 @@ lacks_rows directories name lacks (row ∷ rows) all =
         let same = exact_bytes row.key.directory name ((Equal-is (by_bytes row.key.directory name)).0 is) in
         absurd (both_ways _ lacks (ap (λ each. has_directory each directories) (sym same) ∙ there))
     by false is there rest = rest
-
-pub nothing_meant : (state : State) → IsWellFormed state → (deleted : Bool) (place : Place) (from : ℕ)
-    → has_directory place.directory state.directories ≡ false
-    → None ≡ position_from (is_meant deleted place state) from (drop from (rows_in place.directory state.rows))
-nothing_meant state well deleted place from none =
-    let rows = lacks_rows state.directories place.directory none state.rows well.draft.rows.within in
-    sym (ap (λ (each : List Row). position_from (is_meant deleted place state) from (drop from each)) rows ∙ nowhere from)
-  where
-    nowhere : (n : ℕ) → position_from (is_meant deleted place state) from (drop {A = Row} n []) ≡ None
-    nowhere zero = refl
-    nowhere (suc n) = refl
 
 -- where the first of a list is that passes, and the positions behind it
 record Found {X : Type 0} (test : X → Bool) (at : ℕ) (xs : List X) (i : ℕ) : Type 0 where
@@ -252,12 +239,10 @@ positions_meant state well deleted place =
 
 -- without such a directory there are none
 pub nowhere_meant : (state : State) → IsWellFormed state → (deleted : Bool) (place : Place)
-    → has_directory place.directory state.directories ≡ false
-    → positions_from (is_meant deleted place state) 0 state.rows ≡ []
+    → rows_in place.directory state.rows ≡ [] → positions_from (is_meant deleted place state) 0 state.rows ≡ []
 nowhere_meant state well deleted place none =
     positions_meant state well deleted place
-    ∙ ap (λ (rows : List Row). positions_from (is_meant deleted place state) (first_in place.directory state.rows) rows)
-    (lacks_rows state.directories place.directory none state.rows well.draft.rows.within)
+    ∙ ap (positions_from (is_meant deleted place state) (first_in place.directory state.rows)) none
 
 -- and they are few
 pub block_few : (state : State) → IsWellFormed state → (directory : List ℕ)

@@ -1,14 +1,16 @@
 -- Rows are marked, cleared of their mark, and taken out: the rows stay those of a store.
-use Rattle.std.proofs.Common.{◌≡◌, ℕ, suc, zero, ◌+◌, ◌<◌, ◌≤◌, nat_lt, ◌&&◌, Bool, true, false, cond, List, [], ◌∷◌, ◌++◌, append_assoc, drop, drop-cons, filter, get_or, length, length-append, map, set, refl, ap, arith, ◌∙◌, sym}
+use Rattle.std.proofs.Common.{◌≡◌, ℕ, suc, zero, ◌+◌, ◌<◌, ◌≤◌, nat_lt, ◌&&◌, Bool, true, false, not, cond, List, [], ◌∷◌, ◌++◌, append_assoc, drop, drop-cons, filter, get_or, length, length-append, map, set, refl, ap, arith, ◌∙◌, sym}
 use Rattle.std.specs.List.{list_all}
+use Rattle.std.specs.Ordering.{is_lt}
+use Rattle.cm_files.specs.Catalogue.{by_bytes}
 use Rattle.std.proofs.lemmas.Bool.{and_from, and_parts, lt-ltb}
 use Rattle.std.proofs.lemmas.List.{length-map}
 use Rattle.std.proofs.lemmas.List.Sums.{count_by-le-length, length-filter}
 use Rattle.ex_store.specs.declared.directory.Directory.{Directory}
 use Rattle.ex_store.specs.declared.row.Row.{Row}
 use Rattle.ex_store.specs.Positions.{all_changed_at, changed_at, positions_from}
-use Rattle.ex_store.specs.Rows.{by_row, is_short, total, with_mark}
-use Rattle.ex_store.specs.State.{State}
+use Rattle.ex_store.specs.Rows.{by_row, expunged, first_in, is_in, is_short, total, with_mark}
+use Rattle.ex_store.specs.State.{State, firsts_in}
 use Rattle.ex_store.specs.WellFormed.{AreRows, IsWellFormed, is_row_among}
 use Rattle.ex_store.proofs.AscendsLaws.{all_filter, ascends_filter, ascends_map}
 use Rattle.ex_store.proofs.BuiltLaws.{all_more}
@@ -213,3 +215,27 @@ marked_rows test deleted rows before after given positions same told found marke
 pub positions_fit : (test : Row → Bool) (rows before : List Row) (given positions : List ℕ) → before ≡ rows → given ≡ positions
     → positions ≡ positions_from test 0 rows → list_all (λ at. nat_lt at (length before)) given ≡ true
 positions_fit test rows before given positions same told found = rw (told, found, same) (positions_within test rows)
+
+pub rows_expunged : (directories : List Directory) (directory : List ℕ) (rows : List Row) → AreRows directories rows
+    → AreRows directories (expunged directory rows)
+rows_expunged directories directory rows = rows_left directories rows (λ row. not (is_in directory row && row.file.deleted))
+
+-- a mark leaves where the files of a directory begin
+first_marked : (directory : List ℕ) (test : Row → Bool) (deleted : Bool) (rows : List Row)
+    → first_in directory (map (where_passing test (with_mark deleted)) rows) ≡ first_in directory rows
+first_marked directory test deleted [] = refl
+first_marked directory test deleted (row ∷ rows) = by (test row) (first_marked directory test deleted rows)
+  where
+    by : (passes : Bool) → first_in directory (map (where_passing test (with_mark deleted)) rows) ≡ first_in directory rows
+        → first_in directory (cond passes (with_mark deleted row) row ∷ map (where_passing test (with_mark deleted)) rows)
+        ≡ first_in directory (row ∷ rows)
+    by true rest = ap (λ n. cond (is_lt (by_bytes row.key.directory directory)) (1 + n) 0) rest
+    by false rest = ap (λ n. cond (is_lt (by_bytes row.key.directory directory)) (1 + n) 0) rest
+
+pub firsts_marked : (directories : List Directory) (test : Row → Bool) (deleted : Bool) (rows : List Row)
+    → firsts_in directories rows ≡ firsts_in directories (map (where_passing test (with_mark deleted)) rows)
+firsts_marked [] test deleted rows = refl
+firsts_marked (directory ∷ directories) test deleted rows =
+    ap (λ n. n ∷ firsts_in directories rows) (sym (first_marked directory.name test deleted rows))
+    ∙ ap (λ more. first_in directory.name (map (where_passing test (with_mark deleted)) rows) ∷ more)
+    (firsts_marked directories test deleted rows)

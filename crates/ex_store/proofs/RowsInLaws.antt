@@ -424,16 +424,37 @@ row_in_stands state well i at name rows within first items =
       omega arith,
     )
 
+-- where the files of the directory with a number begin, by its name
+pub first_named : (directories : List Directory) (rows : List Row) (n at : ℕ) (name : List ℕ)
+    → option_map (λ directory. first_in directory.name rows) (slice_get directories n) ≡ Some at
+    → option_map (λ directory. directory.name) (slice_get directories n) ≡ Some name → at ≡ first_in name rows
+first_named directories rows n at name first is = by (slice_get directories n) first is
+  where
+    by : (found : Option Directory) → option_map (λ directory. first_in directory.name rows) found ≡ Some at
+        → option_map (λ directory. directory.name) found ≡ Some name → at ≡ first_in name rows
+    by None first is = absurd (cc)
+    by (Some directory) first is =
+        let here : first_in directory.name rows ≡ at = cc in
+        let same : directory.name ≡ name = cc in
+        sym here ∙ ap (λ each. first_in each rows) same
+
 -- the same by the number of the directory
-pub row_stands : (state : State) → IsWellFormed state → (n i at : ℕ) (name : List ℕ) (rows : List Row)
-    → option_map (λ directory. directory.name) (slice_get state.directories n) ≡ Some name
-    → i < length (rows_numbered n state) → at ≡ first_in name state.rows → rows ≡ state.rows
+pub row_stands : (state : State) → IsWellFormed state → (n i at : ℕ) (rows : List Row)
+    → option_map (λ directory. first_in directory.name state.rows) (slice_get state.directories n) ≡ Some at
+    → i < length (rows_numbered n state) → rows ≡ state.rows
     → (at + i < length rows) × (slice_get (rows_numbered n state) i ≡ slice_get rows (at + i)) × (at + i < 4096)
-row_stands state well n i at name rows is within first items =
-    let same = rows_of_name state well n name is in
-    let sizes = ap length same in
-    let stands = row_in_stands state well i at name rows (omega arith) first items in
-    (stands.0, ap (λ each. slice_get each i) same ∙ stands.1, stands.2)
+row_stands state well n i at rows first within items = by (slice_get state.directories n) refl first
+  where
+    by : (found : Option Directory) → slice_get state.directories n ≡ found
+        → option_map (λ directory. first_in directory.name state.rows) found ≡ Some at
+        → (at + i < length rows) × (slice_get (rows_numbered n state) i ≡ slice_get rows (at + i)) × (at + i < 4096)
+    by None there first = absurd (cc)
+    by (Some directory) there first =
+        let here : first_in directory.name state.rows ≡ at = cc in
+        let same = rows_at_number state well n directory there in
+        let sizes = ap length same in
+        let stands = row_in_stands state well i at directory.name rows (omega arith) (sym here) items in
+        (stands.0, ap (λ each. slice_get each i) same ∙ stands.1, stands.2)
 
 -- how many rows the directory with a number has
 pub rows_counted : (state : State) → IsWellFormed state → (n : ℕ) (name : List ℕ)
@@ -483,16 +504,16 @@ pub catalogue_rows : (state : State) (n : ℕ) → length (rows_of (catalogue_of
 catalogue_rows state n =
     ap length (rows_of_catalogue state n) ∙ length-map (rows_numbered n state) (file_row state.directories)
 
--- the same, as two searches tell them
+-- the same, as a search and the beginning tell them
 pub rows_between : (state : State) → IsWellFormed state → (n : ℕ) (name : List ℕ)
     → option_map (λ directory. directory.name) (slice_get state.directories n) ≡ Some name
-    → (first end : ℕ) (rows others : List Row) → rows ≡ state.rows → others ≡ state.rows
-    → end ≡ end_in name rows → first ≡ first_in name others
+    → (first end : ℕ) (rows : List Row) → rows ≡ state.rows → end ≡ end_in name rows
+    → option_map (λ directory. first_in directory.name state.rows) (slice_get state.directories n) ≡ Some first
     → (end ≡ first + length (rows_of (catalogue_of state) n)) × (end ≤ 4096)
-rows_between state well n name is first end rows others same other_same ends starts =
+rows_between state well n name is first end rows same ends starts =
     let counts = rows_counted state well n name is in
     let whole = counts.0 in
     let few = counts.1 in
     let last : end ≡ end_in name state.rows = ends ∙ ap (end_in name) same in
-    let start : first ≡ first_in name state.rows = starts ∙ ap (first_in name) other_same in
+    let start = first_named state.directories state.rows n first name starts is in
     (omega arith, omega arith)

@@ -1,10 +1,12 @@
 -- Which files a place means (GTJFN).
-use Rattle.std.specs.Prelude.{ℕ, Bool, ◌&&◌, if◌then◌else◌, List, [], map, filter, codes, Option, None, Some}
+use Rattle.std.specs.Prelude.{ℕ, ◌≡◌, ◌+◌, ◌<◌, ◌≤◌, Bool, true, ◌&&◌, if◌then◌else◌, List, [], ◌∷◌, drop, map, filter, codes, Option, None, Some}
+use Rattle.std.specs.Option.{MatchOption}
 use Rattle.cm_files.specs.Selection.{Wanted, is_selected}
+use Rattle.ex_store.specs.declared.limits.TheConstants.{ROW_LIMIT}
 use Rattle.ex_store.specs.declared.place.Place.{Place}
 use Rattle.ex_store.specs.declared.row.Row.{Row}
 use Rattle.ex_store.specs.Rows.{is_in, rows_in, with_mark}
-use Rattle.ex_store.specs.State.{State, file_row}
+use Rattle.ex_store.specs.State.{State, file_row, has_directory, number_of}
 
 -- a name that is not given is any under the flag `default_all`, and else none
 abbrev pub wanted_name : Place → Option (List ℕ) → Option (List ℕ)
@@ -38,7 +40,29 @@ is_meant deleted place state row =
 abbrev pub meant : Bool → Place → State → List Row
 meant deleted place state = filter (is_meant deleted place state) state.rows
 
+-- those of them from a number on, among the rows of its directory
+abbrev pub meant_from : Bool → Place → State → ℕ → List Row
+meant_from deleted place state from =
+    filter (is_meant deleted place state) (drop from (rows_in place.directory state.rows))
+
+-- the first of them, with its number, or there is none
+abbrev pub IsNext : Bool → Place → State → ℕ → Option (ℕ × Row) → Type 0
+IsNext deleted place state from found =
+    let left = meant_from deleted place state in
+    MatchOption found (left from ≡ []) (λ next. (left from ≡ next.1 ∷ left (next.0 + 1)) × (next.0 < ROW_LIMIT))
+
 -- the rows, where those that a place means are given a mark
 abbrev pub remarked : Bool → Place → State → List Row
 remarked deleted place state =
     map (λ row. if is_meant place.flags.deleted place state row then with_mark deleted row else row) state.rows
+
+-- the number of the directory of this name; without one it has no rows
+abbrev pub IsNumber : List ℕ → State → Option ℕ → Type 0
+IsNumber name state found =
+    MatchOption found (rows_in name state.rows ≡ [])
+    (λ number. (has_directory name state.directories ≡ true) × (number ≡ number_of name state.directories))
+
+-- a walk over the rows of the directory of this name, which stands at one of them or behind the last
+pub record IsWalk (name : List ℕ) (state : State) (found : Option ℕ) (from : ℕ) : Type 0 where
+  pub number : IsNumber name state found
+  pub few : from ≤ ROW_LIMIT

@@ -12,6 +12,7 @@ use Rattle.ex_store.specs.declared.directory.Directory.{Directory}
 use Rattle.ex_store.specs.declared.key.Key.{Key}
 use Rattle.ex_store.specs.declared.queue.QueueEntry.{QueueEntry}
 use Rattle.ex_store.specs.declared.row.Row.{Row}
+use Rattle.ex_store.specs.Rows.{first_in}
 
 -- the directories; the name of the connected one; the logical names; the files; the print queue
 pub record State : Type 0 where
@@ -75,6 +76,10 @@ file_row directories row =
 -- the rows of the directory with a number
 abbrev pub rows_numbered : ℕ → State → List Row
 rows_numbered directory state = filter (λ row. number_of row.key.directory state.directories == directory) state.rows
+
+-- how many rows stand before those of each directory
+abbrev pub firsts_in : List Directory → List Row → List ℕ
+firsts_in directories rows = map (λ directory. first_in directory.name rows) directories
 
 -- a logical name as a catalogue has it
 abbrev pub logical_name : List Directory → Definition → LogicalName

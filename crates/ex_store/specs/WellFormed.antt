@@ -14,7 +14,7 @@ use Rattle.ex_store.specs.declared.limits.TheConstants.{AFTER_LIMIT, COPIES_LIMI
 use Rattle.ex_store.specs.declared.queue.QueueEntry.{QueueEntry}
 use Rattle.ex_store.specs.declared.row.Row.{Row}
 use Rattle.ex_store.specs.Rows.{by_row, total}
-use Rattle.ex_store.specs.State.{State, has_directory}
+use Rattle.ex_store.specs.State.{State, firsts_in, has_directory}
 
 -- a directory's name, and at most 63 generations that are kept
 abbrev pub is_directory : Directory → Bool
@@ -78,3 +78,8 @@ pub record IsDraft (state : State) : Type 0 where
 pub record IsWellFormed (state : State) : Type 0 where
   pub draft : IsDraft state
   pub connected_there : has_directory state.connected state.directories ≡ true
+
+-- a well-formed state, with how many rows stand before those of each of its directories
+pub record IsStore (state : State) (firsts : List ℕ) : Type 0 where
+  pub well : IsWellFormed state
+  pub places : firsts ≡ firsts_in state.directories state.rows

@@ -2,6 +2,7 @@
 ghost use Rattle.std.specs.Prelude.{◌≡◌, ◌<◌, ◌≤◌, ◌+◌, [], ◌∷◌, ◌++◌, vec_capacity, vec_len};
 ghost use Rattle.ex_store.specs.Ready.{IsFor, applied};
 
+use crate::firsts::firsts_in;
 use crate::{QueueEntry, Ready, Store};
 
 // Puts an entry behind those of the queue, in a vector that has room for it.
@@ -48,6 +49,7 @@ impl Store {
             self.logical.define(definition);
         }
         self.files.change(row_changes, retention);
+        self.firsts = firsts_in(&self.directories, &self.files);
         enqueue(&mut self.queue, entries);
     }
 }

@@ -7,6 +7,7 @@ ghost use Rattle.ex_store.specs.WellFormed.{IsDraft};
 
 use crate::directories::Directories;
 use crate::files::Files;
+use crate::firsts::firsts_in;
 use crate::logical_names::LogicalNames;
 use crate::{Definition, Directory, Key, Parts, QueueEntry, Queued, Row, Store};
 use cm_io::NoMemory;
@@ -166,12 +167,14 @@ impl Draft {
         requires { has_directory self.connected self.directories ≡ true }
         ensures { result.state ≡ self }
     {
+        let firsts = firsts_in(&self.directories, &self.files);
         Store {
             alloc: self.alloc,
             directories: self.directories,
             connected: self.connected,
             logical: self.logical,
             files: self.files,
+            firsts,
             queue: self.queue,
         }
     }

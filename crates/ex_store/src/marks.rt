@@ -9,6 +9,7 @@ ghost use Rattle.ex_store.specs.Selection.{meant, remarked};
 ghost use Rattle.ex_store.specs.State.{has_directory};
 
 use crate::files::Files;
+use crate::firsts::firsts_in;
 use crate::{Place, Store};
 use ex_generations::{Bytes, PAGE_BYTES};
 
@@ -67,6 +68,8 @@ impl Store {
         } }
         ensures pages { result ≡ pages_marked directory.now self.old.state.rows }
     {
-        self.files.expunge(directory.as_bytes())
+        let pages = self.files.expunge(directory.as_bytes());
+        self.firsts = firsts_in(&self.directories, &self.files);
+        pages
     }
 }

@@ -2,7 +2,7 @@
 ghost use Rattle.std.specs.Prelude.{◌≡◌, ◌<◌, length, option_map, slice_get, Some};
 ghost use Rattle.cm_files.specs.Catalogue.{rows_of};
 ghost use Rattle.ex_store.specs.Lent.{row_of_view};
-ghost use Rattle.ex_store.specs.Rows.{first_in, rows_in};
+ghost use Rattle.ex_store.specs.Rows.{first_in};
 ghost use Rattle.ex_store.specs.State.{catalogue_of, defined, rows_numbered};
 
 use crate::{RowView, Store};
@@ -19,29 +19,22 @@ impl Store {
         self.directories.at(usize::from(directory)).name.as_bytes()
     }
 
-    // How many rows stand before those of a directory.
-    fn first_row(&self, directory: &[u8]) -> usize
-        ensures { result ≡ first_in directory.now self.now.state.rows }
+    // How many rows stand before those of the directory with this number.
+    fn first_at(&self, directory: u16) -> usize
+        requires { directory < length self.now.state.directories }
+        ensures { option_map (λ directory. first_in directory.name self.now.state.rows)
+            (slice_get self.now.state.directories directory) ≡ Some result }
     {
-        self.files.first_of(directory)
+        usize::from(self.firsts[usize::from(directory)])
     }
 
     // A row of the directory with this number.
-    fn row_at(&self, directory: u16, i: u32) -> RowView<'_>
+    pub(crate) fn row_at(&self, directory: u16, i: u32) -> RowView<'_>
         requires directory { directory < length self.now.state.directories }
         requires row { i < length (rows_numbered directory self.now.state) }
         ensures { slice_get (rows_numbered directory self.now.state) i ≡ Some (row_of_view result) }
     {
-        self.files
-            .row_at(self.first_row(self.name_of(directory)) + i as usize)
-    }
-
-    /// A file of the directory with this name, in ascending order of name, type and generation.
-    pub fn row_in(&self, directory: &str, i: u32) -> RowView<'_>
-        requires { i < length (rows_in directory.now self.now.state.rows) }
-        ensures { slice_get (rows_in directory.now self.now.state.rows) i ≡ Some (row_of_view result) }
-    {
-        let first = self.first_row(directory.as_bytes());
+        let first = self.first_at(directory);
         self.files.row_at(first + i as usize)
     }
 
@@ -86,8 +79,8 @@ impl Names for Store {
     }
 
     fn rows(&self, directory: u16) -> u32 {
-        let name = self.name_of(directory);
-        (self.files.end_of(name) - self.files.first_of(name)) as u32
+        let end = self.files.end_of(self.name_of(directory));
+        (end - self.first_at(directory)) as u32
     }
 
     fn row(&self, directory: u16, i: u32) -> cm_files::Row<'_> {

@@ -6,8 +6,11 @@ ghost use Rattle.ex_store.specs.State.{defined, first_state, has_directory, logi
 
 use crate::directories::Directories;
 use crate::files::Files;
+use crate::firsts::firsts_in;
+use crate::limits::DIRECTORY_LIMIT;
 use crate::logical_names::LogicalNames;
 use crate::{Directory, Logical, QueueEntry, Queued};
+use arrayvec::ArrayVec;
 use cm_fields::Code;
 use cm_io::NoMemory;
 use cm_text::Name;
@@ -23,13 +26,15 @@ pub struct Store {
     pub(crate) connected: Name,
     pub(crate) logical: LogicalNames,
     pub(crate) files: Files,
+    // How many files stand before those of each directory.
+    pub(crate) firsts: ArrayVec<u16, DIRECTORY_LIMIT>,
     pub(crate) queue: Vec<QueueEntry>,
 }
 
 impl Model for Store {
     ghost use Rattle.std.specs.Prelude.{vec_capacity};
     ghost use Rattle.ex_store.specs.State.{StoreWithRoom, State};
-    ghost use Rattle.ex_store.specs.WellFormed.{IsWellFormed};
+    ghost use Rattle.ex_store.specs.WellFormed.{IsStore};
 
     ghost Value = { StoreWithRoom };
 
@@ -47,13 +52,13 @@ impl Model for Store {
       queue_room = vec_capacity it.queue;
     } };
 
-    ghost invariant = { λ it. IsWellFormed (record {
+    ghost invariant = { λ it. IsStore (record {
       directories = it.directories.list;
       connected = it.connected;
       logical = it.logical.list;
       rows = it.files.rows;
       queue = it.queue.items;
-    }) };
+    }) it.firsts.items };
 }
 
 impl Store {
@@ -68,12 +73,15 @@ impl Store {
         };
         let mut directories = Directories::new(alloc);
         directories.push(operator)?;
+        let files = Files::new(alloc);
+        let firsts = firsts_in(&directories, &files);
         Ok(Store {
             alloc,
             directories,
             connected: Name::new("OPERATOR"),
             logical: LogicalNames::new(alloc),
-            files: Files::new(alloc),
+            files,
+            firsts,
             queue: Vec::new(alloc),
         })
     }

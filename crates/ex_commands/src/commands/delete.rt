@@ -1,6 +1,5 @@
 // DELETE.
 ghost use Rattle.std.specs.Prelude.{false, ◌≡◌};
-ghost use Rattle.ex_store.specs.Plan.{IsSource};
 ghost use Rattle.ex_commands.specs.Commands.Delete.{delete_of, deletes};
 ghost use Rattle.ex_commands.specs.Outcome.{Outcome};
 ghost use Rattle.ex_commands.specs.Said.{IsReadable, line_of};
@@ -29,7 +28,6 @@ pub(crate) fn read<N: Names>(session: &Session<ExecRules>, grammar: &Grammar, na
 /// Marks files as deleted. The lines are of the files as they are before, so they are put first; and then the files
 /// are marked, whether or not the sink took them.
 pub(crate) fn act<S: Sink>(store: &mut Store, files: &Place, out: &mut Writer<'_, S>) -> Acted
-    requires { IsSource files.now store.old.state }
     ensures { Outcome S.Sink out.old out.new (deletes files.now store.old.state) false store.old.state
         store.new.state result }
 {

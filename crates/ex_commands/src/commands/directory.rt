@@ -5,7 +5,7 @@ ghost use Rattle.std.specs.Prelude.{false, ◌≡◌, filter, length, option_cop
 ghost use Rattle.cm_blocks.specs.declared.function.Role.TheVariants as roles;
 ghost use Rattle.cm_io.specs.Writer.{Writes};
 ghost use Rattle.cm_state.specs.Roles.{field_of};
-ghost use Rattle.ex_store.specs.Plan.{IsSource, sources};
+ghost use Rattle.ex_store.specs.Plan.{sources};
 ghost use Rattle.ex_commands.specs.Commands.Directory.{day_with, directory_of, everything, listing, lists, lists_rows, marked_so};
 ghost use Rattle.ex_commands.specs.Line.{place_in};
 ghost use Rattle.ex_commands.specs.Outcome.{Outcome};
@@ -104,8 +104,7 @@ fn put_listing<S: Sink>(
     count: u32,
     out: &mut Writer<'_, S>,
 )
-    requires there { IsSource files.now store.now.state }
-    requires count { count ≡ length (filter (is_within days) (sources files.now store.now.state)) }
+    requires { count ≡ length (filter (is_within days) (sources files.now store.now.state)) }
     ensures { Writes S.Sink out.old out.new
         (listing files.now.directory (filter (is_within days) (sources files.now store.now.state))) }
 {
@@ -116,7 +115,6 @@ fn put_listing<S: Sink>(
 
 // Lists files of these days, where there are any.
 fn list<S: Sink>(store: &Store, files: &Place, days: Days, out: &mut Writer<'_, S>) -> Acted
-    requires { IsSource files.now store.now.state }
     ensures { Outcome S.Sink out.old out.new
         (lists_rows files.now.directory (filter (is_within days) (sources files.now store.now.state)) store.now.state)
         false store.now.state store.now.state result }
@@ -139,7 +137,6 @@ pub(crate) fn act<S: Sink>(
     sub: bool,
     out: &mut Writer<'_, S>,
 ) -> Acted
-    requires { IsSource files.now store.now.state }
     ensures { Outcome S.Sink out.old out.new (lists files.now days.since days.before deleted sub store.now.state) false
         store.now.state store.now.state result }
 {

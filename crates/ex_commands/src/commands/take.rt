@@ -1,13 +1,12 @@
 // TAKE.
 ghost use Rattle.std.specs.Prelude.{◌≡◌, ◌≤◌, length};
 ghost use Rattle.ex_generations.specs.declared.file.TheConstants.{FILE_LIMIT};
-ghost use Rattle.ex_store.specs.Plan.{IsSource};
 ghost use Rattle.ex_commands.specs.Commands.Take.{bytes_of, take_of};
 ghost use Rattle.ex_commands.specs.Said.{IsReadable, line_of};
 
 use crate::Command;
 use crate::fields::place_in;
-use crate::lines::next_file;
+use crate::lines::sources;
 use cm_blocks::{Grammar, Role};
 use cm_files::Names;
 use cm_state::Session;
@@ -27,15 +26,11 @@ pub(crate) fn read<N: Names>(session: &Session<ExecRules>, grammar: &Grammar, na
 
 /// What the file holds that a place means: the first of them where it means several, and nothing where it means none.
 pub fn file_bytes<'a>(store: &'a Store, file: &Place) -> &'a [u8]
-    requires { IsSource file.now store.now.state }
     ensures bytes { result.now ≡ bytes_of file.now store.now.state }
     ensures short { length result.now ≤ FILE_LIMIT }
 {
-    match next_file(store, file, 0) {
-        Some(at) => {
-            let row = store.row_in(file.directory.as_str(), at);
-            row.file.bytes.as_slice()
-        }
+    match sources(store, file).next() {
+        Some(row) => row.file.bytes.as_slice(),
         None => b"",
     }
 }

@@ -1,6 +1,5 @@
 // TYPE.
 ghost use Rattle.std.specs.Prelude.{false, ◌≡◌};
-ghost use Rattle.ex_store.specs.Plan.{IsSource};
 ghost use Rattle.ex_commands.specs.Commands.TypeOut.{type_of, types_out};
 ghost use Rattle.ex_commands.specs.Outcome.{Outcome};
 ghost use Rattle.ex_commands.specs.Said.{IsReadable, line_of};
@@ -28,7 +27,6 @@ pub(crate) fn read<N: Names>(session: &Session<ExecRules>, grammar: &Grammar, na
 
 /// Shows what files hold.
 pub(crate) fn act<S: Sink>(store: &Store, files: &Place, out: &mut Writer<'_, S>) -> Acted
-    requires { IsSource files.now store.now.state }
     ensures { Outcome S.Sink out.old out.new (types_out files.now store.now.state) false store.now.state
         store.now.state result }
 {

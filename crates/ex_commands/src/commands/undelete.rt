@@ -1,6 +1,5 @@
 // UNDELETE.
 ghost use Rattle.std.specs.Prelude.{false, ◌≡◌};
-ghost use Rattle.ex_store.specs.Plan.{IsSource};
 ghost use Rattle.ex_commands.specs.Commands.Undelete.{undelete_of, undeletes};
 ghost use Rattle.ex_commands.specs.Outcome.{Outcome};
 ghost use Rattle.ex_commands.specs.Said.{IsReadable, line_of};
@@ -28,7 +27,6 @@ pub(crate) fn read<N: Names>(session: &Session<ExecRules>, grammar: &Grammar, na
 
 /// Takes the mark of files away. The lines are of the files as they are before, as those of DELETE.
 pub(crate) fn act<S: Sink>(store: &mut Store, files: &Place, out: &mut Writer<'_, S>) -> Acted
-    requires { IsSource files.now store.old.state }
     ensures { Outcome S.Sink out.old out.new (undeletes files.now store.old.state) false store.old.state
         store.new.state result }
 {

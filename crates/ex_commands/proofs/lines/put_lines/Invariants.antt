@@ -1,19 +1,15 @@
 -- The lines of the files from here on are left to be written.
-use Rattle.std.proofs.Common.{◌-◌, ◌≤◌}
-use Rattle.std.specs.List.{flat_map}
+use Rattle.std.proofs.Common.{◌≡◌, true}
+use Rattle.std.specs.List.{flat_map, list_all}
 use Rattle.cm_io.proofs.Texts.{Left}
-use Rattle.ex_store.specs.declared.limits.TheConstants.{ROW_LIMIT}
 use Rattle.ex_store.specs.Plan.{sources}
-use Rattle.ex_commands.specs.Files.{files_from}
+use Rattle.ex_store.specs.WellFormed.{is_row_among}
 use Rattle.ex_commands.specs.Replies.{line_of}
 use Rattle.ex_commands.proofs.lines.put_lines.Given as goal
 
-abbrev pub invariant-loop-at : goal.invariant-loop-at
-invariant-loop-at g l = record {
-  left : Left g.S.Sink l.fn.out l.out (flat_map (line_of l.lines) (files_from l.files l.store.state l.from))
+abbrev pub invariant-loop-row : goal.invariant-loop-row
+invariant-loop-row g l = record {
+  left : Left g.S.Sink l.fn.out l.out (flat_map (line_of l.lines) l.row-iterator)
       (flat_map (line_of l.lines) (sources l.files l.store.state));
-  within : l.from ≤ ROW_LIMIT;
+  lawful : list_all (is_row_among l.store.state.directories) l.row-iterator ≡ true;
 }
-
-abbrev pub decreases-loop-at : goal.decreases-loop-at
-decreases-loop-at g l = ROW_LIMIT - l.from

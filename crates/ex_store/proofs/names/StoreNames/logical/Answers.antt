@@ -20,7 +20,7 @@ pub overflow_cast-result : goal.overflow_cast-result
 overflow_cast-result c =
     let within : number_of c.as_str.result.now c.self.inside.directories.list ≤ length c.self.inside.directories.list =
     prefix_len-le-length _ c.self.inside.directories.list in
-    omega (arith, within, c.number_of.ensures, c.self.invariant.draft.few_directories)
+    omega (arith, within, c.number_of.ensures, c.self.invariant.well.draft.few_directories)
 
 -- what is found
 is : (c : goal.After-number_of) → directory_for c.args.name.now c.args.self.now.state.logical ≡ Some c.as_str.result.now
@@ -37,7 +37,7 @@ returns-clause-value c =
 
 pub returns-clause-within : goal.returns-clause-within
 returns-clause-within c =
-    let well = subst (λ held. IsWellFormed held.state) c.self.view_is c.self.invariant in
+    let well = subst (λ held. IsWellFormed held.state) c.self.view_is c.self.invariant.well in
     let state = c.args.self.now.state in
     let there = found_there state.directories c.args.name.now c.as_str.result.now state.logical well.draft.logical_within (is c) in
     number_found state.directories c.as_str.result.now there c.number_of.result

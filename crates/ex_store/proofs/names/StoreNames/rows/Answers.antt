@@ -7,34 +7,34 @@ use Rattle.ex_store.proofs.names.StoreNames.rows.Goals as goal
 -- src/names.rt:103:9
 pub overflow_sub-result : goal.overflow_sub-result
 overflow_sub-result c =
-    let well = subst (λ held. IsWellFormed held.state) c.self.view_is c.self.invariant in
+    let well = subst (λ held. IsWellFormed held.state) c.self.view_is c.self.invariant.well in
     let rows = ap (λ held. held.state.rows) c.self.view_is in
-    let counts = rows_between c.args.self.now.state well c.args.directory c.name_of-name.result.now c.name_of-name.ensures
-    c.first_of.result c.end_of.result c.self.inside.files.rows c.self.inside.files.rows rows rows c.end_of.ensures c.first_of.ensures in
+    let counts = rows_between c.args.self.now.state well c.args.directory c.name_of.result.now c.name_of.ensures
+    c.first_at.result c.end_of-end.result c.self.inside.files.rows rows c.end_of-end.ensures c.first_at.ensures in
     let whole = counts.0 in
     omega arith
 
 -- src/names.rt:103:9
 pub overflow_cast-result : goal.overflow_cast-result
 overflow_cast-result c =
-    let well = subst (λ held. IsWellFormed held.state) c.self.view_is c.self.invariant in
+    let well = subst (λ held. IsWellFormed held.state) c.self.view_is c.self.invariant.well in
     let rows = ap (λ held. held.state.rows) c.self.view_is in
-    let counts = rows_between c.args.self.now.state well c.args.directory c.name_of-name.result.now c.name_of-name.ensures
-    c.first_of.result c.end_of.result c.self.inside.files.rows c.self.inside.files.rows rows rows c.end_of.ensures c.first_of.ensures in
+    let counts = rows_between c.args.self.now.state well c.args.directory c.name_of.result.now c.name_of.ensures
+    c.first_at.result c.end_of-end.result c.self.inside.files.rows rows c.end_of-end.ensures c.first_at.ensures in
     let few = counts.1 in
     omega arith
 
 -- src/names.rt:101:5
 pub returns-clause-value : goal.returns-clause-value
 returns-clause-value c =
-    let well = subst (λ held. IsWellFormed held.state) c.self.view_is c.self.invariant in
+    let well = subst (λ held. IsWellFormed held.state) c.self.view_is c.self.invariant.well in
     let rows = ap (λ held. held.state.rows) c.self.view_is in
-    let counts = rows_between c.args.self.now.state well c.args.directory c.name_of-name.result.now c.name_of-name.ensures
-    c.first_of.result c.end_of.result c.self.inside.files.rows c.self.inside.files.rows rows rows c.end_of.ensures c.first_of.ensures in
+    let counts = rows_between c.args.self.now.state well c.args.directory c.name_of.result.now c.name_of.ensures
+    c.first_at.result c.end_of-end.result c.self.inside.files.rows rows c.end_of-end.ensures c.first_at.ensures in
     let whole = counts.0 in
     omega arith
 
 -- src/names.rt:101:5
 pub returns-clause-lawful : goal.returns-clause-lawful
 returns-clause-lawful c =
-    catalogue_lawful c.args.self.now.state (subst (λ held. IsWellFormed held.state) c.self.view_is c.self.invariant)
+    catalogue_lawful c.args.self.now.state (subst (λ held. IsWellFormed held.state) c.self.view_is c.self.invariant.well)

@@ -14,7 +14,7 @@ pub returns-in-Ok-clause-sound : goal.returns-in-Ok-clause-sound
 returns-in-Ok-clause-sound c =
     let is : built c.args.directory c.args.retention c.self.inside.directories.list ≡ Ok c.in-Ok.directory =
     sym c.built.ensures ∙ c.in-Ok.is in
-    let well : IsWellFormed c.args.self.now.state = rw (← c.self.view_is) c.self.invariant in
+    let well : IsWellFormed c.args.self.now.state = rw (← c.self.view_is) c.self.invariant.well in
     sound_built c.args.self.now.state c.args.directory c.args.retention c.in-Ok.directory c.of_directory.result well c.requires.0 c.requires.1 (rw (← c.self.view_is) is) c.of_directory.ensures
 
 pub returns-in-Err-clause-refused : goal.returns-in-Err-clause-refused

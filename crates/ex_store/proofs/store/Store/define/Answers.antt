@@ -14,7 +14,7 @@ pub returns-in-Ok-clause-sound : goal.returns-in-Ok-clause-sound
 returns-in-Ok-clause-sound c =
     let is : definition_of c.args.name.now c.args.directory c.self.inside.logical.list ≡ Ok c.in-Ok.definition =
     sym c.definition_of.ensures ∙ c.in-Ok.is in
-    let well : IsWellFormed c.args.self.now.state = rw (← c.self.view_is) c.self.invariant in
+    let well : IsWellFormed c.args.self.now.state = rw (← c.self.view_is) c.self.invariant.well in
     sound_defined c.args.self.now.state c.args.name.now c.args.directory c.in-Ok.definition c.of_definition.result well c.requires.0 c.requires.1 (rw (← c.self.view_is) is) c.of_definition.ensures
 
 pub returns-in-Err-clause-refused : goal.returns-in-Err-clause-refused

@@ -8,7 +8,7 @@ pub overflow_cast-result : goal.overflow_cast-result
 overflow_cast-result c =
     let within : number_of c.as_str-2.result.now c.self.inside.directories.list ≤ length c.self.inside.directories.list =
     prefix_len-le-length _ c.self.inside.directories.list in
-    omega (arith, c.number_of.ensures, c.self.invariant.draft.few_directories)
+    omega (arith, c.number_of.ensures, c.self.invariant.well.draft.few_directories)
 
 pub returns : goal.returns
 returns c =

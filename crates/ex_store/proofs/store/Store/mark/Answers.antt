@@ -3,7 +3,7 @@ use Rattle.ex_store.specs.Positions.{positions_from}
 use Rattle.ex_store.specs.Rows.{with_mark}
 use Rattle.ex_store.specs.Selection.{is_meant}
 use Rattle.ex_store.specs.State.{StoreWithRoom}
-use Rattle.ex_store.proofs.RemarkedLaws.{length-positions_from, marked_rows, positions_fit, rows_marked, well_formed_with_rows, where_passing}
+use Rattle.ex_store.proofs.RemarkedLaws.{firsts_marked, length-positions_from, marked_rows, positions_fit, rows_marked, well_formed_with_rows, where_passing}
 use Rattle.ex_store.proofs.store.Store.mark.Goals as goal
 
 pub set_marks-requires : goal.set_marks-requires
@@ -20,9 +20,13 @@ kept c =
 
 pub invariant_of-self : goal.invariant_of-self
 invariant_of-self c =
-    rw (kept c)
-    (well_formed_with_rows _ _ c.self.invariant
-    (rows_marked c.self.inside.directories.list c.self.inside.files.rows _ true c.self.invariant.draft.rows))
+    let test = is_meant c.args.files.now.flags.deleted c.args.files.now c.args.self.now.state in
+    let state = c.self.inside in
+    rw (kept c) (record {
+      well = well_formed_with_rows _ _ c.self.invariant.well
+          (rows_marked state.directories.list state.files.rows _ true c.self.invariant.well.draft.rows);
+      places = c.self.invariant.places ∙ firsts_marked state.directories.list test true state.files.rows;
+    })
 
 pub returns-clause-marked : goal.returns-clause-marked
 returns-clause-marked c = rw (kept c, c.set_marks.ensures.rooms, ← c.self.view_is)

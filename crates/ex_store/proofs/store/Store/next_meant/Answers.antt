@@ -13,5 +13,5 @@ select-requires c =
 pub returns : goal.returns
 returns c =
     c.select.ensures
-    ∙ walk_meant c.args.self.now.state (subst (λ held. IsWellFormed held.state) c.self.view_is c.self.invariant) c.args.deleted c.args.files.now c.args.from c.args.directory (wanted c.sought.result)
+    ∙ walk_meant c.args.self.now.state (subst (λ held. IsWellFormed held.state) c.self.view_is c.self.invariant.well) c.args.deleted c.args.files.now c.args.from c.args.directory (wanted c.sought.result)
     c.requires.there c.requires.number c.sought.ensures

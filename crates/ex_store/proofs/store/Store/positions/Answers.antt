@@ -1,11 +1,9 @@
-use Rattle.std.proofs.Common.{◌≡◌, ◌+◌, ◌<◌, ◌≤◌, true, length, ap, arith, sym, subst, ◌∙◌}
-use Rattle.std.proofs.lemmas.List.Sums.{prefix_len-le-length}
+use Rattle.std.proofs.Common.{◌≡◌, ◌+◌, ◌<◌, length, ap, arith, sym, subst, ◌∙◌}
 use Rattle.ex_store.specs.Positions.{positions_from}
 use Rattle.ex_store.specs.Rows.{first_in, rows_in}
 use Rattle.ex_store.specs.Selection.{is_meant}
-use Rattle.ex_store.specs.State.{has_directory, number_of}
 use Rattle.ex_store.specs.WellFormed.{IsWellFormed}
-use Rattle.ex_store.proofs.MeantLaws.{block_few, collects_all, collects_more, collects_none, collects_within, found_there, not_there, nowhere_meant, positions_meant}
+use Rattle.ex_store.proofs.MeantLaws.{block_few, collects_all, collects_more, collects_none, collects_within, nowhere_meant, positions_meant}
 use Rattle.ex_store.proofs.store.Store.positions.Goals as goal
 
 -- what the steps before each push give
@@ -15,7 +13,7 @@ bounds c =
     let state = c.args.self.now.state in
     let directory = c.args.files.now.directory in
     let rows = rows_in directory state.rows in
-    let well = subst (λ held. IsWellFormed held.state) c.self.view_is c.self.invariant in
+    let well = subst (λ held. IsWellFormed held.state) c.self.view_is c.self.invariant.well in
     let few = block_few state well directory in
     let first : c.first_of-first.result ≡ first_in directory state.rows =
     c.first_of-first.ensures ∙ ap (λ text. first_in text c.self.inside.files.rows) c.as_bytes.ensures.value
@@ -48,7 +46,7 @@ push-requires c = (omega arith, (bounds c).0)
 -- src/selection.rt:38:20
 pub overflow_add-from : goal.overflow_add-from
 overflow_add-from c =
-    let well = subst (λ held. IsWellFormed held.state) c.self.view_is c.self.invariant in
+    let well = subst (λ held. IsWellFormed held.state) c.self.view_is c.self.invariant.well in
     let few = block_few c.args.self.now.state well c.args.files.now.directory in
     let within = collects_within (is_meant c.args.deleted c.args.files.now c.args.self.now.state) c.first_of-first.result
     (rows_in c.args.files.now.directory c.args.self.now.state.rows)
@@ -79,7 +77,7 @@ pub returns : goal.returns
 returns c =
     let state = c.args.self.now.state in
     let directory = c.args.files.now.directory in
-    let well = subst (λ held. IsWellFormed held.state) c.self.view_is c.self.invariant in
+    let well = subst (λ held. IsWellFormed held.state) c.self.view_is c.self.invariant.well in
     let first : c.first_of-first.result ≡ first_in directory state.rows =
     c.first_of-first.ensures ∙ ap (λ text. first_in text c.self.inside.files.rows) c.as_bytes.ensures.value
     ∙ ap (first_in directory) (ap (λ held. held.state.rows) c.self.view_is) in
@@ -93,30 +91,7 @@ returns c =
 pub returns-in_default : goal.returns-in_default
 returns-in_default c =
     let state = c.args.self.now.state in
-    let well = subst (λ held. IsWellFormed held.state) c.self.view_is c.self.invariant in
+    let well = subst (λ held. IsWellFormed held.state) c.self.view_is c.self.invariant.well in
     c.new-positions.ensures
     ∙ sym (nowhere_meant state well c.args.deleted c.args.files.now
-    (not_there c.args.files.now.directory c.as_str.result.now state.directories c.self.inside.directories.list
-    (sym c.in_default.is ∙ c.find.ensures) c.as_str.ensures.value (ap (λ held. held.state.directories) c.self.view_is)))
-
--- the directory is there
-there : (c : goal.At-loop-i)
-    → (has_directory c.args.files.now.directory c.args.self.now.state.directories ≡ true)
-    × (c.in-Some.directory ≡ number_of c.args.files.now.directory c.args.self.now.state.directories)
-there c =
-    found_there c.args.files.now.directory c.as_str.result.now c.args.self.now.state.directories c.self.inside.directories.list
-    c.in-Some.directory (sym c.in-Some.is ∙ c.find.ensures) c.as_str.ensures.value (ap (λ held. held.state.directories) c.self.view_is)
-
--- src/selection.rt:53:45
-pub overflow_cast-directory : goal.overflow_cast-directory
-overflow_cast-directory c =
-    let directories = c.args.self.now.state.directories in
-    let well = subst (λ held. IsWellFormed held.state) c.self.view_is c.self.invariant in
-    let within : number_of c.args.files.now.directory directories ≤ length directories = prefix_len-le-length _ directories in
-    omega (arith, within, (there c).1, well.draft.few_directories)
-
-pub next_meant-requires-clause-there : goal.next_meant-requires-clause-there
-next_meant-requires-clause-there c = (there c).0
-
-pub next_meant-requires-clause-number : goal.next_meant-requires-clause-number
-next_meant-requires-clause-number c = (there c).1
+    (ap (λ text. rows_in text state.rows) (sym c.as_str.ensures.value) ∙ c.in_default.ensures))

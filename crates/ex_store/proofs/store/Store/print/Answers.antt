@@ -46,7 +46,7 @@ returns-in-Ok-queue_files-clause-sound c =
     (ap (λ (held : StoreWithRoom). held.state.rows) c.self.view_is) c.deref.ensures.0 c.positions-positions.ensures in
     let items = ap (λ (held : StoreWithRoom). length held.state.queue) c.self.view_is in
     let queue : c.len.result ≡ length c.args.self.now.state.queue = grind (arith, common_steps, items, c.len.ensures) in
-    let well : IsWellFormed c.args.self.now.state = subst (λ (held : StoreWithRoom). IsWellFormed held.state) c.self.view_is c.self.invariant in
+    let well : IsWellFormed c.args.self.now.state = subst (λ (held : StoreWithRoom). IsWellFormed held.state) c.self.view_is c.self.invariant.well in
     sound_printed c.args.self.now.state c.args.files.now c.args.request.now files c.in-Ok-queue_files.ready tt well c.requires.1 are
     (asked_is c.args.self.now.state c.args.files.now files c.len.result c.len-2.result c.check_limit.result _ are queue
     (count_is c.args.self.now.state c.args.files.now c.positions-positions.result.items c.len-2.result c.len-2.ensures.value c.positions-positions.ensures)

@@ -42,7 +42,7 @@ pub renames-requires-clause-distinct : goal.renames-requires-clause-distinct
 renames-requires-clause-distinct c =
     rw (over c).sources_are
     (distinct_meant (is_meant c.args.from.now.flags.deleted c.args.from.now c.args.self.now.state) c.args.self.now.state.rows
-    (subst (λ (held : StoreWithRoom). ascends by_row held.state.rows ≡ true) c.self.view_is c.self.invariant.draft.rows.ascend))
+    (subst (λ (held : StoreWithRoom). ascends by_row held.state.rows ≡ true) c.self.view_is c.self.invariant.well.draft.rows.ascend))
 
 -- a renaming, of any directories, sources and rows
 abbrev rename : Place → List Directory → List Row → List Row → Result Outcome Code

@@ -6,4 +6,7 @@ use Rattle.ex_store.proofs.store.Store.undefine.Goals as goal
 pub invariant_of-self : goal.invariant_of-self
 invariant_of-self c =
     rw (ap (λ held. held.list) c.remove.ensures.gone, c.as_bytes.ensures.value)
-    (fewer_well_formed _ (λ entry. not (equals entry.name c.args.name.now)) c.self.invariant)
+    (record {
+      well = fewer_well_formed _ (λ entry. not (equals entry.name c.args.name.now)) c.self.invariant.well;
+      places = c.self.invariant.places;
+    })

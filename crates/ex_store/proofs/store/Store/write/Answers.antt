@@ -56,7 +56,7 @@ returns-in-Ok-one_add-clause-ready c =
 
 pub returns-in-Ok-one_add-clause-sound : goal.returns-in-Ok-one_add-clause-sound
 returns-in-Ok-one_add-clause-sound c =
-    let well = subst (λ (held : StoreWithRoom). IsWellFormed held.state) c.self.view_is c.self.invariant in
+    let well = subst (λ (held : StoreWithRoom). IsWellFormed held.state) c.self.view_is c.self.invariant.well in
     write_sound c.args.self.now.state c.args.to.now c.args.bytes c.args.moment c.retention_of-retention.result c.in-Ok.generation c.in-Ok-one_add.ready well c.requires
     (sym c.lacks_name.ensures ∙ c.if-lacks_name.false) (admits c) (adds c)
 
