@@ -1,6 +1,6 @@
 // The files of a store, and the pairs of a plan, as texts.
 
-use ex_store::{Full, Ready, RowView, Store};
+use ex_store::{Full, Place, Ready, RowView, Store};
 use std::alloc::AllocError;
 
 // A space, behind what was listed before.
@@ -43,6 +43,21 @@ pub(super) fn put_names(
             put_space(list, &mut is_first)?;
             put_row(list, row)?;
         }
+    }
+    put_end(list, is_first)
+}
+
+/// The files that a place means, with this mark, with a space between.
+pub(super) fn put_selection(
+    list: &mut String,
+    store: &Store,
+    files: &Place,
+    deleted: bool,
+) -> Result<(), AllocError> {
+    let mut is_first = true;
+    for row in store.selection(files, deleted) {
+        put_space(list, &mut is_first)?;
+        put_row(list, row)?;
     }
     put_end(list, is_first)
 }

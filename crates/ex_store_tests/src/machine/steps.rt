@@ -1,10 +1,11 @@
 // What is done with a store, as a text: steps with `; ` between.
 
-use super::listing::{put_contents, put_names, put_sizes};
+use super::listing::{put_contents, put_names, put_selection, put_sizes};
 use super::marks::{connect, expunge, remark, select};
 use super::names::{
     put_catalogue, put_file, put_logical, put_logicals, put_queue, put_requests, put_retention,
 };
+use super::places::place;
 use super::plans::{put_files, put_plan};
 use crate::cases::{bytes_of, first_word, halves, is_told};
 use cm_io::{MemHost, Put};
@@ -33,9 +34,20 @@ fn put_image(
     put_bytes(told, host.output().unwrap_or(b"none"))
 }
 
+// Lists what a place means: the place, and `live` or `deleted`.
+fn put_list(
+    rt: &impl Abort,
+    told: &mut String,
+    store: &Store,
+    words: &str,
+) -> Result<(), AllocError> {
+    let (files, mark) = first_word(words);
+    put_selection(told, store, &place(rt, files), mark == "deleted")
+}
+
 // What a store tells: its catalogue, and what each directory keeps; a logical name, or all; a file, or the names, the
-// contents or the sizes of all; the print queue; what a directory keeps, and its pages; its image; and the next file
-// that a place means.
+// contents or the sizes of all, or those that a place means; the print queue; what a directory keeps, and its pages;
+// its image; and the next file that a place means.
 fn put_answer(
     rt: &(impl Abort + AllocGlobal),
     store: &Store,
@@ -51,6 +63,7 @@ fn put_answer(
         "file" => put_file(rt, told, store, rest),
         "names" if rest.is_empty() => put_names(told, store, "OPERATOR"),
         "names" => put_names(told, store, rest),
+        "list" => put_list(rt, told, store, rest),
         "contents" => put_contents(told, store),
         "sizes" => put_sizes(told, store),
         "count" => write!(told, "{}", store.parts().rows()),

@@ -77,3 +77,22 @@ select A.T.1 deleted 0 -> Some(0)
 select *.T.-1 live 0 -> None",
     );
 }
+
+#[test]
+fn the_files_that_a_place_means(rt: HostRuntime) {
+    let mut store = store_behind(&rt, "files A.T A.T B.T C.T C.T; build SMITH");
+    in_turn(
+        &rt,
+        &mut store,
+        "\
+list *.* live -> A.T.2 B.T.1 C.T.2
+list *.*.* live -> A.T.2 B.T.1 C.T.2
+list *.* deleted -> A.T.1- C.T.1-
+list B.T live -> B.T.1
+list B.T deleted -> none
+list <SMITH>*.* live -> none
+list <NOBODY>*.* live -> none
+copy A.T.2 <SMITH>D.T; list <SMITH>*.* live -> A.T.2=><SMITH>D.T.1; D.T.1
+expunge OPERATOR; list <SMITH>*.* live -> 2; D.T.1",
+    );
+}
