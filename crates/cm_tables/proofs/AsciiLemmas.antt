@@ -14,8 +14,8 @@ use Rattle.cm_tables.specs.Order.{is_keyword_byte}
 use Rattle.cm_tables.specs.Search.{Ascends}
 use Rattle.cm_tables.specs.declared.entry.Entry.{Entry}
 use Rattle.cm_tables.proofs.CommonLemmas.{rests_from}
-use Rattle.cm_tables.proofs.Halving.{keyword_bytes}
-use Rattle.cm_tables.proofs.SearchLemmas.{candidates_from}
+use Rattle.cm_tables.proofs.PlaceLaws.{keyword_bytes}
+use Rattle.cm_tables.specs.Search.{candidates_from}
 
 keyword_byte_is_ascii : (byte : ℕ) → is_keyword_byte byte ≡ true → byte < 128
 keyword_byte_is_ascii byte is = grind (arith, nat_tests)

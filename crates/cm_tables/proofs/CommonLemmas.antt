@@ -5,7 +5,7 @@ use Rattle.cm_text.specs.BeginLaws.{begins-le}
 use Rattle.cm_text.specs.Case.{begins_with}
 use Rattle.cm_tables.specs.Common.{shared}
 use Rattle.cm_tables.specs.declared.entry.Entry.{Entry}
-use Rattle.cm_tables.proofs.SearchLemmas.{candidates_from}
+use Rattle.cm_tables.specs.Search.{candidates_from}
 
 -- what stands behind the atom in each entry from a position on that it may abbreviate
 abbrev pub rests_from : ℕ → List Entry → List ℕ → List (List ℕ)

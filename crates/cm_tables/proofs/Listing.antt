@@ -1,5 +1,5 @@
 -- The listed entries of a table, one by one.
-use Rattle.std.proofs.Common.{◌≡◌, ℕ, ◌+◌, ◌-◌, ◌≤◌, Bool, true, false, cond, suc, zero, List, [], ◌∷◌, drop, Some, None, slice_get, arith, refl, ap, sym, ◌∙◌}
+use Rattle.std.proofs.Common.{◌≡◌, ℕ, ◌+◌, ◌-◌, ◌≤◌, Bool, true, false, cond, suc, zero, List, [], ◌∷◌, drop, Some, slice_get, arith, refl, ap, sym, ◌∙◌}
 use Rattle.std.specs.List.{enumerate_from, filter}
 use Rattle.std.proofs.lemmas.List.{drop-drop}
 use Rattle.cm_tables.specs.Listed.{first_place, is_listed, listed_from, next_listed}

@@ -6,9 +6,8 @@ ghost use Rattle.cm_tables.specs.Common.{common, shared};
 ghost use Rattle.cm_tables.specs.Search.{Ascends};
 
 use crate::Entry;
-use crate::group::group_of;
-use crate::search::may_abbreviate;
-use cm_text::{NAME_LIMIT, Name, common_len};
+use crate::start::from_first;
+use cm_text::{NAME_LIMIT, Name, begins_with, common_len};
 
 // The longest text that both begin with.
 fn shared<'a>(text: &'a [u8], other: &[u8]) -> &'a [u8]
@@ -45,10 +44,13 @@ fn common_text<'a>(entries: &'a [Entry], atom: &[u8]) -> &'a [u8]
     ensures value { result.now ≡ common entries.now atom.now }
     ensures within { length result.now ≤ NAME_LIMIT }
 {
-    let (_, group) = group_of(entries, atom);
+    let mut probes = 0;
     let mut found = None;
-    for entry in group {
-        if may_abbreviate(atom, entry) {
+    for entry in from_first(entries, atom, &mut probes).1 {
+        if !begins_with(entry.text.as_bytes(), atom) {
+            return found.unwrap_or(&[]);
+        }
+        if entry.flag.is_recognised() {
             found = Some(shared_with(found, rest(entry, atom)));
         }
     }

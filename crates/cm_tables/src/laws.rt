@@ -1,5 +1,5 @@
 //! Laws of tables and of recognition.
-ghost use Rattle.std.specs.Prelude.{◌≡◌, ◌≢◌, ℕ, List, [], ◌++◌, None, Some, drop, length, slice_get, true};
+ghost use Rattle.std.specs.Prelude.{◌≡◌, ◌≢◌, ◌≤◌, ◌+◌, ◌*◌, ◌^◌, ℕ, List, [], ◌++◌, None, Some, drop, length, slice_get, true};
 ghost use Rattle.std.specs.Io.{StartsWith};
 ghost use Rattle.cm_text.specs.Case.{begins_with};
 ghost use Rattle.cm_tables.specs.Common.{AllBeginWith, common, rests};
@@ -30,6 +30,13 @@ pub fn a_completed_atom_is_its_entry()
     ensures exact { (table : List Entry) → (atom : List ℕ) → (place : ℕ) → (entry : Entry)
         → table_fault table ≡ None → found_at (look table atom) ≡ Some place → slice_get table place ≡ Some entry
         → look table (atom ++ drop (length atom) entry.text) ≡ looks.Exact place }
+{}
+
+/// A look-up asks at most 11 times in its search, since a table has at most 1,024 entries: so often as their number
+/// has binary digits, which is what `look_counted` ensures.
+pub fn a_look_up_asks_11_times()
+    ensures { (table : List Entry) → (probes : ℕ) → table_fault table ≡ None → 2 ^ probes ≤ 2 * length table + 1
+        → probes ≤ 11 }
 {}
 
 /// A table has at most 1,024 entries.

@@ -4,10 +4,10 @@
 mod common;
 mod entry;
 mod fault;
-mod group;
 pub mod laws;
 mod listed;
 mod search;
+mod start;
 mod table;
 
 pub use entry::{Entry, Flag};

@@ -1,22 +1,22 @@
 // The entries of a table that a list shows.
 ghost use Rattle.std.specs.Prelude.{◌≡◌, ◌<◌, ◌≤◌, length, IfSome};
-ghost use Rattle.cm_tables.specs.Listed.{is_listed, next_listed};
+ghost use Rattle.cm_tables.specs.Listed.{is_plain, next_listed};
 ghost use Rattle.cm_tables.specs.Search.{Ascends};
 
 use crate::fault::ENTRY_LIMIT;
-use crate::group::group_of;
+use crate::start::from_first;
 use crate::{Entry, Flag};
 use cm_text::begins_with;
 
-// Whether a list shows an entry where an atom was typed.
-fn is_listed(atom: &[u8], entry: &Entry) -> bool
-    ensures { result ≡ is_listed atom.now entry.now }
+// Whether a list shows such an entry.
+fn is_plain(flag: Flag) -> bool
+    ensures { result ≡ is_plain flag }
 {
-    matches!(entry.flag, Flag::Plain) && begins_with(entry.text.as_bytes(), atom)
+    matches!(flag, Flag::Plain)
 }
 
 // The position of the first such entry from a position on.
-#[tactic(auto, using(crate::proofs::Grouping::ascends_dropped))]
+#[tactic(auto, using(crate::proofs::PlaceLaws::ascends_dropped))]
 pub(crate) fn next_listed(entries: &[Entry], from: u16, atom: &[u8]) -> Option<u16>
     requires few { length entries.now ≤ ENTRY_LIMIT }
     requires order { Ascends entries.now }
@@ -28,9 +28,13 @@ pub(crate) fn next_listed(entries: &[Entry], from: u16, atom: &[u8]) -> Option<u
         return None;
     }
     let (_, behind) = entries.split_at(start);
-    let (first, group) = group_of(behind, atom);
-    for (offset, entry) in group.iter().enumerate() {
-        if is_listed(atom, entry) {
+    let mut probes = 0;
+    let (first, rest) = from_first(behind, atom, &mut probes);
+    for (offset, entry) in rest.iter().enumerate() {
+        if !begins_with(entry.text.as_bytes(), atom) {
+            return None;
+        }
+        if is_plain(entry.flag) {
             return Some((start + first + offset) as u16);
         }
     }

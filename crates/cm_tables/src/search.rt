@@ -1,34 +1,32 @@
 // The look-up of an atom in the entries of a table.
-ghost use Rattle.std.specs.Prelude.{◌≡◌, ◌≤◌, ◌&&◌, length, position};
-ghost use Rattle.cm_text.specs.Case.{begins_with, equals};
-ghost use Rattle.cm_tables.specs.Look.{abbreviated, exact, has_text, is_recognised, look, candidates};
-ghost use Rattle.cm_tables.specs.Search.{Ascends};
+ghost use Rattle.std.specs.Prelude.{◌≡◌, ◌+◌, ◌-◌, ◌*◌, ◌^◌, ◌<◌, ◌≤◌, length};
+ghost use Rattle.std.specs.Bool.{OnTrue};
+ghost use Rattle.cm_tables.specs.Look.{abbreviated, exact, has_text, look};
+ghost use Rattle.cm_tables.specs.Search.{AreNotBelow, Ascends, candidates_from, is_first, wholes};
 
 use crate::fault::ENTRY_LIMIT;
-use crate::group::group_of;
+use crate::start::from_first;
 use crate::{Entry, Flag, Look};
 use cm_text::{begins_with, equals};
 
-// The position of the entry whose text is the atom: no other that begins with it stands before this one.
-fn position_of(entries: &[Entry], atom: &[u8]) -> Option<usize>
-    requires { Ascends entries.now }
-    ensures { result ≡ position (λ entry. equals entry.text atom.now) entries.now }
+// Whether the first of the entries has the atom for its text.
+fn is_first(entries: &[Entry], atom: &[u8]) -> bool
+    ensures value { result ≡ is_first entries.now atom.now }
+    ensures some { OnTrue result (0 < length entries.now) }
 {
-    let (start, group) = group_of(entries, atom);
-    let entry = group.first()?;
-    if equals(entry.text.as_bytes(), atom) {
-        return Some(start);
+    match entries.first() {
+        Some(entry) => equals(entry.text.as_bytes(), atom),
+        None => false,
     }
-    None
 }
 
 // Whether the text of some entry is the atom.
-#[tactic(auto, using(crate::proofs::Grouping::is_some_position))]
 pub(crate) fn has_text(entries: &[Entry], atom: &[u8]) -> bool
     requires { Ascends entries.now }
     ensures { result ≡ has_text entries.now atom.now }
 {
-    position_of(entries, atom).is_some()
+    let mut probes = 0;
+    is_first(from_first(entries, atom, &mut probes).1, atom)
 }
 
 // What an entry at a position gives for its own text.
@@ -42,24 +40,22 @@ fn exact(position: u16, flag: Flag) -> Look
     }
 }
 
-// Whether the atom may abbreviate an entry.
-pub(crate) fn may_abbreviate(atom: &[u8], entry: &Entry) -> bool
-    ensures { result ≡ (is_recognised entry.now.flag && begins_with entry.now.text atom.now) }
-{
-    entry.flag.is_recognised() && begins_with(entry.text.as_bytes(), atom)
-}
-
-// What the entries give that the atom may abbreviate.
-#[tactic(auto, using(crate::proofs::Grouping::candidates_in))]
-fn abbreviated(entries: &[Entry], atom: &[u8]) -> Look
-    requires few { length entries.now ≤ ENTRY_LIMIT }
+// What entries from a position on give that the atom may abbreviate. Those that begin with the atom come first, and
+// no more of them are read than decide. How many are read is added to `reads`.
+fn abbreviated(start: usize, entries: &[Entry], atom: &[u8], reads: &mut u64) -> Look
+    requires few { start + length entries.now ≤ ENTRY_LIMIT }
+    requires above { AreNotBelow atom.now entries.now }
     requires order { Ascends entries.now }
-    ensures { result ≡ abbreviated (candidates entries.now atom.now) }
+    ensures value { result ≡ abbreviated (candidates_from start entries.now atom.now) }
+    ensures near { reads.new ≤ reads.old + (length (wholes entries.now atom.now) + 2) }
 {
-    let (start, group) = group_of(entries, atom);
     let mut found = None;
-    for (offset, entry) in group.iter().enumerate() {
-        if may_abbreviate(atom, entry) {
+    for (offset, entry) in entries.iter().enumerate() {
+        *reads = reads.saturating_add(1);
+        if !begins_with(entry.text.as_bytes(), atom) {
+            return found.map_or(Look::None, Look::Abbrev);
+        }
+        if entry.flag.is_recognised() {
             if found.is_some() {
                 return Look::Ambiguous;
             }
@@ -70,14 +66,17 @@ fn abbreviated(entries: &[Entry], atom: &[u8]) -> Look
 }
 
 // What the entries give for an atom.
-#[tactic(auto, unfolding(crate::specs::Look::look))]
-pub(crate) fn look(entries: &[Entry], atom: &[u8]) -> Look
+pub(crate) fn look(entries: &[Entry], atom: &[u8], probes: &mut u64, reads: &mut u64) -> Look
     requires few { length entries.now ≤ ENTRY_LIMIT }
     requires order { Ascends entries.now }
-    ensures { result ≡ look entries.now atom.now }
+    ensures value { result ≡ look entries.now atom.now }
+    ensures few { 2 ^ (probes.new - probes.old) ≤ 2 * length entries.now + 1 }
+    ensures near { reads.new ≤ reads.old + (length (wholes entries.now atom.now) + 3) }
 {
-    match position_of(entries, atom) {
-        Some(position) => exact(position as u16, entries[position].flag),
-        None => abbreviated(entries, atom),
+    let (start, behind) = from_first(entries, atom, probes);
+    *reads = reads.saturating_add(1);
+    if is_first(behind, atom) {
+        return exact(start as u16, behind[0].flag);
     }
+    abbreviated(start, behind, atom, reads)
 }

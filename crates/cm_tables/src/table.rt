@@ -1,9 +1,10 @@
 // Keyword tables.
-ghost use Rattle.std.specs.Prelude.{◌≡◌, ◌<◌, ◌≤◌, List, length, Some, None, IfSome, MatchResult, slice_get, vec_len};
+ghost use Rattle.std.specs.Prelude.{◌≡◌, ◌+◌, ◌-◌, ◌*◌, ◌^◌, ◌<◌, ◌≤◌, List, length, Some, None, IfSome, MatchResult, slice_get, vec_len};
 ghost use Rattle.cm_tables.specs.Common.{common};
 ghost use Rattle.cm_tables.specs.Listed.{next_listed};
 ghost use Rattle.cm_tables.specs.Look.{IsWithin, has_text, look};
 ghost use Rattle.cm_tables.specs.Order.{table_fault};
+ghost use Rattle.cm_tables.specs.Search.{wholes};
 
 use crate::fault::{ENTRY_LIMIT, table_fault};
 use crate::{Entry, common, listed, search};
@@ -117,18 +118,34 @@ impl Table {
     }
 
     /// What the table has for an atom.
-    #[tactic(auto, using(crate::proofs::Grouping::ascends_of))]
     pub fn look(&self, atom: &[u8]) -> Look
         ensures value { result ≡ look self.now atom.now }
         // A position that it gives is one of the table.
         ensures within { IsWithin result (length self.now) }
     {
-        search::look(&self.entries, atom)
+        let mut probes = 0;
+        let mut reads = 0;
+        self.look_counted(atom, &mut probes, &mut reads)
+    }
+
+    /// The same, and how many entries are looked at: those of the one search by halving are added to `probes`, and
+    /// those read where it ends to `reads`. An entry whose text is the atom is the first that is read; of those that
+    /// begin with the atom as many are read as decide.
+    #[tactic(auto, using(crate::proofs::StartLaws::ascends_of))]
+    pub fn look_counted(&self, atom: &[u8], probes: &mut u64, reads: &mut u64) -> Look
+        ensures value { result ≡ look self.now atom.now }
+        ensures within { IsWithin result (length self.now) }
+        // As many as the number of entries has binary digits.
+        ensures few { 2 ^ (probes.new - probes.old) ≤ 2 * length self.now + 1 }
+        // At most three more than there are entries that begin with the atom and may not be abbreviated.
+        ensures near { reads.new ≤ reads.old + (length (wholes self.now atom.now) + 3) }
+    {
+        search::look(&self.entries, atom, probes, reads)
     }
 
     /// Whether the text of some entry is the atom, with no regard to the case of letters. Where an atom is ambiguous,
     /// it tells whether an entry of this text does not let itself be recognised, or several entries begin with it.
-    #[tactic(auto, using(crate::proofs::Grouping::ascends_of))]
+    #[tactic(auto, using(crate::proofs::StartLaws::ascends_of))]
     pub fn has_text(&self, atom: &[u8]) -> bool
         ensures { result ≡ has_text self.now atom.now }
     {
@@ -137,7 +154,7 @@ impl Table {
 
     /// The longest text with which all entries go on behind the atom that it may abbreviate, so that it can be
     /// completed as far as it is certain (COMND's recognition). It is empty where there is no such entry.
-    #[tactic(auto, using(crate::proofs::Grouping::ascends_of))]
+    #[tactic(auto, using(crate::proofs::StartLaws::ascends_of))]
     pub fn common(&self, atom: &[u8]) -> Name
         ensures value { result ≡ common self.now atom.now }
         ensures within { length result ≤ NAME_LIMIT }
@@ -148,7 +165,7 @@ impl Table {
     /// The position of the first entry at or behind a position that a list shows where the atom was typed, as `?` wants
     /// it (TBLUK): a Plain entry that begins with the atom, with no regard to the case of letters. None where there is
     /// no more such entry, as from a position past the end.
-    #[tactic(auto, using(crate::proofs::Grouping::ascends_of))]
+    #[tactic(auto, using(crate::proofs::StartLaws::ascends_of))]
     pub fn next_listed(&self, from: u16, atom: &[u8]) -> Option<u16>
         ensures value { result ≡ next_listed self.now from atom.now }
         // It is a position of the table, and not before the one that was given.

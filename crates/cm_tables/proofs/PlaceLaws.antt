@@ -1,19 +1,18 @@
--- What a search by halving finds in a table.
-use Rattle.std.proofs.Common.{◌≡◌, ℕ, Bool, zero, suc, ◌<◌, ◌≤◌, true, false, List, [], ◌∷◌, ◌++◌, length, length-take, get_or, take, drop, arith, refl, ap, sym, subst, ◌∙◌}
+-- The places of the entries of a table to an atom rise, so that halving finds the first that begins with it.
+use Rattle.std.proofs.Common.{◌≡◌, ℕ, Bool, zero, suc, ◌<◌, ◌≤◌, true, false, List, [], ◌∷◌, length, length-take, get_or, take, drop, arith, refl, sym, subst, ◌∙◌}
 use Rattle.std.specs.Char.{to_ascii_lowercase}
 use Rattle.std.specs.Cmp.Lexicographic.{slice_cmp}
 use Rattle.std.specs.List.{AllByRecursion, AllWithin, list_all}
 use Rattle.std.specs.List.Sorted.{IsNonDecreasingBy, IsPartitionedBy, IsPartitionPoint}
-use Rattle.std.specs.Ordering.{is_eq, is_le, is_lt, nat_cmp, ordering_index, ordering_then}
+use Rattle.std.specs.Ordering.{is_eq, is_lt, nat_cmp, ordering_index, ordering_then}
 use Rattle.std.specs.declared.cmp.Ordering.{Ordering}
 use Rattle.std.specs.declared.cmp.Ordering.TheVariants.{Less, Equal, Greater}
 use Rattle.std.proofs.lemmas.Bool.{and_parts}
 use Rattle.std.proofs.lemmas.Bool.Decides.{nat_tests}
 use Rattle.std.proofs.lemmas.List.{take-append-drop}
-use Rattle.std.proofs.lemmas.List.Sorted.{IsNonDecreasingBy-drop}
 use Rattle.cm_text.specs.Case.{begins_with, equals}
 use Rattle.cm_tables.specs.Order.{is_keyword, is_keyword_byte}
-use Rattle.cm_tables.specs.Search.{Ascends, IsGroup, place}
+use Rattle.cm_tables.specs.Search.{Ascends, IsFrom, is_below, place}
 use Rattle.cm_tables.specs.declared.entry.Entry.{Entry}
 
 -- a keyword's bytes keep their order in small letters
@@ -54,7 +53,7 @@ same_number : (x y : ℕ) → nat_cmp x y ≡ Equal → x ≡ y
 same_number x y same = grind (arith, nat_tests)
 
 -- of two keywords the lower has no higher place
-rising : (text other atom : List ℕ) → list_all is_keyword_byte text ≡ true → list_all is_keyword_byte other ≡ true
+pub rising : (text other atom : List ℕ) → list_all is_keyword_byte text ≡ true → list_all is_keyword_byte other ≡ true
     → slice_cmp nat_cmp text other ≡ Less → ordering_index (place text atom) ≤ ordering_index (place other atom)
 rising text other [] first second less = omega arith
 rising [] other (next ∷ atom) first second less = omega arith
@@ -116,28 +115,10 @@ below_least Greater Less le is = absurd (omega arith)
 below_least Greater Equal le is = cc
 below_least Greater Greater le is = cc
 
-below_most : (low high : Ordering) → ordering_index low ≤ ordering_index high → is_le high ≡ true → is_le low ≡ true
-below_most Less high le is = refl
-below_most Equal high le is = refl
-below_most Greater Less le is = absurd (omega arith)
-below_most Greater Equal le is = absurd (omega arith)
-below_most Greater Greater le is = cc
-
--- an entry stands below those that begin with the atom, or not above them
-abbrev pub is_below : List ℕ → Entry → Bool
-is_below atom entry = is_lt (place entry.text atom)
-
-abbrev pub is_no_higher : List ℕ → Entry → Bool
-is_no_higher atom entry = is_le (place entry.text atom)
-
--- so each of the two tests parts them
-parted_lt : (atom : List ℕ) (entries : List Entry) → IsNonDecreasingBy (index_of atom) entries
-    → IsPartitionedBy (is_below atom) entries
-parted_lt atom entries rise i j d le within is = below_least _ _ (rise i j d le within) is
-
-parted_le : (atom : List ℕ) (entries : List Entry) → IsNonDecreasingBy (index_of atom) entries
-    → IsPartitionedBy (is_no_higher atom) entries
-parted_le atom entries rise i j d le within is = below_most _ _ (rise i j d le within) is
+-- so the test parts them
+parted : (atom : List ℕ) (entries : List Entry) → IsNonDecreasingBy (index_of atom) entries
+    → IsPartitionedBy (λ entry. is_below entry.text atom) entries
+parted atom entries rise i j d le within is = below_least _ _ (rise i j d le within) is
 
 -- an entry begins with the atom exactly where its place is among those that do
 pub begins_at : (text atom : List ℕ) → begins_with text atom ≡ is_eq (place text atom)
@@ -184,59 +165,27 @@ not_begins Less is = refl
 not_begins Equal is = cc
 not_begins Greater is = cc
 
-nor_begins : (order : Ordering) → is_le order ≡ false → is_eq order ≡ false
-nor_begins Less is = cc
-nor_begins Equal is = cc
-nor_begins Greater is = refl
-
-begins : (order : Ordering) → is_lt order ≡ false → is_le order ≡ true → is_eq order ≡ true
-begins Less not_lt is = cc
-begins Equal not_lt is = refl
-begins Greater not_lt is = cc
-
-all_both : {X : Type 0} (P Q R : X → Type 0) → ((x : X) → P x → Q x → R x) → (xs : List X) (n : ℕ)
-    → AllByRecursion P xs → AllByRecursion Q (take n xs) → AllByRecursion R (take n xs)
-all_both P Q R join [] zero all some = tt
-all_both P Q R join [] (suc n) all some = tt
-all_both P Q R join (x ∷ xs) zero all some = tt
-all_both P Q R join (x ∷ xs) (suc n) all some = (join x all.0 some.0, all_both P Q R join xs n all.1 some.1)
-
 -- those that a test passes stand before this place, and the others from it on
 abbrev pub IsPoint : (Entry → Bool) → List Entry → ℕ → Type 0
 IsPoint test entries place = IsPartitionPoint (λ entry. test entry ≡ true) (λ entry. test entry ≡ false) entries place
 
--- the two points that the searches find part the entries
-parts_is : (atom : List ℕ) (entries : List Entry) (start size : ℕ) → start ≤ length entries
-    → size ≤ length (drop start entries) → IsPoint (is_below atom) entries start
-    → IsPoint (is_no_higher atom) (drop start entries) size
-    → IsGroup atom entries start (take size (drop start entries))
-parts_is atom entries start size most fits first second =
-    record {
-      before = take start entries;
-      behind = drop size (drop start entries);
-      parts =
-          sym
-          (ap (λ rest. take start entries ++ rest) (take-append-drop size (drop start entries))
-          ∙ take-append-drop start entries);
-      at = simp length-take (omega (arith, most));
-      none_before =
-          all_as _ _ (λ e is. begins_at e.text atom ∙ not_begins _ is) _ (all_taken _ entries start first.0 most);
-      among =
-          all_both _ _ _ (λ e low high. begins_at e.text atom ∙ begins _ low high) _ size
-          (all_dropped _ entries start first.1) (all_taken _ _ size second.0 fits);
-      none_behind = all_as _ _ (λ e is. begins_at e.text atom ∙ nor_begins _ is) _ (all_dropped _ _ size second.1);
-    }
+pub ascends_dropped : (size : ℕ) (entries : List Entry) → Ascends entries → Ascends (drop size entries)
+ascends_dropped zero entries up = up
+ascends_dropped (suc size) [] up = tt
+ascends_dropped (suc size) (first ∷ more) up = ascends_dropped size more up.2
 
-pub group_is : (atom : List ℕ) (entries behind group : List Entry) (start size : ℕ) → Ascends entries
-    → behind ≡ drop start entries → group ≡ take size behind → start ≤ length entries → size ≤ length behind
-    → (IsPartitionedBy (is_below atom) entries → IsPoint (is_below atom) entries start)
-    → (IsPartitionedBy (is_no_higher atom) behind → IsPoint (is_no_higher atom) behind size)
-    → IsGroup atom entries start group
-group_is atom entries behind group start size up rest some most fits first second =
-    let rise = places_rise atom entries up in
-    let rise_behind = IsNonDecreasingBy-drop (index_of atom) start entries rise in
-    let parted = second (parted_le atom behind (subst (IsNonDecreasingBy (index_of atom)) (sym rest) rise_behind)) in
-    subst (IsGroup atom entries start) (sym (some ∙ ap (take size) rest))
-    (parts_is atom entries start size most (subst (λ (xs : List Entry). size ≤ length xs) rest fits)
-    (first (parted_lt atom entries rise))
-    (subst (λ (xs : List Entry). IsPoint (is_no_higher atom) xs size) rest parted))
+-- the entries from the point on that the search finds
+pub from_is : (atom : List ℕ) (entries behind : List Entry) (start : ℕ) → Ascends entries → behind ≡ drop start entries
+    → start ≤ length entries
+    → (IsPartitionedBy (λ entry. is_below entry.text atom) entries → IsPoint (λ entry. is_below entry.text atom) entries start)
+    → IsFrom atom entries start behind
+from_is atom entries behind start up rest most finds =
+    let point = finds (parted atom entries (places_rise atom entries up)) in
+    subst (IsFrom atom entries start) (sym rest) record {
+      before = take start entries;
+      parts = sym (take-append-drop start entries);
+      at = simp length-take (omega (arith, most));
+      none_before = all_as _ _ (λ e is. begins_at e.text atom ∙ not_begins _ is) _ (all_taken _ entries start point.0 most);
+      above = all_dropped _ entries start point.1;
+      ascends = ascends_dropped start entries up;
+    }
