@@ -6,10 +6,16 @@ use std::time::{SystemTime, UNIX_EPOCH};
 
 /// The system's clock. It gives 0 where the clock cannot be read or stands before 1970.
 #[derive(Drop)]
-pub struct StdClock(
-    /// The runtime whose clock is read.
-    pub HostRuntime,
-);
+pub struct StdClock {
+    rt: HostRuntime,
+}
+
+impl StdClock {
+    /// The clock of this system.
+    pub fn new(rt: &HostRuntime) -> StdClock {
+        StdClock { rt: *rt }
+    }
+}
 
 impl Clock for StdClock {
     ghost tells = { false };
@@ -17,7 +23,7 @@ impl Clock for StdClock {
     ghost left = { λ _. [] };
 
     fn now(&mut self) -> u64 {
-        let Ok(moment) = SystemTime::now(&self.0) else {
+        let Ok(moment) = SystemTime::now(&self.rt) else {
             return 0;
         };
         match moment.duration_since(UNIX_EPOCH) {
