@@ -1,7 +1,7 @@
 -- The refusals: their numbers in the log and their texts on the screen.
 use Rattle.std.specs.Prelude.{ℕ, List, codes}
 use Rattle.cm_fields.specs.declared.code.Code.{Code}
-use Rattle.cm_fields.specs.declared.code.Code.TheVariants.{NotKeyword, Ambiguous, NotSwitch, NeedColon, BadNoise, BadNumber, NumberRange, NoField, FieldLong, NotQuoted, NoQuote, NotToken, BadDate, YearRange, SpecShape, NameLong, GenRange, WildHere, Device, NoLogical, NoDirectory, NoUser, NoFile, NotComma, NotConfirmed, Rejected, TooMany, NoMatch, GenFull, FileExists, NameNeeded, CopyRange, DirLimit, FileLimit, FileSize, StoreSize, LogicalLimit, QueueLimit, NoDefinition, TakeDepth, LineLimit, BadLine, NotInTake}
+use Rattle.cm_fields.specs.declared.code.Code.TheVariants.{NotKeyword, Ambiguous, NotSwitch, NeedColon, BadNoise, BadNumber, NumberRange, NoField, FieldLong, NotQuoted, NoQuote, NotToken, BadDate, YearRange, SpecShape, NameLong, GenRange, WildHere, Device, NoLogical, NoDirectory, NoUser, NoFile, NotComma, NotConfirmed, Rejected, TooMany, NoMatch, GenFull, FileExists, NameNeeded, CopyRange, DirLimit, FileLimit, FileSize, StoreSize, LogicalLimit, QueueLimit, NoDefinition, TakeDepth, LineLimit, BadLine, NotInTake, NoLabel, BadControl, NoSubcommands, NoMessage, MailFull}
 
 unfoldable pub code_number : Code → ℕ
 code_number NotKeyword = 1
@@ -47,6 +47,11 @@ code_number TakeDepth = 43
 code_number LineLimit = 44
 code_number BadLine = 45
 code_number NotInTake = 46
+code_number NoLabel = 47
+code_number BadControl = 48
+code_number NoSubcommands = 49
+code_number NoMessage = 50
+code_number MailFull = 51
 
 unfoldable pub code_text : Code → List ℕ
 code_text NotKeyword = codes "Unrecognized keyword"
@@ -92,3 +97,8 @@ code_text TakeDepth = codes "TAKE too deep"
 code_text LineLimit = codes "Too many lines"
 code_text BadLine = codes "Invalid line in command file"
 code_text NotInTake = codes "Not allowed in a command file"
+code_text NoLabel = codes "No such label"
+code_text BadControl = codes "Invalid line in control file"
+code_text NoSubcommands = codes "Subcommands not allowed here"
+code_text NoMessage = codes "No such message"
+code_text MailFull = codes "Mailbox is full"

@@ -91,6 +91,16 @@ pub enum Code {
     BadLine,
     /// The command takes what is typed, which a command file has not.
     NotInTake,
+    /// A control file goes to a label that it does not have.
+    NoLabel,
+    /// A line of a control file is none.
+    BadControl,
+    /// A command would wait for subcommands where there are none.
+    NoSubcommands,
+    /// There is no such message in a mailbox.
+    NoMessage,
+    /// A mailbox has as many messages as it may have.
+    MailFull,
 }
 
 impl Code {
@@ -143,6 +153,11 @@ impl Code {
             Code::LineLimit => "Too many lines",
             Code::BadLine => "Invalid line in command file",
             Code::NotInTake => "Not allowed in a command file",
+            Code::NoLabel => "No such label",
+            Code::BadControl => "Invalid line in control file",
+            Code::NoSubcommands => "Subcommands not allowed here",
+            Code::NoMessage => "No such message",
+            Code::MailFull => "Mailbox is full",
         }
     }
 
@@ -195,6 +210,11 @@ impl Code {
             Code::LineLimit => 44,
             Code::BadLine => 45,
             Code::NotInTake => 46,
+            Code::NoLabel => 47,
+            Code::BadControl => 48,
+            Code::NoSubcommands => 49,
+            Code::NoMessage => 50,
+            Code::MailFull => 51,
         }
     }
 }
