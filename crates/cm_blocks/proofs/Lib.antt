@@ -6,3 +6,4 @@ pub mod Switches
 pub mod Trials
 pub mod Walks
 pub mod Wells
+mod CountLaws

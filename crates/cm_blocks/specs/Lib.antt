@@ -9,3 +9,4 @@ pub mod FieldView
 pub mod Trial
 pub mod Well
 pub mod Words
+pub mod Count

@@ -1,5 +1,5 @@
 //! Laws of grammars, chains and parses.
-ghost use Rattle.std.specs.Prelude.{◌≡◌, ◌<◌, ◌≤◌, ◌++◌, ℕ, List, [], None, length};
+ghost use Rattle.std.specs.Prelude.{◌≡◌, ◌+◌, ◌<◌, ◌≤◌, ◌++◌, ℕ, List, [], None, length};
 ghost use Rattle.cm_text.specs.Text.{finished};
 ghost use Rattle.cm_fields.specs.Local.{IsLocal};
 ghost use Rattle.cm_files.specs.declared.flags.Flags.{Flags};
@@ -9,6 +9,7 @@ ghost use Rattle.cm_blocks.specs.declared.field.Ending.{Ending};
 ghost use Rattle.cm_blocks.specs.declared.field.TheConstants.{FIELD_LIMIT};
 ghost use Rattle.cm_blocks.specs.declared.function.Function.{Function};
 ghost use Rattle.cm_blocks.specs.Chain.{chain_at};
+ghost use Rattle.cm_blocks.specs.Count.{trials_of};
 ghost use Rattle.cm_blocks.specs.Fault.{grammar_fault};
 ghost use Rattle.cm_blocks.specs.Kept.{BeginsWith, kept};
 ghost use Rattle.cm_blocks.specs.Parse.{IsClosed, IsParse, open_at, parse_of};
@@ -46,6 +47,13 @@ pub fn one_parse()
     ensures no_other { (s : Setting) → (node : ℕ) → (text : List ℕ) → (fields : List FieldView)
         → (ending : Ending) → IsParse s node text fields ending
         → (fields ≡ (parse_of s node text).fields) × (ending ≡ (parse_of s node text).ending) }
+{}
+
+/// A parse makes at most 65 chain trials: one for each of its fields, of which there are at most 64, and the last.
+pub fn a_parse_makes_65_trials()
+    ensures each { (s : Setting) → (node : ℕ) → (text : List ℕ)
+        → trials_of s node text ≡ length (parse_of s node text).fields + 1 }
+    ensures most { (s : Setting) → (node : ℕ) → (text : List ℕ) → trials_of s node text ≤ 65 }
 {}
 
 /// The parse of a finished text is decided: it is done or refused, and never open.
