@@ -1,2 +1,4 @@
 pub mod Ascii
 mod Decimal
+pub mod LineBytes
+pub mod LinesLaws
