@@ -13,7 +13,7 @@ use Rattle.cm_fields.specs.declared.value.Value.{Value}
 use Rattle.cm_fields.specs.Finish.{Decides, DecidesFinished, has_no_end}
 use Rattle.cm_fields.specs.Mark.{comma, confirm}
 use Rattle.cm_fields.specs.Phrase.{is_inside, noise, same_letter, token, typed_noise}
-use Rattle.cm_fields.specs.Quoted.{by_closing, closing, quoted}
+use Rattle.cm_fields.specs.Quoted.{by_closing, closing, is_cut, quoted}
 use Rattle.cm_fields.specs.Try.{by_run, said}
 use Rattle.cm_fields.proofs.Holding.{holds_of_choice, of_choice}
 
@@ -110,10 +110,10 @@ decides_less less most Unknown below is = is
 closing_decides : (size written : ℕ) (line : List ℕ) → ClosingDecides (size + length line) (closing size written (line ++ 13 ∷ []))
 closing_decides size written [] = tt
 closing_decides size written (byte ∷ []) =
-    of_choice (ClosingDecides (size + length (byte ∷ []))) (byte == 13) (Cut size) _ tt
+    of_choice (ClosingDecides (size + length (byte ∷ []))) (is_cut byte) (Cut size) _ tt
     (of_choice (ClosingDecides (size + length (byte ∷ []))) (byte == 34) (Closed size written) _ (omega arith) tt)
 closing_decides size written (byte ∷ next ∷ line) =
-    of_choice (ClosingDecides (size + length (byte ∷ next ∷ line))) (byte == 13) (Cut size) _ tt
+    of_choice (ClosingDecides (size + length (byte ∷ next ∷ line))) (is_cut byte) (Cut size) _ tt
     (of_choice (ClosingDecides (size + length (byte ∷ next ∷ line))) (byte == 34) _ _
     (of_choice (ClosingDecides (size + length (byte ∷ next ∷ line))) (next == 34) _ (Closed size written)
     (decides_less (size + 2 + length line) _ _ (omega arith) (closing_decides (size + 2) (written + 1) line)) (omega arith))

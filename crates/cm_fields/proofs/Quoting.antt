@@ -3,6 +3,7 @@ use Rattle.std.proofs.Common.{◌≡◌, ◌≢◌, ℕ, ◌+◌, ◌-◌, ◌�
 use Rattle.std.proofs.lemmas.Bool.Decides.{nat_tests}
 use Rattle.std.proofs.lemmas.List.{take_all}
 use Rattle.cm_text.specs.declared.name.TheConstants.{NAME_LIMIT}
+use Rattle.cm_text.specs.declared.text.TheConstants.{JOIN}
 use Rattle.cm_fields.specs.declared.code.Code.TheVariants.{FieldLong, NotQuoted}
 use Rattle.cm_fields.specs.declared.quotes.Closing.{Closing}
 use Rattle.cm_fields.specs.declared.quotes.Closing.TheVariants.{Closed, Cut, Unknown}
@@ -11,20 +12,23 @@ use Rattle.cm_fields.specs.declared.value.Value.TheVariants.{Quoted}
 use Rattle.cm_fields.specs.declared.trial.Try.{Try}
 use Rattle.cm_fields.specs.declared.trial.Try.TheVariants.{Accept, Refuse, More}
 use Rattle.cm_fields.specs.Local.{Holds, IsLocal, IsSeen}
-use Rattle.cm_fields.specs.Quoted.{IsWithin, by_closing, closing, quoted}
+use Rattle.cm_fields.specs.Quoted.{IsWithin, by_closing, closing, is_cut, quoted}
 use Rattle.cm_fields.specs.Try.{span}
 use Rattle.cm_fields.proofs.Holding.{LooksBeyond, Reaches, ReachesIfAccept, by_test, holds_beyond, holds_both, holds_of_choice, holds_same, is_local, of_choice, reaches_accepted}
 
 pub differs : (byte other : ℕ) → byte ≢ other → (byte == other) ≡ false
 differs byte other unequal = grind (arith, nat_tests)
 
--- behind a byte that is neither a quote nor the end of the line
+no_cut : (byte : ℕ) → byte ≢ 13 → byte ≢ JOIN → is_cut byte ≡ false
+no_cut byte inner whole = let end = differs byte 13 inner in let join = differs byte JOIN whole in rw (end, join) refl
+
+-- behind a byte that is neither a quote nor the end of the line or of its row
 pub plain_passed : (size written : ℕ) (inside : List ℕ) → 1 ≤ length inside → get_or inside 0 0 ≢ 13
-    → get_or inside 0 0 ≢ 34 → closing size written inside ≡ closing (size + 1) (written + 1) (take (length inside - 1) (drop 1 inside))
-plain_passed size written [] some inner plain = absurd (omega arith)
-plain_passed size written (byte ∷ []) some inner plain = let end = differs byte 13 inner in rw end
-plain_passed size written (byte ∷ next ∷ more) some inner plain =
-    let end = differs byte 13 inner in
+    → get_or inside 0 0 ≢ JOIN → get_or inside 0 0 ≢ 34 → closing size written inside ≡ closing (size + 1) (written + 1) (take (length inside - 1) (drop 1 inside))
+plain_passed size written [] some inner whole plain = absurd (omega arith)
+plain_passed size written (byte ∷ []) some inner whole plain = let end = no_cut byte inner whole in rw end
+plain_passed size written (byte ∷ next ∷ more) some inner whole plain =
+    let end = no_cut byte inner whole in
     let quote = differs byte 34 plain in
     let rest : take (length (byte ∷ next ∷ more) - 1) (next ∷ more) ≡ next ∷ more = take_all _ (next ∷ more) (omega arith) in
     rw (end, quote, rest)
@@ -52,9 +56,9 @@ behind_less less least Unknown below is = tt
 -- what holds of both ways of a choice holds of it
 closing_behind : (size written : ℕ) (inside : List ℕ) → IsBehind size (closing size written inside)
 closing_behind size written [] = tt
-closing_behind size written (byte ∷ []) = of_choice (IsBehind size) (byte == 13) (Cut size) Unknown (omega arith) tt
+closing_behind size written (byte ∷ []) = of_choice (IsBehind size) (is_cut byte) (Cut size) Unknown (omega arith) tt
 closing_behind size written (byte ∷ next ∷ more) =
-    of_choice (IsBehind size) (byte == 13) (Cut size) _ (omega arith)
+    of_choice (IsBehind size) (is_cut byte) (Cut size) _ (omega arith)
     (of_choice (IsBehind size) (byte == 34) _ _
     (of_choice (IsBehind size) (next == 34) _ (Closed size written)
     (behind_less size (size + 2) _ (omega arith) (closing_behind (size + 2) (written + 1) more)) (omega arith))
@@ -63,9 +67,9 @@ closing_behind size written (byte ∷ next ∷ more) =
 closing_within : (most size written : ℕ) (inside : List ℕ) → size + length inside ≤ most
     → IsWithin most (closing size written inside)
 closing_within most size written [] within = tt
-closing_within most size written (byte ∷ []) within = of_choice (IsWithin most) (byte == 13) (Cut size) Unknown (omega arith) tt
+closing_within most size written (byte ∷ []) within = of_choice (IsWithin most) (is_cut byte) (Cut size) Unknown (omega arith) tt
 closing_within most size written (byte ∷ next ∷ more) within =
-    of_choice (IsWithin most) (byte == 13) (Cut size) _ (omega arith)
+    of_choice (IsWithin most) (is_cut byte) (Cut size) _ (omega arith)
     (of_choice (IsWithin most) (byte == 34) _ _
     (of_choice (IsWithin most) (next == 34) _ (Closed size written)
     (closing_within most (size + 2) (written + 1) more (omega arith)) (omega arith))
@@ -88,8 +92,8 @@ closing_both end true t u t' u' first second = first
 closing_both end false t u t' u' first second = second
 
 cut_same : (end size : ℕ) (byte : ℕ) (u u' : Closing) → ClosingHolds end u u'
-    → ClosingHolds end (if byte == 13 then Cut size else u) (if byte == 13 then Cut size else u')
-cut_same end size byte u u' rest = closing_both end (byte == 13) (Cut size) u (Cut size) u' (λ seen. refl) rest
+    → ClosingHolds end (if is_cut byte then Cut size else u) (if is_cut byte then Cut size else u')
+cut_same end size byte u u' rest = closing_both end (is_cut byte) (Cut size) u (Cut size) u' (λ seen. refl) rest
 
 -- one byte decides of no quote and no plain byte how the text goes on
 quote_beyond : (end size written byte next : ℕ) (more : List ℕ) (other : Closing) → end ≤ size + 1
@@ -209,10 +213,10 @@ closing_ends : (size written : ℕ) (inside : List ℕ) → closing size written
     → ClosesAt (size + length inside) (closing size written (inside ++ 32 ∷ []))
 closing_ends size written [] is = tt
 closing_ends size written (byte ∷ []) is =
-    of_choice (ClosesAt (size + length (byte ∷ []))) (byte == 13) (Cut size) _ tt
+    of_choice (ClosesAt (size + length (byte ∷ []))) (is_cut byte) (Cut size) _ tt
     (of_choice (ClosesAt (size + length (byte ∷ []))) (byte == 34) (Closed size written) Unknown (omega arith) tt)
 closing_ends size written (byte ∷ next ∷ more) is =
-    by (byte == 13) (byte == 34) (next == 34) (closing_ends (size + 2) (written + 1) more)
+    by (is_cut byte) (byte == 34) (next == 34) (closing_ends (size + 2) (written + 1) more)
     (closing_ends (size + 1) (written + 1) (next ∷ more)) is
   where
     place : ℕ

@@ -1,6 +1,7 @@
 -- A quoted text (.CMQST): from a quote to a quote that no quote follows; a quote inside stands twice.
-use Rattle.std.specs.Prelude.{ℕ, ◌+◌, ◌==◌, ◌&&◌, ◌≤◌, nat_le, if◌then◌else◌, List, [], ◌∷◌}
+use Rattle.std.specs.Prelude.{ℕ, Bool, ◌+◌, ◌==◌, ◌&&◌, ◌||◌, ◌≤◌, nat_le, if◌then◌else◌, List, [], ◌∷◌}
 use Rattle.cm_text.specs.declared.name.TheConstants.{NAME_LIMIT}
+use Rattle.cm_text.specs.declared.text.TheConstants.{JOIN}
 use Rattle.cm_fields.specs.declared.code.Code.TheVariants.{NotQuoted, NoQuote, FieldLong}
 use Rattle.cm_fields.specs.declared.quotes.Closing.{Closing}
 use Rattle.cm_fields.specs.declared.quotes.Closing.TheVariants.{Closed, Cut, Unknown}
@@ -9,13 +10,17 @@ use Rattle.cm_fields.specs.declared.trial.Try.TheVariants.{Accept, Refuse, More}
 use Rattle.cm_fields.specs.declared.value.Value.TheVariants.{Quoted}
 use Rattle.cm_fields.specs.Try.{span}
 
+-- the end of the line, or of a row of it that a join byte continues
+abbrev pub is_cut : ℕ → Bool
+is_cut byte = byte == 13 || byte == JOIN
+
 -- how the text behind the opening quote goes on, behind so many bytes of it, which write so many: the closing
--- quote stands there; the line ends there; or the text ends before that is known
+-- quote stands there; the line or its row ends there; or the text ends before that is known
 abbrev pub closing : ℕ → ℕ → List ℕ → Closing
 closing size written [] = Unknown
-closing size written (byte ∷ []) = if byte == 13 then Cut size else Unknown
+closing size written (byte ∷ []) = if is_cut byte then Cut size else Unknown
 closing size written (byte ∷ next ∷ more) =
-    if byte == 13 then Cut size
+    if is_cut byte then Cut size
     else (if byte == 34
     then (if next == 34 then closing (size + 2) (written + 1) more else Closed size written)
     else closing (size + 1) (written + 1) (next ∷ more))

@@ -5,13 +5,13 @@ ghost use Rattle.cm_fields.specs.Quoted.{IsWithin, by_closing, closing, quoted, 
 
 use crate::trial::{said, span_of};
 use crate::{Code, Try, Value};
-use cm_text::{NAME_LIMIT, Name, TEXT_LIMIT};
+use cm_text::{JOIN, NAME_LIMIT, Name, TEXT_LIMIT};
 
 // How the text behind an opening quote goes on.
 enum Closing {
     // The closing quote stands behind so many bytes, which write so many.
     Closed { size: usize, written: usize },
-    // The line ends behind so many bytes.
+    // The line, or a row of it, ends behind so many bytes.
     Cut(usize),
     // The text ends before that is known.
     Unknown,
@@ -27,7 +27,7 @@ fn closing_from(size: usize, written: usize, inside: &[u8]) -> Closing
 {
     match inside {
         [] => Closing::Unknown,
-        [b'\r', ..] => Closing::Cut(size),
+        [b'\r' | JOIN, ..] => Closing::Cut(size),
         [byte, more @ ..] if *byte != b'"' => closing_from(size + 1, written + 1, more),
         [_] => Closing::Unknown,
         [_, b'"', more @ ..] => closing_from(size + 2, written + 1, more),
@@ -56,7 +56,7 @@ fn by_closing(at: usize, found: Closing) -> Try
 }
 
 /// A quoted text (.CMQST): from a quote to a quote that no quote follows; a quote inside stands twice. Refused
-/// with NotQuoted where no quote stands, with NoQuote where the line ends first, with FieldLong where it
+/// with NotQuoted where no quote stands, with NoQuote where the line ends or is continued first, with FieldLong where it
 /// writes more than 39 bytes.
 pub fn quoted(text: &[u8], at: usize) -> Try
     requires short { length text.now ≤ TEXT_LIMIT }

@@ -1,1 +1,2 @@
+pub mod ClassLaws
 mod WordLemmas

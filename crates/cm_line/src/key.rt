@@ -10,6 +10,10 @@ pub enum KeyClass {
     Text,
     /// CR or LF, which finish the line.
     End,
+    /// CR or LF behind a hyphen, which continue the line. No key is this by itself; [`Line::class`] tells it.
+    ///
+    /// [`Line::class`]: crate::Line::class
+    Join,
     /// DEL, which removes the last byte.
     Rub,
     /// Control-W, which removes the last word.
@@ -33,7 +37,7 @@ pub enum KeyClass {
 }
 
 impl KeyClass {
-    /// The class of a key.
+    /// The class of a key by itself.
     #[tactic(auto, unfolding(crate::specs::Keys::class_of))]
     pub fn of(key: u8) -> KeyClass
         ensures value { result ≡ class_of key }

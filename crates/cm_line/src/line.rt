@@ -3,17 +3,20 @@ ghost use Rattle.std.specs.Prelude.{◌≡◌, ◌+◌, ◌-◌, ◌<◌, ◌≤
 ghost use Rattle.std.specs.Bool.{OnTrue, OnFalse};
 ghost use Rattle.std.specs.List.{AllByRecursion, suffix_len};
 ghost use Rattle.std.specs.Str.{IsAscii};
-ghost use Rattle.cm_text.specs.Bytes.{is_blank, is_text, is_word};
-ghost use Rattle.cm_text.specs.Text.{IsLine, finished};
+ghost use Rattle.cm_text.specs.Bytes.{is_blank, is_line_byte, is_text, is_word};
+ghost use Rattle.cm_text.specs.Text.{IsLine, ends_in_hyphen, finished, joined};
+ghost use Rattle.cm_text.specs.declared.text.TheConstants.{JOIN};
 ghost use Rattle.cm_line.specs.Finished.{line_of};
+ghost use Rattle.cm_line.specs.Keys.{class_at};
 ghost use Rattle.cm_line.specs.Word.{unblanked, without_word, word_start};
 
+use crate::KeyClass;
 use arrayvec::ArrayVec;
-use cm_text::{LINE_LIMIT, TEXT_LIMIT};
+use cm_text::{JOIN, LINE_LIMIT, TEXT_LIMIT, ends_in_hyphen};
 use std::marker::Model;
 
-/// A line under edit: at most 255 text bytes. Contracts see these bytes. Behind them it holds the carriage return
-/// that would finish it, so that the finished text is there without a copy.
+/// A line under edit: at most 255 bytes, each a text byte or the join byte. Contracts see these bytes. Behind them it
+/// holds the carriage return that would finish it, so that the finished text is there without a copy.
 #[derive(Debug, Drop)]
 pub struct Line {
     text: ArrayVec<u8, TEXT_LIMIT>,
@@ -56,6 +59,21 @@ impl Line {
         self.text.as_slice()
     }
 
+    /// The class of a key on this line: CR and LF continue a line that ends in a hyphen.
+    #[tactic(auto, unfolding(crate::specs::Keys::class_at))]
+    pub fn class(&self, key: u8) -> KeyClass
+        ensures value { result ≡ class_at self.now key }
+        ensures text { result ≡ KeyClass.Text → is_text key ≡ true }
+        ensures join { result ≡ KeyClass.Join → ends_in_hyphen self.now ≡ true }
+    {
+        let class = KeyClass::of(key);
+        if class == KeyClass::End && ends_in_hyphen(self.bytes()) {
+            KeyClass::Join
+        } else {
+            class
+        }
+    }
+
     /// Appends a text byte. False where the line has 255 bytes, which then stays as it was.
     pub fn push(&mut self, byte: u8) -> bool
         requires { is_text byte ≡ true }
@@ -66,6 +84,7 @@ impl Line {
         if self.text.is_full() {
             return false;
         }
+        text_stands(byte);
         self.text.pop();
         self.text.push(byte);
         self.text.push(b'\r');
@@ -113,12 +132,54 @@ impl Line {
         if bytes.len() > self.text.remaining_capacity() {
             return false;
         }
+        texts_stand(bytes);
         self.text.pop();
         let _ = self.text.try_extend_from_slice(bytes);
         self.text.push(b'\r');
         true
     }
+
+    /// Continues the line: the join byte stands in the place of the hyphen that ends it.
+    pub fn join(&mut self)
+        requires { ends_in_hyphen self.old ≡ true }
+        ensures { self.new ≡ joined self.old }
+    {
+        join_stands();
+        self.text.pop();
+        self.text.pop();
+        self.text.push(JOIN);
+        self.text.push(b'\r');
+    }
+
+    /// Puts another line in the place of this one.
+    pub fn set(&mut self, line: &[u8])
+        requires { IsLine line.now }
+        ensures { self.new ≡ line.now }
+    {
+        self.text.clear();
+        let _ = self.text.try_extend_from_slice(line);
+        self.text.push(b'\r');
+    }
 }
+
+// A text byte may stand in a line, and so may the join byte: what the invariant of a line wants, said of one byte, where
+// the search has it of the whole list. Nothing of these is run.
+#[tactic(auto, using(cm_text::proofs::LineBytes::text_in_line))]
+fn text_stands(byte: u8)
+    requires { is_text byte ≡ true }
+    ensures { is_line_byte byte ≡ true }
+{}
+
+#[tactic(auto, using(cm_text::proofs::LineBytes::texts_in_line))]
+fn texts_stand(bytes: &[u8])
+    requires { AllByRecursion (λ byte. is_text byte ≡ true) bytes.now }
+    ensures { AllByRecursion (λ byte. is_line_byte byte ≡ true) bytes.now }
+{}
+
+#[tactic(auto, using(cm_text::proofs::LineBytes::join_in_line))]
+fn join_stands()
+    ensures { is_line_byte JOIN ≡ true }
+{}
 
 /// Control-W takes at least one byte from a line that is not empty: the length at which it cuts the line
 /// is below the line's, so that a prefix of it stays.

@@ -2,7 +2,7 @@
 use Rattle.std.proofs.Common.{◌≡◌, ℕ, zero, suc, ◌+◌, ◌≤◌, max, Bool, true, false, if◌then◌else◌, List, [], ◌∷◌, ◌++◌, length, drop, Option, Some, None, slice_get, refl, ap, sym, subst, ◌∙◌, arith}
 use Rattle.std.proofs.lemmas.Bool.Decides.{nat_tests}
 use Rattle.std.proofs.lemmas.List.{drop-append-le}
-use Rattle.cm_text.specs.Bytes.{is_text}
+use Rattle.cm_text.specs.Bytes.{is_line_byte, is_text}
 use Rattle.cm_fields.specs.declared.code.Code.{Code}
 use Rattle.cm_fields.specs.declared.code.Code.TheVariants.{NotConfirmed}
 use Rattle.cm_fields.specs.declared.trial.Try.{Try}
@@ -26,11 +26,11 @@ use Rattle.cm_blocks.specs.Trial.{looked_of, next_of, trial}
 use Rattle.cm_blocks.proofs.Keeping.{walk_step}
 use Rattle.cm_blocks.proofs.Trials.{trial_is_local}
 use Rattle.cm_recognise.specs.Sound.{TakesField, Waits}
-use Rattle.cm_recognise.proofs.Texts.{AreText, text_append, text_drop}
+use Rattle.cm_recognise.proofs.Texts.{AreLineBytes, line_append, line_drop}
 
--- the line does not end before text bytes
-no_end : (text : List ℕ) → AreText text → is_line_end text ≡ false
-unfolding is_text
+-- the line does not end before its own bytes
+no_end : (text : List ℕ) → AreLineBytes text → is_line_end text ≡ false
+unfolding is_line_byte is_text
 no_end [] all = refl
 no_end (byte ∷ text) all = let here = all.0 in grind (arith, nat_tests)
 
@@ -179,7 +179,7 @@ default_goes s number node rest start (Some text) ends = rw ends refl
 
 node_goes : (s : Setting) (number b : ℕ) (node : Node) (block : Block) (line more : List ℕ) (at start : ℕ) (found : Option ℕ)
     → slice_get s.graph.nodes number ≡ Some node → slice_get node.chain b ≡ Some block → at ≤ length line
-    → AreText line → AreText more → skip node.raw line at ≡ found
+    → AreLineBytes line → AreLineBytes more → skip node.raw line at ≡ found
     → (past_skip s number node line at found).chain ≡ chain.Open (record { node = number; block = Some b; at = start })
     → GoesOn s number b block line more at start
 unfolding chain_at
@@ -191,7 +191,7 @@ node_goes s number b node block line more at start None node_is block_is within 
 node_goes s number b node block line more at start (Some place) node_is block_is within text rest skips is =
     let typed_is : (on_text s number node (drop place line) place).chain ≡ chain.Open (record { node = number; block = Some b; at = start })
     = sym (ap (λ (counted : Counted). counted.chain)
-    (default_goes s number node (drop place line) place node.default (no_end (drop place line) (text_drop place line text)))) ∙ is in
+    (default_goes s number node (drop place line) place node.default (no_end (drop place line) (line_drop place line text)))) ∙ is in
     let waits = typed_waits number place b start (walk s (drop place line) place 0 0 NotConfirmed node.chain) typed_is in
     let same = waits.start_is in
     by place same skips waits.walk_waits
@@ -210,7 +210,7 @@ node_goes s number b node block line more at start (Some place) node_is block_is
               let taken = goes.takes value seen end accepts in
               let whole : drop start (line ++ more) ≡ drop start line ++ more = drop-append-le start line more reached.1 in
               let from = skip_goes_on node.raw line more at start within (skips ∙ ap Some same) (begins node.raw) in
-              let ends = no_end (drop start (line ++ more)) (text_drop start (line ++ more) (text_append line more text rest)) in
+              let ends = no_end (drop start (line ++ more)) (line_drop start (line ++ more) (line_append line more text rest)) in
               let walk_is : walk s (drop start (line ++ more)) start 0 0 NotConfirmed node.chain
               ≡ Takes b block.role (next_of s.graph block value) value taken.0 end =
               ap (λ (rest : List ℕ). walk s rest start 0 0 NotConfirmed node.chain) whole ∙ taken.1
@@ -225,7 +225,7 @@ node_goes s number b node block line more at start (Some place) node_is block_is
               (takes_field s number b block start value end next _ (typed_takes s number b block start value taken.0 end field) leads);
         }
 
-pub chain_goes_on : (s : Setting) (number b : ℕ) (block : Block) (line more : List ℕ) (at start : ℕ) → AreText line → AreText more
+pub chain_goes_on : (s : Setting) (number b : ℕ) (block : Block) (line more : List ℕ) (at start : ℕ) → AreLineBytes line → AreLineBytes more
     → Waits s number b block line at start → GoesOn s number b block line more at start
 unfolding chain_at
 chain_goes_on s number b block line more at start text rest waits =

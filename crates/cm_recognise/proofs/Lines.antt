@@ -1,12 +1,12 @@
 -- With what is put into it a line is a line again.
 use Rattle.std.proofs.Common.{◌≡◌, ℕ, ◌+◌, ◌≤◌, ◌==◌, ◌&&◌, Bool, true, false, not, nat_lt, nat_le, List, [], ◌∷◌, ◌++◌, length, drop, map, Option, Some, None, slice_get, refl, suc, arith, length-append, length-drop}
-use Rattle.std.specs.List.{All, list_any}
+use Rattle.std.specs.List.{All, flat_map, list_any}
 use Rattle.std.specs.Option.{option_map_or}
 use Rattle.std.proofs.lemmas.Bool.{and_parts}
 use Rattle.std.proofs.lemmas.Bool.Decides.{nat_tests}
 use Rattle.std.proofs.lemmas.List.Elements.{All-drop}
 use Rattle.cm_text.specs.Case.{begins_with}
-use Rattle.cm_text.specs.Shown.{screen_byte}
+use Rattle.cm_text.specs.Shown.{shown_byte}
 use Rattle.cm_text.specs.Text.{IsLine}
 use Rattle.cm_text.specs.declared.text.TheConstants.{LINE_LIMIT}
 use Rattle.cm_tables.specs.declared.entry.Entry.{Entry}
@@ -44,7 +44,7 @@ use Rattle.cm_recognise.specs.Insertion.{asked, at_block, behind, block_put, def
 use Rattle.cm_recognise.specs.Found.{missing}
 use Rattle.cm_recognise.specs.Outcome.{by_function, entry_outcome, guide, hook_outcome, keyword_outcome, outcome, phrase_outcome, plain_outcome, switch_outcome}
 use Rattle.cm_recognise.proofs.Shown.{IsShown, directory_outcome_shown, file_shown, user_shown}
-use Rattle.cm_recognise.proofs.Texts.{AreKeywords, AreShown, common_shown, keywords_of, name_shown, phrase_shown, screen_of_shown, shown_append, shown_drop, table_none, test_of_shown, text_append, text_at_shown, text_of_shown}
+use Rattle.cm_recognise.proofs.Texts.{AreKeywords, AreShown, AreTyped, common_shown, keywords_of, name_shown, phrase_shown, screen_of_shown, shown_append, shown_drop, table_none, test_of_shown, typed_of_shown, line_append, text_at_shown, line_of_shown}
 
 entry_shown : (colon : Bool) (table : List Entry) (atom : List ℕ) (position : ℕ) → AreKeywords table
     → IsShown (entry_outcome colon table atom position)
@@ -263,9 +263,16 @@ insertion_is_shown s none named tables lawful ends line mode =
 
 pub insertion_on_screen : (s : Setting) → grammar_fault s.graph ≡ None → IsCatalogue s.catalogue
     → AreTables s.graph.tables → IsLawful s.meanings → (ends : Ending) (line : List ℕ) (mode : Mode)
-    → map screen_byte (insertion s ends line mode).bytes ≡ (insertion s ends line mode).bytes
+    → flat_map shown_byte (insertion s ends line mode).bytes ≡ (insertion s ends line mode).bytes
 insertion_on_screen s none named tables lawful ends line mode =
     screen_of_shown (insertion s ends line mode).bytes (insertion_shown s ends line mode none named tables lawful)
+
+-- and may be typed
+pub insertion_is_typed : (s : Setting) → grammar_fault s.graph ≡ None → IsCatalogue s.catalogue
+    → AreTables s.graph.tables → IsLawful s.meanings → (ends : Ending) (line : List ℕ) (mode : Mode)
+    → AreTyped (insertion s ends line mode).bytes
+insertion_is_typed s none named tables lawful ends line mode =
+    typed_of_shown (insertion s ends line mode).bytes (insertion_shown s ends line mode none named tables lawful)
 
 pub line_goes_on : (s : Setting) (ends : Ending) (line : List ℕ) (mode : Mode) → grammar_fault s.graph ≡ None
     → IsCatalogue s.catalogue → AreTables s.graph.tables → IsLawful s.meanings → IsLine line
@@ -275,4 +282,4 @@ line_goes_on s ends line mode none named tables lawful is =
     let size = length-append line put in
     let most = insertion_fits s ends line mode is.short in
     let shown = insertion_shown s ends line mode none named tables lawful in
-    record { short = omega arith; plain = text_append line put is.plain (text_of_shown put shown) }
+    record { short = omega arith; plain = line_append line put is.plain (line_of_shown put shown) }

@@ -56,7 +56,7 @@ use Rattle.cm_recognise.proofs.Lines.{behind_shown, outcome_shown}
 use Rattle.cm_recognise.proofs.Plains.{EndsAt, IsOwn, comma_ends, confirm_ends, date_ends, date_of_nothing, file_ends, hook_ends, number_ends, quoted_closes, run_wants, run_whole, space_no_name, text_ends, word_ends}
 use Rattle.cm_recognise.proofs.Shown.{IsShown}
 use Rattle.cm_recognise.proofs.Spans.{run_append, run_of_all}
-use Rattle.cm_recognise.proofs.Texts.{shown_append, table_none, text_of_shown}
+use Rattle.cm_recognise.proofs.Texts.{shown_append, table_none, line_of_shown}
 
 -- on what is typed, completed, and on a space and more behind it, the function takes a field that ends with the
 -- completion and leads on
@@ -313,7 +313,7 @@ whole_is_taken s none named tables lawful line is_line number b at start block w
     let shown = subst IsShown is (outcome_shown s mode block (drop start line) start named tables lawful has short) in
     let more = behind s.graph next in
     let goes = chain_goes_on s number b block line (bytes ++ more) at start is_line.plain
-    (text_of_shown (bytes ++ more) (shown_append bytes more shown (behind_shown s.graph next none))) waits in
+    (line_of_shown (bytes ++ more) (shown_append bytes more shown (behind_shown s.graph next none))) waits in
     let within = goes.within in
     let taken = function_takes s mode block block.function (drop start line) bytes (guide_of (slice_get s.graph.nodes next)) start next
     named device flags tables lawful has short goes.wants is in

@@ -1,12 +1,14 @@
 -- What goes into a line is bytes that are shown as they are.
 use Rattle.std.proofs.Common.{◌≡◌, ℕ, zero, suc, ◌+◌, ◌&&◌, Bool, true, false, ◌==◌, if◌then◌else◌, nat_lt, List, [], ◌∷◌, ◌++◌, length, drop, take, map, filter, Option, Some, None, slice_get, unwrap_or, refl, ap, subst, arith, ◌∙◌}
-use Rattle.std.specs.List.{AllByRecursion, enumerate_from, list_all, reduce}
+use Rattle.std.specs.List.{AllByRecursion, enumerate_from, flat_map, list_all, reduce}
 use Rattle.std.specs.Option.{option_map_or}
 use Rattle.std.proofs.lemmas.Bool.{and_parts}
 use Rattle.std.proofs.lemmas.Bool.Decides.{nat_tests}
-use Rattle.cm_text.specs.Bytes.{is_name, is_text, is_word}
+use Rattle.cm_text.specs.Bytes.{is_line_byte, is_name, is_text, is_word}
 use Rattle.cm_text.specs.Case.{begins_with}
-use Rattle.cm_text.specs.Shown.{screen_byte}
+use Rattle.cm_text.specs.Shown.{join_shown, shown_byte}
+use Rattle.cm_text.specs.declared.text.TheConstants.{JOIN}
+use Rattle.cm_text.proofs.LineBytes.{texts_in_line}
 use Rattle.cm_tables.specs.declared.entry.Entry.{Entry}
 use Rattle.cm_tables.specs.Common.{AllBeginWith, common, rests, shared}
 use Rattle.cm_tables.specs.Look.{is_recognised}
@@ -22,8 +24,12 @@ use Rattle.cm_blocks.specs.Well.{AreTables}
 use Rattle.cm_recognise.specs.Outcome.{text_at}
 
 -- bytes of a line
-abbrev pub AreText : List ℕ → Type 0
-AreText bytes = AllByRecursion (λ byte. is_text byte ≡ true) bytes
+abbrev pub AreLineBytes : List ℕ → Type 0
+AreLineBytes bytes = AllByRecursion (λ byte. is_line_byte byte ≡ true) bytes
+
+-- bytes that may be typed into a line
+abbrev pub AreTyped : List ℕ → Type 0
+AreTyped bytes = AllByRecursion (λ byte. is_text byte ≡ true) bytes
 
 -- bytes that are shown as they are
 abbrev pub AreShown : List ℕ → Type 0
@@ -39,11 +45,11 @@ all_drop P zero text all = all
 all_drop P (suc size) [] all = tt
 all_drop P (suc size) (byte ∷ text) all = all_drop P size text all.1
 
-pub text_append : (text more : List ℕ) → AreText text → AreText more → AreText (text ++ more)
-text_append = all_append (λ byte. is_text byte ≡ true)
+pub line_append : (text more : List ℕ) → AreLineBytes text → AreLineBytes more → AreLineBytes (text ++ more)
+line_append = all_append (λ byte. is_line_byte byte ≡ true)
 
-pub text_drop : (size : ℕ) (text : List ℕ) → AreText text → AreText (drop size text)
-text_drop = all_drop (λ byte. is_text byte ≡ true)
+pub line_drop : (size : ℕ) (text : List ℕ) → AreLineBytes text → AreLineBytes (drop size text)
+line_drop = all_drop (λ byte. is_line_byte byte ≡ true)
 
 pub shown_append : (text more : List ℕ) → AreShown text → AreShown more → AreShown (text ++ more)
 shown_append = all_append (λ byte. is_shown_byte byte ≡ true)
@@ -73,26 +79,33 @@ text_byte : (byte : ℕ) → is_shown_byte byte ≡ true → is_text byte ≡ tr
 unfolding is_text
 text_byte byte is = grind (arith, nat_tests)
 
--- what is shown as it is may stand in a line
-pub text_of_shown : (text : List ℕ) → AreShown text → AreText text
-text_of_shown [] all = tt
-text_of_shown (byte ∷ text) all = (text_byte byte all.0, text_of_shown text all.1)
+-- what is shown as it is may be typed, and so stand in a line
+pub typed_of_shown : (text : List ℕ) → AreShown text → AreTyped text
+typed_of_shown [] all = tt
+typed_of_shown (byte ∷ text) all = (text_byte byte all.0, typed_of_shown text all.1)
+
+pub line_of_shown : (text : List ℕ) → AreShown text → AreLineBytes text
+line_of_shown text all = texts_in_line text (typed_of_shown text all)
 
 pub test_of_shown : (text : List ℕ) → AreShown text → is_shown text ≡ true
 test_of_shown [] all = refl
 test_of_shown (byte ∷ text) all = rw all.0 (test_of_shown text all.1)
 
 -- a screen is given it as it is
-as_it_is : (byte : ℕ) → is_shown_byte byte ≡ true → screen_byte byte ≡ byte
-as_it_is byte shown = by (byte == 9) refl
+as_it_is : (byte : ℕ) → is_shown_byte byte ≡ true → shown_byte byte ≡ byte ∷ []
+unfolding shown_byte
+as_it_is byte shown = by (byte == JOIN) refl (byte == 9) refl
   where
-    by : (tab : Bool) → (byte == 9) ≡ tab → (if tab then 32 else byte) ≡ byte
-    by true is = grind (arith, nat_tests)
-    by false is = refl
+    by : (join : Bool) → (byte == JOIN) ≡ join → (tab : Bool) → (byte == 9) ≡ tab
+        → (if join then join_shown else (if tab then 32 else byte) ∷ []) ≡ byte ∷ []
+    by true joins tab is = absurd (grind (arith, nat_tests))
+    by false joins true is = absurd (grind (arith, nat_tests))
+    by false joins false is = refl
 
-pub screen_of_shown : (text : List ℕ) → AreShown text → map screen_byte text ≡ text
+pub screen_of_shown : (text : List ℕ) → AreShown text → flat_map shown_byte text ≡ text
 screen_of_shown [] all = refl
-screen_of_shown (byte ∷ text) all = ap (λ first. first ∷ map screen_byte text) (as_it_is byte all.0)
+screen_of_shown (byte ∷ text) all =
+    ap (λ (first : List ℕ). first ++ flat_map shown_byte text) (as_it_is byte all.0)
     ∙ ap (λ (more : List ℕ). byte ∷ more) (screen_of_shown text all.1)
 
 pub name_shown : (text : List ℕ) → list_all is_name text ≡ true → AreShown text

@@ -1,5 +1,7 @@
 // What goes into a line.
-ghost use Rattle.std.specs.Prelude.{◌≡◌, ◌+◌, ◌≤◌, ◌<◌, ◌++◌, All, drop, length, slice_get};
+ghost use Rattle.std.specs.Prelude.{◌≡◌, ◌+◌, ◌≤◌, ◌<◌, ◌++◌, All, drop, length, slice_get, true};
+ghost use Rattle.std.specs.List.{AllByRecursion};
+ghost use Rattle.cm_text.specs.Bytes.{is_text};
 ghost use Rattle.cm_text.specs.Text.{IsLine};
 ghost use Rattle.cm_files.specs.Catalogue.{IsCatalogue};
 ghost use Rattle.cm_hooks.specs.Ties.{Ties, count};
@@ -314,7 +316,8 @@ pub fn complete<N: Names, R: Rules>(
     requires hooks { hook_count grammar.now ≤ count hooks.now }
     ensures value { result
         ≡ insertion (setting grammar.now (N.catalogue names.now) R.meanings) ending line.now mode }
-    // With them it is a line again.
+    // They may be typed, and with them it is a line again.
+    ensures text { AllByRecursion (λ byte. is_text byte ≡ true) result.bytes }
     ensures line { IsLine (line.now ++ result.bytes) }
 {
     grammar.has_no_fault();

@@ -1,8 +1,8 @@
 //! Laws of recognition.
-ghost use Rattle.std.specs.Prelude.{◌≡◌, ◌≢◌, ◌+◌, ◌≤◌, ◌++◌, ℕ, List, [], None, Some, drop, false, length, map, true};
+ghost use Rattle.std.specs.Prelude.{◌≡◌, ◌≢◌, ◌+◌, ◌≤◌, ◌++◌, ℕ, List, [], None, Some, drop, false, length, true};
 ghost use Rattle.std.specs.Io.{StartsWith};
-ghost use Rattle.std.specs.List.{AllByRecursion};
-ghost use Rattle.cm_text.specs.Shown.{screen_byte};
+ghost use Rattle.std.specs.List.{AllByRecursion, flat_map};
+ghost use Rattle.cm_text.specs.Shown.{shown_byte};
 ghost use Rattle.cm_text.specs.Text.{IsLine};
 ghost use Rattle.cm_text.specs.declared.text.TheConstants.{LINE_LIMIT};
 ghost use Rattle.cm_tables.specs.Common.{AllBeginWith};
@@ -58,7 +58,7 @@ pub fn what_is_put_in_is_shown()
         → is_shown (insertion s ends line mode).bytes ≡ true }
     ensures screen { (s : Setting) → grammar_fault s.graph ≡ None → IsCatalogue s.catalogue → AreTables s.graph.tables
         → IsLawful s.meanings → (ends : Ending) → (line : List ℕ) → (mode : Mode)
-        → map screen_byte (insertion s ends line mode).bytes ≡ (insertion s ends line mode).bytes }
+        → flat_map shown_byte (insertion s ends line mode).bytes ≡ (insertion s ends line mode).bytes }
 {}
 
 /// Of texts that may be meant, as users, directories, names and types of files, none is found exactly where there is

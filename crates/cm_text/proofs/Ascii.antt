@@ -3,23 +3,23 @@ use Rattle.std.proofs.Common.{◌≡◌, ℕ, ◌<◌, zero, suc, true, List, []
 use Rattle.std.specs.List.{AllByRecursion}
 use Rattle.std.specs.Str.{IsAscii}
 use Rattle.std.proofs.lemmas.Bool.Decides.{nat_tests}
-use Rattle.cm_text.specs.Bytes.{is_text}
+use Rattle.cm_text.specs.Bytes.{is_line_byte, is_text}
 use Rattle.cm_text.specs.Text.{IsLine, finished}
 
-text_is_ascii : (byte : ℕ) → is_text byte ≡ true → byte < 128
-unfolding is_text
-text_is_ascii byte is = grind (arith, nat_tests)
+line_byte_is_ascii : (byte : ℕ) → is_line_byte byte ≡ true → byte < 128
+unfolding is_line_byte is_text
+line_byte_is_ascii byte is = grind (arith, nat_tests)
 
--- text bytes, and the CR behind them
-finished_ascii : (bytes : List ℕ) → AllByRecursion (λ byte. is_text byte ≡ true) bytes → IsAscii (finished bytes)
+-- the bytes of a line, and the CR behind them
+finished_ascii : (bytes : List ℕ) → AllByRecursion (λ byte. is_line_byte byte ≡ true) bytes → IsAscii (finished bytes)
 finished_ascii [] is zero = omega arith
 finished_ascii [] is (suc i) = omega arith
-finished_ascii (byte ∷ more) is zero = text_is_ascii byte is.0
+finished_ascii (byte ∷ more) is zero = line_byte_is_ascii byte is.0
 finished_ascii (byte ∷ more) is (suc i) = finished_ascii more is.1 i
 
-plain_ascii : (bytes : List ℕ) → AllByRecursion (λ byte. is_text byte ≡ true) bytes → IsAscii bytes
+plain_ascii : (bytes : List ℕ) → AllByRecursion (λ byte. is_line_byte byte ≡ true) bytes → IsAscii bytes
 plain_ascii [] is i = omega arith
-plain_ascii (byte ∷ more) is zero = text_is_ascii byte is.0
+plain_ascii (byte ∷ more) is zero = line_byte_is_ascii byte is.0
 plain_ascii (byte ∷ more) is (suc i) = plain_ascii more is.1 i
 
 pub line_is_ascii : (bytes : List ℕ) → IsLine bytes → IsAscii bytes

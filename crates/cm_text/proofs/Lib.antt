@@ -1,3 +1,5 @@
 pub mod Ascii
 mod Decimal
+pub mod LineBytes
+pub mod LinesLaws
 mod SeekLaws

@@ -1,13 +1,23 @@
 // The classes of bytes.
 ghost use Rattle.std.specs.Prelude.{◌≡◌};
-ghost use Rattle.cm_text.specs.Bytes.{is_blank, is_name, is_text, is_word};
+ghost use Rattle.cm_text.specs.Bytes.{is_blank, is_line_byte, is_name, is_text, is_word};
 
-/// Whether a byte may stand in a line: TAB, or a printing byte other than `?`.
+use crate::text::JOIN;
+
+/// Whether a byte may be typed into a line: TAB, or a printing byte other than `?`.
 #[tactic(auto, unfolding(crate::specs::Bytes::is_text))]
 pub fn is_text(byte: u8) -> bool
     ensures { result ≡ is_text byte }
 {
     matches!(byte, b'\t' | b' '..=b'~') && byte != b'?'
+}
+
+/// Whether a byte may stand in a line: a text byte, or the join byte.
+#[tactic(auto, unfolding(crate::specs::Bytes::is_line_byte))]
+pub fn is_line_byte(byte: u8) -> bool
+    ensures { result ≡ is_line_byte byte }
+{
+    is_text(byte) || byte == JOIN
 }
 
 /// Whether a byte may stand in a word: a letter, a digit or `-`.
@@ -26,10 +36,10 @@ pub fn is_name(byte: u8) -> bool
     is_word(byte) || byte == b'$' || byte == b'_'
 }
 
-/// Whether a byte parts fields and means nothing more: a space or TAB.
+/// Whether a byte parts fields and means nothing more: a space, TAB or the join byte.
 #[tactic(auto, unfolding(crate::specs::Bytes::is_blank))]
 pub fn is_blank(byte: u8) -> bool
     ensures { result ≡ is_blank byte }
 {
-    byte == b' ' || byte == b'\t'
+    byte == b' ' || byte == b'\t' || byte == JOIN
 }

@@ -1,6 +1,6 @@
 // What a screen is given.
 ghost use Rattle.std.specs.Prelude.{◌≡◌};
-ghost use Rattle.cm_text.specs.Shown.{bell, control_c, end_of_line, question, rubout, screen_byte};
+ghost use Rattle.cm_text.specs.Shown.{bell, control_c, end_of_line, join_shown, printing_byte, question, rubout, screen_byte};
 
 /// What ends a line on the screen: carriage return and line feed.
 #[tactic(auto, unfolding(crate::specs::Shown::end_of_line))]
@@ -42,9 +42,28 @@ pub fn control_c() -> &'static [u8]
     b"^C"
 }
 
-/// How a byte of a line is shown: a TAB as one space, any other as it is.
+/// How a join byte is shown: as the hyphen that it stands for, and the end of its row.
+#[tactic(auto, unfolding(crate::specs::Shown::join_shown, crate::specs::Shown::end_of_line))]
+pub fn join_shown() -> &'static [u8]
+    ensures { result.now ≡ join_shown }
+{
+    b"-\r\n"
+}
+
+/// How a text byte is shown: a TAB as one space, any other as it is.
 pub fn screen_byte(byte: u8) -> u8
     ensures { result ≡ screen_byte byte }
 {
     if byte == b'\t' { b' ' } else { byte }
+}
+
+/// How a byte of any text is shown where it is to take one place: one that does not print, as a dot.
+pub fn printing_byte(byte: u8) -> u8
+    ensures { result ≡ printing_byte byte }
+{
+    if matches!(byte, b' '..=b'~') {
+        byte
+    } else {
+        b'.'
+    }
 }

@@ -4,29 +4,30 @@ use Rattle.std.specs.List.{AllByRecursion, list_all}
 use Rattle.std.proofs.lemmas.Bool.{and_from, and_parts}
 use Rattle.std.proofs.lemmas.Bool.Decides.{nat_tests}
 use Rattle.std.proofs.lemmas.List.{drop-drop, length-take}
-use Rattle.cm_text.specs.Bytes.{is_text}
+use Rattle.cm_text.specs.Bytes.{is_line_byte, is_text}
 use Rattle.cm_text.specs.Text.{IsLine, finished}
 use Rattle.cm_state.specs.SessionState.{SessionState, text_of}
 use Rattle.cm_text.specs.declared.name.TheConstants.{NAME_LIMIT}
+use Rattle.cm_text.specs.declared.text.TheConstants.{JOIN}
 use Rattle.cm_fields.specs.declared.code.Code.TheVariants.{FieldLong, NotQuoted}
 use Rattle.cm_fields.specs.declared.trial.Try.TheVariants.{Accept, Refuse}
 use Rattle.cm_fields.specs.Try.{span}
 use Rattle.cm_fields.specs.declared.value.Span.{Span}
 use Rattle.cm_fields.specs.declared.value.Value.TheVariants as values
-use Rattle.cm_fields.specs.Quoted.{by_closing, closing, quoted, unquoted}
+use Rattle.cm_fields.specs.Quoted.{by_closing, closing, is_cut, quoted, unquoted}
 use Rattle.cm_fields.proofs.Holding.{holds_of_choice, of_choice}
 use Rattle.cm_files.specs.Spec.{part}
 
--- what stands between quotes is no end of a line
+-- what stands between quotes ends no line and no row of one
 abbrev is_inner : ℕ → Bool
-is_inner byte = not (byte == 13)
+is_inner byte = not (is_cut byte)
 
 record IsInner (at size : ℕ) (rest : List ℕ) (place : Span) : Type 0 where
   starts : place.start ≡ at + 1
   more : at + 1 + size ≤ place.end
   inner : list_all is_inner (take (place.end - (at + 1 + size)) rest) ≡ true
 
-one_more : (byte k : ℕ) (rest : List ℕ) → (byte == 13) ≡ false → list_all is_inner (take k rest) ≡ true
+one_more : (byte k : ℕ) (rest : List ℕ) → is_cut byte ≡ false → list_all is_inner (take k rest) ≡ true
     → list_all is_inner (take (suc k) (byte ∷ rest)) ≡ true
 one_more byte k rest plain all = rw plain all
 
@@ -35,10 +36,10 @@ closing_inner : (at size written : ℕ) (rest : List ℕ) (place : Span) (looked
 closing_inner at size written [] place looked end is = cc
 closing_inner at size written (byte ∷ []) place looked end is =
     of_choice (λ found. by_closing at found ≡ Accept (values.Quoted place) looked end → IsInner at size (byte ∷ []) place)
-    (byte == 13) _ _ (λ is. cc) (λ is. cc) is
+    (is_cut byte) _ _ (λ is. cc) (λ is. cc) is
 closing_inner at size written (byte ∷ next ∷ more) place looked end is =
     holds_of_choice (λ found. by_closing at found ≡ Accept (values.Quoted place) looked end → IsInner at size (byte ∷ next ∷ more) place)
-    (byte == 13) _ _ (λ cr. λ is. cc)
+    (is_cut byte) _ _ (λ cr. λ is. cc)
     (λ plain. holds_of_choice (λ found. by_closing at found ≡ Accept (values.Quoted place) looked end → IsInner at size (byte ∷ next ∷ more) place)
     (byte == 34) _ _
     (λ quote. holds_of_choice (λ found. by_closing at found ≡ Accept (values.Quoted place) looked end → IsInner at size (byte ∷ next ∷ more) place)
@@ -46,7 +47,7 @@ closing_inner at size written (byte ∷ next ∷ more) place looked end is =
     (λ twice. λ is. (
     let it = closing_inner at (size + 2) (written + 1) more place looked end is in
     let far = it.more in
-    let second : (next == 13) ≡ false = grind (arith, nat_tests) in
+    let second : is_cut next ≡ false = grind (arith, nat_tests) in
     let sizes : place.end - (at + 1 + size) ≡ suc (suc (place.end - (at + 1 + (size + 2)))) = omega arith in
     record {
       starts = it.starts;
@@ -116,17 +117,17 @@ all_take test (suc k) (byte ∷ bytes) all =
 
 -- a byte of a finished line
 abbrev pub is_finished : ℕ → Bool
-is_finished byte = is_text byte || byte == 13
+is_finished byte = is_line_byte byte || byte == 13
 
 end_finished : is_finished 13 ≡ true
-unfolding is_text
+unfolding is_line_byte is_text
 end_finished = refl
 
-line_finished : (line : List ℕ) → AllByRecursion (λ byte. is_text byte ≡ true) line → list_all is_finished (finished line) ≡ true
+line_finished : (line : List ℕ) → AllByRecursion (λ byte. is_line_byte byte ≡ true) line → list_all is_finished (finished line) ≡ true
 line_finished [] plain = and_from (is_finished 13) true end_finished refl
 line_finished (byte ∷ line) plain = rw plain.0 (line_finished line plain.1)
 
-line_plain : (line : List ℕ) → AllByRecursion (λ byte. is_text byte ≡ true) line → list_all is_finished line ≡ true
+line_plain : (line : List ℕ) → AllByRecursion (λ byte. is_line_byte byte ≡ true) line → list_all is_finished line ≡ true
 line_plain [] plain = refl
 line_plain (byte ∷ line) plain = rw plain.0 (line_plain line plain.1)
 
@@ -139,17 +140,20 @@ text_plain session line = by session.is_finished
     by false = line_plain session.line line.plain
 
 text_of_inner : (bytes : List ℕ) → list_all is_finished bytes ≡ true → list_all is_inner bytes ≡ true → list_all is_text bytes ≡ true
+unfolding is_line_byte
 text_of_inner [] all inner = refl
 text_of_inner (byte ∷ bytes) all inner =
     let first = and_parts (is_finished byte) (list_all is_finished bytes) all in
     let second = and_parts (is_inner byte) (list_all is_inner bytes) inner in
-    and_from (is_text byte) (list_all is_text bytes) (by (is_text byte) (byte == 13) first.0 second.0)
+    and_from (is_text byte) (list_all is_text bytes) (by (is_text byte) (byte == JOIN) (byte == 13) first.0 second.0)
     (text_of_inner bytes first.1 second.1)
   where
-    by : (text cr : Bool) → (text || cr) ≡ true → not cr ≡ true → text ≡ true
-    by true cr either other = refl
-    by false true either other = cc
-    by false false either other = cc
+    by : (text joins cr : Bool) → ((text || joins) || cr) ≡ true → not (cr || joins) ≡ true → text ≡ true
+    by true joins cr either other = refl
+    by false true true either other = cc
+    by false true false either other = cc
+    by false false true either other = cc
+    by false false false either other = cc
 
 quote_is_text : is_text 34 ≡ true
 unfolding is_text

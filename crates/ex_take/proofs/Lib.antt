@@ -4,8 +4,8 @@ mod Files
 mod Following
 mod Keys
 pub mod LineKeeping
+mod LineLaws
 mod Obeying
 mod Outcomes
-mod Splitting
 mod TypedKeys
 mod Waiting

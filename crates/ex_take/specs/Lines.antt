@@ -1,41 +1,9 @@
 -- The lines of a command file.
-use Rattle.std.specs.Prelude.{ℕ, ◌≡◌, ◌≤◌, ◌-◌, ◌==◌, ◌&&◌, nat_le, Bool, false, List, [], ◌∷◌, ◌++◌, length, take, drop, slice_get, Option, None, Some, if◌then◌else◌}
+use Rattle.std.specs.Prelude.{ℕ, ◌&&◌, nat_le, Bool, List, length}
 use Rattle.std.specs.List.{list_all}
-use Rattle.std.specs.Option.{option_map_or}
 use Rattle.cm_text.specs.Bytes.{is_text}
 use Rattle.cm_text.specs.declared.text.TheConstants.{LINE_LIMIT}
-use Rattle.ex_take.specs.declared.command_file.LineEnd.{LineEnd}
-
--- a line that a carriage return ends has it no more
-abbrev pub ends_in_return : List ℕ → Bool
-ends_in_return line = option_map_or (λ (byte : ℕ). byte == 13) (slice_get line (length line - 1)) false
-
-abbrev pub without_return : List ℕ → List ℕ
-without_return line = if ends_in_return line then take (length line - 1) line else line
-
--- what stands behind the last line feed is a line too, where anything does
-abbrev pub last_line : List ℕ → List (List ℕ)
-last_line [] = []
-last_line (byte ∷ line) = (byte ∷ line) ∷ []
-
--- the lines of these bytes, of which the first is begun: a line feed ends a line, and one carriage return before it is
--- none of the line's
-abbrev pub lines_behind : List ℕ → List ℕ → List (List ℕ)
-lines_behind begun [] = last_line begun
-lines_behind begun (byte ∷ bytes) =
-    if byte == 10 then without_return begun ∷ lines_behind [] bytes else lines_behind (begun ++ byte ∷ []) bytes
-
--- the lines of a file
-unfoldable pub lines : List ℕ → List (List ℕ)
-lines bytes = lines_behind [] bytes
 
 -- a line that can be parsed: text bytes alone, and at most as many as a line has
 abbrev pub is_line : List ℕ → Bool
 is_line line = nat_le (length line) LINE_LIMIT && list_all is_text line
-
--- where the first of the lines of some bytes ends, and where the next begins; or there is none
-abbrev pub BeginsLines : List ℕ → Option LineEnd → Type 0
-BeginsLines bytes None = lines bytes ≡ []
-BeginsLines bytes (Some first) =
-    (lines bytes ≡ take first.end bytes ∷ lines (drop first.next bytes))
-    × (first.end ≤ length bytes) × (first.next ≤ length bytes)

@@ -24,7 +24,8 @@ use Rattle.ex_commands.specs.declared.command.Command.TheVariants as commands
 use Rattle.ex_take.specs.Exec.{command_at, completion_answer, deed_of, echo_by, mode_of, pending_complete, pending_with, raw_answer, raw_by, subcommand_deeds}
 use Rattle.ex_take.specs.ExecState.{ExecState}
 use Rattle.ex_take.specs.declared.pending.Pending.{Pending}
-use Rattle.ex_take.specs.Lines.{is_line, lines}
+use Rattle.cm_text.specs.Lines.{lines}
+use Rattle.ex_take.specs.Lines.{is_line}
 use Rattle.ex_take.specs.TakerState.{TakerState}
 use Rattle.ex_take.specs.declared.taker.TheConstants.{MOST_FILES}
 

@@ -1,13 +1,14 @@
 // A command file that is open.
-ghost use Rattle.std.specs.Prelude.{◌≡◌, ◌≤◌, ◌==◌, None, Some, drop, if◌then◌else◌, length, slice_get, take, IfOk, IfSome};
+ghost use Rattle.std.specs.Prelude.{◌≡◌, ◌==◌, None, Some, drop, if◌then◌else◌, length, slice_get, IfOk, IfSome};
 ghost use Rattle.std.specs.List.{list_all};
 ghost use Rattle.std.specs.Option.{option_copied};
 ghost use Rattle.cm_text.specs.Bytes.{is_text};
 ghost use Rattle.cm_text.specs.Text.{IsLine};
-ghost use Rattle.ex_take.specs.Lines.{BeginsLines, is_line, lines, without_return};
+ghost use Rattle.cm_text.specs.Lines.{lines};
+ghost use Rattle.ex_take.specs.Lines.{is_line};
 
 use cm_io::NoMemory;
-use cm_text::{LINE_LIMIT, is_text};
+use cm_text::{LINE_LIMIT, first_line, is_text};
 use std::alloc::Global;
 use std::marker::Model;
 
@@ -22,7 +23,7 @@ pub(crate) struct CommandFile {
 impl Model for CommandFile {
     ghost use Rattle.std.specs.Prelude.{◌≤◌, ℕ, List, [], drop, length};
     ghost use Rattle.std.specs.Option.{option_map_or};
-    ghost use Rattle.ex_take.specs.Lines.{lines};
+    ghost use Rattle.cm_text.specs.Lines.{lines};
 
     ghost Value = { List (List ℕ) };
 
@@ -35,13 +36,6 @@ impl Default for CommandFile {
     fn default() -> CommandFile {
         CommandFile { bytes: None, at: 0 }
     }
-}
-
-// Where the first line of some bytes ends, and where the next begins.
-#[derive(Clone, Copy)]
-struct LineEnd {
-    end: usize,
-    next: usize,
 }
 
 impl CommandFile {
@@ -84,7 +78,7 @@ impl CommandFile {
     }
 
     /// Passes the next line.
-    #[tactic(auto, using(crate::proofs::Splitting::passes, crate::proofs::Splitting::passes_within, crate::proofs::Splitting::passes_none))]
+    #[tactic(auto, using(cm_text::proofs::LinesLaws::passes, cm_text::proofs::LinesLaws::passes_within, cm_text::proofs::LinesLaws::passes_none))]
     pub(crate) fn pass(&mut self)
         ensures { self.new ≡ drop 1 self.old }
     {
@@ -93,39 +87,6 @@ impl CommandFile {
                 self.at += first.next;
             }
         }
-    }
-}
-
-// The length of a line without the carriage return that ends it.
-fn end_of(line: &[u8]) -> usize
-    ensures value { take result line.now ≡ without_return line.now }
-    ensures within { result ≤ length line.now }
-{
-    match line.last() {
-        Some(&b'\r') => line.len() - 1,
-        _ => line.len(),
-    }
-}
-
-// The first line of some bytes.
-fn first_line(bytes: &[u8]) -> Option<LineEnd>
-    ensures { BeginsLines bytes.now result }
-{
-    for at in 0..bytes.len() {
-        if bytes[at] == b'\n' {
-            return Some(LineEnd {
-                end: end_of(&bytes[..at]),
-                next: at + 1,
-            });
-        }
-    }
-    if bytes.is_empty() {
-        None
-    } else {
-        Some(LineEnd {
-            end: bytes.len(),
-            next: bytes.len(),
-        })
     }
 }
 
@@ -144,7 +105,7 @@ pub(crate) fn is_line(line: &[u8]) -> bool
 }
 
 /// A line, where it can be parsed.
-#[tactic(auto, using(crate::proofs::Splitting::line_holds))]
+#[tactic(auto, using(crate::proofs::LineLaws::line_holds))]
 pub(crate) fn parsable(line: &[u8]) -> Option<&[u8]>
     ensures value { option_copied result ≡ (if is_line line.now then Some line.now else None) }
     ensures line { IfSome (option_copied result) IsLine }

@@ -1,8 +1,10 @@
-use Rattle.std.proofs.Common.{subst, sym, ◌++◌}
+use Rattle.std.proofs.Common.{◌≡◌, true, subst, sym, ◌++◌}
+use Rattle.std.specs.List.{AllByRecursion}
+use Rattle.cm_text.specs.Bytes.{is_text}
 use Rattle.cm_text.specs.Text.{IsLine}
 use Rattle.cm_blocks.specs.Setting.{setting}
 use Rattle.cm_recognise.specs.declared.insertion.Insertion.{Insertion}
-use Rattle.cm_recognise.proofs.Lines.{line_goes_on}
+use Rattle.cm_recognise.proofs.Lines.{insertion_is_typed, line_goes_on}
 use Rattle.cm_recognise.proofs.insertion.complete.Goals as goal
 
 pub returns-clause-line : goal.returns-clause-line
@@ -12,3 +14,10 @@ returns-clause-line g c =
     (line_goes_on s _ c.args.line.now _ c.has_no_fault.ensures c.is_catalogue.ensures
     c.has_tables.ensures
     g.R.Rules.lawful c.requires.line)
+
+pub returns-clause-text : goal.returns-clause-text
+returns-clause-text g c =
+    let s = setting c.args.grammar.now (g.N.Names.catalogue c.args.names.now) g.R.Rules.meanings in
+    subst (λ (put : Insertion). AllByRecursion (λ byte. is_text byte ≡ true) put.bytes) (sym c.inserted.ensures)
+    (insertion_is_typed s c.has_no_fault.ensures c.is_catalogue.ensures c.has_tables.ensures g.R.Rules.lawful _
+    c.args.line.now _)

@@ -1,4 +1,4 @@
-use Rattle.ex_take.proofs.Splitting.{nothing_passes}
+use Rattle.ex_take.proofs.LineLaws.{nothing_passes}
 use Rattle.ex_take.proofs.command_file.CommandFile.pass.Goals as goal
 
 pub returns-in_default : goal.returns-in_default

@@ -5,7 +5,7 @@ use Rattle.cm_run.specs.Obey.{Obeys, stage}
 use Rattle.cm_run.specs.declared.stop.Stop.TheVariants as stop
 use Rattle.ex_store.specs.State.{State}
 use Rattle.ex_commands.specs.Commands.Take.{bytes_of}
-use Rattle.ex_take.specs.Lines.{lines}
+use Rattle.cm_text.specs.Lines.{lines}
 use Rattle.ex_take.specs.Taker.{take_deeds}
 use Rattle.ex_take.specs.TakerState.{TakerState}
 use Rattle.ex_take.proofs.Following.{take_opens, take_wants}

@@ -1,6 +1,6 @@
 use Rattle.std.proofs.Common.{◌≡◌, [], take, drop}
-use Rattle.ex_take.specs.Lines.{lines_behind}
-use Rattle.ex_take.proofs.command_file.first_line.Given as goal
+use Rattle.cm_text.specs.Lines.{lines_behind}
+use Rattle.cm_text.proofs.lines.first_line.Given as goal
 
 -- the bytes that were passed begin the first line
 abbrev pub invariant-loop-at : goal.invariant-loop-at

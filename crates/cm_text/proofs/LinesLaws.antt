@@ -1,0 +1,74 @@
+-- The lines of bytes, one after the other.
+use Rattle.std.proofs.Common.{◌≡◌, ℕ, suc, ◌+◌, ◌<◌, ◌≤◌, List, [], ◌∷◌, length, take, drop, get_or, refl, sym, ap, ◌∙◌, subst, arith}
+use Rattle.std.proofs.Math.Seq.{drop-cons, drop-length}
+use Rattle.std.proofs.lemmas.List.{drop-drop, length-drop, length-take-le, take-take, take_all}
+use Rattle.cm_text.specs.Lines.{BeginsLine, last_line, lines, lines_behind, without_return}
+use Rattle.cm_text.specs.declared.lines.LineEnd.{LineEnd}
+
+-- the next byte is a line feed
+feeds : (begun : List ℕ) (byte : ℕ) (bytes : List ℕ) → byte ≡ 10
+    → lines_behind begun (byte ∷ bytes) ≡ without_return begun ∷ lines_behind [] bytes
+feeds begun byte bytes is = rw is refl
+
+-- a line feed is found behind bytes that are none
+pub at_feed : (bytes : List ℕ) (at : ℕ) (first : LineEnd) → lines_behind (take at bytes) (drop at bytes) ≡ lines_behind [] bytes
+    → at < length bytes → get_or bytes at 0 ≡ 10 → take first.end (take at bytes) ≡ without_return (take at bytes)
+    → first.end ≤ length (take at bytes) → first.next ≡ at + 1 → BeginsLine bytes first
+unfolding lines
+at_feed bytes at first begun within is ends short next =
+    let size : length (take at bytes) ≡ at = length-take-le at bytes (omega (arith, within)) in
+    let inside : first.end ≤ at = subst (λ n. first.end ≤ n) size short in
+    let line : take first.end bytes ≡ without_return (take at bytes) = sym (take-take first.end at bytes inside) ∙ ends in
+    let rest : drop at bytes ≡ get_or bytes at 0 ∷ drop (suc at) bytes = drop-cons bytes at 0 within in
+    let behind : suc at ≡ first.next = omega (arith, next) in
+    record {
+      line = sym begun ∙ ap (λ (it : List ℕ). lines_behind (take at bytes) it) rest ∙ feeds (take at bytes) (get_or bytes at 0) (drop (suc at) bytes) is
+          ∙ ap (λ (it : List ℕ). it ∷ lines_behind [] (drop (suc at) bytes)) (sym line)
+          ∙ ap (λ (n : ℕ). take first.end bytes ∷ lines_behind [] (drop n bytes)) behind;
+      end = omega (arith, inside, next);
+      some = omega (arith, next);
+      next = omega (arith, within, next);
+    }
+
+-- there is none: all bytes are one line, or there are none
+pub none_left : (bytes : List ℕ) → length bytes ≡ 0 → lines bytes ≡ []
+unfolding lines
+none_left [] none = refl
+none_left (byte ∷ bytes) none = absurd (omega (arith, none))
+
+some_line : (bytes : List ℕ) → (length bytes ≡ 0 → ⊥) → last_line bytes ≡ bytes ∷ []
+some_line [] some = absurd (some refl)
+some_line (byte ∷ bytes) some = refl
+
+some_byte : (bytes : List ℕ) → (length bytes ≡ 0 → ⊥) → 0 < length bytes
+some_byte [] some = absurd (some refl)
+some_byte (byte ∷ bytes) some = omega arith
+
+pub one_left : (bytes : List ℕ) (at : ℕ) → lines_behind (take at bytes) (drop at bytes) ≡ lines_behind [] bytes
+    → at ≡ length bytes → (length bytes ≡ 0 → ⊥)
+    → BeginsLine bytes (record { end = length bytes; next = length bytes })
+unfolding lines
+one_left bytes at begun is some =
+    let all : take at bytes ≡ bytes = ap (λ n. take n bytes) is ∙ take_all (length bytes) bytes (omega arith) in
+    let none : drop at bytes ≡ [] = ap (λ n. drop n bytes) is ∙ drop-length bytes in
+    record {
+      line = sym begun ∙ ap (λ it. lines_behind it (drop at bytes)) all ∙ ap (λ it. lines_behind bytes it) none ∙ some_line bytes some
+          ∙ ap (λ it. it ∷ []) (sym (take_all (length bytes) bytes (omega arith))) ∙ ap (λ it. take (length bytes) bytes ∷ lines_behind [] it) (sym (drop-length bytes));
+      end = omega arith;
+      some = some_byte bytes some;
+      next = omega arith;
+    }
+
+-- the first line is passed
+pub passes : (bytes : List ℕ) (at : ℕ) (first : LineEnd) → BeginsLine (drop at bytes) first
+    → lines (drop (at + first.next) bytes) ≡ drop 1 (lines (drop at bytes))
+passes bytes at first begins =
+    ap lines (sym (drop-drop first.next at bytes))
+    ∙ sym (ap (λ it. drop 1 it) begins.line)
+
+pub passes_within : (bytes : List ℕ) (at : ℕ) (first : LineEnd) → BeginsLine (drop at bytes) first → at ≤ length bytes
+    → at + first.next ≤ length bytes
+passes_within bytes at first begins within = omega (arith, begins.next, length-drop at bytes, within)
+
+pub passes_none : (bytes : List ℕ) → lines bytes ≡ [] → lines bytes ≡ drop 1 (lines bytes)
+passes_none bytes none = rw none refl
