@@ -140,12 +140,6 @@ nat_less a b is = by (cases_order a b)
         let reversed = nat_cmp_total.antisymm a b in
         absurd (grind (arith, nat_tests))
 
-same_bytes : (text other : List ℕ) → bytes_eq text other ≡ true → text ≡ other
-same_bytes text other same = (bytes_eq-Decides text other).0 same
-
-bytes_same : (text other : List ℕ) → text ≡ other → bytes_eq text other ≡ true
-bytes_same text other same = (bytes_eq-Decides text other).1 same
-
 -- of one name and type, the lower row has the lower generation
 pub lower_generation : (row other : FileRow) → row.name ≡ other.name → row.kind ≡ other.kind → by_rest row other ≡ Less
     → row.generation < other.generation

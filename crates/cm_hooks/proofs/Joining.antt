@@ -60,10 +60,3 @@ name_is_ascii text is = by (list_all is_name text) refl is
     by : (b : Bool) → list_all is_name text ≡ b → (b && nat_le (length text) NAME_LIMIT) ≡ true → IsAscii text
     by true all short = bytes_are_ascii text all
     by false all short = cc
-
-pub name_is_short : (text : List ℕ) → is_name_text text ≡ true → length text ≤ NAME_LIMIT
-name_is_short text is = by (list_all is_name text) is
-  where
-    by : (b : Bool) → (b && nat_le (length text) NAME_LIMIT) ≡ true → length text ≤ NAME_LIMIT
-    by true short = grind (arith, nat_tests)
-    by false short = cc

@@ -1,24 +1,14 @@
 -- A run that does not begin: what its status is not, and why it came.
-use Rattle.std.proofs.Common.{◌≡◌, ◌↔◌, ℕ, List, [], Option, None, Some, refl, sym, ◌∙◌, subst, inr}
+use Rattle.std.proofs.Common.{◌≡◌, ◌↔◌, ℕ, List, [], Option, None, Some, refl, sym, ◌∙◌, subst}
 use Rattle.cm_io.specs.Told.{Told}
-use Rattle.ex_program.specs.Disk.{Disk}
 use Rattle.ex_program.specs.Messages.{message}
-use Rattle.ex_program.specs.Start.{FileCause, InputCause, IsEarly, IsRun}
+use Rattle.ex_program.specs.Start.{IsEarly, IsRun}
 use Rattle.ex_program.specs.Trying.{Tried}
 use Rattle.ex_program.specs.declared.status.Status.{Status}
 use Rattle.ex_program.specs.declared.status.Status.TheVariants as status
 use Rattle.ex_program.specs.Form.{Form}
 use Rattle.ex_program.specs.Scene.{Scene, with_screen}
 use Rattle.ex_program.specs.Stands.{Refused, StartCause, Stands, StandsBy}
-
--- it is not Done, and not Usage
-early_is : (input : Option (List ℕ)) (result : Status) → IsEarly input result → (result ≡ status.Done → ⊥) × (result ≡ status.Usage → ⊥)
-early_is input status.NoMemory early = (λ is. cc, λ is. cc)
-early_is (Some name) status.HostFault early = (λ is. cc, λ is. cc)
-early_is (Some name) status.NoImage early = (λ is. cc, λ is. cc)
-early_is (Some name) status.ImageTooLarge early = (λ is. cc, λ is. cc)
-early_is (Some name) (status.BadImage at kind) early = (λ is. cc, λ is. cc)
-early_is input result early = absurd early
 
 -- a status that is not Usage, where the words have a form
 pub no_usage : (asked : Option Form) (lines : Option ℕ) (form : Form) (result : Status) → Some form ≡ asked → (result ≡ status.Usage → ⊥)
@@ -31,15 +21,6 @@ run_no_usage result run usage = subst IsRun usage run
 pub past_no_usage : (asked : Option Form) (lines : Option ℕ) (form : Form) (result : Status) → Some form ≡ asked → IsRun result
     → (result ≡ status.Usage) ↔ ((asked ≡ None) × (lines ≡ None))
 past_no_usage asked lines form result is run = no_usage asked lines form result is (run_no_usage result run)
-
--- memory may be wanting wherever a run is to begin
-memory_cause : (disk : Disk) (input : Option (List ℕ)) → InputCause disk input status.NoMemory
-memory_cause disk None = tt
-memory_cause disk (Some name) = λ tells. by (disk.files name)
-  where
-    by : (file : Option (List ℕ)) → FileCause file status.NoMemory
-    by None = inr (inr refl)
-    by (Some bytes) = (λ longer. inr (inr refl), λ within. (λ at kind bad. inr (inr refl), λ start image. tt))
 
 -- the message alone is tried on the screen
 pub tried_refused : (a : Scene) (screen : Told) (faults : ℕ) (why result : Status) → result ≡ why

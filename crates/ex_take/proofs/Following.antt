@@ -229,10 +229,6 @@ follows_other at left told then answer result other on obeys =
 
 -- a file is opened, unless too many are
 module _ (at left : TakerState) (file : Place) (told then : Told) (result : Result Unit Stop) where
-  pub take_full : (n : ℕ) → (n == MOST_FILES) ≡ true → n ≡ length at.files
-      → Obeys (stage told at) (stage then left) (refuses TakeDepth at ∷ []) result → Obeys (stage told at) (stage then left) (take_deeds at file) result
-  take_full n full size obeys = rw (ap (λ it. it == MOST_FILES) (sym size) ∙ full) obeys
-
   pub take_wants : (n : ℕ) → (n == MOST_FILES) ≡ false → n ≡ length at.files
       → Obeys (stage told at) (stage told at) (take_deeds at file) (Err stop.Memory)
   take_wants n room size =

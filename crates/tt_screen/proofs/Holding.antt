@@ -1,7 +1,7 @@
 -- What bytes make of a screen that holds a text.
 use Rattle.std.proofs.Common.{◌≡◌, ℕ, zero, suc, ◌+◌, ◌-◌, true, List, [], ◌∷◌, ◌++◌, length, take, get_or, replicate, slice_set, ◌≤◌, refl, ap, sym, subst, ◌∙◌, arith, append_assoc, length-append}
 use Rattle.std.proofs.lemmas.List.{append-nil, take_all, take_more}
-use Rattle.cm_text.specs.Shown.{bell, end_of_line, rubout}
+use Rattle.cm_text.specs.Shown.{bell, rubout}
 use Rattle.cm_io.specs.Display.{ArePrinted, IsDisplay, is_printed}
 use Rattle.cm_io.specs.Pieces.{times}
 use Rattle.tt_screen.specs.declared.row.TheConstants.{WIDTH}
@@ -91,12 +91,6 @@ unfolding feed_byte is_printed
 holds_none grid bytes =
     subst (λ (after : Grid). Holds after []) (sym (feed-append grid bytes (10 ∷ [])))
     (record { last = blank_holds; column = refl })
-
--- and behind the end of a line
-pub holds_end : (grid : Grid) (bytes : List ℕ) → Holds (feed grid (bytes ++ end_of_line)) []
-unfolding end_of_line
-holds_end grid bytes =
-    subst (λ shown. Holds (feed grid shown) []) (append_assoc bytes (13 ∷ []) (10 ∷ [])) (holds_none grid (bytes ++ 13 ∷ []))
 
 -- so a plain screen is a display
 pub screen_is_a_display : IsDisplay feed Holds
