@@ -312,18 +312,3 @@ has_text_first atom entries start behind is =
 abbrev pub left : Option ℕ → List Entry → List ℕ → ℕ
 left None entries atom = length (wholes entries atom) + 2
 left (Some position) entries atom = length (wholes entries atom) + 1
-
-filter_of_append : (test : Entry → Bool) (before entries : List Entry)
-    → length (filter test entries) ≤ length (filter test (before ++ entries))
-filter_of_append test [] entries = omega arith
-filter_of_append test (first ∷ before) entries = by (test first) (filter_of_append test before entries)
-  where
-    by : (passes : Bool) → length (filter test entries) ≤ length (filter test (before ++ entries))
-        → length (filter test entries) ≤ length (cond passes (first ∷ filter test (before ++ entries)) (filter test (before ++ entries)))
-    by true least = omega (arith, least)
-    by false least = least
-
-pub wholes_in : (atom : List ℕ) (entries : List Entry) (start : ℕ) (behind : List Entry) → IsFrom atom entries start behind
-    → length (wholes behind atom) ≤ length (wholes entries atom)
-wholes_in atom entries start behind is =
-    rw is.parts (filter_of_append _ is.before behind)
