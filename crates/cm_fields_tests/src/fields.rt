@@ -66,7 +66,7 @@ pub(crate) fn tries(rt: &impl Abort, alloc: Global, trial: Trial, cases: &str) -
 }
 
 // The numbers leave out 28, 29 and 42.
-const CODES: [Code; 43] = [
+const CODES: [Code; 48] = [
     Code::NotKeyword,
     Code::Ambiguous,
     Code::NotSwitch,
@@ -110,6 +110,11 @@ const CODES: [Code; 43] = [
     Code::LineLimit,
     Code::BadLine,
     Code::NotInTake,
+    Code::NoLabel,
+    Code::BadControl,
+    Code::NoSubcommands,
+    Code::NoMessage,
+    Code::MailFull,
 ];
 
 // The number of each code, and its text.
@@ -156,7 +161,12 @@ NoDefinition|41|Logical name is not defined
 TakeDepth|43|TAKE too deep
 LineLimit|44|Too many lines
 BadLine|45|Invalid line in command file
-NotInTake|46|Not allowed in a command file";
+NotInTake|46|Not allowed in a command file
+NoLabel|47|No such label
+BadControl|48|Invalid line in control file
+NoSubcommands|49|Subcommands not allowed here
+NoMessage|50|No such message
+MailFull|51|Mailbox is full";
 
 fn tells_a_code(rt: &impl Abort, alloc: Global, code: Code, told: &str) -> Result<(), Fail> {
     let found = format!(in alloc; "{code:?}|{}|{}", code.number(), code.text())?;

@@ -63,7 +63,13 @@ fn finds(rt: &impl Abort, table: &Table, atom: &str, wanted: Look, read: u64) {
 fn a_look_up_in_1024_entries_asks_11_times(rt: HostRuntime) -> Result<(), Fail> {
     let table = table(&rt, rt.alloc())?;
     for (position, entry) in table.entries().iter().enumerate() {
-        finds(&rt, &table, entry.text.as_str(), Look::Exact(position as u16), 1);
+        finds(
+            &rt,
+            &table,
+            entry.text.as_str(),
+            Look::Exact(position as u16),
+            1,
+        );
     }
     finds(&rt, &table, "", Look::Ambiguous, 3);
     finds(&rt, &table, "1", Look::Ambiguous, 3);

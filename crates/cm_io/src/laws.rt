@@ -8,7 +8,8 @@ ghost use Rattle.cm_io.specs.Told.{Bytes, Number};
 use crate::mem_host::FILE_NAME_LIMIT;
 use crate::words::{LONGEST_WORD, MOST_WORDS};
 use crate::{
-    Clock, CountSink, Host, MemClock, MemHost, MemSink, MemSource, Sink, Source, StdHost, StdLog, StdSink, StdSource,
+    Clock, CountSink, Host, MemClock, MemHost, MemSink, MemSource, Sink, Source, StdHost, StdLog,
+    StdSink, StdSource,
 };
 
 /// What an object tells of its faults, of how often it was asked and of an open file is what it keeps of them itself:
