@@ -12,3 +12,4 @@ pub mod Showing
 mod Starting
 mod Summing
 mod TryingLemmas
+mod WordLaws

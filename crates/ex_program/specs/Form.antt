@@ -1,21 +1,12 @@
 -- What the words of the program ask for.
-use Rattle.std.specs.Prelude.{ℕ, Bool, true, false, not, ◌&&◌, ◌==◌, List, [], ◌∷◌, ◌++◌, length, Option, Some, None, nat_lt, nat_le, codes, if◌then◌else◌}
+use Rattle.std.specs.Prelude.{ℕ, Bool, true, false, not, ◌&&◌, ◌==◌, List, [], ◌∷◌, length, Option, Some, None, nat_lt, nat_le, codes, if◌then◌else◌}
 use Rattle.std.specs.Char.{is_ascii_digit}
 use Rattle.std.specs.List.{list_all}
 use Rattle.std.specs.Str.{bytes_eq}
 use Rattle.std.specs.Str.Parse.{digits_value}
 use Rattle.ex_program.specs.declared.progress.TheConstants.{GENERATED_LINES}
-use Rattle.ex_program.specs.declared.words.TheConstants.{LONGEST_WORD, MOST_DIGITS, MOST_WORDS}
-
--- the words so far, or None where they are too many or one is too long
-abbrev pub Given : Type 0
-Given = Option (List (List ℕ))
-
--- a word more: at most 4 are held, each of at most 255 bytes
-abbrev pub with_word : Given → List ℕ → Given
-with_word None word = None
-with_word (Some words) word =
-    if nat_lt (length words) MOST_WORDS && nat_le (length word) LONGEST_WORD then Some (words ++ word ∷ []) else None
+use Rattle.cm_io.specs.Words.{Given}
+use Rattle.ex_program.specs.declared.words.TheConstants.{MOST_DIGITS}
 
 -- whether there is a log; the file whose image the run begins from, or none where it begins anew; and the file that
 -- the image is written to
@@ -37,9 +28,12 @@ files_of logs first out =
     then Some (record { logs = logs; input = Some first; out = out }) else None)
 
 -- with `-w` before them for a log
+abbrev pub with_log : List ℕ → List ℕ → List ℕ → Option Form
+with_log log first out = if bytes_eq log (codes "-w") then files_of true first out else None
+
 abbrev pub form_of_words : List (List ℕ) → Option Form
 form_of_words (first ∷ out ∷ []) = files_of false first out
-form_of_words (log ∷ first ∷ out ∷ []) = if bytes_eq log (codes "-w") then files_of true first out else None
+form_of_words (log ∷ first ∷ out ∷ []) = with_log log first out
 form_of_words words = None
 
 unfoldable pub form_of : Given → Option Form
@@ -58,8 +52,11 @@ unfoldable pub lines_in : List ℕ → Option ℕ
 lines_in word = if is_number word then lines_by (digits_value 10 word) else None
 
 -- `-g N` asks for a run over the keys of so many generated lines
+abbrev pub lines_behind : List ℕ → List ℕ → Option ℕ
+lines_behind flag count = if bytes_eq flag (codes "-g") then lines_in count else None
+
 abbrev pub lines_of_words : List (List ℕ) → Option ℕ
-lines_of_words (flag ∷ count ∷ []) = if bytes_eq flag (codes "-g") then lines_in count else None
+lines_of_words (flag ∷ count ∷ []) = lines_behind flag count
 lines_of_words words = None
 
 unfoldable pub lines_of : Given → Option ℕ

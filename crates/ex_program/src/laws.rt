@@ -2,16 +2,14 @@
 ghost use Rattle.std.specs.Prelude.{◌≡◌, ◌^◌};
 ghost use Rattle.ex_program.specs.declared.program.TheConstants.{KEY_LIMIT};
 ghost use Rattle.ex_program.specs.declared.progress.TheConstants.{GENERATED_KEYS, GENERATED_LINES};
-ghost use Rattle.ex_program.specs.declared.words.TheConstants.{LONGEST_WORD, MOST_DIGITS, MOST_WORDS};
+ghost use Rattle.ex_program.specs.declared.words.TheConstants.{MOST_DIGITS};
 ghost use Rattle.ex_program.specs.declared.input.TheConstants.{IMAGE_LIMIT};
 
-/// The numbers of a run: the most keys that it takes, the most bytes of the file that it begins from, the most words
-/// that it is given, the most bytes of a word, and the most digits of a number of lines.
+/// The numbers of a run: the most keys that it takes, the most bytes of the file that it begins from, and the
+/// most digits of a number of lines.
 pub fn these_are_the_numbers()
     ensures keys { KEY_LIMIT ≡ 2 ^ 24 }
     ensures image { IMAGE_LIMIT ≡ 2 ^ 24 }
-    ensures words { MOST_WORDS ≡ 4 }
-    ensures word { LONGEST_WORD ≡ 255 }
     ensures digits { MOST_DIGITS ≡ 6 }
 {}
 

@@ -27,4 +27,4 @@ pub use program::exec20;
 pub use progress::{GENERATED_KEYS, GENERATED_LINES};
 pub use status::Status;
 pub use summary::Summary;
-pub use words::Words;
+pub use cm_io::Words;

@@ -32,7 +32,8 @@ use crate::generated_run::summarize;
 use crate::input::start;
 use crate::message::refuse;
 use crate::summary::Summary;
-use crate::{Status, Words, words};
+use crate::words::{self, read_form, read_lines};
+use crate::{Status, Words};
 use cm_blocks::{Grammar, Steps};
 use cm_hooks::Hooks;
 use cm_io::{Clock, Host, NoMemory, Put, Sink, Source, Writer};
@@ -243,8 +244,8 @@ pub fn exec20<H: Host, K: Source, S: Sink, W: Sink, C: Clock, L: Ledger>(
         → IsQuiet (K.faults keys.old) (K.faults keys.new) → IsQuiet (H.faults host.old) (H.faults host.new)
         → (result ≡ Status.KeyLimit) ⊎ (result ≡ Status.NoMemory) }
 {
-    let Some(form) = words.form() else {
-        let Some(lines) = words.lines() else {
+    let Some(form) = read_form(words) else {
+        let Some(lines) = read_lines(words) else {
             return refuse(Status::Usage, screen);
         };
         return generate(alloc, lines, screen, hooks, steps);

@@ -88,7 +88,7 @@ fn run_with_rules<H: Host, K: Source, S: Sink, W: Sink, C: Clock, L: Ledger>(
 // The words behind the program's name. They are too many where the system cannot tell them.
 fn given_words(rt: &(impl Env + Alloc)) -> Words {
     let Ok(args) = env::args(rt) else {
-        return Words::too_many();
+        return Words::untold();
     };
     let mut words = Words::new();
     for word in args.skip(1) {
