@@ -1,7 +1,6 @@
 pub mod Told
 pub mod Fault
 pub mod Source
-pub mod Status
 pub mod Clock
 pub mod Host
 pub mod Loading
