@@ -19,6 +19,7 @@ mod summary;
 mod words;
 
 pub use closing::close;
+pub use cm_io::Words;
 pub use generated_run::summarize;
 pub use generator::Generator;
 pub use input::{IMAGE_LIMIT, start};
@@ -27,4 +28,3 @@ pub use program::exec20;
 pub use progress::{GENERATED_KEYS, GENERATED_LINES};
 pub use status::Status;
 pub use summary::Summary;
-pub use cm_io::Words;
