@@ -1,4 +1,8 @@
 // Keys and lines by example.
+ghost use Rattle.std.specs.Prelude.{◌≡◌, true};
+ghost use Rattle.std.specs.List.{AllByRecursion};
+ghost use Rattle.cm_text.specs.Bytes.{is_text};
+
 use crate::cases::{is_wanted, number, part};
 use cm_line::{KeyClass, Line};
 use cm_text::LINE_LIMIT;
@@ -96,12 +100,15 @@ fn a_full_line_takes_no_byte(rt: HostRuntime) {
 }
 
 // Whether a line takes the bytes, and how many it then has.
-fn appends(rt: &impl Abort, line: &mut Line, bytes: &[u8], taken: bool, size: usize) {
-    assert_eq!(rt; line.append(line_of(rt, bytes).bytes()), taken);
+fn appends(rt: &impl Abort, line: &mut Line, bytes: &[u8], taken: bool, size: usize)
+    requires { AllByRecursion (λ byte. is_text byte ≡ true) bytes.now }
+{
+    assert_eq!(rt; line.append(bytes), taken);
     assert_eq!(rt; line.bytes().len(), size);
 }
 
 #[test]
+#[tactic(auto, unfolding(cm_text::specs::Bytes::is_text))]
 fn a_line_takes_what_fits(rt: HostRuntime) {
     let text = [b'A'; LINE_LIMIT];
     let mut line = line_of(&rt, &text[..253]);
@@ -119,5 +126,32 @@ fn an_empty_line_gives_nothing(rt: HostRuntime) {
     assert_eq!(rt; line.bytes(), b"AB".as_slice());
     line.cut(1);
     assert_eq!(rt; [line.pop(), line.pop()], [Some(b'A'), None]);
+    assert_eq!(rt; line.bytes().len(), 0);
+}
+
+#[test]
+fn a_hyphen_continues_a_line(rt: HostRuntime) {
+    let mut line = line_of(&rt, b"A-");
+    assert_eq!(rt;
+        [line.class(b'\r'), line.class(b'\n')],
+        [KeyClass::Join, KeyClass::Join]
+    );
+    assert_eq!(rt;
+        [line.class(b'-'), line.class(127)],
+        [KeyClass::Text, KeyClass::Rub]
+    );
+    assert!(rt; cm_text::ends_in_hyphen(line.bytes()));
+    line.join();
+    assert_eq!(rt; line.bytes(), b"A\n".as_slice());
+    assert_eq!(rt; line.class(b'\r'), KeyClass::End);
+    assert_eq!(rt; line.word_start(), 0);
+}
+
+#[test]
+fn a_line_is_set_whole(rt: HostRuntime) {
+    let mut line = line_of(&rt, b"A-");
+    line.set(line_of(&rt, b"BCD").bytes());
+    assert_eq!(rt; line.bytes(), b"BCD".as_slice());
+    line.set(b"");
     assert_eq!(rt; line.bytes().len(), 0);
 }

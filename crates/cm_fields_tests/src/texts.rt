@@ -31,7 +31,7 @@ const CLASSES: &str = "\
 126|true false false false
 0|false false false false
 8|false false false false
-10|false false false false
+10|false false false true
 13|false false false false
 31|false false false false
 127|false false false false

@@ -1,10 +1,9 @@
 -- What a key makes of a session, over the steps of the code.
 use Rattle.std.proofs.Common.{◌≡◌, ℕ, ◌<◌, Bool, true, false, List, [], length, None, Option, refl, ap, sym, subst, ◌∙◌, if◌then◌else◌}
-use Rattle.cm_text.specs.Bytes.{is_text}
 use Rattle.cm_text.specs.Text.{finished}
 use Rattle.cm_line.specs.declared.key.KeyClass.{KeyClass}
 use Rattle.cm_line.specs.declared.key.KeyClass.TheVariants.{End}
-use Rattle.cm_line.specs.Keys.{class_of}
+use Rattle.cm_line.specs.Keys.{class_at, is_end}
 use Rattle.cm_blocks.specs.declared.field.Ending.{Ending}
 use Rattle.cm_blocks.specs.Fault.{grammar_fault}
 use Rattle.cm_blocks.specs.Kept.{BeginsWith, common, cost, cost_behind, kept, needing}
@@ -13,7 +12,7 @@ use Rattle.cm_blocks.specs.Setting.{Setting}
 use Rattle.cm_blocks.proofs.Closing.{finished_closes}
 use Rattle.cm_blocks.proofs.Parsing.{parse_of_parses}
 use Rattle.cm_blocks.proofs.Standing.{kept_begins}
-use Rattle.cm_state.specs.Edit.{before_fault, completed, completion, edit, edited, is_end}
+use Rattle.cm_state.specs.Edit.{before_fault, completed, completion, edit, edited, edited_as}
 use Rattle.cm_state.specs.SessionState.{SessionState, IsReady, at_start, met_line, parse_held, text_of}
 use Rattle.cm_state.specs.Stack.{Starts}
 use Rattle.cm_state.specs.declared.prompt.Prompt.{Prompt}
@@ -39,26 +38,26 @@ AppliesEdit s reopened applied class key =
     }
 
 -- the edited line with its parse is what the key leaves
-edited_with_parse : (s : Setting) (old now : SessionState) (key : ℕ)
+edited_with_parse : (s : Setting) (old now : SessionState) (class : KeyClass) (key : ℕ)
     → now ≡ record old {
-      line = edit (class_of key) key (met_line old) old.restorable (completed s old (class_of key)).bytes;
-      is_finished = is_end (class_of key);
+      line = edit class key (met_line old) old.restorable (completed s old class).bytes;
+      is_finished = is_end class;
       fields = now.fields;
       ending = now.ending;
-      restorable = if is_end (class_of key) then before_fault
-          (edit (class_of key) key (met_line old) old.restorable (completed s old (class_of key)).bytes) now.ending else
+      restorable = if is_end class then before_fault
+          (edit class key (met_line old) old.restorable (completed s old class).bytes) now.ending else
           None;
     }
-    → parse_held now ≡ parse_of s now.node (text_of now) → now ≡ edited s old key
-unfolding edited
-edited_with_parse s old now key same parse =
-    let line = edit (class_of key) key (met_line old) old.restorable (completed s old (class_of key)).bytes in
+    → parse_held now ≡ parse_of s now.node (text_of now) → now ≡ edited_as s old class key
+unfolding edited_as
+edited_with_parse s old now class key same parse =
+    let line = edit class key (met_line old) old.restorable (completed s old class).bytes in
     let node : now.node ≡ old.node = ap (λ (h : SessionState). h.node) same in
-    let text : text_of now ≡ (if is_end (class_of key) then finished line else line) = ap text_of same in
-    let whole : parse_held now ≡ parse_of s old.node (if is_end (class_of key) then finished line else line) = cc in
-    let fields : now.fields ≡ (parse_of s old.node (if is_end (class_of key) then finished line else line)).fields =
+    let text : text_of now ≡ (if is_end class then finished line else line) = ap text_of same in
+    let whole : parse_held now ≡ parse_of s old.node (if is_end class then finished line else line) = cc in
+    let fields : now.fields ≡ (parse_of s old.node (if is_end class then finished line else line)).fields =
     ap (λ (parse : Parse). parse.fields) whole in
-    let ending : now.ending ≡ (parse_of s old.node (if is_end (class_of key) then finished line else line)).ending =
+    let ending : now.ending ≡ (parse_of s old.node (if is_end class then finished line else line)).ending =
     ap (λ (parse : Parse). parse.ending) whole in
     cc
 
@@ -125,7 +124,7 @@ met_completion s old reopened class none ready reopen =
 
 -- the line with its parse, over the steps: the line is reopened, edited, and its parse held
 edited_is : (s : Setting) (old reopened applied trimmed now : SessionState) (class : KeyClass) (key size : ℕ)
-    → class ≡ class_of key
+    → class ≡ class_at (met_line old) key
     → completion s class reopened.ending reopened.line ≡ completed s old class
     → Reopens old reopened
     → AppliesEdit s reopened applied class key
@@ -134,7 +133,7 @@ edited_is : (s : Setting) (old reopened applied trimmed now : SessionState) (cla
     → now ≡ record trimmed { fields = now.fields; ending = now.ending; restorable = now.restorable }
     → parse_held now ≡ parse_of s now.node (text_of now) → now ≡ edited s old key
 edited_is s old reopened applied trimmed now class key size is met reopen apply keep restorable same parse =
-    edited_with_parse s old now key (cc) parse
+    subst (λ (it : KeyClass). now ≡ edited_as s old it key) is (edited_with_parse s old now class key (cc) parse)
 
 -- what the key leaves, and what it costs
 pub record EditsAndParses (s : Setting) (old now : SessionState) (key spent : ℕ) : Type 0 where
@@ -145,7 +144,7 @@ pub record EditsAndParses (s : Setting) (old now : SessionState) (key spent : �
 
 pub edits_and_parses : (s : Setting) (old reopened applied trimmed now : SessionState) (class : KeyClass)
     (key size spent : ℕ)
-    → grammar_fault s.graph ≡ None → IsReady s old → class ≡ class_of key
+    → grammar_fault s.graph ≡ None → IsReady s old → class ≡ class_at (met_line old) key
     → Reopens old reopened
     → AppliesEdit s reopened applied class key
     → trimmed ≡ record applied { fields = needing size applied.fields }
@@ -178,15 +177,11 @@ edits_and_parses s old reopened applied trimmed now class key size spent none re
 
 -- a whole line behind a start
 pub record Finishes (s : Setting) (start now : SessionState) (line : List ℕ) (spent : ℕ) : Type 0 where
-  pub edited : now ≡ edited s start 13
+  pub edited : now ≡ edited_as s start End 13
   pub parse : IsParse s start.node (finished line) now.fields now.ending
   pub ready : IsReady s now
   pub decided : IsClosed now.ending
   pub cost : spent ≡ cost s start.node [] (finished line)
-
-end_key : End ≡ class_of 13
-unfolding class_of is_text
-end_key = refl
 
 -- the line in place of the empty one of a start
 abbrev Fills : SessionState → SessionState → ℕ → Prompt → Option (List ℕ) → List ℕ → Type 0
@@ -227,7 +222,7 @@ finishes s started entered now node prompt bytes line spent none below fills res
     let parse : parse_held now ≡ parse_of s now.node (text_of now) = rw (at, text) whole in
     let held = stands s now (rw at below) parse in
     record {
-      edited = edited_with_parse s start now 13 (rw (← end_key) cc) parse;
+      edited = edited_with_parse s start now End 13 (cc) parse;
       parse = rw (at, text) at held.parse;
       ready = held.ready;
       decided =

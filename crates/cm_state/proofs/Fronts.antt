@@ -1,15 +1,18 @@
 -- How much of a line a key leaves as it was.
-use Rattle.std.proofs.Common.{◌≡◌, ℕ, zero, suc, ◌-◌, ◌≤◌, min, ◌==◌, Bool, true, false, if◌then◌else◌, nat_lt, List, [], ◌∷◌, ◌++◌, length, take, Option, Some, None, refl, arith, length-append}
+use Rattle.std.proofs.Common.{◌≡◌, ℕ, zero, suc, ◌+◌, ◌-◌, ◌≤◌, min, ◌==◌, Bool, true, false, if◌then◌else◌, nat_lt, List, [], ◌∷◌, ◌++◌, length, take, slice_get, Option, Some, None, refl, arith, length-append}
 use Rattle.std.proofs.lemmas.Bool.Decides.{nat_tests}
 use Rattle.std.proofs.lemmas.List.{length-take}
 use Rattle.std.proofs.lemmas.List.Sums.{common_prefix_len-le}
-use Rattle.cm_text.specs.Text.{finished}
-use Rattle.cm_text.specs.declared.text.TheConstants.{LINE_LIMIT}
+use Rattle.std.specs.Option.{option_map_or}
+use Rattle.cm_text.specs.Text.{ends_in_hyphen, finished, joined}
+use Rattle.cm_text.specs.declared.text.TheConstants.{JOIN, LINE_LIMIT}
 use Rattle.cm_line.specs.declared.key.KeyClass.{KeyClass}
-use Rattle.cm_line.specs.declared.key.KeyClass.TheVariants.{Text, End, Rub, Word, Erase, Show, Back, Stop, Escape, Part, Help, Other}
+use Rattle.cm_line.specs.declared.key.KeyClass.TheVariants.{Text, End, Join, Rub, Word, Erase, Show, Back, Stop, Escape, Part, Help, Other}
+use Rattle.cm_line.specs.Keys.{is_end}
 use Rattle.cm_line.specs.Word.{word_start}
+use Rattle.cm_line.proofs.ClassLaws.{some_bytes}
 use Rattle.cm_blocks.specs.Kept.{common}
-use Rattle.cm_state.specs.Edit.{edit, is_end}
+use Rattle.cm_state.specs.Edit.{edit}
 use Rattle.cm_state.specs.Front.{front}
 
 -- a byte is itself
@@ -59,19 +62,37 @@ none_stays (byte ∷ line) = omega arith
 pub longer_stays : (line more : List ℕ) → min (length line) (length (line ++ more)) ≡ common line (line ++ more)
 longer_stays line more = omega (arith, common_longer line more, length-append line more)
 
+-- a line that ends in a hyphen and the line with the join byte in its place begin alike up to there
+common_join : (size : ℕ) (line : List ℕ) → size + 1 ≡ length line
+    → option_map_or (λ (byte : ℕ). byte == 45) (slice_get line size) false ≡ true
+    → common line (take size line ++ JOIN ∷ []) ≡ size
+common_join zero [] all ends = absurd (omega (arith, all))
+common_join zero (byte ∷ []) all ends = let differs : (byte == JOIN) ≡ false = grind (arith, nat_tests) in rw differs refl
+common_join zero (byte ∷ next ∷ line) all ends = absurd (omega (arith, all))
+common_join (suc size) [] all ends = absurd (omega (arith, all))
+common_join (suc size) (byte ∷ line) all ends =
+    rw (same_byte byte) (let later = common_join size line (omega (arith, all)) ends in omega (arith, later))
+
+join_stays : (line : List ℕ) → ends_in_hyphen line ≡ true → min (length line - 1) (length (joined line)) ≡ common line (joined line)
+join_stays line ends =
+    let some = some_bytes line ends in
+    let alike : common line (joined line) ≡ length line - 1 = common_join (length line - 1) line (omega (arith, some)) ends in
+    omega (arith, alike, length-append (take (length line - 1) line) (JOIN ∷ []), length-take (length line - 1) line)
+
 pub front_stays : (class : KeyClass) (key : ℕ) (line : List ℕ) (restorable : Option (List ℕ)) (inserted : List ℕ)
-    → Stays class key line restorable inserted
-front_stays Text key line restorable inserted = text_stays (nat_lt (length line) LINE_LIMIT) key line
-front_stays End key line restorable inserted = omega (arith, common_longer line (13 ∷ []))
-front_stays Rub key line restorable inserted = prefix_stays (length line - 1) line
-front_stays Word key line restorable inserted = prefix_stays (word_start line) line
-front_stays Erase key line restorable inserted = none_stays line
-front_stays Stop key line restorable inserted = none_stays line
-front_stays Back key line None inserted = line_stays line
-front_stays Back key line (Some bytes) inserted =
+    → (class ≡ Join → ends_in_hyphen line ≡ true) → Stays class key line restorable inserted
+front_stays Text key line restorable inserted join = text_stays (nat_lt (length line) LINE_LIMIT) key line
+front_stays Join key line restorable inserted join = join_stays line (join refl)
+front_stays End key line restorable inserted join = omega (arith, common_longer line (13 ∷ []))
+front_stays Rub key line restorable inserted join = prefix_stays (length line - 1) line
+front_stays Word key line restorable inserted join = prefix_stays (word_start line) line
+front_stays Erase key line restorable inserted join = none_stays line
+front_stays Stop key line restorable inserted join = none_stays line
+front_stays Back key line None inserted join = line_stays line
+front_stays Back key line (Some bytes) inserted join =
     let most = common_prefix_len-le (λ byte other. byte == other) line bytes in omega (arith, most.1)
-front_stays Show key line restorable inserted = line_stays line
-front_stays Escape key line restorable inserted = longer_stays line inserted
-front_stays Part key line restorable inserted = longer_stays line inserted
-front_stays Help key line restorable inserted = line_stays line
-front_stays Other key line restorable inserted = line_stays line
+front_stays Show key line restorable inserted join = line_stays line
+front_stays Escape key line restorable inserted join = longer_stays line inserted
+front_stays Part key line restorable inserted join = longer_stays line inserted
+front_stays Help key line restorable inserted join = line_stays line
+front_stays Other key line restorable inserted join = line_stays line

@@ -4,5 +4,6 @@ pub mod Lines
 mod Logging
 mod Rest
 mod Roles
+mod ScreenLines
 mod Stacking
 mod Starting

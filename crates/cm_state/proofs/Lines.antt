@@ -1,15 +1,17 @@
 -- What a key makes of a line is a line.
-use Rattle.std.proofs.Common.{◌≡◌, ◌≢◌, ℕ, zero, suc, ◌-◌, Bool, true, false, List, [], ◌∷◌, ◌++◌, length, take, Option, Some, None, IfSome, nat_lt, unwrap_or, refl, subst, sym, append-nil, arith, ◌==◌, ◌||◌, if◌then◌else◌, length-append}
+use Rattle.std.proofs.Common.{◌≡◌, ℕ, zero, suc, ◌-◌, Bool, true, false, List, [], ◌∷◌, ◌++◌, length, take, Option, Some, None, IfSome, nat_lt, unwrap_or, refl, subst, sym, append-nil, arith, if◌then◌else◌, length-append}
 use Rattle.std.specs.List.{AllByRecursion}
 use Rattle.std.proofs.lemmas.Bool.Decides.{nat_tests}
 use Rattle.std.proofs.lemmas.List.{length-take}
-use Rattle.cm_text.specs.Bytes.{is_text}
-use Rattle.cm_text.specs.declared.text.TheConstants.{LINE_LIMIT}
-use Rattle.cm_text.specs.Text.{IsLine}
+use Rattle.cm_text.specs.Bytes.{is_line_byte, is_text}
+use Rattle.cm_text.specs.declared.text.TheConstants.{JOIN, LINE_LIMIT}
+use Rattle.cm_text.specs.Text.{IsLine, joined}
+use Rattle.cm_text.proofs.LineBytes.{join_in_line, text_in_line}
 use Rattle.cm_line.specs.declared.key.KeyClass.{KeyClass}
-use Rattle.cm_line.specs.declared.key.KeyClass.TheVariants.{Text, End, Rub, Word, Erase, Show, Back, Stop, Escape, Part, Help, Other}
-use Rattle.cm_line.specs.Keys.{class_of}
+use Rattle.cm_line.specs.declared.key.KeyClass.TheVariants.{Text, End, Join, Rub, Word, Erase, Show, Back, Stop, Escape, Part, Help, Other}
+use Rattle.cm_line.specs.Keys.{class_at, is_end}
 use Rattle.cm_line.specs.Word.{word_start}
+use Rattle.cm_line.proofs.ClassLaws.{text_at}
 use Rattle.cm_fields.proofs.Holding.{of_choice}
 use Rattle.cm_files.specs.Catalogue.{IsCatalogue}
 use Rattle.cm_hooks.specs.Meanings.{IsLawful}
@@ -21,28 +23,23 @@ use Rattle.cm_blocks.specs.Setting.{Setting}
 use Rattle.cm_blocks.specs.Well.{AreTables}
 use Rattle.cm_recognise.specs.declared.insertion.Mode.TheVariants as modes
 use Rattle.cm_recognise.proofs.Lines.{line_goes_on}
-use Rattle.cm_state.specs.Edit.{before_fault, completed, completion, edit, edited, is_end}
+use Rattle.cm_state.specs.Edit.{before_fault, completed, completion, edit, edited, edited_as}
 use Rattle.cm_state.specs.SessionState.{SessionState, met_line}
 
--- text bytes alone
-abbrev pub ArePlain : List ℕ → Type 0
-ArePlain bytes = AllByRecursion (λ byte. is_text byte ≡ true) bytes
+-- bytes of a line
+abbrev pub AreLineBytes : List ℕ → Type 0
+AreLineBytes bytes = AllByRecursion (λ byte. is_line_byte byte ≡ true) bytes
 
-prefix_is_plain : (size : ℕ) (bytes : List ℕ) → ArePlain bytes → ArePlain (take size bytes)
+prefix_is_plain : (size : ℕ) (bytes : List ℕ) → AreLineBytes bytes → AreLineBytes (take size bytes)
 prefix_is_plain zero bytes plain = tt
 prefix_is_plain (suc size) [] plain = tt
 prefix_is_plain (suc size) (byte ∷ bytes) plain = (plain.0, prefix_is_plain size bytes plain.1)
 
-longer_is_plain : (bytes : List ℕ) (byte : ℕ) → ArePlain bytes → is_text byte ≡ true → ArePlain (bytes ++ byte ∷ [])
+longer_is_plain : (bytes : List ℕ) (byte : ℕ) → AreLineBytes bytes → is_line_byte byte ≡ true → AreLineBytes (bytes ++ byte ∷ [])
 longer_is_plain [] byte plain text = (text, tt)
 longer_is_plain (first ∷ bytes) byte plain text = (plain.0, longer_is_plain bytes byte plain.1 text)
 
--- what stands behind a part of a plain text is plain
-pub rest_is_plain : (bytes more : List ℕ) → ArePlain (bytes ++ more) → ArePlain more
-rest_is_plain [] more plain = plain
-rest_is_plain (byte ∷ bytes) more plain = rest_is_plain bytes more plain.1
-
-prefix_is_line : (size : ℕ) (line : List ℕ) → IsLine line → IsLine (take size line)
+pub prefix_is_line : (size : ℕ) (line : List ℕ) → IsLine line → IsLine (take size line)
 prefix_is_line size line is =
     record { short = omega (arith, length-take size line); plain = prefix_is_plain size line is.plain }
 
@@ -53,7 +50,7 @@ pushed_is_line line byte true fits text is =
     record {
       short = grind (arith, nat_tests, length-append line (byte ∷ []));
       plain =
-          longer_is_plain line byte is.plain text;
+          longer_is_plain line byte is.plain (text_in_line byte text);
     }
 pushed_is_line line byte false fits text is = is
 
@@ -62,47 +59,13 @@ restorable_is_line : (line : List ℕ) (restorable : Option (List ℕ)) → IsLi
 restorable_is_line line None is restorable_is = is
 restorable_is_line line (Some bytes) is restorable_is = restorable_is
 
--- a choice between two other classes is no text
-other_class : (b : Bool) (class otherwise : KeyClass) → class ≢ Text → otherwise ≢ Text
-    → (if b then class else otherwise) ≢ Text
-other_class true class otherwise first later = first
-other_class false class otherwise first later = later
-
--- only a text byte has the class of texts
-text_key_is_text : (key : ℕ) → class_of key ≡ Text → is_text key ≡ true
-unfolding class_of
-text_key_is_text key e = by (is_text key) e
-  where
-    rest : KeyClass
-    rest =
-        if key == 13 || key == 10 then End
-        else (if key == 127 then Rub
-        else (if key == 23 then Word
-        else (if key == 21 then Erase
-        else (if key == 18 then Show
-        else (if key == 8 then Back
-        else (if key == 3 then Stop
-        else (if key == 27 then Escape
-        else (if key == 6 then Part
-        else (if key == 63 then Help
-        else Other)))))))))
-
-    rest_is_other : rest ≢ Text
-    rest_is_other =
-        other_class _ End _ (λ (e : End ≡ Text). cc)
-        (other_class _ Rub _ (λ (e : Rub ≡ Text). cc)
-        (other_class _ Word _ (λ (e : Word ≡ Text). cc)
-        (other_class _ Erase _ (λ (e : Erase ≡ Text). cc)
-        (other_class _ Show _ (λ (e : Show ≡ Text). cc)
-        (other_class _ Back _ (λ (e : Back ≡ Text). cc)
-        (other_class _ Stop _ (λ (e : Stop ≡ Text). cc)
-        (other_class _ Escape _ (λ (e : Escape ≡ Text). cc)
-        (other_class _ Part _ (λ (e : Part ≡ Text). cc)
-        (other_class _ Help Other (λ (e : Help ≡ Text). cc) (λ (e : Other ≡ Text). cc))))))))))
-
-    by : (b : Bool) → (if b then Text else rest) ≡ Text → b ≡ true
-    by true e = refl
-    by false e = absurd (rest_is_other e)
+joined_is_line : (line : List ℕ) → IsLine line → IsLine (joined line)
+joined_is_line line is = record {
+  short =
+      omega (arith, is.short, length-append (take (length line - 1) line) (JOIN ∷ []), length-take (length line - 1) line);
+  plain =
+      longer_is_plain (take (length line - 1) line) JOIN (prefix_is_plain (length line - 1) line is.plain) join_in_line;
+}
 
 edit_by_class : (class : KeyClass) (key : ℕ) (line : List ℕ) (restorable : Option (List ℕ)) (inserted : List ℕ)
     → (class ≡ Text → is_text key ≡ true) → IsLine line → IfSome restorable IsLine → IsLine (line ++ inserted)
@@ -119,6 +82,7 @@ edit_by_class Stop key line restorable inserted text is restorable_is longer_is 
     record { short = omega arith; plain = tt }
 edit_by_class Back key line restorable inserted text is restorable_is longer_is =
     restorable_is_line line restorable is restorable_is
+edit_by_class Join key line restorable inserted text is restorable_is longer_is = joined_is_line line is
 edit_by_class End key line restorable inserted text is restorable_is longer_is = is
 edit_by_class Show key line restorable inserted text is restorable_is longer_is = is
 edit_by_class Escape key line restorable inserted text is restorable_is longer_is = longer_is
@@ -128,10 +92,10 @@ edit_by_class Other key line restorable inserted text is restorable_is longer_is
 
 pub edit_is_line : (held : SessionState) (key : ℕ) (inserted : List ℕ) → IsLine (met_line held)
     → IfSome held.restorable IsLine
-    → IsLine (met_line held ++ inserted) → IsLine (edit (class_of key) key (met_line held) held.restorable inserted)
+    → IsLine (met_line held ++ inserted) → IsLine (edit (class_at (met_line held) key) key (met_line held) held.restorable inserted)
 edit_is_line held key inserted is restorable longer =
-    edit_by_class (class_of key) key (met_line held) held.restorable inserted (text_key_is_text key) is restorable
-    longer
+    edit_by_class (class_at (met_line held) key) key (met_line held) held.restorable inserted
+    (text_at (met_line held) key) is restorable longer
 
 -- with what a key puts in that completes it, it is a line
 completed_is_line : (s : Setting) → grammar_fault s.graph ≡ None → IsCatalogue s.catalogue → AreTables s.graph.tables
@@ -142,6 +106,7 @@ completed_is_line s none named tables lawful Escape ends line is =
 completed_is_line s none named tables lawful Part ends line is =
     line_goes_on s ends line modes.Part none named tables lawful is
 completed_is_line s none named tables lawful Text ends line is = subst IsLine (sym (append-nil line)) is
+completed_is_line s none named tables lawful Join ends line is = subst IsLine (sym (append-nil line)) is
 completed_is_line s none named tables lawful End ends line is = subst IsLine (sym (append-nil line)) is
 completed_is_line s none named tables lawful Rub ends line is = subst IsLine (sym (append-nil line)) is
 completed_is_line s none named tables lawful Word ends line is = subst IsLine (sym (append-nil line)) is
@@ -155,10 +120,10 @@ completed_is_line s none named tables lawful Other ends line is = subst IsLine (
 pub edited_is_line : (s : Setting) → grammar_fault s.graph ≡ None → IsCatalogue s.catalogue → AreTables s.graph.tables
     → IsLawful s.meanings → (held : SessionState) (key : ℕ) → IsLine (met_line held) → IfSome held.restorable IsLine
     → IsLine (edited s held key).line
-unfolding edited
+unfolding edited_as
 edited_is_line s none named tables lawful held key is restorable =
-    edit_is_line held key (completed s held (class_of key)).bytes is restorable
-    (completed_is_line s none named tables lawful (class_of key) (parse_of s held.node (met_line held)).ending
+    edit_is_line held key (completed s held (class_at (met_line held) key)).bytes is restorable
+    (completed_is_line s none named tables lawful (class_at (met_line held) key) (parse_of s held.node (met_line held)).ending
     (met_line held) is)
 
 -- the bytes before a fault are a line
@@ -170,16 +135,16 @@ before_is_line line (ending.Fault fault) is = prefix_is_line fault.at line is
 pub edited_restorable_is_line : (s : Setting) → grammar_fault s.graph ≡ None → IsCatalogue s.catalogue
     → AreTables s.graph.tables → IsLawful s.meanings → (held : SessionState) (key : ℕ) → IsLine (met_line held)
     → IfSome held.restorable IsLine → IfSome (edited s held key).restorable IsLine
-unfolding edited
+unfolding edited_as
 edited_restorable_is_line s none named tables lawful held key is restorable =
-    of_choice (λ (restorable : Option (List ℕ)). IfSome restorable IsLine) (is_end (class_of key)) _ None
+    of_choice (λ (restorable : Option (List ℕ)). IfSome restorable IsLine) (is_end (class_at (met_line held) key)) _ None
     (before_is_line (edited s held key).line _ (edited_is_line s none named tables lawful held key is restorable)) tt
 
 -- control-H has a line to bring back behind a finished one alone, so that the next key meets an empty one
 pub edited_restorable_behind_an_end : (s : Setting) (held : SessionState) (key : ℕ)
     → IfSome (edited s held key).restorable (λ (bytes : List ℕ). met_line (edited s held key) ≡ [])
-unfolding edited
-edited_restorable_behind_an_end s held key = by (is_end (class_of key)) _ _ _
+unfolding edited_as
+edited_restorable_behind_an_end s held key = by (is_end (class_at (met_line held) key)) _ _ _
   where
     of_end : (line : List ℕ) (ends : Ending) → IfSome (before_fault line ends)
         (λ (bytes : List ℕ). ◌≡◌ {A = List ℕ} [] [])

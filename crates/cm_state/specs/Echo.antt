@@ -1,11 +1,13 @@
 -- The bytes that one key shows.
-use Rattle.std.specs.Prelude.{ℕ, ◌-◌, ◌==◌, Bool, true, false, List, [], ◌∷◌, ◌++◌, length, drop, map, nat_lt, is_some, codes, if◌then◌else◌}
-use Rattle.cm_text.specs.declared.text.TheConstants.{LINE_LIMIT}
-use Rattle.cm_text.specs.Shown.{bell, control_c, end_of_line, question, rubout, screen_byte}
+use Rattle.std.specs.Prelude.{ℕ, ◌-◌, ◌==◌, Bool, true, false, List, [], ◌∷◌, ◌++◌, length, drop, nat_lt, is_some, codes, if◌then◌else◌}
+use Rattle.std.specs.List.{flat_map, list_any}
+use Rattle.cm_text.specs.declared.text.TheConstants.{JOIN, LINE_LIMIT}
+use Rattle.cm_text.specs.Shown.{bell, control_c, end_of_line, question, rubout, screen_byte, shown_byte}
 use Rattle.cm_io.specs.Pieces.{times}
 use Rattle.cm_line.specs.declared.key.KeyClass.{KeyClass}
-use Rattle.cm_line.specs.declared.key.KeyClass.TheVariants.{Text, End, Rub, Word, Erase, Show, Back, Stop, Escape, Part, Help}
-use Rattle.cm_line.specs.Keys.{class_of}
+use Rattle.cm_line.specs.declared.key.KeyClass.TheVariants.{Text, End, Join, Rub, Word, Erase, Show, Back, Stop, Escape, Part, Help}
+use Rattle.cm_line.specs.Keys.{class_at}
+use Rattle.cm_line.specs.Word.{word_start}
 use Rattle.cm_fields.specs.declared.code.Code.{Code}
 use Rattle.cm_fields.specs.Code.{code_text}
 use Rattle.cm_blocks.specs.declared.field.Ending.{Ending}
@@ -17,8 +19,9 @@ use Rattle.cm_state.specs.declared.prompt.Prompt.TheVariants.{Main, Sub, Own}
 use Rattle.cm_state.specs.SessionState.{SessionState, met_line}
 use Rattle.cm_state.specs.Edit.{completed, edited}
 
+-- a line on the screen: it goes on below each hyphen that continued it
 abbrev pub screen_line : List ℕ → List ℕ
-screen_line line = map screen_byte line
+screen_line line = flat_map shown_byte line
 
 unfoldable pub prompt_text : Prompt → List ℕ
 prompt_text Main = codes "@"
@@ -39,34 +42,53 @@ complaint (ending.Open place) = []
 complaint ending.Done = []
 complaint (ending.Fault fault) = refusal fault.code
 
--- one rubout for each byte that went, or a bell where there was none
-abbrev pub taken_away : ℕ → ℕ → List ℕ
-taken_away before now = if before == 0 then bell else times (before - now) rubout
+-- a join byte is among these
+abbrev pub has_join : List ℕ → Bool
+has_join bytes = list_any (λ byte. byte == JOIN) bytes
+
+-- how many bytes of a line a key of this class leaves, where it takes some away
+abbrev pub left : KeyClass → List ℕ → ℕ
+left Rub line = length line - 1
+left Word line = word_start line
+left Erase line = 0
+left class line = length line
+
+-- and whether a join byte is among those that go
+abbrev pub takes_join : KeyClass → List ℕ → Bool
+takes_join class line = has_join (drop (left class line) line)
+
+-- from a line of this size to the one that is left: one rubout for each byte that went, or the line again where a row
+-- of it went, or a bell where there was none
+abbrev pub taken_away : Bool → Prompt → ℕ → List ℕ → List ℕ
+taken_away joins prompt before line =
+    if before == 0 then bell
+    else (if joins then again prompt line else times (before - length line) rubout)
 
 -- a bell, or nothing
 unfoldable pub ring : Bool → List ℕ
 ring true = bell
 ring false = []
 
--- the echo of a key on a line of this size, which control-H had a line to bring back to or not, that left the session
--- so; a key that completes shows the bytes that came to the line, and rings or not
-abbrev pub echo_of : Setting → KeyClass → ℕ → ℕ → Bool → Bool → SessionState → List ℕ
-echo_of s Text key size restores rings now = if nat_lt size LINE_LIMIT then screen_byte key ∷ [] else bell
-echo_of s Rub key size restores rings now = taken_away size (length now.line)
-echo_of s Word key size restores rings now = taken_away size (length now.line)
-echo_of s Erase key size restores rings now = taken_away size (length now.line)
-echo_of s Show key size restores rings now = again now.prompt now.line
-echo_of s Help key size restores rings now = question ++ help_text s now.ending now.line ++ again now.prompt now.line
-echo_of s Back key size restores rings now = if restores then screen_line now.line else bell
-echo_of s Stop key size restores rings now = control_c ++ end_of_line
-echo_of s Escape key size restores rings now = drop size now.line ++ ring rings
-echo_of s Part key size restores rings now = drop size now.line ++ ring rings
-echo_of s End key size restores rings now = end_of_line ++ complaint now.ending
-echo_of s class key size restores rings now = bell
+-- the echo of a key on a line of this size, from which it took a join byte or not, which control-H had a line to bring
+-- back to or not, that left the session so; a key that completes shows the bytes that came to the line, and rings or not
+abbrev pub echo_of : Setting → KeyClass → ℕ → ℕ → Bool → Bool → Bool → SessionState → List ℕ
+echo_of s Text key size joins restores rings now = if nat_lt size LINE_LIMIT then screen_byte key ∷ [] else bell
+echo_of s Rub key size joins restores rings now = taken_away joins now.prompt size now.line
+echo_of s Word key size joins restores rings now = taken_away joins now.prompt size now.line
+echo_of s Erase key size joins restores rings now = taken_away joins now.prompt size now.line
+echo_of s Show key size joins restores rings now = again now.prompt now.line
+echo_of s Help key size joins restores rings now = question ++ help_text s now.ending now.line ++ again now.prompt now.line
+echo_of s Back key size joins restores rings now = if restores then screen_line now.line else bell
+echo_of s Stop key size joins restores rings now = control_c ++ end_of_line
+echo_of s Escape key size joins restores rings now = drop size now.line ++ ring rings
+echo_of s Part key size joins restores rings now = drop size now.line ++ ring rings
+echo_of s Join key size joins restores rings now = end_of_line
+echo_of s End key size joins restores rings now = end_of_line ++ complaint now.ending
+echo_of s class key size joins restores rings now = bell
 
 -- the bytes that a key shows
 unfoldable pub echo : Setting → SessionState → ℕ → List ℕ
 echo s held key =
-    let class = class_of key in
-    echo_of s class key (length (met_line held)) (is_some held.restorable) (completed s held class).bell
-    (edited s held key)
+    let class = class_at (met_line held) key in
+    echo_of s class key (length (met_line held)) (takes_join class (met_line held)) (is_some held.restorable)
+    (completed s held class).bell (edited s held key)

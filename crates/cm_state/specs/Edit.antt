@@ -1,10 +1,10 @@
 -- What one key makes of a session (COMND's editing keys).
-use Rattle.std.specs.Prelude.{ℕ, ◌-◌, Bool, true, false, List, [], ◌∷◌, ◌++◌, length, take, Option, Some, None, unwrap_or, nat_lt, if◌then◌else◌}
+use Rattle.std.specs.Prelude.{ℕ, ◌-◌, false, List, [], ◌∷◌, ◌++◌, length, take, Option, Some, None, unwrap_or, nat_lt, if◌then◌else◌}
 use Rattle.cm_text.specs.declared.text.TheConstants.{LINE_LIMIT}
-use Rattle.cm_text.specs.Text.{finished}
+use Rattle.cm_text.specs.Text.{finished, joined}
 use Rattle.cm_line.specs.declared.key.KeyClass.{KeyClass}
-use Rattle.cm_line.specs.declared.key.KeyClass.TheVariants.{Text, End, Rub, Word, Erase, Show, Back, Stop, Escape, Part, Help, Other}
-use Rattle.cm_line.specs.Keys.{class_of}
+use Rattle.cm_line.specs.declared.key.KeyClass.TheVariants.{Text, End, Join, Rub, Word, Erase, Show, Back, Stop, Escape, Part, Help, Other}
+use Rattle.cm_line.specs.Keys.{class_at, is_end}
 use Rattle.cm_line.specs.Word.{word_start}
 use Rattle.cm_blocks.specs.declared.field.Ending.{Ending}
 use Rattle.cm_blocks.specs.declared.field.Ending.TheVariants as ending
@@ -31,15 +31,11 @@ edit Stop key line restorable inserted = []
 edit Back key line restorable inserted = unwrap_or restorable line
 edit Escape key line restorable inserted = line ++ inserted
 edit Part key line restorable inserted = line ++ inserted
+edit Join key line restorable inserted = joined line
 edit End key line restorable inserted = line
 edit Show key line restorable inserted = line
 edit Help key line restorable inserted = line
 edit Other key line restorable inserted = line
-
--- the key finishes the line
-abbrev pub is_end : KeyClass → Bool
-is_end End = true
-is_end class = false
 
 -- a refused line keeps the bytes before its faulty field
 abbrev pub before_fault : List ℕ → Ending → Option (List ℕ)
@@ -51,10 +47,9 @@ before_fault line (ending.Fault fault) = Some (take fault.at line)
 abbrev pub completed : Setting → SessionState → KeyClass → Insertion
 completed s held class = completion s class (parse_of s held.node (met_line held)).ending (met_line held)
 
--- the session after a key: the line, finished where the key is an end, and the parse of that text
-unfoldable pub edited : Setting → SessionState → ℕ → SessionState
-edited s held key =
-    let class = class_of key in
+-- the session after a key of this class: the line, finished where the class is an end, and the parse of that text
+unfoldable pub edited_as : Setting → SessionState → KeyClass → ℕ → SessionState
+edited_as s held class key =
     let line = edit class key (met_line held) held.restorable (completed s held class).bytes in
     let parse = parse_of s held.node (if is_end class then finished line else line) in
     record held {
@@ -64,3 +59,7 @@ edited s held key =
       ending = parse.ending;
       restorable = if is_end class then before_fault line parse.ending else None;
     }
+
+-- after a key, whose class is that on the line that it meets
+abbrev pub edited : Setting → SessionState → ℕ → SessionState
+edited s held key = edited_as s held (class_at (met_line held) key) key

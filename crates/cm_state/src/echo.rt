@@ -1,14 +1,16 @@
 // What a key shows.
 #![tactic(auto, using(cm_io::proofs::Texts::texts))]
 
-ghost use Rattle.std.specs.Prelude.{◌≡◌, ◌≤◌, ◌++◌, length};
+ghost use Rattle.std.specs.Prelude.{◌≡◌, ◌+◌, ◌≤◌, ◌==◌, ◌++◌, length};
 ghost use Rattle.cm_io.specs.Writer.{Writes};
-ghost use Rattle.cm_text.specs.Shown.{end_of_line, question};
+ghost use Rattle.std.specs.List.{list_any};
+ghost use Rattle.cm_text.specs.Shown.{end_of_line, question, shown_byte};
+ghost use Rattle.cm_text.specs.declared.text.TheConstants.{JOIN};
 ghost use Rattle.cm_hooks.specs.Ties.{Ties, count};
 ghost use Rattle.cm_blocks.specs.Grammar.{hook_count};
 ghost use Rattle.cm_blocks.specs.Setting.{setting};
 ghost use Rattle.cm_help.specs.Help.{help_text};
-ghost use Rattle.cm_state.specs.Echo.{again, complaint, refusal, ring, screen_line, taken_away};
+ghost use Rattle.cm_state.specs.Echo.{again, complaint, has_join, refusal, ring, screen_line, taken_away, takes_join};
 
 use crate::Prompt;
 use arrayvec::ArrayVec;
@@ -18,18 +20,37 @@ use cm_files::Names;
 use cm_help::put_help;
 use cm_hooks::{Hooks, Rules};
 use cm_io::{Sink, Writer};
-use cm_text::{LINE_LIMIT, bell, end_of_line, question, rubout, screen_byte};
+use cm_line::{KeyClass, Line};
+use cm_text::{JOIN, LINE_LIMIT, bell, end_of_line, join_shown, question, rubout, screen_byte};
+
+// The most bytes that a line takes on the screen: three for a join byte.
+const SHOWN_LIMIT: usize = 3 * LINE_LIMIT;
 
 // The bytes of a line as they are shown.
-fn screen_line(line: &[u8]) -> ArrayVec<u8, LINE_LIMIT>
+#[tactic(auto, using(crate::proofs::ScreenLines::shown_more))]
+fn screen_line(line: &[u8]) -> ArrayVec<u8, SHOWN_LIMIT>
     requires { length line.now ≤ LINE_LIMIT }
     ensures { result.items ≡ screen_line line.now }
 {
     let mut bytes = ArrayVec::new();
     for byte in line {
-        bytes.push(screen_byte(*byte));
+        push_shown(*byte, &mut bytes);
     }
     bytes
+}
+
+// Puts a byte of a line, as it is shown, behind others.
+#[tactic(auto, unfolding(cm_text::specs::Shown::shown_byte, cm_text::specs::Shown::join_shown, cm_text::specs::Shown::end_of_line))]
+fn push_shown(byte: u8, bytes: &mut ArrayVec<u8, SHOWN_LIMIT>)
+    requires { length bytes.old.items + 3 ≤ SHOWN_LIMIT }
+    ensures shown { bytes.new.items ≡ bytes.old.items ++ shown_byte byte }
+    ensures few { length bytes.new.items ≤ length bytes.old.items + 3 }
+{
+    if byte == JOIN {
+        let _ = bytes.try_extend_from_slice(join_shown());
+    } else {
+        bytes.push(screen_byte(byte));
+    }
 }
 
 // Shows a line.
@@ -73,15 +94,46 @@ pub(crate) fn put_help_and_line<N: Names, R: Rules, S: Sink>(
     put_again(prompt, line, out);
 }
 
-// Takes bytes from the screen: from a line of the first size to one of the second.
-pub(crate) fn put_taken<S: Sink>(before: usize, now: usize, out: &mut Writer<'_, S>)
-    requires { before ≤ LINE_LIMIT }
-    ensures { Writes S.Sink out.old out.new (taken_away before now) }
+// Whether a key of this class takes a join byte away from a line.
+#[tactic(auto, using(crate::proofs::ScreenLines::none_goes))]
+pub(crate) fn takes_join(class: KeyClass, line: &Line) -> bool
+    ensures { result ≡ takes_join class line.now }
+{
+    let bytes = line.bytes();
+    match class {
+        KeyClass::Rub => has_join(&bytes[bytes.len().saturating_sub(1)..]),
+        KeyClass::Word => has_join(&bytes[line.word_start()..]),
+        KeyClass::Erase => has_join(bytes),
+        _ => false,
+    }
+}
+
+// Whether a join byte is among these.
+fn has_join(bytes: &[u8]) -> bool
+    ensures { result ≡ has_join bytes.now }
+{
+    bytes.iter().any(|byte| *byte == JOIN)
+}
+
+// Takes bytes from the screen, from a line of the first size to the one that is left; where a join byte went, shows
+// that one again.
+pub(crate) fn put_taken<S: Sink>(
+    joins: bool,
+    prompt: Prompt,
+    before: usize,
+    line: &[u8],
+    out: &mut Writer<'_, S>,
+)
+    requires before { before ≤ LINE_LIMIT }
+    requires line { length line.now ≤ LINE_LIMIT }
+    ensures { Writes S.Sink out.old out.new (taken_away joins prompt before line.now) }
 {
     if before == 0 {
         out.put(bell());
+    } else if joins {
+        put_again(prompt, line, out);
     } else {
-        out.put_times(before.saturating_sub(now) as u32, rubout());
+        out.put_times(before.saturating_sub(line.len()) as u32, rubout());
     }
 }
 

@@ -1,7 +1,7 @@
 //! Laws of sessions and of editing.
 ghost use Rattle.std.specs.Prelude.{◌≡◌, ◌<◌, ℕ, List, [], ◌++◌, None, Option, IfSome, length};
 ghost use Rattle.cm_text.specs.Text.{IsLine};
-ghost use Rattle.cm_line.specs.Keys.{class_of};
+ghost use Rattle.cm_line.specs.Keys.{class_at};
 ghost use Rattle.cm_files.specs.Catalogue.{IsCatalogue};
 ghost use Rattle.cm_hooks.specs.Meanings.{IsLawful};
 ghost use Rattle.cm_blocks.specs.Fault.{grammar_fault};
@@ -31,7 +31,7 @@ pub fn a_start_is_ready()
 pub fn the_edit_is_a_line()
     ensures { (held : SessionState) → (key : ℕ) → (inserted : List ℕ) → IsLine (met_line held)
         → IfSome held.restorable IsLine → IsLine (met_line held ++ inserted)
-        → IsLine (edit (class_of key) key (met_line held) held.restorable inserted) }
+        → IsLine (edit (class_at (met_line held) key) key (met_line held) held.restorable inserted) }
 {}
 
 /// A key leaves a line, and a line is what it leaves for control-H, where the key met such: under an accepted grammar,

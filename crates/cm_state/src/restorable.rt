@@ -54,12 +54,12 @@ impl Restorable {
     }
 
     // Holds the first bytes of a line.
+    #[tactic(auto, using(crate::proofs::Lines::prefix_is_line))]
     pub(crate) fn hold(&mut self, line: &Line, size: usize)
         ensures { self.new ≡ Some (take size line.now) }
     {
         let bytes = line.bytes();
-        self.line.cut(0);
-        self.line.append(&bytes[..size.min(bytes.len())]);
+        self.line.set(&bytes[..size.min(bytes.len())]);
         self.is_held = true;
     }
 }

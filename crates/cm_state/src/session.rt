@@ -3,8 +3,8 @@ ghost use Rattle.std.specs.Prelude.{◌≡◌, ◌+◌, ◌≤◌, ◌<◌, true
 ghost use Rattle.std.specs.Option.{option_copied};
 ghost use Rattle.std.specs.Str.{IsAscii};
 ghost use Rattle.cm_text.specs.Bytes.{is_text};
-ghost use Rattle.cm_text.specs.Text.{IsLine, finished};
-ghost use Rattle.cm_line.specs.Keys.{class_of};
+ghost use Rattle.cm_text.specs.Text.{IsLine, ends_in_hyphen, finished};
+ghost use Rattle.cm_line.specs.Keys.{class_at};
 ghost use Rattle.cm_io.specs.Told.{Adds};
 ghost use Rattle.cm_io.specs.Fault.{PutCause};
 ghost use Rattle.cm_io.specs.Writer.{Writes};
@@ -15,8 +15,8 @@ ghost use Rattle.cm_blocks.specs.Grammar.{hook_count};
 ghost use Rattle.cm_blocks.specs.Kept.{BeginsWith, cost, cost_behind, kept, needing};
 ghost use Rattle.cm_blocks.specs.Parse.{IsClosed, IsParse, open_at, parse_of};
 ghost use Rattle.cm_blocks.specs.Setting.{Setting, setting};
-ghost use Rattle.cm_state.specs.Edit.{before_fault, completed, edited};
-ghost use Rattle.cm_state.specs.Echo.{echo, echo_of, prompt_text};
+ghost use Rattle.cm_state.specs.Edit.{before_fault, completed, edited, edited_as};
+ghost use Rattle.cm_state.specs.Echo.{echo, echo_of, prompt_text, takes_join};
 ghost use Rattle.cm_state.specs.SessionState.{SessionState, IsReady, at_start, met_line, parse_held, text_of};
 ghost use Rattle.cm_state.specs.Log.{log_line};
 ghost use Rattle.cm_state.specs.Roles.{field_of, is_role};
@@ -24,7 +24,7 @@ ghost use Rattle.cm_state.specs.Stack.{Starts};
 ghost use Rattle.cm_state.specs.Turn.{put_of, turn_of};
 
 use crate::echo::{
-    put_again, put_end, put_help_and_line, put_inserted, put_screen_line, put_taken,
+    put_again, put_end, put_help_and_line, put_inserted, put_screen_line, put_taken, takes_join,
 };
 use crate::held::{hold_before_fault, open_at, text_of};
 use crate::log::{push_head, put_fields};
@@ -37,19 +37,20 @@ use cm_files::Names;
 use cm_hooks::{Hooks, Rules};
 use cm_io::{Page, Put, Sink, Writer};
 use cm_line::{KeyClass, Line};
-use cm_text::{LINE_LIMIT, bell, control_c, screen_byte};
+use cm_text::{LINE_LIMIT, bell, control_c, end_of_line, screen_byte};
 use std::marker::{Model, PhantomData};
 use std::sync::ledger::Ledger;
 
 mod editing;
 
-// A key and the line that it met: of which size, and whether control-H had a line to bring back. A key that completed
-// the line rings or not.
+// A key and the line that it met: of which size, whether a join byte goes, and whether control-H had a line to bring
+// back. A key that completed the line rings or not.
 #[derive(Drop)]
 struct Keystroke {
     class: KeyClass,
     key: u8,
     size: usize,
+    joins: bool,
     restores: bool,
     rings: bool,
 }
@@ -114,8 +115,9 @@ impl<R: Rules> Session<R> {
     /// that the unchanged front of the text decides are kept, and only what follows is tried.
     ///
     /// The answer is Confirmed exactly where the key finishes a line whose parse is done, Refused exactly
-    /// where it finishes one whose parse ends in that fault, Abandoned exactly at control-C. It is Failed
-    /// only where the sink failed; the session is then where the key left it, and the counter has risen as ever.
+    /// where it finishes one whose parse ends in that fault, Abandoned exactly at control-C. CR and LF finish no line
+    /// that ends in a hyphen, but continue it. It is Failed only where the sink failed; the session is then where the
+    /// key left it, and the counter has risen as ever.
     #[tactic(auto, unfolding(crate::specs::Echo::echo))]
     pub fn key<N: Names, S: Sink, L: Ledger>(
         &mut self,
@@ -138,7 +140,7 @@ impl<R: Rules> Session<R> {
         // It begins with the fields that the unchanged front decides.
         ensures keeps { BeginsWith (kept (setting grammar.now (N.catalogue names.now) R.meanings)
             self.old.node (met_line self.old) (text_of self.new)) self.new.fields }
-        ensures turn { put_of result ≡ Put.Done → result ≡ turn_of (class_of key) self.new.ending }
+        ensures turn { put_of result ≡ Put.Done → result ≡ turn_of (class_at (met_line self.old) key) self.new.ending }
 
         // What the key shows.
         ensures bytes { Adds (S.told sink.old) (S.told sink.new)
@@ -150,14 +152,16 @@ impl<R: Rules> Session<R> {
         ensures steps { steps.new ≡ steps.old + cost (setting grammar.now (N.catalogue names.now) R.meanings)
             self.old.node (met_line self.old) (text_of self.new) }
     {
-        let class = KeyClass::of(key);
+        let class = self.class(key);
         let size = self.met_size();
+        let joins = self.takes_join(class);
         let restores = self.restorable.is_some();
         let rings = self.edit_and_parse(class, key, grammar, names, hooks, steps);
         let stroke = Keystroke {
             class,
             key,
             size,
+            joins,
             restores,
             rings,
         };
@@ -169,8 +173,8 @@ impl<R: Rules> Session<R> {
         }
     }
 
-    /// Takes a whole line and finishes it, as `begin` at the node and then its keys and CR would: holds its parse,
-    /// and shows nothing. The prompt stays.
+    /// Takes a whole line and finishes it, whatever its last byte, as `begin` at the node and then its keys and CR do
+    /// with a line that ends in no hyphen: holds its parse, and shows nothing. The prompt stays.
     ///
     /// The answer is Confirmed exactly where the parse is done, and else Refused with its fault.
     pub fn whole<N: Names, L: Ledger>(
@@ -186,9 +190,9 @@ impl<R: Rules> Session<R> {
         requires node { node < length grammar.now.nodes }
         requires ties { Ties R.meanings hooks.now }
         requires hooks { hook_count grammar.now ≤ count hooks.now }
-        // It is as behind CR on that line.
-        ensures edited { self.new ≡ edited (setting grammar.now (N.catalogue names.now) R.meanings)
-            (record (at_start node self.old.prompt self.old.restorable) { line = line.now }) 13 }
+        // It is as behind a CR that finishes that line, whatever its last byte.
+        ensures edited { self.new ≡ edited_as (setting grammar.now (N.catalogue names.now) R.meanings)
+            (record (at_start node self.old.prompt self.old.restorable) { line = line.now }) KeyClass.End 13 }
         ensures parse { IsParse (setting grammar.now (N.catalogue names.now) R.meanings)
             node (finished line.now) self.new.fields self.new.ending }
         ensures ready { IsReady (setting grammar.now (N.catalogue names.now) R.meanings) self.new }
@@ -289,15 +293,40 @@ impl<R: Rules> Session<R> {
         self.ending = open_at(node);
     }
 
-    // Finishes this line in place of an empty one.
+    // Finishes this line in place of that under edit.
     fn finish(&mut self, line: &[u8])
-        requires line { IsLine line.now }
-        requires empty { self.old.line ≡ [] }
+        requires { IsLine line.now }
         ensures { self.new ≡ record self.old { line = line.now; is_finished = true; restorable = None } }
     {
-        self.line.append(line);
+        self.line.set(line);
         self.is_finished = true;
         self.restorable.forget();
+    }
+
+    // The class of a key on the line that it meets.
+    #[tactic(auto, using(cm_line::proofs::ClassLaws::class_at_none, cm_line::proofs::ClassLaws::none_joins))]
+    fn class(&self, key: u8) -> KeyClass
+        ensures value { result ≡ class_at (met_line self.now) key }
+        ensures text { result ≡ KeyClass.Text → is_text key ≡ true }
+        ensures join { result ≡ KeyClass.Join → ends_in_hyphen (met_line self.now) ≡ true }
+    {
+        if self.is_finished {
+            KeyClass::of(key)
+        } else {
+            self.line.class(key)
+        }
+    }
+
+    // Whether a key of this class takes a join byte away from the line that it meets.
+    #[tactic(auto, using(crate::proofs::ScreenLines::nothing_goes))]
+    fn takes_join(&self, class: KeyClass) -> bool
+        ensures { result ≡ takes_join class (met_line self.now) }
+    {
+        if self.is_finished {
+            false
+        } else {
+            takes_join(class, &self.line)
+        }
     }
 
     // The size of the line that a key meets.
@@ -323,8 +352,9 @@ impl<R: Rules> Session<R> {
         hooks: &Hooks<R>,
         steps: &mut Steps<L>,
     ) -> bool
-        requires class { class ≡ class_of key }
+        requires class { class ≡ class_at (met_line self.old) key }
         requires text { class ≡ KeyClass.Text → is_text key ≡ true }
+        requires join { class ≡ KeyClass.Join → ends_in_hyphen (met_line self.old) ≡ true }
         requires ready { IsReady (setting grammar.now (N.catalogue names.now) R.meanings) self.old }
         requires ties { Ties R.meanings hooks.now }
         requires hooks { hook_count grammar.now ≤ count hooks.now }
@@ -407,14 +437,14 @@ impl<R: Rules> Session<R> {
         requires ties { Ties R.meanings hooks.now }
         requires hooks { hook_count grammar.now ≤ count hooks.now }
         ensures { Writes S.Sink out.old out.new (echo_of (setting grammar.now (N.catalogue names.now) R.meanings)
-            stroke.class stroke.key stroke.size stroke.restores stroke.rings self.now) }
+            stroke.class stroke.key stroke.size stroke.joins stroke.restores stroke.rings self.now) }
     {
         let line = self.line.bytes();
         let behind = &line[stroke.size.min(line.len())..];
         match stroke.class {
             KeyClass::Text if stroke.size < LINE_LIMIT => out.put(&[screen_byte(stroke.key)]),
             KeyClass::Rub | KeyClass::Word | KeyClass::Erase => {
-                put_taken(stroke.size, line.len(), out)
+                put_taken(stroke.joins, self.prompt, stroke.size, line, out)
             }
             KeyClass::Show => put_again(self.prompt, line, out),
             KeyClass::Help => {
@@ -424,6 +454,7 @@ impl<R: Rules> Session<R> {
             KeyClass::Escape => put_inserted(behind, stroke.rings, out),
             KeyClass::Part => put_inserted(behind, stroke.rings, out),
             KeyClass::Stop => out.put_line(control_c()),
+            KeyClass::Join => out.put(end_of_line()),
             KeyClass::End => put_end(self.ending, out),
             _ => out.put(bell()),
         }

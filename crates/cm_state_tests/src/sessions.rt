@@ -1,5 +1,6 @@
 // Sessions by example.
 mod fields;
+mod joins;
 mod lines;
 mod question;
 mod rows;

@@ -1,13 +1,15 @@
 // What a key makes of the line of a session.
 ghost use Rattle.std.specs.Prelude.{◌≡◌, ◌≤◌, true, false, [], ◌++◌, None, unwrap_or, if◌then◌else◌};
 ghost use Rattle.cm_text.specs.Bytes.{is_text};
+ghost use Rattle.cm_text.specs.Text.{ends_in_hyphen};
+ghost use Rattle.cm_line.specs.Keys.{is_end};
 ghost use Rattle.cm_hooks.specs.Ties.{Ties, count};
 ghost use Rattle.cm_blocks.specs.Grammar.{hook_count};
 ghost use Rattle.cm_blocks.specs.Kept.{common};
 ghost use Rattle.cm_blocks.specs.Parse.{open_at};
 ghost use Rattle.cm_blocks.specs.Setting.{setting};
 ghost use Rattle.cm_recognise.specs.Insertion.{insertion};
-ghost use Rattle.cm_state.specs.Edit.{completion, edit, is_end};
+ghost use Rattle.cm_state.specs.Edit.{completion, edit};
 ghost use Rattle.cm_state.specs.Front.{front};
 ghost use Rattle.cm_state.specs.SessionState.{met_line, text_of};
 
@@ -58,6 +60,7 @@ impl<R: Rules> Session<R> {
     ) -> Change
         requires open { self.old.is_finished ≡ false }
         requires text { class ≡ KeyClass.Text → is_text key ≡ true }
+        requires join { class ≡ KeyClass.Join → ends_in_hyphen self.old.line ≡ true }
         requires ties { Ties R.meanings hooks.now }
         requires hooks { hook_count grammar.now ≤ count hooks.now }
         ensures edited { self.new ≡ record self.old {
@@ -117,6 +120,7 @@ impl<R: Rules> Session<R> {
     fn edit_common(&mut self, class: KeyClass, key: u8) -> usize
         requires open { self.old.is_finished ≡ false }
         requires text { class ≡ KeyClass.Text → is_text key ≡ true }
+        requires join { class ≡ KeyClass.Join → ends_in_hyphen self.old.line ≡ true }
         ensures edited { self.new ≡ record self.old {
           line = edit class key self.old.line self.old.restorable [];
           is_finished = is_end class;
@@ -135,6 +139,7 @@ impl<R: Rules> Session<R> {
     {
         match (class, self.restorable.line()) {
             (KeyClass::Back, Some(line)) => common_len(self.line.bytes(), line.bytes()),
+            (KeyClass::Join, _) => self.line.bytes().len().saturating_sub(1),
             _ => self.line.bytes().len(),
         }
     }
@@ -143,6 +148,7 @@ impl<R: Rules> Session<R> {
     fn edit(&mut self, class: KeyClass, key: u8)
         requires open { self.old.is_finished ≡ false }
         requires text { class ≡ KeyClass.Text → is_text key ≡ true }
+        requires join { class ≡ KeyClass.Join → ends_in_hyphen self.old.line ≡ true }
         ensures { self.new ≡ record self.old {
           line = edit class key self.old.line self.old.restorable [];
           is_finished = is_end class;
@@ -159,6 +165,7 @@ impl<R: Rules> Session<R> {
             KeyClass::Word => self.line.cut(self.line.word_start()),
             KeyClass::Erase | KeyClass::Stop => self.line.cut(0),
             KeyClass::Back => self.restore(),
+            KeyClass::Join => self.line.join(),
             KeyClass::End => self.is_finished = true,
             _ => {}
         }
@@ -170,8 +177,7 @@ impl<R: Rules> Session<R> {
         ensures { self.new ≡ record self.old { line = unwrap_or self.old.restorable self.old.line } }
     {
         if let Some(line) = self.restorable.line() {
-            self.line.cut(0);
-            self.line.append(line.bytes());
+            self.line.set(line.bytes());
         }
     }
 }

@@ -81,6 +81,7 @@ fn takes_whole_lines(rt: HostRuntime) -> Result<(), Fail> {
 27|VER|Confirmed|0d 3 D 27.0k4@0-3
 0||Confirmed|0d 0 D
 0|LO|Refused(Fault { code: Ambiguous, node: 0, at: 0 })|0d 2 F2.0@0
+0|INF -|Refused(Fault { code: NotKeyword, node: 27, at: 4 })|0d 5 F1.27@4 0.1k9@0-3 26.0n0@4-4
 0|INF X|Refused(Fault { code: NotKeyword, node: 27, at: 4 })|0d 5 F1.27@4 0.1k9@0-3 26.0n0@4-4";
     tries(&rt, &rt, Question::Lines, exec(rt.alloc())?, cases)
 }

@@ -2,11 +2,10 @@ use Rattle.std.proofs.Common.{rules, arith, ◌≡◌, ℕ, List, ◌++◌, leng
 use Rattle.std.proofs.lemmas.Grind.{common_steps}
 use Rattle.cm_blocks.specs.Kept.{common}
 use Rattle.cm_state.proofs.Fronts.{common_longer}
-use Rattle.cm_state.proofs.Lines.{rest_is_plain}
 use Rattle.cm_state.proofs.session.Session.insert.Goals as goal
 
 pub append-requires : goal.append-requires
-append-requires g c = rw c.as_slice.ensures.value (rest_is_plain _ _ c.complete-insertion.ensures.line.plain)
+append-requires g c = rw c.as_slice.ensures.value c.complete-insertion.ensures.text
 
 pub returns-clause-front : goal.returns-clause-front
 returns-clause-front g c =
