@@ -67,7 +67,7 @@ def refusal(name, out):
         return (CANNOT_WRITE, f"{name}: {out} cannot be written: {fault}"), b""
     if not holds_something(out):
         return None, b""
-    is_yes, typed = ask(f"{name}: {out} is there already; this session's end writes over it. Go on (y or n)? ")
+    is_yes, typed = ask(f"{name}: {out} is there already. Write over it at the end (y or n)? ")
     return (None if is_yes else (NOT_RUN, f"{name}: {out} stays as it is")), typed
 
 
