@@ -12,7 +12,6 @@ and 125 where it is not to be written over, or where the program cannot be start
 """
 import os
 import signal
-import subprocess
 import sys
 import termios
 
@@ -26,8 +25,9 @@ DELAY = "50"
 
 
 def restore(settings):
-    """Gives the terminal these settings."""
-    subprocess.run(["stty", settings], stdin=KEYBOARD, stderr=subprocess.DEVNULL, check=False)
+    """Gives the terminal these settings, where it is still there."""
+    quiet = [(os.POSIX_SPAWN_OPEN, 2, os.devnull, os.O_WRONLY, 0)]
+    os.waitpid(os.posix_spawnp("stty", ["stty", settings], os.environ, file_actions=quiet), 0)
 
 
 def guard(settings):

@@ -9,7 +9,6 @@ import os
 import re
 import select
 import signal
-import subprocess
 
 SIGNALS = (signal.SIGHUP, signal.SIGINT, signal.SIGQUIT, signal.SIGTERM)
 KEYBOARD = 0
@@ -29,15 +28,14 @@ class Run:
         signal.signal(signal.SIGCHLD, lambda *_: None)
         keys, self.pipe = os.pipe()
         os.set_blocking(self.pipe, False)
-        # blocked, the program has them blocked too; a broken pipe is to be a fault of its screen, and no signal
-        signal.pthread_sigmask(signal.SIG_BLOCK, SIGNALS)
         for number in SIGNALS:
             signal.signal(number, self.end_by)
-        try:
-            self.program = subprocess.Popen(words, stdin=keys, restore_signals=False)
-        finally:
-            os.close(keys)
-            signal.pthread_sigmask(signal.SIG_UNBLOCK, SIGNALS)
+        # Python ignores a broken pipe, and so does the program then: it is a fault of its screen, and no signal
+        self.status = None
+        self.program = os.posix_spawn(
+            words[0], words, os.environ, file_actions=[(os.POSIX_SPAWN_DUP2, keys, KEYBOARD)], setsigmask=SIGNALS
+        )
+        os.close(keys)
 
     def relay(self, keys, typed, seconds):
         """Passes on what was typed already and what the terminal sends, as these keys, until either ends. What is held
@@ -51,12 +49,16 @@ class Run:
         while self.waiting and self.is_running():
             self.wait([], None)
         os.close(self.pipe)
-        status = self.program.wait()
-        return 128 - status if status < 0 else status
+        while self.is_running(0):
+            pass
+        return self.status if self.status >= 0 else 128 - self.status
 
-    def is_running(self):
-        """Whether the program has not ended."""
-        return self.program.poll() is None
+    def is_running(self, how=os.WNOHANG):
+        """Whether the program has not ended, now or, with 0, once it has."""
+        if self.status is None:
+            number, status = os.waitpid(self.program, how)
+            self.status = os.waitstatus_to_exitcode(status) if number else None
+        return self.status is None
 
     def turn(self, keys, seconds):
         """Waits for what comes next, and passes it on. Tells whether the terminal goes on."""
@@ -100,7 +102,7 @@ class Run:
     def look(self):
         """Looks for a signal that waits at the program."""
         try:
-            with open(f"/proc/{self.program.pid}/status", encoding="ascii", errors="replace") as told:
+            with open(f"/proc/{self.program}/status", encoding="ascii", errors="replace") as told:
                 masks = re.findall(r"^S(?:ig|hd)Pnd:\s*(\w+)", told.read(), re.MULTILINE)
         except OSError:
             return
