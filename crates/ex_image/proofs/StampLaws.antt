@@ -88,9 +88,11 @@ no_read : (read : Option ℕ) → not (is_some read) ≡ true → read ≡ None
 no_read None none = refl
 no_read (Some moment) none = absurd (cc)
 
+abbrev stamped : ℕ → ℕ → Option ℕ → Stamp
+stamped keep moment read = record { keep = keep; moment = moment; read = read }
+
 first_is : (keep moment : ℕ) (read : Option ℕ) (rest : List ℕ) → (keep == 0 && not (is_some read)) ≡ true
-    → done (record { keep = 0; moment = moment; read = None } : Stamp, rest)
-    ≡ done (record { keep = keep; moment = moment; read = read } : Stamp, rest)
+    → done (stamped 0 moment None, rest) ≡ done (stamped keep moment read, rest)
 first_is keep moment read rest told =
     let both = and_parts (keep == 0) (not (is_some read)) told in
     rw (eqb-true keep 0 both.0, no_read read both.1) refl
