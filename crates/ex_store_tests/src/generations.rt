@@ -3,7 +3,7 @@
 mod files;
 mod steps;
 
-use steps::{each_afresh, tells};
+use steps::{each_afresh, even, tells};
 
 #[test]
 fn retention_marks_the_lowest(rt: HostRuntime) {
@@ -134,4 +134,16 @@ fn retention_may_come_alone(rt: HostRuntime) {
 #[test]
 fn room_is_made(rt: HostRuntime) {
     tells(&rt, "; reserve 0; reserve 2; files -> Ok(()); Ok(()); none");
+}
+
+#[test]
+fn a_generation_is_looked_for_by_halving(rt: HostRuntime) {
+    let gens = even(&rt, 1_024);
+    for generation in [0, 1, 2, 3, 1_023, 1_024, 1_025, 2_047, 2_048, 2_049, 131_071] {
+        let mut probes = 0;
+        let found = gens.position(generation, &mut probes);
+        let is_there = generation > 0 && generation <= 2_048 && generation % 2 == 0;
+        assert_eq!(rt; found.is_some(), is_there, "{generation}");
+        assert!(rt; probes <= 11, "{generation}");
+    }
 }

@@ -163,6 +163,15 @@ fn made(rt: &(impl Abort + AllocGlobal), marks: &str) -> Gens {
     gens
 }
 
+/// Empty files of so many generations: 2, 4, 6 and so on.
+pub(super) fn even(rt: &(impl Abort + AllocGlobal), count: u32) -> Gens {
+    let mut gens = Gens::new(rt.alloc());
+    for number in 0..count {
+        add(rt, &mut gens, number.saturating_add(1).saturating_mul(2), 0, 0);
+    }
+    gens
+}
+
 /// A case tells what is wanted of it.
 pub(super) fn tells(rt: &(impl Abort + AllocGlobal), case: &str) {
     let (done, wanted) = halves(rt, case);
