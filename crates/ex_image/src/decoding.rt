@@ -35,6 +35,7 @@ fn read(alloc: Global, bytes: &[u8]) -> Result<Reading, ImageFault>
 
 /// The store of which the bytes are the image, in either version. Bad exactly where they are an image of none, with the
 /// place and the kind of the first record that is wrong after those before it.
+#[tactic(auto, using(crate::proofs::DecodeLaws::whole_there))]
 pub fn decode(alloc: Global, bytes: &[u8]) -> Result<Store, ImageFault>
     ensures image { IfOk result (λ store. IsImage bytes.now store.state) }
     ensures bad { IfErr result (λ fault. Tells bytes.now fault) }
