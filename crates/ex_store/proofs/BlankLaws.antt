@@ -1,4 +1,4 @@
--- Rows without their bytes are counted, added and taken out as the rows themselves.
+-- Rows without their bytes, as if nobody had read them, are counted, added and taken out as the rows themselves.
 use Rattle.std.proofs.Common.{◌≡◌, ℕ, suc, max, ◌==◌, ◌&&◌, ◌||◌, nat_le, Bool, true, false, not, cond, List, [], ◌∷◌, length, filter, map, Option, Some, None, refl, ap}
 use Rattle.std.specs.Option.{option_map, option_map_or}
 use Rattle.std.specs.Ordering.{is_lt}
@@ -7,13 +7,13 @@ use Rattle.cm_fields.specs.declared.value.Gen.TheVariants.{Missing, Highest, Nex
 use Rattle.ex_generations.specs.declared.file.File.{File}
 use Rattle.ex_generations.specs.Generations as generations
 use Rattle.ex_generations.specs.Generations.{has, highest, is_generation, unmarked}
-use Rattle.ex_generations.specs.Retention.{live}
+use Rattle.ex_generations.specs.Retention.{keep_for, live}
 use Rattle.ex_store.specs.declared.key.FullName.{FullName}
 use Rattle.ex_store.specs.declared.key.Key.{Key}
 use Rattle.ex_store.specs.declared.row.Row.{Row}
-use Rattle.ex_store.specs.Adding.{next_of, numbered}
-use Rattle.ex_store.specs.Ready.{reinserted, with_name}
-use Rattle.ex_store.specs.Rows.{added, blank, by_row, files_of, inserted, is_full, is_of, kept_newest, retained, row_at, with_mark, without}
+use Rattle.ex_store.specs.Adding.{keep_at, next_of, numbered}
+use Rattle.ex_store.specs.Ready.{reinserted}
+use Rattle.ex_store.specs.Rows.{added, blank, by_row, files_of, inserted, is_full, is_of, kept_newest, retained, row_at, with_mark, with_name, without}
 
 files_blank : (key : Key) (rows : List Row) → files_of key (map blank rows) ≡ map generations.blank (files_of key rows)
 files_blank key [] = refl
@@ -58,6 +58,13 @@ numbered_files (Number number) files = rw (has_blank number files)
 pub numbered_blank : (generation : Gen) (key : Key) (rows : List Row)
     → numbered generation (files_of key (map blank rows)) ≡ numbered generation (files_of key rows)
 numbered_blank generation key rows = rw (files_blank key rows) (numbered_files generation (files_of key rows))
+
+keep_files : (retention : ℕ) (files : List File) → keep_for retention (map generations.blank files) ≡ keep_for retention files
+keep_files retention [] = refl
+keep_files retention (file ∷ files) = keep_files file.keep files
+
+pub keep_blank : (retention : ℕ) (key : Key) (rows : List Row) → keep_at retention key (map blank rows) ≡ keep_at retention key rows
+keep_blank retention key rows = rw (files_blank key rows) (keep_files retention (files_of key rows))
 
 inserted_blank : (row : Row) (rows : List Row) → inserted (blank row) (map blank rows) ≡ map blank (inserted row rows)
 inserted_blank row [] = refl
@@ -117,7 +124,7 @@ row_at_blank full (row ∷ rows) = by (is_full full row) (row_at_blank full rows
     by true rest = refl
     by false rest = rest
 
-pub reinserted_blank : (retention : ℕ) (target : FullName) (rows : List Row) (row : Option Row)
-    → reinserted retention target (map blank rows) (option_map blank row) ≡ map blank (reinserted retention target rows row)
-reinserted_blank retention target rows None = refl
-reinserted_blank retention target rows (Some row) = added_blank retention (with_name target row) rows
+pub reinserted_blank : (target : FullName) (rows : List Row) (row : Option Row)
+    → reinserted target (map blank rows) (option_map blank row) ≡ map blank (reinserted target rows row)
+reinserted_blank target rows None = refl
+reinserted_blank target rows (Some row) = added_blank row.file.keep (with_name target row.file) rows

@@ -1,8 +1,9 @@
 // Plans are done.
-ghost use Rattle.std.specs.Prelude.{◌≡◌, ◌<◌, ◌≤◌, ◌+◌, [], ◌∷◌, ◌++◌, vec_capacity, vec_len};
-ghost use Rattle.ex_store.specs.Ready.{IsFor, applied};
+ghost use Rattle.std.specs.Prelude.{◌≡◌, true, ◌<◌, ◌≤◌, ◌+◌, [], ◌∷◌, ◌++◌, vec_capacity, vec_len};
+ghost use Rattle.ex_store.specs.Ready.{IsFor, applied, is_reading_within, rows_read};
 
 use crate::firsts::firsts_in;
+use crate::ready::Reading;
 use crate::{QueueEntry, Ready, Store};
 
 // Puts an entry behind those of the queue, in a vector that has room for it.
@@ -29,6 +30,18 @@ fn enqueue(queue: &mut Vec<QueueEntry>, entries: Vec<QueueEntry>)
 }
 
 impl Store {
+    // The files that are read get the moment of it.
+    fn read(&mut self, reading: Option<Reading>)
+        requires { is_reading_within reading ≡ true }
+        ensures { self.new ≡ record self.old {
+          state = record self.old.state { rows = rows_read reading self.old.state };
+        } }
+    {
+        if let Some(reading) = reading {
+            self.touch(&reading.files, reading.moment);
+        }
+    }
+
     /// Does what is ready. The store is as [`Store::prepare`] left it.
     pub fn apply(&mut self, ready: Ready)
         requires { IsFor ready self.old }
@@ -37,18 +50,19 @@ impl Store {
         let Ready {
             directory,
             definition,
-            retention,
+            reading,
             row_changes,
             entries,
             ..
         } = ready;
+        self.read(reading);
         if let Some(directory) = directory {
             self.directories.make(directory);
         }
         if let Some(definition) = definition {
             self.logical.define(definition);
         }
-        self.files.change(row_changes, retention);
+        self.files.change(row_changes);
         self.firsts = firsts_in(&self.directories, &self.files);
         enqueue(&mut self.queue, entries);
     }

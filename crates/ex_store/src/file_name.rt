@@ -5,13 +5,13 @@ ghost use Rattle.std.specs.Ordering.{is_lt};
 ghost use Rattle.cm_files.specs.Catalogue.{ascends};
 ghost use Rattle.ex_generations.specs.declared.file.TheConstants.{FILE_LIMIT, GENERATION_LIMIT};
 ghost use Rattle.ex_generations.specs.Generations.{IsAscending, has};
-ghost use Rattle.ex_store.specs.Adding.{numbered};
+ghost use Rattle.ex_store.specs.Adding.{keep_at, numbered};
 ghost use Rattle.ex_store.specs.Appending.{bytes_at, found};
 ghost use Rattle.ex_store.specs.FileNames.{HaveRoom, by_name, is_under, is_under_either, room_at, rooms_of, row_under, rows_of, rows_under, wanted_at};
 ghost use Rattle.ex_store.specs.declared.file_name.FileName.{FileName as Name};
 ghost use Rattle.ex_store.specs.declared.key.FullName.{FullName as Full};
 ghost use Rattle.ex_store.specs.declared.key.Key.{Key as Named};
-ghost use Rattle.ex_store.specs.Rows.{added, blank, by_key, filled, files_of, row_at, rows_in_either, without};
+ghost use Rattle.ex_store.specs.Rows.{added, blank, by_key, filled, files_of, inserted, row_at, rows_in_either, without};
 
 use crate::key::key_cmp;
 use crate::{FullName, Key, Row};
@@ -64,25 +64,42 @@ impl Entry {
         })
     }
 
-    // Adds a file, and then so many unmarked generations are kept.
-    pub(crate) fn add(&mut self, file: File, retention: u8) -> Result<(), NoMemory>
+    // Adds a file, and then as many unmarked generations are kept as it says.
+    fn add(&mut self, file: File) -> Result<(), NoMemory>
         requires short { length file.bytes ≤ FILE_LIMIT }
         requires from_one { 0 < file.generation }
         requires to_limit { file.generation ≤ GENERATION_LIMIT }
         requires absent { has file.generation self.old.gens.files ≡ false }
         ensures key { self.new.key ≡ self.old.key }
         ensures rows { OnOk result
-            (rows_under self.new ≡ added retention (row_under self.old.key file) (rows_under self.old)) }
+            (rows_under self.new ≡ added file.keep (row_under self.old.key file) (rows_under self.old)) }
         ensures few { length self.new.gens.files ≤ length self.old.gens.files + 1 }
         ensures refused { OnErr result (rows_under self.new ≡ rows_under self.old) }
     {
         self.name.gens.reserve(1)?;
-        self.name.gens.add(file, retention);
+        self.name.gens.add(file);
         Ok(())
     }
 
-    // Adds a file where there is room for it, and then so many unmarked generations are kept.
-    fn put(&mut self, file: File, retention: u8)
+    // Adds a file at its place, and marks none.
+    pub(crate) fn insert(&mut self, file: File) -> Result<(), NoMemory>
+        requires short { length file.bytes ≤ FILE_LIMIT }
+        requires from_one { 0 < file.generation }
+        requires to_limit { file.generation ≤ GENERATION_LIMIT }
+        requires absent { has file.generation self.old.gens.files ≡ false }
+        ensures key { self.new.key ≡ self.old.key }
+        ensures rows { OnOk result
+            (rows_under self.new ≡ inserted (row_under self.old.key file) (rows_under self.old)) }
+        ensures few { length self.new.gens.files ≤ length self.old.gens.files + 1 }
+        ensures refused { OnErr result (rows_under self.new ≡ rows_under self.old) }
+    {
+        self.name.gens.reserve(1)?;
+        self.name.gens.insert(file);
+        Ok(())
+    }
+
+    // Adds a file where there is room for it, and then as many unmarked generations are kept as it says.
+    fn put(&mut self, file: File)
         requires room { length self.old.gens.files < self.old.gens.room }
         requires short { length file.bytes ≤ FILE_LIMIT }
         requires from_one { 0 < file.generation }
@@ -90,9 +107,9 @@ impl Entry {
         requires absent { has file.generation self.old.gens.files ≡ false }
         ensures key { self.new.key ≡ self.old.key }
         ensures room { self.new.gens.room ≡ self.old.gens.room }
-        ensures rows { rows_under self.new ≡ added retention (row_under self.old.key file) (rows_under self.old) }
+        ensures rows { rows_under self.new ≡ added file.keep (row_under self.old.key file) (rows_under self.old) }
     {
-        self.name.gens.add(file, retention);
+        self.name.gens.add(file);
     }
 
     // Gives the file of a generation another moment and other bytes, where there is one.
@@ -108,7 +125,7 @@ impl Entry {
         }
     }
 
-    // The same without the bytes of its files.
+    // The same without the bytes of its files, as if nobody had read them.
     fn blank(&self, alloc: Global) -> Result<Entry, NoMemory>
         ensures key { IfOk result (λ name. name.key ≡ self.now.key) }
         ensures rows { IfOk result (λ name. rows_under name ≡ map blank (rows_under self.now)) }
@@ -258,23 +275,29 @@ pub(crate) fn enter(names: &mut Vec<Entry>, alloc: Global, key: &Key) -> Result<
     Ok(at)
 }
 
-// Adds a file under its name, and then so many unmarked generations are kept.
-pub(crate) fn add(
-    names: &mut Vec<Entry>,
-    alloc: Global,
-    row: Row,
-    retention: u8,
-) -> Result<(), NoMemory>
+// How many generations a new file of a name keeps: as many as the highest of them, and else this number.
+pub(crate) fn keep_at(names: &[Entry], key: &Key, retention: u8) -> u8
+    requires { ascends by_name names.now ≡ true }
+    ensures { result ≡ keep_at retention key.now (rows_of names.now) }
+{
+    match position(names, key) {
+        Some(at) => names[at].gens().keep_for(retention),
+        None => retention,
+    }
+}
+
+// Adds a file under its name, and then as many unmarked generations are kept as it says.
+pub(crate) fn add(names: &mut Vec<Entry>, alloc: Global, row: Row) -> Result<(), NoMemory>
     requires names { ascends by_name names.old.items ≡ true }
     requires short { length row.file.bytes ≤ FILE_LIMIT }
     requires from_one { 0 < row.file.generation }
     requires to_limit { row.file.generation ≤ GENERATION_LIMIT }
     requires absent { has row.file.generation (files_of row.key (rows_of names.old.items)) ≡ false }
-    ensures rows { OnOk result (rows_of names.new.items ≡ added retention row (rows_of names.old.items)) }
+    ensures rows { OnOk result (rows_of names.new.items ≡ added row.file.keep row (rows_of names.old.items)) }
     ensures ascend { ascends by_name names.new.items ≡ true }
 {
     let at = enter(names, alloc, &row.key)?;
-    names[at].add(row.file, retention)?;
+    names[at].add(row.file)?;
     Ok(())
 }
 
@@ -293,20 +316,20 @@ pub(crate) fn remove(names: &mut [Entry], full: &FullName) -> Option<File>
     }
 }
 
-// Adds a file under a name that has room for it, and then so many unmarked generations are kept.
-pub(crate) fn put(names: &mut [Entry], row: Row, retention: u8)
+// Adds a file under a name that has room for it, and then as many unmarked generations are kept as it says.
+pub(crate) fn put(names: &mut [Entry], row: Row)
     requires names { ascends by_name names.old ≡ true }
     requires room { length (files_of row.key (rows_of names.old)) < room_at row.key (rooms_of names.old) }
     requires short { length row.file.bytes ≤ FILE_LIMIT }
     requires from_one { 0 < row.file.generation }
     requires to_limit { row.file.generation ≤ GENERATION_LIMIT }
     requires absent { has row.file.generation (files_of row.key (rows_of names.old)) ≡ false }
-    ensures rows { rows_of names.new ≡ added retention row (rows_of names.old) }
+    ensures rows { rows_of names.new ≡ added row.file.keep row (rows_of names.old) }
     ensures ascend { ascends by_name names.new ≡ true }
     ensures rooms { rooms_of names.new ≡ rooms_of names.old }
 {
     match position(names, &row.key) {
-        Some(at) => names[at].put(row.file, retention),
+        Some(at) => names[at].put(row.file),
         None => unreachable!(),
     }
 }
@@ -324,7 +347,7 @@ pub(crate) fn fill(names: &mut [Entry], target: &FullName, moment: u64, bytes: B
     }
 }
 
-// The names of two directories, with their files without their bytes.
+// The names of two directories, with their files without their bytes, as if nobody had read them.
 pub(crate) fn blanks(
     alloc: Global,
     names: &[Entry],

@@ -7,13 +7,14 @@ ghost use Rattle.ex_store.specs.FileNames.{AreNames, IsCounted, by_name, counted
 ghost use Rattle.ex_store.specs.Lent.{row_of_view};
 ghost use Rattle.ex_store.specs.declared.file_name.FileName.{FileName as Name};
 ghost use Rattle.ex_store.specs.declared.row.Row.{Row as Filed};
-ghost use Rattle.ex_store.specs.Rows.{by_row, end_in, first_in, with_mark};
+ghost use Rattle.ex_store.specs.Rows.{by_row, end_in, first_in, with_remark};
 ghost use Rattle.ex_store.specs.WellFormed.{is_numbered};
 
 use crate::file_name::{Entry, FileName, enter};
 use crate::{Row, RowView};
 use cm_io::NoMemory;
 use cm_text::seek;
+use ex_generations::Remark;
 use std::alloc::Global;
 
 impl Entry {
@@ -48,17 +49,17 @@ impl Entry {
         }
     }
 
-    // Gives the file at a place of its own a mark.
-    fn set_mark(&mut self, i: usize, deleted: bool)
+    // Changes one thing of the file at a place of its own.
+    fn remark(&mut self, i: usize, remark: Remark)
         requires within { i < length self.old.gens.files }
         ensures key { self.new.key ≡ self.old.key }
         ensures end { self.new.end ≡ self.old.end }
         ensures len { length self.new.gens.files ≡ length self.old.gens.files }
         ensures room { self.new.gens.room ≡ self.old.gens.room }
         ensures rows { (d : Filed) → rows_under self.new
-            ≡ set (rows_under self.old) i (with_mark deleted (get_or (rows_under self.old) i d)) }
+            ≡ set (rows_under self.old) i (with_remark remark (get_or (rows_under self.old) i d)) }
     {
-        self.name.gens.set_mark(i, deleted);
+        self.name.gens.remark(i, remark);
     }
 }
 
@@ -143,20 +144,20 @@ pub(crate) fn row_at(names: &[Entry], i: usize) -> RowView<'_>
     names[n].file_at(at)
 }
 
-// Gives the file with this number a mark.
-pub(crate) fn set_mark(names: &mut [Entry], i: usize, deleted: bool)
+// Changes one thing of the file with this number.
+pub(crate) fn remark_file(names: &mut [Entry], i: usize, remark: Remark)
     requires names { ascends by_name names.old ≡ true }
     requires counted { IsCounted 0 names.old }
     requires within { i < length (rows_of names.old) }
     requires few { length (rows_of names.old) ≤ ROW_LIMIT }
     ensures rows { (d : Filed) → rows_of names.new
-        ≡ set (rows_of names.old) i (with_mark deleted (get_or (rows_of names.old) i d)) }
+        ≡ set (rows_of names.old) i (with_remark remark (get_or (rows_of names.old) i d)) }
     ensures rooms { rooms_of names.new ≡ rooms_of names.old }
     ensures ascend { ascends by_name names.new ≡ true }
     ensures counted { IsCounted 0 names.new }
 {
     let (n, at) = place_of(names, i);
-    names[n].set_mark(at, deleted);
+    names[n].remark(at, remark);
 }
 
 // Adds a file that goes behind all others.
@@ -171,8 +172,8 @@ pub(crate) fn push(names: &mut Vec<Entry>, alloc: Global, row: Row) -> Result<()
     ensures refused { OnErr result (rows_of names.new.items ≡ rows_of names.old.items) }
 {
     let at = enter(names, alloc, &row.key)?;
-    let added = names[at].add(row.file, 0);
+    let inserted = names[at].insert(row.file);
     count(names, at);
-    added?;
+    inserted?;
     Ok(())
 }

@@ -101,41 +101,37 @@ pub(crate) fn make_room(
     Ok(())
 }
 
-// A file goes to another name that has room for it, and then so many unmarked generations are kept.
-fn rename(names: &mut [Entry], pair: NamePair, retention: u8)
+// A file goes to another name that has room for it, and then as many unmarked generations are kept as it says.
+fn rename(names: &mut [Entry], pair: NamePair)
     requires names { ascends by_name names.old ≡ true }
     requires doable { is_doable (rows_of names.old) (Move pair) ≡ true }
     requires numbered { is_numbered pair.target.generation ≡ true }
     requires room { let key = pair.target.key in
         length (files_of key (rows_of names.old)) < room_at key (rooms_of names.old) }
-    ensures rows { rows_of names.new ≡ moved retention pair (rows_of names.old) }
+    ensures rows { rows_of names.new ≡ moved pair (rows_of names.old) }
     ensures ascend { ascends by_name names.new ≡ true }
     ensures rooms { rooms_of names.new ≡ rooms_of names.old }
 {
     let NamePair { source, target } = pair;
     if let Some(file) = remove(names, &source) {
-        put(
-            names,
-            Row::new(target.key, target.generation, file.moment, file.bytes),
-            retention,
-        );
+        put(names, Row::with_name(target, file));
     }
 }
 
 // One change, where there is room for what it puts.
-fn change_name(names: &mut [Entry], change: RowChange, retention: u8)
+fn change_name(names: &mut [Entry], change: RowChange)
     requires names { ascends by_name names.old ≡ true }
     requires lawful { is_lawful change ≡ true }
     requires doable { is_doable (rows_of names.old) change ≡ true }
     requires room { (key : Named) → puts_under key change ≡ true
         → length (files_of key (rows_of names.old)) < room_at key (rooms_of names.old) }
-    ensures rows { rows_of names.new ≡ rows_after retention (rows_of names.old) change }
+    ensures rows { rows_of names.new ≡ rows_after (rows_of names.old) change }
     ensures ascend { ascends by_name names.new ≡ true }
     ensures rooms { rooms_of names.new ≡ rooms_of names.old }
 {
     match change {
-        RowChange::Add(row) => put(names, row, retention),
-        RowChange::Move(pair) => rename(names, pair, retention),
+        RowChange::Add(row) => put(names, row),
+        RowChange::Move(pair) => rename(names, pair),
         RowChange::Fill {
             target,
             moment,
@@ -145,18 +141,18 @@ fn change_name(names: &mut [Entry], change: RowChange, retention: u8)
 }
 
 // All changes, one after the other, where there is room for what they put.
-pub(crate) fn change_names(names: &mut [Entry], changes: Vec<RowChange>, retention: u8)
+pub(crate) fn change_names(names: &mut [Entry], changes: Vec<RowChange>)
     requires names { ascends by_name names.old ≡ true }
     requires lawful { list_all is_lawful changes.items ≡ true }
-    requires doable { are_doable retention (rows_of names.old) changes.items ≡ true }
+    requires doable { are_doable (rows_of names.old) changes.items ≡ true }
     requires room { (key : Named) → 0 < count_under key changes.items
         → length (files_of key (rows_of names.old)) + count_under key changes.items
         ≤ room_at key (rooms_of names.old) }
-    ensures rows { rows_of names.new ≡ rows_after_all retention (rows_of names.old) changes.items }
+    ensures rows { rows_of names.new ≡ rows_after_all (rows_of names.old) changes.items }
     ensures ascend { ascends by_name names.new ≡ true }
     ensures rooms { rooms_of names.new ≡ rooms_of names.old }
 {
     for change in changes {
-        change_name(names, change, retention);
+        change_name(names, change);
     }
 }
