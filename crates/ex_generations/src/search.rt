@@ -2,7 +2,7 @@
 ghost use Rattle.std.specs.Prelude.{◌≡◌, ◌≤◌, ◌↔◌, false, find, length, option_copied, Some, IfOk, IsErr, position, nat_lt};
 ghost use Rattle.std.specs.List.{prefix_len};
 ghost use Rattle.ex_generations.specs.Generations.{IsAscending, has, highest, is_generation, lowest, marked, next_generation, page_count, pages, with_mark};
-ghost use Rattle.ex_generations.specs.Retention.{live};
+ghost use Rattle.ex_generations.specs.Retention.{keep_for, live};
 
 use crate::{Bytes, FILE_LIMIT, File, GENERATION_LIMIT, GenFull, PAGE_BYTES};
 use cm_text::seek;
@@ -72,6 +72,16 @@ pub(crate) fn next(files: &[File]) -> Result<u32, GenFull>
         None => Ok(1),
         Some(file) if file.generation < GENERATION_LIMIT => Ok(file.generation + 1),
         Some(_) => Err(GenFull),
+    }
+}
+
+// How many files the highest keeps, and this many with no file.
+pub(crate) fn keep_for(files: &[File], keep: u8) -> u8
+    ensures { result ≡ keep_for keep files.now }
+{
+    match files.last() {
+        Some(file) => file.keep,
+        None => keep,
     }
 }
 

@@ -1,5 +1,4 @@
-use Rattle.std.proofs.Common.{◌≡◌, Some, None, position, sym, ◌∙◌}
-use Rattle.ex_generations.specs.Generations.{is_generation}
+use Rattle.std.proofs.Common.{sym, ◌∙◌}
 use Rattle.ex_generations.proofs.Placing.{absent-from_position, find_absent, find_is}
 use Rattle.ex_generations.proofs.search.find.Goals as goal
 
