@@ -31,7 +31,7 @@ unreachable-requires c =
 
 pub returns-clause-rows : goal.returns-clause-rows
 returns-clause-rows c =
-    added_found c.args.retention c.args.row c.args.names.now c.in-Some.at c.index-names-at.result c.put.new.self c.requires.names
+    added_found c.args.row.file.keep c.args.row c.args.names.now c.in-Some.at c.index-names-at.result c.put.new.self c.requires.names
     (sym c.position.ensures ∙ c.in-Some.is) c.put.ensures.rows
 
 pub returns-clause-ascend : goal.returns-clause-ascend
