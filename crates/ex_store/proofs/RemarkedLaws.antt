@@ -1,5 +1,5 @@
 -- One thing is changed of rows, or they are taken out: the rows stay those of a store.
-use Rattle.std.proofs.Common.{◌≡◌, ℕ, suc, zero, ◌+◌, ◌<◌, ◌≤◌, nat_lt, ◌&&◌, Bool, true, false, not, cond, List, [], ◌∷◌, ◌++◌, append_assoc, drop, drop-cons, filter, get_or, length, length-append, map, set, refl, ap, arith, ◌∙◌, sym}
+use Rattle.std.proofs.Common.{◌≡◌, ℕ, suc, zero, ◌+◌, ◌<◌, ◌≤◌, nat_lt, ◌&&◌, Bool, true, false, not, cond, List, [], ◌∷◌, ◌++◌, append_assoc, drop, drop-cons, filter, get_or, length, length-append, map, set, take, refl, ap, arith, ◌∙◌, sym}
 use Rattle.std.specs.List.{list_all}
 use Rattle.std.specs.Ordering.{is_lt}
 use Rattle.cm_files.specs.Catalogue.{by_bytes}
@@ -17,7 +17,7 @@ use Rattle.ex_store.specs.Positions.{all_changed_at, changed_at, positions_from}
 use Rattle.ex_store.specs.Draft.{kept_by}
 use Rattle.ex_store.specs.Rows.{by_full, by_row, expunged, first_in, full_of, is_in, is_short, total, with_remark}
 use Rattle.ex_store.specs.State.{State, firsts_in, retention_of}
-use Rattle.ex_store.specs.WellFormed.{AreRows, IsWellFormed, is_directory, is_remark, is_row_among, is_stamped}
+use Rattle.ex_store.specs.WellFormed.{AreRows, IsDraft, IsWellFormed, is_directory, is_remark, is_row_among, is_stamped}
 use Rattle.ex_store.proofs.AllCopiedLaws.{formed, formed_is}
 use Rattle.ex_store.proofs.AscendsLaws.{all_filter, ascends_filter, ascends_map}
 use Rattle.ex_store.proofs.BuiltLaws.{all_more, retention_within}
@@ -60,6 +60,14 @@ passed front x xs = append_assoc front (x ∷ []) xs
 
 counted : {X : Type 0} (front : List X) (x : X) → length (front ++ x ∷ []) ≡ length front + 1
 counted front x = length-append front (x ∷ [])
+
+-- where the elements are changed one after the other, one more
+pub changed_next : {X : Type 0} (change : X → X) (xs : List X) (i : ℕ) (d : X) → i < length xs
+    → take (i + 1) (set xs i (change (get_or xs i d))) ++ map change (drop (i + 1) (set xs i (change (get_or xs i d))))
+    ≡ take i xs ++ map change (drop i xs)
+changed_next change [] i d within = absurd (omega arith)
+changed_next change (x ∷ xs) zero d within = refl
+changed_next change (x ∷ xs) (suc i) d within = rw (next_one i) (ap (λ rest. x ∷ rest) (changed_next change xs i d (omega arith)))
 
 -- an element that passes a test is changed, and else stays
 abbrev pub where_passing : {X : Type 0} → (X → Bool) → (X → X) → X → X
@@ -274,22 +282,24 @@ row_short directories row is = (and_parts _ _ is).1
 pub rows_short : (directories : List Directory) (rows : List Row) → AreRows directories rows → list_all is_short rows ≡ true
 rows_short directories rows are = all_more (is_row_among directories) is_short rows (λ row is. (and_parts _ _ is).1) are.within
 
+pub draft_with_rows : (state : State) (rows : List Row) → IsDraft state → AreRows state.directories rows
+    → IsDraft (record state { rows = rows })
+draft_with_rows state rows draft are = record {
+  directories_ascend = draft.directories_ascend;
+  directories_within = draft.directories_within;
+  few_directories = draft.few_directories;
+  logical_ascend = draft.logical_ascend;
+  logical_within = draft.logical_within;
+  few_logical = draft.few_logical;
+  rows = are;
+  queue_within = draft.queue_within;
+  few_entries = draft.few_entries;
+}
+
 pub well_formed_with_rows : (state : State) (rows : List Row) → IsWellFormed state → AreRows state.directories rows
     → IsWellFormed (record state { rows = rows })
-well_formed_with_rows state rows well are = record {
-  draft = record {
-    directories_ascend = well.draft.directories_ascend;
-    directories_within = well.draft.directories_within;
-    few_directories = well.draft.few_directories;
-    logical_ascend = well.draft.logical_ascend;
-    logical_within = well.draft.logical_within;
-    few_logical = well.draft.few_logical;
-    rows = are;
-    queue_within = well.draft.queue_within;
-    few_entries = well.draft.few_entries;
-  };
-  connected_there = well.connected_there;
-}
+well_formed_with_rows state rows well are =
+    record { draft = draft_with_rows state rows well.draft are; connected_there = well.connected_there }
 
 -- the rows that are changed are those that pass
 pub remarked_rows : (test : Row → Bool) (remark : Remark) (rows before after : List Row) (given positions : List ℕ) → before ≡ rows

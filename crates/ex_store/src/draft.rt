@@ -18,7 +18,7 @@ use std::marker::Model;
 
 // Has each file keep as many generations as its directory.
 fn keep_by(directories: &Directories, files: &mut Files)
-    ensures { files.new ≡ record files.old { rows = map (kept_by directories.now.list) files.old.rows } }
+    ensures { files.new.rows ≡ map (kept_by directories.now.list) files.old.rows }
 {
     for i in 0..files.len() {
         let keep = directories.retention_of(files.row_at(i).directory.as_str());
