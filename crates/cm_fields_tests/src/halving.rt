@@ -1,13 +1,10 @@
-// How many elements a search by halving looks at.
+// How often a search by halving asks its test.
 use cm_text::seek;
 
-// How many elements of 0, 1, 2, .. a search for a number looks at.
-fn probes(items: &[u16], wanted: u16) -> u32 {
-    let mut probes = 0_u32;
-    seek(items, |item| {
-        probes = probes.saturating_add(1);
-        *item < wanted
-    });
+// How often a search for a number among these asks.
+fn probes(items: &[u16], wanted: u16) -> u64 {
+    let mut probes = 0;
+    seek(items, |item| *item < wanted, &mut probes);
     probes
 }
 
@@ -23,7 +20,7 @@ fn numbers<const N: usize>() -> [u16; N] {
 }
 
 #[test]
-fn a_search_of_1024_elements_looks_at_11(rt: HostRuntime) {
+fn a_search_of_1024_elements_asks_11_times(rt: HostRuntime) {
     let items = numbers::<1024>();
     for wanted in [0, 1, 511, 512, 513, 1023, 1024] {
         assert!(rt; probes(&items, wanted) <= 11, "at {wanted}");
@@ -31,7 +28,7 @@ fn a_search_of_1024_elements_looks_at_11(rt: HostRuntime) {
 }
 
 #[test]
-fn a_search_of_4096_elements_looks_at_13(rt: HostRuntime) {
+fn a_search_of_4096_elements_asks_13_times(rt: HostRuntime) {
     let items = numbers::<4096>();
     for wanted in [0, 1, 2047, 2048, 2049, 4095, 4096] {
         assert!(rt; probes(&items, wanted) <= 13, "at {wanted}");

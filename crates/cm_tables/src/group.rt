@@ -28,8 +28,17 @@ pub(crate) fn group_of<'a>(entries: &'a [Entry], atom: &[u8]) -> (usize, &'a [En
     ensures group { IsGroup atom.now entries.now result.0 result.1.now }
     ensures within { result.0 + length result.1.now ≤ length entries.now }
 {
-    let start = seek(entries, |entry| place(entry.text.as_bytes(), atom).is_lt());
+    let mut probes = 0;
+    let start = seek(
+        entries,
+        |entry| place(entry.text.as_bytes(), atom).is_lt(),
+        &mut probes,
+    );
     let (_, behind) = entries.split_at(start);
-    let size = seek(behind, |entry| place(entry.text.as_bytes(), atom).is_le());
+    let size = seek(
+        behind,
+        |entry| place(entry.text.as_bytes(), atom).is_le(),
+        &mut probes,
+    );
     (start, behind.split_at(size).0)
 }

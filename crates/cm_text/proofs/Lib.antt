@@ -1,2 +1,3 @@
 pub mod Ascii
 mod Decimal
+pub mod Halving

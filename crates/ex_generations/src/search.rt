@@ -12,7 +12,8 @@ pub(crate) fn place(files: &[File], generation: u32) -> usize
     requires { IsAscending 0 files.now }
     ensures { result ≡ prefix_len (λ file. nat_lt file.generation generation) files.now }
 {
-    seek(files, |file| file.generation < generation)
+    let mut probes = 0;
+    seek(files, |file| file.generation < generation, &mut probes)
 }
 
 // Where the file of a generation stands.

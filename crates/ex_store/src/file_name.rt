@@ -204,7 +204,12 @@ fn place(names: &[Entry], key: &Key) -> usize
     requires { ascends by_name names.now ≡ true }
     ensures { result ≡ prefix_len (λ name. is_lt (by_key name.key key.now)) names.now }
 {
-    seek(names, |entry| key_cmp(entry.key(), key).is_lt())
+    let mut probes = 0;
+    seek(
+        names,
+        |entry| key_cmp(entry.key(), key).is_lt(),
+        &mut probes,
+    )
 }
 
 // Where a name stands.

@@ -99,9 +99,11 @@ pub(crate) fn first_of(names: &[Entry], directory: &[u8]) -> usize
     requires counted { IsCounted 0 names.now }
     ensures { result ≡ first_in directory.now (rows_of names.now) }
 {
+    let mut probes = 0;
     let n = seek(
         names,
         |entry| entry.key().directory.as_bytes().cmp(directory).is_lt(),
+        &mut probes,
     );
     files_before(names, n)
 }
@@ -112,9 +114,11 @@ pub(crate) fn end_of(names: &[Entry], directory: &[u8]) -> usize
     requires counted { IsCounted 0 names.now }
     ensures { result ≡ end_in directory.now (rows_of names.now) }
 {
+    let mut probes = 0;
     let n = seek(
         names,
         |entry| entry.key().directory.as_bytes().cmp(directory).is_le(),
+        &mut probes,
     );
     files_before(names, n)
 }
@@ -129,7 +133,8 @@ fn place_of(names: &[Entry], i: usize) -> (usize, usize)
     ensures number { length (rows_of (take result.0 names.now)) + result.1 ≡ i }
 {
     let behind = i + 1;
-    let n = seek(names, |entry| entry.end() < behind);
+    let mut probes = 0;
+    let n = seek(names, |entry| entry.end() < behind, &mut probes);
     (n, i - files_before(names, n))
 }
 
