@@ -1,5 +1,5 @@
 -- A plan that is ready to be done.
-use Rattle.std.specs.Prelude.{ℕ, ◌≡◌, ◌+◌, ◌<◌, ◌≤◌, ◌&&◌, nat_le, Bool, true, false, not, List, [], ◌∷◌, length, Option, Some, None, Result, Ok, ◌++◌}
+use Rattle.std.specs.Prelude.{ℕ, ◌≡◌, ◌+◌, ◌-◌, ◌<◌, ◌≤◌, ◌&&◌, nat_le, Bool, true, false, not, List, [], ◌∷◌, length, Option, Some, None, Result, Ok, ◌++◌}
 use Rattle.std.specs.List.{count_by, fold, list_all}
 use Rattle.std.specs.Option.{option_map_or}
 use Rattle.std.specs.Ordering.{is_eq}
@@ -165,6 +165,15 @@ count_under key changes = count_by (puts_under key) changes
 abbrev pub count_made : {X : Type 0} → Option X → ℕ
 count_made None = 0
 count_made (Some made) = 1
+
+-- what is held when all of it is done: what is made takes its place, and else the room is as it was
+abbrev pub held_after : Change → StoreWithRoom → StoreWithRoom
+held_after change held =
+    record held {
+      state = applied change held.state;
+      spare_directories = held.spare_directories - count_made change.directory;
+      spare_logical = held.spare_logical - count_made change.definition;
+    }
 
 -- it can be done on what is held: it leads to a state that may be, no file is added under a name that another has, and
 -- there is room for what is made

@@ -1,6 +1,6 @@
 // Plans are done.
 ghost use Rattle.std.specs.Prelude.{◌≡◌, true, ◌<◌, ◌≤◌, ◌+◌, [], ◌∷◌, ◌++◌, vec_capacity, vec_len};
-ghost use Rattle.ex_store.specs.Ready.{IsFor, applied, is_reading_within, rows_read};
+ghost use Rattle.ex_store.specs.Ready.{IsFor, held_after, is_reading_within, rows_read};
 
 use crate::firsts::firsts_in;
 use crate::ready::Reading;
@@ -11,9 +11,9 @@ fn put_last(queue: &mut Vec<QueueEntry>, entry: QueueEntry)
     requires { vec_len queue.old < vec_capacity queue.old }
     ensures items { queue.new.items ≡ queue.old.items ++ entry ∷ [] }
     ensures len { vec_len queue.new ≡ vec_len queue.old + 1 }
-    ensures capacity { vec_capacity queue.old ≤ vec_capacity queue.new }
+    ensures capacity { vec_capacity queue.new ≡ vec_capacity queue.old }
 {
-    match queue.push(entry) {
+    match queue.insert(queue.len(), entry) {
         Ok(()) => {}
         Err(_) => unreachable!(),
     }
@@ -22,7 +22,8 @@ fn put_last(queue: &mut Vec<QueueEntry>, entry: QueueEntry)
 // Puts entries into the queue, in a vector that has room for them.
 fn enqueue(queue: &mut Vec<QueueEntry>, entries: Vec<QueueEntry>)
     requires { vec_len queue.old + vec_len entries ≤ vec_capacity queue.old }
-    ensures { queue.new.items ≡ queue.old.items ++ entries.items }
+    ensures items { queue.new.items ≡ queue.old.items ++ entries.items }
+    ensures capacity { vec_capacity queue.new ≡ vec_capacity queue.old }
 {
     for entry in entries {
         put_last(queue, entry);
@@ -42,10 +43,11 @@ impl Store {
         }
     }
 
-    /// Does what is ready. The store is as [`Store::prepare`] left it.
+    /// Does what is ready. The store is as [`Store::prepare`] left it. No memory is taken or let go: what is made takes
+    /// the room that was made for it.
     pub fn apply(&mut self, ready: Ready)
         requires { IsFor ready self.old }
-        ensures { self.new.state ≡ applied ready self.old.state }
+        ensures { self.new ≡ held_after ready self.old }
     {
         let Ready {
             directory,

@@ -1,5 +1,5 @@
 // Files by name: each directory, name and type with its generations, as a store has them, and a plan that is played.
-ghost use Rattle.std.specs.Prelude.{◌≡◌, ◌<◌, ◌≤◌, [], true, false, get_or, length, map, position, take, ◌+◌, IfOk, IfSome, OnErr, OnOk, Ok, option_map};
+ghost use Rattle.std.specs.Prelude.{◌≡◌, ◌<◌, ◌≤◌, ◌-◌, ◌*◌, ◌^◌, [], true, false, get_or, length, map, position, take, ◌+◌, IfOk, IfSome, OnErr, OnOk, Ok, option_copied, option_map};
 ghost use Rattle.std.specs.List.{prefix_len};
 ghost use Rattle.std.specs.Ordering.{is_lt};
 ghost use Rattle.cm_files.specs.Catalogue.{ascends};
@@ -152,6 +152,14 @@ impl Entry {
         }
     }
 
+    // The file of a generation, where there is one.
+    fn find(&self, generation: u32) -> Option<&File>
+        ensures { let full : Full = record { key = self.now.key; generation = generation } in
+            option_map (row_under self.now.key) (option_copied result) ≡ row_at full (rows_under self.now) }
+    {
+        self.name.gens.find(generation)
+    }
+
     // Its directory, name and type.
     pub(crate) fn key(&self) -> &Key
         ensures { result.now ≡ self.now.key }
@@ -199,25 +207,28 @@ impl Entry {
     }
 }
 
-// How many names stand before the place of this one.
-fn place(names: &[Entry], key: &Key) -> usize
+// How many names stand before the place of this one. How often a name is asked is added to `probes`.
+fn place(names: &[Entry], key: &Key, probes: &mut u64) -> usize
     requires { ascends by_name names.now ≡ true }
-    ensures { result ≡ prefix_len (λ name. is_lt (by_key name.key key.now)) names.now }
+    ensures at { result ≡ prefix_len (λ name. is_lt (by_key name.key key.now)) names.now }
+    ensures later { probes.old ≤ probes.new }
+    ensures few { 2 ^ (probes.new - probes.old) ≤ 2 * length names.now + 1 }
 {
-    let mut probes = 0;
     seek(
         names,
         |entry| key_cmp(entry.key(), key).is_lt(),
-        &mut probes,
+        probes,
     )
 }
 
-// Where a name stands.
-fn position(names: &[Entry], key: &Key) -> Option<usize>
+// Where a name stands. How often a name is asked is added to `probes`.
+pub(crate) fn position(names: &[Entry], key: &Key, probes: &mut u64) -> Option<usize>
     requires { ascends by_name names.now ≡ true }
-    ensures { result ≡ position (is_under key.now) names.now }
+    ensures at { result ≡ position (is_under key.now) names.now }
+    ensures later { probes.old ≤ probes.new }
+    ensures few { 2 ^ (probes.new - probes.old) ≤ 2 * length names.now + 1 }
 {
-    let at = place(names, key);
+    let at = place(names, key, probes);
     match names.get(at) {
         Some(entry) if key_cmp(entry.key(), key).is_eq() => Some(at),
         _ => None,
@@ -253,7 +264,7 @@ pub(crate) fn numbered(names: &[Entry], key: &Key, generation: Gen) -> Result<u3
     requires { ascends by_name names.now ≡ true }
     ensures { result ≡ numbered generation (files_of key.now (rows_of names.now)) }
 {
-    match position(names, key) {
+    match position(names, key, &mut 0) {
         Some(at) => numbered_beside(names[at].gens(), generation),
         None => Ok(first_number(generation)),
     }
@@ -268,13 +279,14 @@ pub(crate) fn enter(names: &mut Vec<Entry>, alloc: Global, key: &Key) -> Result<
     ensures there { IfOk result (λ at. (d : Name) → is_under key.now (get_or names.new.items at d) ≡ true) }
     ensures front { IfOk result (λ at. take at names.new.items ≡ take at names.old.items) }
     ensures refused { OnErr result (names.new.items ≡ names.old.items) }
+    ensures lean { length names.new.items ≤ length names.old.items + 1 }
     ensures wanted { (other : Named) → wanted_at other names.new.items ≡ wanted_at other names.old.items }
     ensures room { HaveRoom names.old.items → HaveRoom names.new.items }
 {
-    if let Some(at) = position(names, key) {
+    if let Some(at) = position(names, key, &mut 0) {
         return Ok(at);
     }
-    let at = place(names, key);
+    let at = place(names, key, &mut 0);
     let entry = Entry::new(alloc, key.copy())?;
     names.insert(at, entry)?;
     Ok(at)
@@ -285,7 +297,7 @@ pub(crate) fn keep_at(names: &[Entry], key: &Key, retention: u8) -> u8
     requires { ascends by_name names.now ≡ true }
     ensures { result ≡ keep_at retention key.now (rows_of names.now) }
 {
-    match position(names, key) {
+    match position(names, key, &mut 0) {
         Some(at) => names[at].gens().keep_for(retention),
         None => retention,
     }
@@ -306,6 +318,23 @@ pub(crate) fn add(names: &mut Vec<Entry>, alloc: Global, row: Row) -> Result<(),
     Ok(())
 }
 
+// The file of a full name, where there is one. How often a name is asked is added to `probes`.
+pub(crate) fn find<'a>(
+    names: &'a [Entry],
+    full: &FullName,
+    probes: &mut u64,
+) -> Option<&'a File>
+    requires { ascends by_name names.now ≡ true }
+    ensures file { option_map (row_under full.now.key) (option_copied result) ≡ row_at full.now (rows_of names.now) }
+    ensures later { probes.old ≤ probes.new }
+    ensures few { 2 ^ (probes.new - probes.old) ≤ 2 * length names.now + 1 }
+{
+    match position(names, &full.key, probes) {
+        Some(at) => names[at].find(full.generation),
+        None => None,
+    }
+}
+
 // Takes the file of a full name out, where there is one.
 pub(crate) fn remove(names: &mut [Entry], full: &FullName) -> Option<File>
     requires { ascends by_name names.old ≡ true }
@@ -315,7 +344,7 @@ pub(crate) fn remove(names: &mut [Entry], full: &FullName) -> Option<File>
     ensures ascend { ascends by_name names.new ≡ true }
     ensures rooms { rooms_of names.new ≡ rooms_of names.old }
 {
-    match position(names, &full.key) {
+    match position(names, &full.key, &mut 0) {
         Some(at) => names[at].remove(full.generation),
         None => None,
     }
@@ -333,7 +362,7 @@ pub(crate) fn put(names: &mut [Entry], row: Row)
     ensures ascend { ascends by_name names.new ≡ true }
     ensures rooms { rooms_of names.new ≡ rooms_of names.old }
 {
-    match position(names, &row.key) {
+    match position(names, &row.key, &mut 0) {
         Some(at) => names[at].put(row.file),
         None => unreachable!(),
     }
@@ -347,7 +376,7 @@ pub(crate) fn fill(names: &mut [Entry], target: &FullName, moment: u64, bytes: B
     ensures ascend { ascends by_name names.new ≡ true }
     ensures rooms { rooms_of names.new ≡ rooms_of names.old }
 {
-    if let Some(at) = position(names, &target.key) {
+    if let Some(at) = position(names, &target.key, &mut 0) {
         names[at].fill(target.generation, moment, bytes);
     }
 }
@@ -379,7 +408,7 @@ pub(crate) fn bytes_at<'a>(names: &'a [Entry], full: &FullName) -> &'a [u8]
     requires { ascends by_name names.now ≡ true }
     ensures { result.now ≡ bytes_at full.now (rows_of names.now) }
 {
-    match position(names, &full.key) {
+    match position(names, &full.key, &mut 0) {
         Some(at) => names[at].bytes_at(full.generation),
         None => b"",
     }
@@ -406,7 +435,7 @@ pub(crate) fn found(names: &[Entry], key: &Key, generation: Gen) -> Result<Optio
     requires { ascends by_name names.now ≡ true }
     ensures { result ≡ found generation (files_of key.now (rows_of names.now)) }
 {
-    match position(names, key) {
+    match position(names, key, &mut 0) {
         Some(at) => found_beside(names[at].gens(), generation),
         None => Ok(None),
     }

@@ -1,5 +1,5 @@
 // The files of all names, by their number in ascending order.
-ghost use Rattle.std.specs.Prelude.{◌≡◌, ◌+◌, ◌<◌, ◌≤◌, [], ◌∷◌, ◌++◌, OnErr, OnOk, Some, get_or, length, set, slice_get, take, true};
+ghost use Rattle.std.specs.Prelude.{◌≡◌, ◌+◌, ◌-◌, ◌*◌, ◌^◌, ◌<◌, ◌≤◌, [], ◌∷◌, ◌++◌, OnErr, OnOk, Some, get_or, length, set, slice_get, take, true};
 ghost use Rattle.ex_generations.specs.declared.file.TheConstants.{FILE_LIMIT};
 ghost use Rattle.cm_files.specs.Catalogue.{ascends};
 ghost use Rattle.ex_store.specs.declared.limits.TheConstants.{ROW_LIMIT};
@@ -123,29 +123,33 @@ pub(crate) fn end_of(names: &[Entry], directory: &[u8]) -> usize
     files_before(names, n)
 }
 
-// The name that the file with this number stands under, and which of its files it is.
-fn place_of(names: &[Entry], i: usize) -> (usize, usize)
+// The name that the file with this number stands under, and which of its files it is. How often a name is asked is added
+// to `probes`.
+fn place_of(names: &[Entry], i: usize, probes: &mut u64) -> (usize, usize)
     requires counted { IsCounted 0 names.now }
     requires within { i < length (rows_of names.now) }
     requires few { length (rows_of names.now) ≤ ROW_LIMIT }
     ensures name { result.0 < length names.now }
     ensures file { (d : Name) → result.1 < length (get_or names.now result.0 d).gens.files }
     ensures number { length (rows_of (take result.0 names.now)) + result.1 ≡ i }
+    ensures later { probes.old ≤ probes.new }
+    ensures few { 2 ^ (probes.new - probes.old) ≤ 2 * length names.now + 1 }
 {
     let behind = i + 1;
-    let mut probes = 0;
-    let n = seek(names, |entry| entry.end() < behind, &mut probes);
+    let n = seek(names, |entry| entry.end() < behind, probes);
     (n, i - files_before(names, n))
 }
 
-// The file with this number.
-pub(crate) fn row_at(names: &[Entry], i: usize) -> RowView<'_>
+// The file with this number. How often a name is asked is added to `probes`.
+pub(crate) fn row_at<'a>(names: &'a [Entry], i: usize, probes: &mut u64) -> RowView<'a>
     requires counted { IsCounted 0 names.now }
     requires within { i < length (rows_of names.now) }
     requires few { length (rows_of names.now) ≤ ROW_LIMIT }
-    ensures { slice_get (rows_of names.now) i ≡ Some (row_of_view result) }
+    ensures row { slice_get (rows_of names.now) i ≡ Some (row_of_view result) }
+    ensures later { probes.old ≤ probes.new }
+    ensures few { 2 ^ (probes.new - probes.old) ≤ 2 * length names.now + 1 }
 {
-    let (n, at) = place_of(names, i);
+    let (n, at) = place_of(names, i, probes);
     names[n].file_at(at)
 }
 
@@ -161,7 +165,7 @@ pub(crate) fn remark_file(names: &mut [Entry], i: usize, remark: Remark)
     ensures ascend { ascends by_name names.new ≡ true }
     ensures counted { IsCounted 0 names.new }
 {
-    let (n, at) = place_of(names, i);
+    let (n, at) = place_of(names, i, &mut 0);
     names[n].remark(at, remark);
 }
 

@@ -1,12 +1,12 @@
 // The files of a store by name.
-ghost use Rattle.std.specs.Prelude.{◌≡◌, ◌+◌, ◌<◌, ◌≤◌, Some, [], ◌∷◌, ◌++◌, get_or, length, map, set, slice_get, true, IfOk, OnErr, OnOk};
+ghost use Rattle.std.specs.Prelude.{◌≡◌, ◌+◌, ◌-◌, ◌*◌, ◌^◌, ◌<◌, ◌≤◌, Some, [], ◌∷◌, ◌++◌, get_or, length, map, option_copied, option_map, set, slice_get, true, IfOk, OnErr, OnOk};
 ghost use Rattle.ex_store.specs.declared.limits.TheConstants.{ROW_LIMIT, STORE_LIMIT};
 ghost use Rattle.ex_store.specs.declared.key.Key.{Key as Named};
 ghost use Rattle.ex_store.specs.declared.row.Row.{Row as Filed};
 ghost use Rattle.ex_store.specs.FileNames.{by_name, room_at, rows_of};
 ghost use Rattle.ex_store.specs.Lent.{row_of_view};
 ghost use Rattle.ex_store.specs.Ready.{are_doable, count_under, is_lawful, rows_after_all};
-ghost use Rattle.ex_store.specs.Rows.{blank, by_row, end_in, expunged, files_of, first_in, is_short, pages_in, pages_marked, rows_in_either, total, with_remark};
+ghost use Rattle.ex_store.specs.Rows.{blank, by_row, end_in, expunged, files_of, first_in, is_short, pages_in, pages_marked, row_at, rows_in_either, total, with_remark};
 ghost use Rattle.ex_store.specs.Adding.{keep_at, numbered};
 ghost use Rattle.ex_store.specs.Appending.{bytes_at, found};
 ghost use Rattle.cm_files.specs.Catalogue.{ascends};
@@ -14,14 +14,14 @@ ghost use Rattle.ex_generations.specs.declared.file.TheConstants.{FILE_LIMIT};
 ghost use Rattle.ex_store.specs.WellFormed.{is_numbered};
 ghost use Rattle.std.specs.List.{list_all};
 
-use crate::file_name::{Entry, blanks, bytes_at, found, keep_at, numbered};
+use crate::file_name::{Entry, blanks, bytes_at, find, found, keep_at, numbered};
 use crate::file_numbers::{count, end_of, first_of, len, push, remark_file, row_at};
 use crate::room::{change_names, make_room};
 use crate::sweep::{drop_marked, pages_in, total};
 use crate::{FullName, Key, Row, RowChange, RowView};
 use cm_fields::{Code, Gen};
 use cm_io::NoMemory;
-use ex_generations::Remark;
+use ex_generations::{File, Remark};
 use std::alloc::Global;
 use std::marker::Model;
 
@@ -64,7 +64,26 @@ impl Files {
         requires { i < length self.now.rows }
         ensures { slice_get self.now.rows i ≡ Some (row_of_view result) }
     {
-        row_at(&self.names, i)
+        self.find_row(i, &mut 0)
+    }
+
+    // The file of a full name, where there is one. How often a name is asked is added to `probes`.
+    pub(crate) fn find(&self, full: &FullName, probes: &mut u64) -> Option<&File>
+        ensures file { option_copied result ≡ option_map (λ row. row.file) (row_at full.now self.now.rows) }
+        ensures later { probes.old ≤ probes.new }
+        ensures few { 2 ^ (probes.new - probes.old) ≤ 2 * length self.now.rooms + 1 }
+    {
+        find(&self.names, full, probes)
+    }
+
+    // The file with this number. How often a name is asked is added to `probes`.
+    pub(crate) fn find_row(&self, i: usize, probes: &mut u64) -> RowView<'_>
+        requires { i < length self.now.rows }
+        ensures row { slice_get self.now.rows i ≡ Some (row_of_view result) }
+        ensures later { probes.old ≤ probes.new }
+        ensures few { 2 ^ (probes.new - probes.old) ≤ 2 * length self.now.rooms + 1 }
+    {
+        row_at(&self.names, i, probes)
     }
 
     // How many files stand before those of a directory.
@@ -96,6 +115,7 @@ impl Files {
         ensures rows { self.new.rows ≡ self.old.rows }
         ensures room { OnOk result ((key : Named) → 0 < count_under key changes.now
             → length (files_of key self.old.rows) + count_under key changes.now ≤ room_at key self.new.rooms) }
+        ensures lean { OnOk result (length self.new.rooms ≤ length self.old.rows + length changes.now) }
     {
         let made = make_room(&mut self.names, alloc, changes);
         count(&mut self.names, 0);

@@ -65,6 +65,8 @@ impl Store {
             → length (files_of key self.old.state.rows) + count_under key ready.now.row_changes
             ≤ room_at key self.new.name_rooms) }
         ensures queue { OnOk result (length self.old.state.queue + length ready.now.entries ≤ self.new.queue_room) }
+        ensures lean { OnOk result
+            (length self.new.name_rooms ≤ length self.old.state.rows + length ready.now.row_changes) }
     {
         if ready.directory.is_some() {
             self.directories.reserve()?;
@@ -85,6 +87,8 @@ impl Store {
         ensures state { self.new.state ≡ self.old.state }
         ensures ready { IfOk result (λ ready. planned plan moment self.old.state ≡ Ok (done_on self.old.state ready)) }
         ensures for_it { IfOk result (λ ready. IsFor ready self.new) }
+        ensures lean { IfOk result (λ ready.
+            length self.new.name_rooms ≤ length self.old.state.rows + length ready.row_changes) }
         ensures refused { IfErr result (IsRefused (planned plan moment self.old.state)) }
     {
         let ready = match self.plan(plan, moment) {

@@ -71,6 +71,7 @@ fn want(names: &mut Vec<Entry>, alloc: Global, key: &Key) -> Result<(), NoMemory
     ensures wanted { OnOk result ((other : Named) → wanted_at other names.new.items
         ≡ wanted_at other names.old.items + (if is_eq (by_key key.now other) then 1 else 0)) }
     ensures room { OnOk result (HaveRoom names.new.items) }
+    ensures lean { length names.new.items ≤ length names.old.items + 1 }
 {
     let at = enter(names, alloc, key)?;
     names[at].want()?;
@@ -89,6 +90,7 @@ pub(crate) fn make_room(
     ensures room { OnOk result ((key : Named) → 0 < count_under key changes.now
         → length (files_of key (rows_of names.old.items)) + count_under key changes.now
         ≤ room_at key (rooms_of names.new.items)) }
+    ensures lean { OnOk result (length names.new.items ≤ length (rows_of names.old.items) + length changes.now) }
 {
     drop_empty(names);
     want_none(names);
