@@ -34,7 +34,7 @@ pub(crate) fn insert(files: &mut Vec<File>, file: File)
     ensures ascending { IsAscending 0 files.new.items }
     ensures capacity { vec_capacity files.new ≡ vec_capacity files.old }
 {
-    let at = place(files, file.generation);
+    let at = place(files, file.generation, &mut 0);
     put_at(files, at, file);
 }
 
@@ -85,7 +85,7 @@ pub(crate) fn remark(files: &mut [File], generation: u32, remark: Remark) -> Res
     ensures err { OnErr result (files.new ≡ files.old) }
     ensures ascending { IsAscending 0 files.new }
 {
-    match position(files, generation) {
+    match position(files, generation, &mut 0) {
         Some(at) => {
             apply(&mut files[at], remark);
             Ok(())
@@ -140,7 +140,7 @@ pub(crate) fn rewrite(files: &mut [File], generation: u32, moment: u64, bytes: B
     ensures changed { files.new ≡ changed generation (rewritten moment bytes) files.old }
     ensures ascending { IsAscending 0 files.new }
 {
-    match position(files, generation) {
+    match position(files, generation, &mut 0) {
         Some(at) => fill(&mut files[at], moment, bytes),
         None => unreachable!(),
     }
@@ -155,7 +155,7 @@ pub(crate) fn take(files: &mut Vec<File>, generation: u32) -> File
     ensures ascending { IsAscending 0 files.new.items }
     ensures capacity { vec_capacity files.new ≡ vec_capacity files.old }
 {
-    match position(files, generation) {
+    match position(files, generation, &mut 0) {
         Some(at) => files.remove(at),
         None => unreachable!(),
     }

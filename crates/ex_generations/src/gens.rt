@@ -1,5 +1,5 @@
 // The generations of one file.
-ghost use Rattle.std.specs.Prelude.{◌≡◌, ◌<◌, ◌≤◌, ◌+◌, ◌↔◌, [], true, false, length, find, get_or, map, option_copied, set, slice_get, Some, IsTrue, IsErr, IsOk, IfOk, OnErr, OnOk};
+ghost use Rattle.std.specs.Prelude.{◌≡◌, ◌<◌, ◌≤◌, ◌+◌, ◌-◌, ◌*◌, ◌^◌, ◌↔◌, [], true, false, length, find, get_or, map, option_copied, position, set, slice_get, Some, IsTrue, IsErr, IsOk, IfOk, OnErr, OnOk};
 ghost use Rattle.ex_generations.specs.declared.file.File.{File};
 ghost use Rattle.ex_generations.specs.Generations.{IsAscending, blank, changed, has, highest, inserted, is_generation, keeping, lowest, marked, marked_as, next_generation, pages, rewritten, touched, unmarked, with_mark, with_remark, without};
 ghost use Rattle.ex_generations.specs.Retention.{added, keep_for, retained};
@@ -68,6 +68,17 @@ impl Gens {
         ensures ordered { IsAscending 0 self.now.files }
     {
         &self.files
+    }
+
+    /// Where the file of this generation stands in the ascending order; None where there is none. All that asks for a
+    /// generation looks for it so. How often a file is looked at is added to `probes`: at most as often as the number
+    /// of files has binary digits, so 11 times for 1,024 of them.
+    pub fn position(&self, generation: u32, probes: &mut u64) -> Option<usize>
+        ensures place { result ≡ position (is_generation generation) self.now.files }
+        ensures later { probes.old ≤ probes.new }
+        ensures few { 2 ^ (probes.new - probes.old) ≤ 2 * length self.now.files + 1 }
+    {
+        search::position(&self.files, generation, probes)
     }
 
     /// The file of this generation, where there is one.

@@ -22,6 +22,8 @@ pub mod Runs
 pub mod Sizes
 pub mod Sounding
 pub mod Spelling
+pub mod StampLaws
 pub mod Standing
 pub mod Telling
+pub mod Versions
 pub mod Written

@@ -210,7 +210,7 @@ impl Entry {
 // How many names stand before the place of this one. How often a name is asked is added to `probes`.
 fn place(names: &[Entry], key: &Key, probes: &mut u64) -> usize
     requires { ascends by_name names.now ≡ true }
-    ensures at { result ≡ prefix_len (λ name. is_lt (by_key name.key key.now)) names.now }
+    ensures place { result ≡ prefix_len (λ name. is_lt (by_key name.key key.now)) names.now }
     ensures later { probes.old ≤ probes.new }
     ensures few { 2 ^ (probes.new - probes.old) ≤ 2 * length names.now + 1 }
 {
@@ -224,7 +224,7 @@ fn place(names: &[Entry], key: &Key, probes: &mut u64) -> usize
 // Where a name stands. How often a name is asked is added to `probes`.
 pub(crate) fn position(names: &[Entry], key: &Key, probes: &mut u64) -> Option<usize>
     requires { ascends by_name names.now ≡ true }
-    ensures at { result ≡ position (is_under key.now) names.now }
+    ensures place { result ≡ position (is_under key.now) names.now }
     ensures later { probes.old ≤ probes.new }
     ensures few { 2 ^ (probes.new - probes.old) ≤ 2 * length names.now + 1 }
 {
