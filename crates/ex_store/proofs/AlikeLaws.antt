@@ -8,12 +8,16 @@ use Rattle.ex_generations.specs.declared.file.Remark.TheVariants as remarks
 use Rattle.ex_store.specs.declared.key.FullName.{FullName}
 use Rattle.ex_store.specs.declared.key.Key.{Key}
 use Rattle.ex_store.specs.declared.append.Opening.{Opening}
+use Rattle.ex_store.specs.declared.ready.Reading.{Reading}
 use Rattle.ex_store.specs.declared.row.Row.{Row}
 use Rattle.ex_store.specs.Adding.{admitted, and_then, keep_at, limited, new_row, numbered}
 use Rattle.ex_store.specs.Appending.{bytes_at, found, opened, opening_of}
 use Rattle.ex_store.specs.Copying.{moment_of}
+use Rattle.ex_store.specs.Ready.{Change, IsFor, rows_read}
+use Rattle.ex_store.specs.Selection.{is_meant}
+use Rattle.ex_store.specs.State.{State, StoreWithRoom}
 use Rattle.ex_store.specs.Rows.{AreAlike, blank, files_of, full_of, is_full, is_in_either, row_at, rows_in_either, total, unread, with_remark}
-use Rattle.ex_store.proofs.BlankLaws.{found_blank, keep_blank, numbered_blank}
+use Rattle.ex_store.proofs.BlankLaws.{found_blank, keep_blank, numbered_blank, size_blank}
 use Rattle.ex_store.proofs.RemarkedLaws.{where_passing}
 use Rattle.ex_store.proofs.TotalLaws.{total_cons}
 
@@ -131,3 +135,25 @@ opened_alike retention moment key generation rows other alike =
         ≡ and_then (λ there. opening_of retention moment key there generation other) there
     by (Ok there) = opening_alike retention moment key there generation rows other alike
     by (Err code) = refl
+
+-- how many files there are of a name
+size_alike : (key : Key) (rows other : List Row) → AreAlike rows other → length (files_of key rows) ≡ length (files_of key other)
+size_alike key rows other alike =
+    sym (size_blank key rows) ∙ ap (λ (it : List Row). length (files_of key it)) (blank_alike rows other alike) ∙ size_blank key other
+
+-- the rows, when they are read
+all_read : (reading : Option Reading) (state : State) → AreAlike state.rows (rows_read reading state)
+all_read None state = refl
+all_read (Some reading) state = alike_read (is_meant reading.files.flags.deleted reading.files state) reading.moment state.rows
+
+-- when the reading is done, what is left can be done
+pub left_to_do : (change : Change) (held : StoreWithRoom) → IsFor change held
+    → IsFor (record change { reading = None }) (record held { state = record held.state { rows = rows_read change.reading held.state } })
+left_to_do change held is = record {
+  sound = is.sound;
+  doable = is.doable;
+  directories = is.directories;
+  logical = is.logical;
+  names = λ key some. omega (arith, size_alike key held.state.rows (rows_read change.reading held.state) (all_read change.reading held.state), is.names key some);
+  queue = is.queue;
+}

@@ -1,10 +1,11 @@
 -- Bytes are put behind those of a file: the rows stay those of a store, and what the plan comes to.
-use Rattle.std.proofs.Common.{◌≡◌, ◌≤◌, ◌+◌, ◌&&◌, nat_le, ℕ, suc, Bool, true, false, not, cond, List, [], ◌∷◌, length, unwrap_or, Ok, Option, Some, None, refl, ap, arith, ◌∙◌, subst}
+use Rattle.std.proofs.Common.{◌≡◌, ◌≤◌, ◌+◌, ◌&&◌, nat_le, ℕ, suc, Bool, true, false, not, cond, List, [], ◌∷◌, length, unwrap_or, Ok, Err, Option, Some, None, refl, ap, arith, ◌∙◌, subst}
 use Rattle.std.specs.List.{list_all}
 use Rattle.std.specs.Option.{option_map_or}
 use Rattle.std.specs.Ordering.{is_lt}
 use Rattle.std.proofs.lemmas.Bool.{and_from, and_parts, le-leb, leb-true, not-true}
 use Rattle.std.proofs.lemmas.List.{length-map}
+use Rattle.cm_fields.specs.declared.code.Code.{Code}
 use Rattle.ex_generations.specs.declared.file.File.{File}
 use Rattle.ex_generations.specs.declared.file.TheConstants.{FILE_LIMIT}
 use Rattle.cm_files.specs.Catalogue.{ascends}
@@ -20,7 +21,9 @@ use Rattle.ex_store.specs.declared.row.Row.{Row}
 use Rattle.ex_store.specs.Adding.{admitted, keep_at, new_row}
 use Rattle.ex_store.specs.Appending.{appended, bytes_at, found, opened, opening_of, pairs_to, poured, row_changes_of, with_opened}
 use Rattle.ex_store.specs.Copying.{moment_of, own_key}
-use Rattle.ex_store.specs.Plan.{IsOneFile, has_plain_kind, has_plain_name}
+use Rattle.ex_store.specs.declared.plan.Refusal.{Refusal}
+use Rattle.ex_store.specs.declared.plan.Refusal.TheVariants as refusals
+use Rattle.ex_store.specs.Plan.{IsOneFile, IsRefused, has_plain_kind, has_plain_name}
 use Rattle.ex_store.specs.Positions.{elements_at}
 use Rattle.ex_store.specs.declared.ready.RowChange.TheVariants as changes
 use Rattle.ex_store.specs.Ready.{are_doable, is_lawful, rows_after_all}
@@ -292,6 +295,18 @@ pub append_ready : (retention moment : ℕ) (to : Place) (rows sources : List Ro
     → appended retention moment to sources rows ≡ Ok (record { rows = rows_after_all rows done; pairs = pairs })
 append_ready retention moment to rows sources there bytes done pairs opens pours is told =
     rw (is, told, changes_opened rows there.target there.new (moment_of moment) bytes) (rw (opens, pours) refl)
+
+-- what refuses the file that is put behind, or the bytes, refuses the plan
+pub append_refused : (retention moment : ℕ) (to : Place) (rows sources : List Row) (code : Code)
+    → opened retention moment (own_key to) to.generation rows ≡ Err code → appended retention moment to sources rows ≡ Err code
+append_refused retention moment to rows sources code opens = rw opens refl
+
+pub pour_refused : (retention moment : ℕ) (to : Place) (rows sources : List Row) (there : Opening) (refusal : Refusal)
+    → opened retention moment (own_key to) to.generation rows ≡ Ok there
+    → IsRefused (poured (total rows) (bytes_at there.target rows) sources) refusal
+    → IsRefused (appended retention moment to sources rows) refusal
+pour_refused retention moment to rows sources there (refusals.Code code) opens refused = rw (opens, refused) refl
+pour_refused retention moment to rows sources there refusals.NoMemory opens refused = tt
 
 abbrev pair_to : FullName → Row → NamePair
 pair_to target source = record { source = full_of source; target = target }

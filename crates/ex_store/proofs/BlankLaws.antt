@@ -2,6 +2,7 @@
 use Rattle.std.proofs.Common.{◌≡◌, ℕ, suc, max, min, ◌==◌, ◌&&◌, ◌||◌, nat_le, Bool, true, false, not, cond, List, [], ◌∷◌, length, filter, map, Option, Some, None, Ok, Err, refl, ap, ◌∙◌}
 use Rattle.std.specs.Option.{option_map, option_map_or}
 use Rattle.std.specs.Ordering.{is_lt}
+use Rattle.std.proofs.lemmas.List.{length-map}
 use Rattle.cm_fields.specs.declared.code.Code.TheVariants.{NoFile}
 use Rattle.cm_fields.specs.declared.value.Gen.{Gen}
 use Rattle.cm_fields.specs.declared.value.Gen.TheVariants.{Missing, Highest, Next, Lowest, All, Number}
@@ -26,6 +27,9 @@ files_blank key (row ∷ rows) = by (is_of key row) (files_blank key rows)
         ≡ map generations.blank (map (λ (each : Row). each.file) (cond b (row ∷ filter (is_of key) rows) (filter (is_of key) rows)))
     by true rest = ap (λ files. generations.blank row.file ∷ files) rest
     by false rest = rest
+
+pub size_blank : (key : Key) (rows : List Row) → length (files_of key (map blank rows)) ≡ length (files_of key rows)
+size_blank key rows = ap (λ (it : List File). length it) (files_blank key rows) ∙ length-map (files_of key rows) generations.blank
 
 live_blank : (files : List File) → live (map generations.blank files) ≡ live files
 live_blank [] = refl

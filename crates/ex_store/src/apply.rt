@@ -1,5 +1,5 @@
 // Plans are done.
-ghost use Rattle.std.specs.Prelude.{◌≡◌, true, ◌<◌, ◌≤◌, ◌+◌, [], ◌∷◌, ◌++◌, vec_capacity, vec_len};
+ghost use Rattle.std.specs.Prelude.{◌≡◌, None, true, ◌<◌, ◌≤◌, ◌+◌, [], ◌∷◌, ◌++◌, vec_capacity, vec_len};
 ghost use Rattle.ex_store.specs.Ready.{IsFor, held_after, is_reading_within, rows_read};
 
 use crate::firsts::firsts_in;
@@ -43,21 +43,19 @@ impl Store {
         }
     }
 
-    /// Does what is ready. The store is as [`Store::prepare`] left it. No memory is taken or let go: what is made takes
-    /// the room that was made for it.
-    pub fn apply(&mut self, ready: Ready)
-        requires { IsFor ready self.old }
+    // Does all that is ready but the reading.
+    fn change(&mut self, ready: Ready)
+        requires reading { ready.reading ≡ None }
+        requires for_it { IsFor ready self.old }
         ensures { self.new ≡ held_after ready self.old }
     {
         let Ready {
             directory,
             definition,
-            reading,
             row_changes,
             entries,
             ..
         } = ready;
-        self.read(reading);
         if let Some(directory) = directory {
             self.directories.make(directory);
         }
@@ -67,5 +65,16 @@ impl Store {
         self.files.change(row_changes);
         self.firsts = firsts_in(&self.directories, &self.files);
         enqueue(&mut self.queue, entries);
+    }
+
+    /// Does what is ready. The store is as [`Store::prepare`] left it. No memory is taken or let go: what is made takes
+    /// the room that was made for it.
+    pub fn apply(&mut self, ready: Ready)
+        requires { IsFor ready self.old }
+        ensures { self.new ≡ held_after ready self.old }
+    {
+        let mut ready = ready;
+        self.read(ready.reading.take());
+        self.change(ready);
     }
 }

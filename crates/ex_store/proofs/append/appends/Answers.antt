@@ -1,4 +1,6 @@
-use Rattle.std.proofs.Common.{◌≡◌, ℕ, nat_le, List, Ok, ap, refl, sym, ◌∙◌}
+use Rattle.std.proofs.Common.{◌≡◌, ℕ, nat_le, List, Result, Ok, Err, ap, refl, subst, sym, ◌∙◌}
+use Rattle.cm_fields.specs.declared.code.Code.{Code}
+use Rattle.ex_store.specs.Plan.{IsRefused}
 use Rattle.ex_store.specs.Appending.{bytes_at, opened, poured}
 use Rattle.ex_store.specs.Copying.{own_key}
 use Rattle.ex_store.specs.Positions.{elements_at}
@@ -7,7 +9,7 @@ use Rattle.ex_store.specs.State.{retention_of}
 use Rattle.ex_store.specs.declared.limits.TheConstants.{RETENTION_LIMIT}
 use Rattle.ex_store.specs.declared.row.Row.{Row}
 use Rattle.ex_store.proofs.AlikeLaws.{bytes_alike, opened_alike, total_alike}
-use Rattle.ex_store.proofs.AppendedLaws.{append_doable, append_lawful, append_ready, append_sound, bytes_short, few_pairs}
+use Rattle.ex_store.proofs.AppendedLaws.{append_doable, append_lawful, append_ready, append_refused, append_sound, bytes_short, few_pairs, pour_refused}
 use Rattle.ex_store.proofs.append.appends.Goals as goal
 
 pub poured-requires-clause-short : goal.poured-requires-clause-short
@@ -62,3 +64,31 @@ returns-in-Ok-row_changes_of-clause-made c = λ rows alike are.
       doable = append_doable c.args.directories.now.list c.retention_of-retention.result c.args.moment c.args.to.now rows c.in-Ok.opening c.in-Ok-poured.bytes
           c.in-Ok-row_changes_of.row_changes.items are c.requires.target few (opens c rows alike) c.in-Ok-row_changes_of.ensures;
     })
+
+pub returns-in-Err-clause-refused : goal.returns-in-Err-clause-refused
+returns-in-Err-clause-refused c = λ rows alike are.
+    let retention = c.retention_of-retention.result in
+    let is : retention ≡ retention_of c.args.to.now.directory c.args.directories.now.list =
+    c.retention_of-retention.ensures ∙ ap (λ (name : List ℕ). retention_of name c.args.directories.now.list) c.as_str.ensures.value in
+    let opens : opened retention c.args.moment (own_key c.args.to.now) c.args.to.now.generation c.args.files.now.rows ≡ Err c.in-Err.code =
+    rw (← c.own_key.ensures) (sym c.opened.ensures ∙ c.in-Err.is) in
+    rw (← is)
+    (append_refused retention c.args.moment c.args.to.now rows (elements_at c.args.files.now.rows c.args.positions.now) c.in-Err.code
+    (sym (opened_alike retention c.args.moment (own_key c.args.to.now) c.args.to.now.generation c.args.files.now.rows rows alike) ∙ opens))
+
+pub returns-in-Err-poured-clause-refused : goal.returns-in-Err-poured-clause-refused
+returns-in-Err-poured-clause-refused c = λ rows alike are.
+    let retention = c.retention_of-retention.result in
+    let sources = elements_at c.args.files.now.rows c.args.positions.now in
+    let is : retention ≡ retention_of c.args.to.now.directory c.args.directories.now.list =
+    c.retention_of-retention.ensures ∙ ap (λ (name : List ℕ). retention_of name c.args.directories.now.list) c.as_str.ensures.value in
+    let opens : opened retention c.args.moment (own_key c.args.to.now) c.args.to.now.generation c.args.files.now.rows ≡ Ok c.in-Ok.opening =
+    rw (← c.own_key.ensures) (sym c.opened.ensures ∙ c.in-Ok.is) in
+    let same : poured (total c.args.files.now.rows) c.in-Ok-from_slice.old.items sources ≡ poured (total rows) (bytes_at c.in-Ok.opening.target rows) sources =
+    ap (λ (bytes : List ℕ). poured (total c.args.files.now.rows) bytes sources) (c.in-Ok-from_slice.ensures.items ∙ c.bytes_at.ensures)
+    ∙ ap (λ (all : ℕ). poured all (bytes_at c.in-Ok.opening.target c.args.files.now.rows) sources) (total_alike c.args.files.now.rows rows alike)
+    ∙ ap (λ (bytes : List ℕ). poured (total rows) bytes sources) (bytes_alike c.in-Ok.opening.target c.args.files.now.rows rows alike) in
+    rw (← is)
+    (pour_refused retention c.args.moment c.args.to.now rows sources c.in-Ok.opening c.in-Err-poured.refusal
+    (sym (opened_alike retention c.args.moment (own_key c.args.to.now) c.args.to.now.generation c.args.files.now.rows rows alike) ∙ opens)
+    (subst (λ (it : Result (List ℕ) Code). IsRefused it c.in-Err-poured.refusal) same c.in-Err-poured.ensures.refused))

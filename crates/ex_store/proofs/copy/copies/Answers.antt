@@ -68,7 +68,7 @@ loop-at-preserved c =
     let few : nat_le c.retention_of-retention.result RETENTION_LIMIT ≡ true = ap (λ (n : ℕ). nat_le n RETENTION_LIMIT) retention_is ∙ c.requires.retention in
     let key_is : c.key_from-key.result ≡ key_from c.args.to.now (row_of_view c.row_at-source.result).key = c.key_from-key.ensures ∙ ap (key_from c.args.to.now) c.key.ensures in
     let kept : c.keep_at-keep.result ≡ keep_at c.retention_of-retention.result (key_from c.args.to.now (row_of_view c.row_at-source.result).key) (rows_of c.loop-at.simulation.names.items) =
-    rw (← c.deref-2.ensures.value, ← key_is) c.keep_at-keep.ensures in
+    rw (← c.deref-in-loop-at.ensures.value, ← key_is) c.keep_at-keep.ensures in
     record {
       copying = λ rows alike are.
           let copying = subst (λ (left : List Row). IsCopying c.args.directories.now.list c.retention_of-retention.result c.args.moment c.args.to.now rows (elements_at c.args.files.now.rows c.args.positions.now) left c.loop-at.simulation.row_changes.items c.loop-at.simulation.pairs.items (rows_of c.loop-at.simulation.names.items) c.loop-at.count c.loop-at.bytes) at.more (c.loop-at.invariant.copying rows alike are) in
