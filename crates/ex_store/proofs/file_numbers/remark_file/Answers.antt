@@ -2,10 +2,10 @@ use Rattle.std.proofs.Common.{◌≡◌, ◌+◌, ℕ, Option, get_or, length, s
 use Rattle.std.proofs.lemmas.Option.{unwrap_or-slice_get}
 use Rattle.ex_store.specs.declared.row.Row.{Row}
 use Rattle.ex_store.specs.FileNames.{rows_of, rows_under}
-use Rattle.ex_store.specs.Rows.{with_mark}
+use Rattle.ex_store.specs.Rows.{with_remark}
 use Rattle.ex_store.proofs.FileNamesLaws.{ascends_set, rooms_set}
 use Rattle.ex_store.proofs.FileNumbersLaws.{counted_set, row_numbered, rows_set_at}
-use Rattle.ex_store.proofs.file_numbers.set_mark.Goals as goal
+use Rattle.ex_store.proofs.file_numbers.remark_file.Goals as goal
 
 pub returns-clause-rows : goal.returns-clause-rows
 returns-clause-rows c = λ (d : Row).
@@ -18,21 +18,21 @@ returns-clause-rows c = λ (d : Row).
     sym (unwrap_or-slice_get (rows_under name) at d)
     ∙ ap (λ (it : Option Row). unwrap_or it d) (sym (row_numbered names n at c.index-names-n.result c.place_of-n.ensures.name inside))
     ∙ unwrap_or-slice_get (rows_of names) (length (rows_of (take n names)) + at) d in
-    rows_set_at names n at c.index-names-n.result c.set_mark.new.self (with_mark c.args.deleted (get_or (rows_under name) at d)) c.place_of-n.ensures.name inside
-    (c.set_mark.ensures.rows d)
-    ∙ ap (λ (row : Row). set (rows_of names) (length (rows_of (take n names)) + at) (with_mark c.args.deleted row)) same
-    ∙ ap (λ (i : ℕ). set (rows_of names) i (with_mark c.args.deleted (get_or (rows_of names) i d))) c.place_of-n.ensures.number
+    rows_set_at names n at c.index-names-n.result c.remark.new.self (with_remark c.args.remark (get_or (rows_under name) at d)) c.place_of-n.ensures.name inside
+    (c.remark.ensures.rows d)
+    ∙ ap (λ (row : Row). set (rows_of names) (length (rows_of (take n names)) + at) (with_remark c.args.remark row)) same
+    ∙ ap (λ (i : ℕ). set (rows_of names) i (with_remark c.args.remark (get_or (rows_of names) i d))) c.place_of-n.ensures.number
 
 pub returns-clause-ascend : goal.returns-clause-ascend
 returns-clause-ascend c =
-    ascends_set c.args.names.now c.place_of-n.result.0 c.set_mark.new.self c.index-names-n.result c.requires.names c.set_mark.ensures.key
+    ascends_set c.args.names.now c.place_of-n.result.0 c.remark.new.self c.index-names-n.result c.requires.names c.remark.ensures.key
 
 pub returns-clause-counted : goal.returns-clause-counted
 returns-clause-counted c =
-    counted_set 0 c.args.names.now c.place_of-n.result.0 c.index-names-n.result c.set_mark.new.self c.requires.counted c.place_of-n.ensures.name
-    c.set_mark.ensures.end c.set_mark.ensures.len
+    counted_set 0 c.args.names.now c.place_of-n.result.0 c.index-names-n.result c.remark.new.self c.requires.counted c.place_of-n.ensures.name
+    c.remark.ensures.end c.remark.ensures.len
 
 pub returns-clause-rooms : goal.returns-clause-rooms
 returns-clause-rooms c =
-    rooms_set c.args.names.now c.place_of-n.result.0 c.set_mark.new.self c.index-names-n.result
-    c.set_mark.ensures.key c.set_mark.ensures.room
+    rooms_set c.args.names.now c.place_of-n.result.0 c.remark.new.self c.index-names-n.result
+    c.remark.ensures.key c.remark.ensures.room
