@@ -30,7 +30,7 @@ is_first directories rows rest row is lawful =
     let parts = and_parts _ _ (ap (list_all (is_row_among directories)) (sym is) ∙ lawful) in
     let form = formed directories row parts.0 in
     record {
-      moment = leb-true row.file.moment MOMENT_LIMIT form.moment;
+      moment = leb-true row.file.moment MOMENT_LIMIT (and_parts _ _ (and_parts _ _ form.stamped).0).1;
       short = leb-true (length row.file.bytes) FILE_LIMIT form.short;
       lawful = parts.1;
     }

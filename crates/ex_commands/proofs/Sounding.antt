@@ -6,6 +6,7 @@ use Rattle.cm_text.specs.Case.{equals}
 use Rattle.cm_fields.specs.declared.code.Code.{Code}
 use Rattle.cm_fields.specs.declared.code.Code.TheVariants.{CopyRange, NoDefinition}
 use Rattle.cm_fields.proofs.Holding.{holds_of_choice, of_choice}
+use Rattle.ex_generations.specs.declared.file.Remark.TheVariants as remarks
 use Rattle.ex_store.specs.declared.directory.Definition.{Definition}
 use Rattle.ex_store.specs.declared.limits.TheConstants.{COPIES_LIMIT}
 use Rattle.ex_store.specs.declared.place.Place.{Place}
@@ -18,7 +19,7 @@ use Rattle.ex_store.specs.Rows.{is_in}
 use Rattle.ex_store.specs.Selection.{is_meant}
 use Rattle.ex_store.specs.State.{State, defined, undefined}
 use Rattle.ex_store.specs.WellFormed.{IsWellFormed}
-use Rattle.ex_store.proofs.RemarkedLaws.{rows_left, rows_marked, well_formed_with_rows}
+use Rattle.ex_store.proofs.RemarkedLaws.{rows_left, rows_remarked, well_formed_with_rows}
 use Rattle.ex_store.proofs.SoundLaws.{plan_sound}
 use Rattle.ex_store.proofs.StateLaws.{fewer_well_formed}
 use Rattle.ex_commands.specs.declared.command.Command.{Command}
@@ -41,7 +42,7 @@ plays_sound origin plan moment state well may (Err code) is = well
 marks_sound : (deleted : Bool) (files : Place) (state : State) → IsWellFormed state → IsWellFormed (marks deleted files state).state
 marks_sound deleted files state well =
     well_formed_with_rows state _ well
-    (rows_marked state.directories state.rows (is_meant files.flags.deleted files state) deleted well.draft.rows)
+    (rows_remarked state.directories state.rows (is_meant files.flags.deleted files state) (remarks.Deleted deleted) refl well.draft.rows)
 
 removed_sound : (directory : List ℕ) (state : State) → IsWellFormed state → IsWellFormed (without_marked directory state)
 removed_sound directory state well =

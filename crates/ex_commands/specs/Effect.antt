@@ -3,6 +3,7 @@ use Rattle.std.specs.Prelude.{ℕ, Bool, List, [], Result, Ok, Err}
 use Rattle.std.specs.List.{flat_map}
 use Rattle.cm_fields.specs.declared.code.Code.{Code}
 use Rattle.cm_state.specs.Echo.{refusal}
+use Rattle.ex_generations.specs.declared.file.Remark.TheVariants as remarks
 use Rattle.ex_store.specs.declared.place.Place.{Place}
 use Rattle.ex_store.specs.Plan.{Planned, sources}
 use Rattle.ex_store.specs.Rows.{expunged}
@@ -39,7 +40,7 @@ plays origin (Err code) state = refuses code state
 -- files are marked as deleted, or no more, with a line for each
 abbrev pub marks : Bool → Place → State → Act
 marks deleted files state =
-    does (flat_map (line_of Marked) (sources files state)) (record state { rows = remarked deleted files state })
+    does (flat_map (line_of Marked) (sources files state)) (record state { rows = remarked (remarks.Deleted deleted) files state })
 
 -- the marked files of a directory are removed
 abbrev pub without_marked : List ℕ → State → State

@@ -1,9 +1,11 @@
 -- What follows of files whose generations ascend.
-use Rattle.std.proofs.Common.{◌≡◌, ℕ, ◌+◌, ◌<◌, ◌≤◌, Bool, true, false, not, cond, suc, zero, List, [], ◌∷◌, length, get_or, map, set, drop, filter, sym, subst, arith}
+use Rattle.std.proofs.Common.{◌≡◌, ℕ, ◌+◌, ◌<◌, ◌≤◌, Bool, true, false, not, cond, suc, zero, List, [], ◌∷◌, length, get_or, map, set, drop, filter, refl, sym, subst, arith}
 use Rattle.std.proofs.lemmas.List.{drop_more}
 use Rattle.ex_generations.specs.declared.file.File.{File}
+use Rattle.ex_generations.specs.declared.file.Remark.{Remark}
+use Rattle.ex_generations.specs.declared.file.Remark.TheVariants as remarks
 use Rattle.ex_generations.specs.declared.file.TheConstants.{FILE_LIMIT, GENERATION_LIMIT}
-use Rattle.ex_generations.specs.Generations.{IsAscending, blank, is_generation, marked_as, without}
+use Rattle.ex_generations.specs.Generations.{IsAscending, blank, is_generation, marked_as, with_remark, without}
 use Rattle.ex_generations.specs.Retention.{kept_newest}
 
 -- from a lower number on, too
@@ -67,12 +69,25 @@ IsAscending-kept retention (file ∷ more) low a =
 pub IsAscending-without : (generation : ℕ) (files : List File) → IsAscending 0 files → IsAscending 0 (without generation files)
 IsAscending-without generation files a = IsAscending-filter (λ file. not (is_generation generation file)) files 0 a
 
--- a mark at a place
-pub IsAscending-marked : (files : List File) (low i : ℕ) (deleted : Bool) (d : File) → IsAscending low files
-    → IsAscending low (set files i (marked_as deleted (get_or files i d)))
-IsAscending-marked [] low i deleted d a = tt
-IsAscending-marked (file ∷ more) low zero deleted d a = (a.0, a.1, a.2, a.3)
-IsAscending-marked (file ∷ more) low (suc i) deleted d a = (a.0, a.1, a.2, IsAscending-marked more file.generation i deleted d a.3)
+-- a remark changes neither generation nor bytes
+pub with_remark-generation : (remark : Remark) (file : File) → (with_remark remark file).generation ≡ file.generation
+with_remark-generation (remarks.Deleted deleted) file = refl
+with_remark-generation (remarks.Keep keep) file = refl
+with_remark-generation (remarks.Read moment) file = refl
+
+pub with_remark-bytes : (remark : Remark) (file : File) → (with_remark remark file).bytes ≡ file.bytes
+with_remark-bytes (remarks.Deleted deleted) file = refl
+with_remark-bytes (remarks.Keep keep) file = refl
+with_remark-bytes (remarks.Read moment) file = refl
+
+-- a remark at a place
+pub IsAscending-remarked : (files : List File) (low i : ℕ) (remark : Remark) (d : File) → IsAscending low files
+    → IsAscending low (set files i (with_remark remark (get_or files i d)))
+IsAscending-remarked [] low i remark d a = tt
+IsAscending-remarked (file ∷ more) low zero remark d a =
+    rw (with_remark-generation remark file, with_remark-bytes remark file) (a.0, a.1, a.2, a.3)
+IsAscending-remarked (file ∷ more) low (suc i) remark d a =
+    (a.0, a.1, a.2, IsAscending-remarked more file.generation i remark d a.3)
 
 -- files without their bytes
 pub IsAscending-blank : (files : List File) (low : ℕ) → IsAscending low files → IsAscending low (map blank files)

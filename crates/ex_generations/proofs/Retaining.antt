@@ -1,11 +1,12 @@
--- What retention leaves unmarked.
-use Rattle.std.proofs.Common.{◌≡◌, ℕ, ◌-◌, ◌<◌, ◌≤◌, Bool, true, false, not, cond, nat_le, suc, zero, min, List, [], ◌∷◌, length, map, drop, refl, sym, ap, ◌∙◌, arith}
+-- What retention leaves unmarked, and how many the next file keeps.
+use Rattle.std.proofs.Common.{◌≡◌, ℕ, ◌+◌, ◌-◌, ◌<◌, ◌≤◌, Bool, true, false, not, cond, nat_le, suc, zero, min, List, [], ◌∷◌, ◌++◌, length, get_or, slice_get, Some, None, map, drop, refl, sym, ap, ◌∙◌, arith}
 use Rattle.std.proofs.lemmas.Bool.{cond-false, cond-true, leb-false, leb-true, ne_eqb, not_from_false}
 use Rattle.std.proofs.lemmas.List.{length-drop}
+use Rattle.std.proofs.lemmas.Option.{get_or_from_slice_get, slice_get-get_or, slice_get_within}
 use Rattle.ex_generations.specs.declared.file.File.{File}
 use Rattle.ex_generations.specs.declared.file.TheConstants.{FILE_LIMIT, GENERATION_LIMIT}
 use Rattle.ex_generations.specs.Generations.{IsAscending, has, inserted, marked_as, unmarked}
-use Rattle.ex_generations.specs.Retention.{added, kept_newest, live, retained}
+use Rattle.ex_generations.specs.Retention.{added, keep_for, kept_newest, live, retained}
 use Rattle.ex_generations.proofs.Ascending.{IsAscending-kept}
 use Rattle.ex_generations.proofs.Placing.{IsAscending-inserted}
 
@@ -70,6 +71,32 @@ ascending-cond : (all : Bool) (retention : ℕ) (files : List File) → IsAscend
 ascending-cond true retention files a = a
 ascending-cond false retention files a = IsAscending-kept retention files 0 a
 
-pub IsAscending-added : (retention : ℕ) (file : File) (files : List File) → IsAscending 0 files → 0 < file.generation → file.generation ≤ GENERATION_LIMIT → length file.bytes ≤ FILE_LIMIT → has file.generation files ≡ false → IsAscending 0 (added retention file files)
-IsAscending-added retention file files a lt within short absent =
-    ascending-cond _ retention (inserted file files) (IsAscending-inserted file files 0 lt (record { short = short; within = within; absent = absent }) a)
+pub IsAscending-added : (file : File) (files : List File) → IsAscending 0 files → 0 < file.generation → file.generation ≤ GENERATION_LIMIT → length file.bytes ≤ FILE_LIMIT → has file.generation files ≡ false → IsAscending 0 (added file files)
+IsAscending-added file files a lt within short absent =
+    ascending-cond _ file.keep (inserted file files) (IsAscending-inserted file files 0 lt (record { short = short; within = within; absent = absent }) a)
+
+-- a file behind all others says how many the next one keeps
+pub keep_for-append : (keep : ℕ) (files : List File) (file : File) → keep_for keep (files ++ file ∷ []) ≡ file.keep
+keep_for-append keep [] file = refl
+keep_for-append keep (first ∷ more) file = keep_for-append first.keep more file
+
+keep_for-at : (keep : ℕ) (files : List File) (i : ℕ) (d : File) → i + 1 ≡ length files → keep_for keep files ≡ (get_or files i d).keep
+keep_for-at keep [] i d e = absurd (omega arith)
+keep_for-at keep (file ∷ []) zero d e = refl
+keep_for-at keep (file ∷ []) (suc i) d e = absurd (omega arith)
+keep_for-at keep (file ∷ next ∷ more) zero d e = absurd (omega arith)
+keep_for-at keep (file ∷ next ∷ more) (suc i) d e = keep_for-at file.keep (next ∷ more) i d (omega arith)
+
+-- and that is the last of a list
+pub keep_for-last : (keep : ℕ) (files : List File) (file : File) → slice_get files (length files - 1) ≡ Some file → keep_for keep files ≡ file.keep
+keep_for-last keep files file e =
+    let within : length files - 1 < length files = slice_get_within files (length files - 1) file e in
+    keep_for-at keep files (length files - 1) file (omega arith)
+    ∙ ap (λ (last : File). last.keep) (get_or_from_slice_get files (length files - 1) file file e)
+
+-- no file is the last where there is none
+pub keep_for-none : (keep : ℕ) (files : List File) → slice_get files (length files - 1) ≡ None → keep_for keep files ≡ keep
+keep_for-none keep [] e = refl
+keep_for-none keep (file ∷ more) e =
+    let last : slice_get (file ∷ more) (length (file ∷ more) - 1) ≡ Some (get_or (file ∷ more) (length (file ∷ more) - 1) file) = slice_get-get_or (file ∷ more) (length (file ∷ more) - 1) file (omega arith) in
+    absurd (cc)

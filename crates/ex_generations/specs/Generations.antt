@@ -3,6 +3,8 @@ use Rattle.std.specs.Prelude.{ℕ, ◌+◌, ◌/◌, ◌%◌, ◌<◌, ◌≤◌
 use Rattle.std.specs.List.{list_any}
 use Rattle.std.specs.Option.{option_map_or}
 use Rattle.ex_generations.specs.declared.file.File.{File}
+use Rattle.ex_generations.specs.declared.file.Remark.{Remark}
+use Rattle.ex_generations.specs.declared.file.Remark.TheVariants as remarks
 use Rattle.ex_generations.specs.declared.file.TheConstants.{FILE_LIMIT, GENERATION_LIMIT, PAGE_BYTES}
 
 -- the files, and for how many there is room
@@ -70,9 +72,23 @@ changed generation change files = map (λ file. if is_generation generation file
 abbrev pub marked_as : Bool → File → File
 marked_as deleted file = record file { deleted = deleted }
 
--- the file without its bytes
+-- the file that keeps so many
+abbrev pub keeping : ℕ → File → File
+keeping keep file = record file { keep = keep }
+
+-- the file, last read at this moment
+abbrev pub touched : ℕ → File → File
+touched moment file = record file { read = Some moment }
+
+-- the file with this remark
+abbrev pub with_remark : Remark → File → File
+with_remark (remarks.Deleted deleted) file = marked_as deleted file
+with_remark (remarks.Keep keep) file = keeping keep file
+with_remark (remarks.Read moment) file = touched moment file
+
+-- the file without its bytes, and never read
 abbrev pub blank : File → File
-blank file = record file { bytes = [] }
+blank file = record file { read = None; bytes = [] }
 
 -- the file with this moment and these bytes
 abbrev pub rewritten : ℕ → List ℕ → File → File

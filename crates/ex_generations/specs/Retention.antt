@@ -1,4 +1,4 @@
--- How many generations are kept when one is added.
+-- How many generations are kept when one is added, and how many the next one keeps.
 use Rattle.std.specs.Prelude.{ℕ, ◌==◌, true, if◌then◌else◌, nat_le, List, [], ◌∷◌, length}
 use Rattle.ex_generations.specs.declared.file.File.{File}
 use Rattle.ex_generations.specs.Generations.{inserted, marked_as, unmarked}
@@ -9,14 +9,19 @@ live files = length (unmarked files)
 
 -- each file with at least so many unmarked ones above it is marked
 abbrev pub kept_newest : ℕ → List File → List File
-kept_newest retention [] = []
-kept_newest retention (file ∷ more) =
-    (if nat_le retention (live more) then marked_as true file else file) ∷ kept_newest retention more
+kept_newest keep [] = []
+kept_newest keep (file ∷ more) =
+    (if nat_le keep (live more) then marked_as true file else file) ∷ kept_newest keep more
 
 -- so many unmarked files are kept, and with 0 all are
 abbrev pub retained : ℕ → List File → List File
-retained retention files = if retention == 0 then files else kept_newest retention files
+retained keep files = if keep == 0 then files else kept_newest keep files
 
--- the file at its place, and then all unmarked files but so many of the highest are marked
-abbrev pub added : ℕ → File → List File → List File
-added retention file files = retained retention (inserted file files)
+-- the file at its place, and then all unmarked files but as many of the highest as it keeps are marked
+abbrev pub added : File → List File → List File
+added file files = retained file.keep (inserted file files)
+
+-- how many the highest file keeps, marked or not, and this many with no file
+abbrev pub keep_for : ℕ → List File → ℕ
+keep_for keep [] = keep
+keep_for keep (file ∷ more) = keep_for file.keep more

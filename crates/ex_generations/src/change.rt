@@ -1,11 +1,11 @@
 // Changes of the generations of a file.
 ghost use Rattle.std.specs.Prelude.{◌≡◌, ◌<◌, ◌≤◌, ◌↔◌, true, false, IsErr, OnErr, length, get_or, insert, map, set, IfOk, Some, vec_capacity, vec_len, find};
 ghost use Rattle.ex_generations.specs.declared.file.File.{File as Generation};
-ghost use Rattle.ex_generations.specs.Generations.{IsAscending, blank, changed, has, inserted, is_generation, marked_as, rewritten, unmarked, without};
+ghost use Rattle.ex_generations.specs.Generations.{IsAscending, blank, changed, has, inserted, is_generation, rewritten, unmarked, with_remark, without};
 ghost use Rattle.ex_generations.specs.Retention.{kept_newest, retained};
 
 use crate::search::{live, place, position};
-use crate::{Bytes, FILE_LIMIT, File, GENERATION_LIMIT, NoGen};
+use crate::{Bytes, FILE_LIMIT, File, GENERATION_LIMIT, NoGen, Remark};
 use cm_io::NoMemory;
 use std::alloc::Global;
 
@@ -34,14 +34,14 @@ pub(crate) fn insert(files: &mut Vec<File>, file: File)
     ensures ascending { IsAscending 0 files.new.items }
     ensures capacity { vec_capacity files.new ≡ vec_capacity files.old }
 {
-    let at = place(files, file.generation);
+    let at = place(files, file.generation, &mut 0);
     put_at(files, at, file);
 }
 
 // Marks each file with at least so many unmarked ones above it.
-pub(crate) fn keep_newest(files: &mut [File], retention: usize)
+pub(crate) fn keep_newest(files: &mut [File], keep: usize)
     requires { IsAscending 0 files.old }
-    ensures kept { files.new ≡ kept_newest retention files.old }
+    ensures kept { files.new ≡ kept_newest keep files.old }
     ensures ascending { IsAscending 0 files.new }
 {
     let mut above = live(files);
@@ -49,41 +49,52 @@ pub(crate) fn keep_newest(files: &mut [File], retention: usize)
         if !file.deleted {
             above -= 1;
         }
-        if above >= retention {
+        if above >= keep {
             file.deleted = true;
         }
     }
 }
 
 // Keeps so many unmarked files, or all where the number is 0.
-pub(crate) fn retain(files: &mut [File], retention: u8)
+pub(crate) fn retain(files: &mut [File], keep: u8)
     requires { IsAscending 0 files.old }
-    ensures retained { files.new ≡ retained retention files.old }
+    ensures retained { files.new ≡ retained keep files.old }
     ensures ascending { IsAscending 0 files.new }
 {
-    if retention > 0 {
-        keep_newest(files, usize::from(retention));
+    if keep > 0 {
+        keep_newest(files, usize::from(keep));
     }
 }
 
-// Sets or clears the mark of the file of a generation.
-pub(crate) fn set_mark(files: &mut [File], generation: u32, deleted: bool) -> Result<(), NoGen>
+// Changes what a remark names.
+fn apply(file: &mut File, remark: Remark)
+    ensures { file.new ≡ with_remark remark file.old }
+{
+    match remark {
+        Remark::Deleted(deleted) => file.deleted = deleted,
+        Remark::Keep(keep) => file.keep = keep,
+        Remark::Read(moment) => file.read = Some(moment),
+    }
+}
+
+// Changes what a remark names, of the file of a generation.
+pub(crate) fn remark(files: &mut [File], generation: u32, remark: Remark) -> Result<(), NoGen>
     requires { IsAscending 0 files.old }
     ensures none { IsErr result ↔ (has generation files.old ≡ false) }
-    ensures changed { files.new ≡ changed generation (marked_as deleted) files.old }
+    ensures changed { files.new ≡ changed generation (with_remark remark) files.old }
     ensures err { OnErr result (files.new ≡ files.old) }
     ensures ascending { IsAscending 0 files.new }
 {
-    match position(files, generation) {
+    match position(files, generation, &mut 0) {
         Some(at) => {
-            files[at].deleted = deleted;
+            apply(&mut files[at], remark);
             Ok(())
         }
         None => Err(NoGen),
     }
 }
 
-// The files without their bytes.
+// The files without their bytes, and never read.
 pub(crate) fn blanks(alloc: Global, files: &[File]) -> Result<Vec<File>, NoMemory>
     requires { IsAscending 0 files.now }
     ensures items { IfOk result (λ blanks. blanks.items ≡ map blank files.now) }
@@ -94,21 +105,23 @@ pub(crate) fn blanks(alloc: Global, files: &[File]) -> Result<Vec<File>, NoMemor
         blanks.push(File {
             generation: file.generation,
             deleted: file.deleted,
+            keep: file.keep,
             moment: file.moment,
+            read: None,
             bytes: Bytes::new(Vec::new(alloc)),
         })?;
     }
     Ok(blanks)
 }
 
-// Sets or clears the mark of the file at a place.
-pub(crate) fn set_mark_at(files: &mut [File], i: usize, deleted: bool)
+// Changes what a remark names, of the file at a place.
+pub(crate) fn remark_at(files: &mut [File], i: usize, remark: Remark)
     requires ascending { IsAscending 0 files.old }
     requires within { i < length files.old }
-    ensures set { (d : Generation) → files.new ≡ set files.old i (marked_as deleted (get_or files.old i d)) }
+    ensures set { (d : Generation) → files.new ≡ set files.old i (with_remark remark (get_or files.old i d)) }
     ensures ascending { IsAscending 0 files.new }
 {
-    files[i].deleted = deleted;
+    apply(&mut files[i], remark);
 }
 
 // Gives a file a moment and bytes.
@@ -127,7 +140,7 @@ pub(crate) fn rewrite(files: &mut [File], generation: u32, moment: u64, bytes: B
     ensures changed { files.new ≡ changed generation (rewritten moment bytes) files.old }
     ensures ascending { IsAscending 0 files.new }
 {
-    match position(files, generation) {
+    match position(files, generation, &mut 0) {
         Some(at) => fill(&mut files[at], moment, bytes),
         None => unreachable!(),
     }
@@ -142,7 +155,7 @@ pub(crate) fn take(files: &mut Vec<File>, generation: u32) -> File
     ensures ascending { IsAscending 0 files.new.items }
     ensures capacity { vec_capacity files.new ≡ vec_capacity files.old }
 {
-    match position(files, generation) {
+    match position(files, generation, &mut 0) {
         Some(at) => files.remove(at),
         None => unreachable!(),
     }

@@ -17,8 +17,23 @@ pub struct File {
     pub generation: u32,
     /// Whether it is marked as deleted, until it is expunged.
     pub deleted: bool,
+    /// How many unmarked files stay when this one is added: 0 for all. The store keeps it at most 63.
+    pub keep: u8,
     /// When it was written, in seconds since 1-JAN-1970.
     pub moment: u64,
+    /// When it was last read, in seconds since 1-JAN-1970; None where it was not.
+    pub read: Option<u64>,
     /// What it holds, at most 65,536 bytes.
     pub bytes: Bytes,
+}
+
+/// What may change of a file that stays as it was written.
+#[derive(Clone, Copy, Debug)]
+pub enum Remark {
+    /// Whether it is marked as deleted.
+    Deleted(bool),
+    /// How many unmarked files stay when it is added.
+    Keep(u8),
+    /// When it was last read, in seconds since 1-JAN-1970.
+    Read(u64),
 }

@@ -1,10 +1,10 @@
 // The generations of one file.
-ghost use Rattle.std.specs.Prelude.{◌≡◌, ◌<◌, ◌≤◌, ◌+◌, ◌↔◌, [], true, false, length, find, get_or, map, option_copied, set, slice_get, Some, IsTrue, IsErr, IsOk, IfOk, OnErr, OnOk};
+ghost use Rattle.std.specs.Prelude.{◌≡◌, ◌<◌, ◌≤◌, ◌+◌, ◌-◌, ◌*◌, ◌^◌, ◌↔◌, [], true, false, length, find, get_or, map, option_copied, position, set, slice_get, Some, IsTrue, IsErr, IsOk, IfOk, OnErr, OnOk};
 ghost use Rattle.ex_generations.specs.declared.file.File.{File};
-ghost use Rattle.ex_generations.specs.Generations.{IsAscending, blank, changed, has, highest, is_generation, lowest, marked, marked_as, next_generation, pages, rewritten, unmarked, with_mark, without};
-ghost use Rattle.ex_generations.specs.Retention.{added, retained};
+ghost use Rattle.ex_generations.specs.Generations.{IsAscending, blank, changed, has, highest, inserted, is_generation, keeping, lowest, marked, marked_as, next_generation, pages, rewritten, touched, unmarked, with_mark, with_remark, without};
+ghost use Rattle.ex_generations.specs.Retention.{added, keep_for, retained};
 
-use crate::{Bytes, FILE_LIMIT, File, GENERATION_LIMIT, GenFull, NoGen, change, search};
+use crate::{Bytes, FILE_LIMIT, File, GENERATION_LIMIT, GenFull, NoGen, Remark, change, search};
 use cm_io::NoMemory;
 use std::alloc::Global;
 use std::marker::Model;
@@ -37,7 +37,7 @@ impl Gens {
         }
     }
 
-    /// The same files without their bytes.
+    /// The same files without their bytes, and never read.
     pub fn blank(&self, alloc: Global) -> Result<Gens, NoMemory>
         ensures { IfOk result (λ gens. gens.files ≡ map blank self.now.files) }
     {
@@ -68,6 +68,17 @@ impl Gens {
         ensures ordered { IsAscending 0 self.now.files }
     {
         &self.files
+    }
+
+    /// Where the file of this generation stands in the ascending order; None where there is none. All that asks for a
+    /// generation looks for it so. How often a file is looked at is added to `probes`: at most as often as the number
+    /// of files has binary digits, so 11 times for 1,024 of them.
+    pub fn position(&self, generation: u32, probes: &mut u64) -> Option<usize>
+        ensures place { result ≡ position (is_generation generation) self.now.files }
+        ensures later { probes.old ≤ probes.new }
+        ensures few { 2 ^ (probes.new - probes.old) ≤ 2 * length self.now.files + 1 }
+    {
+        search::position(&self.files, generation, probes)
     }
 
     /// The file of this generation, where there is one.
@@ -123,26 +134,47 @@ impl Gens {
         Ok(())
     }
 
-    /// Adds a file at its place in the order. Where `retention` is not 0, all unmarked files but so many of the highest
-    /// are then marked as deleted.
-    pub fn add(&mut self, file: File, retention: u8)
+    /// Puts a file at its place in the order, with the mark that it has. No other file changes.
+    pub fn insert(&mut self, file: File)
         requires room { length self.old.files < self.old.room }
         requires short { length file.bytes ≤ FILE_LIMIT }
         requires from_one { 0 < file.generation }
         requires to_limit { file.generation ≤ GENERATION_LIMIT }
         requires absent { has file.generation self.old.files ≡ false }
-        ensures added { self.new ≡ record self.old { files = added retention file self.old.files } }
+        ensures inserted { self.new ≡ record self.old { files = inserted file self.old.files } }
         ensures ordered { IsAscending 0 self.old.files }
     {
         change::insert(&mut self.files, file);
-        change::retain(&mut self.files, retention);
+    }
+
+    /// Adds a file at its place in the order. Where its `keep` is not 0, all unmarked files but so many of the highest
+    /// are then marked as deleted.
+    pub fn add(&mut self, file: File)
+        requires room { length self.old.files < self.old.room }
+        requires short { length file.bytes ≤ FILE_LIMIT }
+        requires from_one { 0 < file.generation }
+        requires to_limit { file.generation ≤ GENERATION_LIMIT }
+        requires absent { has file.generation self.old.files ≡ false }
+        ensures added { self.new ≡ record self.old { files = added file self.old.files } }
+        ensures ordered { IsAscending 0 self.old.files }
+    {
+        let keep = file.keep;
+        change::insert(&mut self.files, file);
+        change::retain(&mut self.files, keep);
     }
 
     /// Marks all unmarked files as deleted but so many of the highest; with 0 none.
-    pub fn retain_newest(&mut self, retention: u8)
-        ensures { self.new ≡ record self.old { files = retained retention self.old.files } }
+    pub fn retain_newest(&mut self, keep: u8)
+        ensures { self.new ≡ record self.old { files = retained keep self.old.files } }
     {
-        change::retain(&mut self.files, retention);
+        change::retain(&mut self.files, keep);
+    }
+
+    /// How many files the next one keeps: as many as the highest, marked or not, and `keep` where there is none.
+    pub fn keep_for(&self, keep: u8) -> u8
+        ensures { result ≡ keep_for keep self.now.files }
+    {
+        search::keep_for(&self.files, keep)
     }
 
     /// Marks the file of a generation as deleted. NoGen where there is none, and then nothing changes.
@@ -153,7 +185,7 @@ impl Gens {
         }) }
         ensures err { OnErr result (self.new ≡ self.old) }
     {
-        change::set_mark(&mut self.files, generation, true)
+        change::remark(&mut self.files, generation, Remark::Deleted(true))
     }
 
     /// Clears the mark of the file of a generation. NoGen where there is none, and then nothing changes.
@@ -164,17 +196,40 @@ impl Gens {
         }) }
         ensures err { OnErr result (self.new ≡ self.old) }
     {
-        change::set_mark(&mut self.files, generation, false)
+        change::remark(&mut self.files, generation, Remark::Deleted(false))
     }
 
-    /// Marks the file at a place in the ascending order as deleted, or clears its mark.
-    pub fn set_mark(&mut self, i: usize, deleted: bool)
+    /// Sets how many files that of a generation keeps, and marks none. NoGen where there is none, and then nothing
+    /// changes.
+    pub fn set_keep(&mut self, generation: u32, keep: u8) -> Result<(), NoGen>
+        ensures none { IsErr result ↔ (has generation self.old.files ≡ false) }
+        ensures kept { OnOk result (self.new ≡ record self.old {
+          files = changed generation (keeping keep) self.old.files;
+        }) }
+        ensures err { OnErr result (self.new ≡ self.old) }
+    {
+        change::remark(&mut self.files, generation, Remark::Keep(keep))
+    }
+
+    /// Sets when the file of a generation was last read. NoGen where there is none, and then nothing changes.
+    pub fn touch(&mut self, generation: u32, moment: u64) -> Result<(), NoGen>
+        ensures none { IsErr result ↔ (has generation self.old.files ≡ false) }
+        ensures touched { OnOk result (self.new ≡ record self.old {
+          files = changed generation (touched moment) self.old.files;
+        }) }
+        ensures err { OnErr result (self.new ≡ self.old) }
+    {
+        change::remark(&mut self.files, generation, Remark::Read(moment))
+    }
+
+    /// Changes what a remark names, of the file at a place in the ascending order.
+    pub fn remark(&mut self, i: usize, remark: Remark)
         requires { i < length self.old.files }
         ensures { (d : File) → self.new ≡ record self.old {
-          files = set self.old.files i (marked_as deleted (get_or self.old.files i d));
+          files = set self.old.files i (with_remark remark (get_or self.old.files i d));
         } }
     {
-        change::set_mark_at(&mut self.files, i, deleted);
+        change::remark_at(&mut self.files, i, remark);
     }
 
     /// Takes the file of a generation out. The room stays.

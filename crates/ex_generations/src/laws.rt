@@ -3,24 +3,24 @@ ghost use Rattle.std.specs.Prelude.{◌≡◌, ◌<◌, ◌≤◌, ◌-◌, ◌�
 ghost use Rattle.ex_generations.specs.declared.file.File.{File};
 ghost use Rattle.ex_generations.specs.declared.file.TheConstants.{FILE_LIMIT, GENERATION_LIMIT, PAGE_BYTES};
 ghost use Rattle.ex_generations.specs.Generations.{IsAscending, has, inserted, is_generation, marked_as, next_generation, unmarked, without};
-ghost use Rattle.ex_generations.specs.Retention.{added, live, retained};
+ghost use Rattle.ex_generations.specs.Retention.{added, keep_for, live, retained};
 
-/// Retention keeps the highest: of the files that were unmarked, the last `retention` stay so, and no other.
+/// Retention keeps the highest: of the files that were unmarked, the last `keep` stay so, and no other.
 pub fn the_highest_stay_unmarked()
-    ensures { (retention : ℕ) → 0 < retention → (files : List File)
-        → unmarked (retained retention files) ≡ drop (live files - retention) (unmarked files) }
+    ensures { (keep : ℕ) → 0 < keep → (files : List File)
+        → unmarked (retained keep files) ≡ drop (live files - keep) (unmarked files) }
 {}
 
-/// Retention leaves `retention` files unmarked, and fewer only where there were fewer.
+/// Retention leaves `keep` files unmarked, and fewer only where there were fewer.
 pub fn at_most_so_many_stay_unmarked()
-    ensures { (retention : ℕ) → 0 < retention → (files : List File)
-        → live (retained retention files) ≡ min retention (live files) }
+    ensures { (keep : ℕ) → 0 < keep → (files : List File)
+        → live (retained keep files) ≡ min keep (live files) }
 {}
 
 /// Retention changes nothing of a file but its mark.
 pub fn retention_changes_marks_alone()
-    ensures { (retention : ℕ) → (files : List File)
-        → map (marked_as true) (retained retention files) ≡ map (marked_as true) files }
+    ensures { (keep : ℕ) → (files : List File)
+        → map (marked_as true) (retained keep files) ≡ map (marked_as true) files }
 {}
 
 /// A file of the next generation goes behind all others.
@@ -38,9 +38,16 @@ pub fn an_added_file_leaves_the_others()
 
 /// With a file added the generations still ascend.
 pub fn adding_keeps_the_order()
-    ensures { (retention : ℕ) → (file : File) → (files : List File) → IsAscending 0 files
+    ensures { (file : File) → (files : List File) → IsAscending 0 files
         → 0 < file.generation → file.generation ≤ GENERATION_LIMIT → length file.bytes ≤ FILE_LIMIT
-        → has file.generation files ≡ false → IsAscending 0 (added retention file files) }
+        → has file.generation files ≡ false → IsAscending 0 (added file files) }
+{}
+
+/// The next generation keeps as many as the highest, marked or not, and with no file as many as were handed in.
+pub fn the_highest_says_how_many_the_next_keeps()
+    ensures others { (keep : ℕ) → (files : List File) → (file : File)
+        → keep_for keep (files ++ file ∷ []) ≡ file.keep }
+    ensures none { (keep : ℕ) → keep_for keep [] ≡ keep }
 {}
 
 /// What expunging keeps are the files that are not marked.

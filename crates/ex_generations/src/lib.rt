@@ -11,5 +11,5 @@ mod search;
 
 pub use bytes::Bytes;
 pub use errors::{GenFull, NoGen};
-pub use file::{FILE_LIMIT, File, GENERATION_LIMIT, PAGE_BYTES};
+pub use file::{FILE_LIMIT, File, GENERATION_LIMIT, PAGE_BYTES, Remark};
 pub use gens::Gens;

@@ -1,27 +1,30 @@
 // Searches through the generations of a file. A generation is found by halving.
-ghost use Rattle.std.specs.Prelude.{◌≡◌, ◌≤◌, ◌↔◌, false, find, length, option_copied, Some, IfOk, IsErr, position, nat_lt};
+ghost use Rattle.std.specs.Prelude.{◌≡◌, ◌≤◌, ◌↔◌, ◌+◌, ◌-◌, ◌*◌, ◌^◌, false, find, length, option_copied, Some, IfOk, IsErr, position, nat_lt};
 ghost use Rattle.std.specs.List.{prefix_len};
 ghost use Rattle.ex_generations.specs.Generations.{IsAscending, has, highest, is_generation, lowest, marked, next_generation, page_count, pages, with_mark};
-ghost use Rattle.ex_generations.specs.Retention.{live};
+ghost use Rattle.ex_generations.specs.Retention.{keep_for, live};
 
 use crate::{Bytes, FILE_LIMIT, File, GENERATION_LIMIT, GenFull, PAGE_BYTES};
 use cm_text::seek;
 
-// How many files are of a lower generation.
-pub(crate) fn place(files: &[File], generation: u32) -> usize
+// How many files are of a lower generation. How often a file is looked at is added to `probes`.
+pub(crate) fn place(files: &[File], generation: u32, probes: &mut u64) -> usize
     requires { IsAscending 0 files.now }
-    ensures { result ≡ prefix_len (λ file. nat_lt file.generation generation) files.now }
+    ensures place { result ≡ prefix_len (λ file. nat_lt file.generation generation) files.now }
+    ensures later { probes.old ≤ probes.new }
+    ensures few { 2 ^ (probes.new - probes.old) ≤ 2 * length files.now + 1 }
 {
-    let mut probes = 0;
-    seek(files, |file| file.generation < generation, &mut probes)
+    seek(files, |file| file.generation < generation, probes)
 }
 
-// Where the file of a generation stands.
-pub(crate) fn position(files: &[File], generation: u32) -> Option<usize>
+// Where the file of a generation stands. How often a file is looked at is added to `probes`.
+pub(crate) fn position(files: &[File], generation: u32, probes: &mut u64) -> Option<usize>
     requires { IsAscending 0 files.now }
-    ensures { result ≡ position (is_generation generation) files.now }
+    ensures place { result ≡ position (is_generation generation) files.now }
+    ensures later { probes.old ≤ probes.new }
+    ensures few { 2 ^ (probes.new - probes.old) ≤ 2 * length files.now + 1 }
 {
-    let at = place(files, generation);
+    let at = place(files, generation, probes);
     match files.get(at) {
         Some(file) if file.generation == generation => Some(at),
         _ => None,
@@ -33,7 +36,7 @@ pub(crate) fn find(files: &[File], generation: u32) -> Option<&File>
     requires { IsAscending 0 files.now }
     ensures { option_copied result ≡ find (is_generation generation) files.now }
 {
-    match position(files, generation) {
+    match position(files, generation, &mut 0) {
         Some(at) => Some(&files[at]),
         None => None,
     }
@@ -44,7 +47,7 @@ pub(crate) fn has(files: &[File], generation: u32) -> bool
     requires { IsAscending 0 files.now }
     ensures { result ≡ has generation files.now }
 {
-    position(files, generation).is_some()
+    position(files, generation, &mut 0).is_some()
 }
 
 // The highest generation with this mark.
@@ -73,6 +76,16 @@ pub(crate) fn next(files: &[File]) -> Result<u32, GenFull>
         None => Ok(1),
         Some(file) if file.generation < GENERATION_LIMIT => Ok(file.generation + 1),
         Some(_) => Err(GenFull),
+    }
+}
+
+// How many files the highest keeps, and this many with no file.
+pub(crate) fn keep_for(files: &[File], keep: u8) -> u8
+    ensures { result ≡ keep_for keep files.now }
+{
+    match files.last() {
+        Some(file) => file.keep,
+        None => keep,
     }
 }
 

@@ -16,6 +16,7 @@ use Rattle.ex_store.specs.Draft.{and_directory, and_logical, and_request, and_ro
 use Rattle.ex_store.specs.Rows.{by_row, total}
 use Rattle.ex_store.specs.State.{State, has_directory}
 use Rattle.ex_store.specs.WellFormed.{AreRows, IsDraft, is_definition_among, is_directory, is_entry_among, is_row_among}
+use Rattle.ex_image.specs.declared.version.Version.{Version}
 use Rattle.ex_image.specs.Grammar.{Leads, Makes, MayStand, is_shaped}
 use Rattle.ex_image.specs.Fields.{is_logical}
 use Rattle.ex_image.specs.Reading.{Reading, is_in_range, stands_above, start, with_entry, with_record}
@@ -26,12 +27,12 @@ use Rattle.ex_image.proofs.RequestLaws.{IsRequestShape, request_shape}
 use Rattle.ex_image.proofs.Standing.{IsFaultless, Stands, faultless_of, only_directories, stands_more}
 
 -- one more that passes
-all_more : {X : Type 0} (test : X → Bool) (xs : List X) (x : X) → list_all test xs ≡ true → test x ≡ true
+pub all_more : {X : Type 0} (test : X → Bool) (xs : List X) (x : X) → list_all test xs ≡ true → test x ≡ true
     → list_all test (xs ++ x ∷ []) ≡ true
 all_more test xs x all passes = list_all-append test xs (x ∷ []) ∙ and_from _ _ all (and_from _ _ passes refl)
 
 -- where there is none, each passes
-all_none : {X : Type 0} (test : X → Bool) (xs : List X) → xs ≡ [] → list_all test xs ≡ true
+pub all_none : {X : Type 0} (test : X → Bool) (xs : List X) → xs ≡ [] → list_all test xs ≡ true
 all_none test xs none = rw none refl
 
 -- one more where there is room
@@ -126,10 +127,11 @@ rows_more directories rows row bytes are among above room fits = record {
       omega (arith, sum_by-append (λ (each : Row). length each.file.bytes) rows (filled row bytes ∷ []));
 }
 
-row_more : (state : State) (row : Row) (size : ℕ) (bytes : List ℕ) → IsDraft state → is_shaped (File row size) ≡ true
-    → length bytes ≡ size → IsFaultless state (File row size) → IsDraft (and_row (filled row bytes) state)
-row_more state row size bytes draft shape content good =
-    let is = file_shape row size shape in
+row_more : (state : State) (version : Version) (row : Row) (size : ℕ) (bytes : List ℕ) → IsDraft state
+    → is_shaped (File version row size) ≡ true → length bytes ≡ size → IsFaultless state (File version row size)
+    → IsDraft (and_row (filled row bytes) state)
+row_more state version row size bytes draft shape content good =
+    let is = file_shape version row size shape in
     let range = and_parts _ _ good.range in
     let numbers = and_parts _ _ range.0 in
     let room = and_parts _ _ good.room in
@@ -197,7 +199,7 @@ request_more state entry draft shape good =
 pub draft_more : (reading : Reading) (entry : Entry) (bytes : List ℕ) → IsDraft reading.state
     → Stands reading.last reading.state → MayStand reading (entry, bytes)
     → IsDraft (with_entry reading.state entry bytes)
-draft_more reading Head bytes draft stands may = draft
+draft_more reading (Head version) bytes draft stands may = draft
 draft_more reading (Directory name retention) bytes draft stands may =
     directory_more reading.state name retention draft (only_directories reading.last reading.state stands may.place)
     may.shape (faultless_of reading.state (Directory name retention) may.faultless)
@@ -205,9 +207,9 @@ draft_more reading (Connected name) bytes draft stands may = connected_more read
 draft_more reading (Logical name directory) bytes draft stands may =
     logical_more reading.state name directory draft may.shape
     (faultless_of reading.state (Logical name directory) may.faultless)
-draft_more reading (File row size) bytes draft stands may =
-    row_more reading.state row size bytes draft may.shape may.content
-    (faultless_of reading.state (File row size) may.faultless)
+draft_more reading (File version row size) bytes draft stands may =
+    row_more reading.state version row size bytes draft may.shape may.content
+    (faultless_of reading.state (File version row size) may.faultless)
 draft_more reading (Request entry) bytes draft stands may =
     request_more reading.state entry draft may.shape (faultless_of reading.state (Request entry) may.faultless)
 draft_more reading End bytes draft stands may = draft

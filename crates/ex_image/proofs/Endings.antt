@@ -8,7 +8,8 @@ use Rattle.ex_image.specs.declared.fault.Kind.{Kind}
 use Rattle.ex_image.specs.declared.fault.Kind.TheVariants.{Form}
 use Rattle.ex_image.specs.declared.tag.Tag.{Tag}
 use Rattle.ex_image.specs.declared.tag.Tag.TheVariants as tags
-use Rattle.ex_image.specs.Grammar.{FirstBad, IsImage, Leads, Makes, MayStand}
+use Rattle.ex_image.specs.declared.version.Version.{Version}
+use Rattle.ex_image.specs.Grammar.{FirstBad, IsImage, IsImageIn, Leads, Makes, MayStand, state_in}
 use Rattle.ex_image.specs.Reading.{Reading, is_ended, record_at, start, with_record}
 use Rattle.ex_image.specs.Record.{Entry, record_text}
 use Rattle.ex_image.proofs.Leading.{makes_more, makes_start}
@@ -82,43 +83,58 @@ one_end bytes one two rest left first second stuck ends =
     same_end start one two first.0 second.0 rest left first.1 second.1 (sym first.2 ∙ second.2) stuck ends
 
 -- the end of an image
-abbrev pub whole : State → Reading
-whole state = record { last = tags.End; state = state }
+abbrev pub whole : Version → State → Reading
+whole version state = record { version = version; last = tags.End; state = state }
 
-image_made : (bytes : List ℕ) (state : State) → IsImage bytes state → Makes bytes (whole state) []
-unfolding IsImage
-image_made bytes state image = image
+image_made : (version : Version) (bytes : List ℕ) (state : State) → IsImageIn version bytes state
+    → Makes bytes (whole version state) []
+unfolding IsImageIn
+image_made version bytes state image = image
+
+none_behind : (version other : Version) (bytes more : List ℕ) (first second : State) → IsImageIn version bytes first
+    → IsImageIn other (bytes ++ more) second → more ≡ []
+unfolding IsImageIn Makes
+none_behind version other bytes more first second image longer =
+    (same_end start (whole version first) (whole other second) image.0 longer.0 more [] image.1 longer.1
+    (ap (λ bytes. bytes ++ more) (sym (append-nil (flat_map record_text image.0)) ∙ sym image.2) ∙ longer.2)
+    (ended_stuck (whole version first) more refl) (ended_stuck (whole other second) [] refl)).1
 
 -- behind an image nothing may stand
 pub nothing_behind : (bytes more : List ℕ) (state other : State) → IsImage bytes state → IsImage (bytes ++ more) other
     → more ≡ []
-unfolding IsImage Makes
+unfolding IsImage
 nothing_behind bytes more state other image longer =
-    (same_end start (whole state) (whole other) image.0 longer.0 more [] image.1 longer.1
-    (ap (λ bytes. bytes ++ more) (sym (append-nil (flat_map record_text image.0)) ∙ sym image.2) ∙ longer.2)
-    (ended_stuck (whole state) more refl) (ended_stuck (whole other) [] refl)).1
+    none_behind image.0 longer.0 bytes more image.1 longer.1 image.2 longer.2
+
+-- what was read of an image of a state
+state_of : Reading → State
+state_of reading = state_in reading.version reading.state
 
 pub one_state : (bytes : List ℕ) (state other : State) → IsImage bytes state → IsImage bytes other → state ≡ other
+unfolding IsImage state_of
 one_state bytes state other image second =
-    ap (λ reading. reading.state)
-    (one_end bytes (whole state) (whole other) [] [] (image_made bytes state image) (image_made bytes other second)
-    (ended_stuck (whole state) [] refl) (ended_stuck (whole other) [] refl)).0
+    let same =
+    one_end bytes (whole image.0 image.1) (whole second.0 second.1) [] [] (image_made image.0 bytes image.1 image.2)
+    (image_made second.0 bytes second.1 second.2)
+    (ended_stuck (whole image.0 image.1) [] refl) (ended_stuck (whole second.0 second.1) [] refl) in
+    image.3 ∙ (ap state_of same.0 ∙ sym second.3)
 
 bad_stuck : (bytes : List ℕ) (place : ℕ) (kind : Kind) (bad : FirstBad bytes place kind) → IsStuck bad.reading bad.rest
 bad_stuck bytes place kind bad = record { kind = kind; is = bad.bad }
 
-at_end : (state : State) (reading : Reading) (rest : List ℕ) → whole state ≡ reading → [] ≡ rest
-    → (is_ended reading.last && length rest == 0) ≡ false → ⊥
-at_end state reading rest same none goes = false≢true (sym goes ∙ rw (← same, ← none) refl)
+at_end : (version : Version) (state : State) (reading : Reading) (rest : List ℕ) → whole version state ≡ reading
+    → [] ≡ rest → (is_ended reading.last && length rest == 0) ≡ false → ⊥
+at_end version state reading rest same none goes = false≢true (sym goes ∙ rw (← same, ← none) refl)
 
 -- an image goes wrong nowhere
 pub never_bad : (bytes : List ℕ) (state : State) (place : ℕ) (kind : Kind) → IsImage bytes state
     → FirstBad bytes place kind → ⊥
+unfolding IsImage
 never_bad bytes state place kind image bad =
     let same =
-    one_end bytes (whole state) bad.reading [] bad.rest (image_made bytes state image) bad.made
-    (ended_stuck (whole state) [] refl) (bad_stuck bytes place kind bad) in
-    at_end state bad.reading bad.rest same.0 same.1 bad.goes_on
+    one_end bytes (whole image.0 image.1) bad.reading [] bad.rest (image_made image.0 bytes image.1 image.2) bad.made
+    (ended_stuck (whole image.0 image.1) [] refl) (bad_stuck bytes place kind bad) in
+    at_end image.0 image.1 bad.reading bad.rest same.0 same.1 bad.goes_on
 
 same_fault : (one two : Reading) (rest left : List ℕ) (kind fault : Kind) → one ≡ two → rest ≡ left
     → record_at one rest ≡ Err kind → record_at two left ≡ Err fault → kind ≡ fault
@@ -142,22 +158,27 @@ one_bad bytes place other kind fault first second =
 abbrev pub Judged : List ℕ → Type 0
 Judged bytes = ((state : State) × IsImage bytes state) ⊎ ((place : ℕ) × (kind : Kind) × FirstBad bytes place kind)
 
-reading_at : State → Tag → Reading
-reading_at state last = record { last = last; state = state }
+reading_at : Version → State → Tag → Reading
+reading_at version state last = record { version = version; last = last; state = state }
 
 ended_is : (last : Tag) → is_ended last ≡ true → last ≡ tags.End
 ended_is tags.End ended = refl
 ended_is last ended = absurd (false≢true ended)
 
 -- an image ends where all of it is read
-pub image_here : (bytes : List ℕ) (reading : Reading) (rest : List ℕ) → Makes bytes reading rest
-    → (is_ended reading.last && length rest == 0) ≡ true → IsImage bytes reading.state
-unfolding IsImage reading_at
-image_here bytes reading rest made ends =
+pub whole_here : (bytes : List ℕ) (reading : Reading) (rest : List ℕ) → Makes bytes reading rest
+    → (is_ended reading.last && length rest == 0) ≡ true → IsImageIn reading.version bytes reading.state
+unfolding IsImageIn reading_at
+whole_here bytes reading rest made ends =
     let both = and_parts (is_ended reading.last) (length rest == 0) ends in
     let last = ended_is reading.last both.0 in
-    subst (λ at. Makes bytes at []) (ap (reading_at reading.state) last)
+    subst (λ at. Makes bytes at []) (ap (reading_at reading.version reading.state) last)
     (subst (λ left. Makes bytes reading left) (no_bytes rest both.1) made)
+
+pub image_here : (bytes : List ℕ) (version : Version) (said : State) → IsImageIn version bytes said
+    → IsImage bytes (state_in version said)
+unfolding IsImage
+image_here bytes version said image = (version, said, image, refl)
 
 behind_size : (bytes : List ℕ) (reading : Reading) (rest : List ℕ) → Makes bytes reading rest
     → length rest ≤ length bytes
@@ -190,7 +211,10 @@ judged_from (suc room) bytes reading rest less made =
     by : (ends : Bool) → (is_ended reading.last && length rest == 0) ≡ ends
         → (read : Result ((Entry × List ℕ) × List ℕ) Kind) → record_at reading rest ≡ read
         → ((next : Reading) (left : List ℕ) → length left < room → Makes bytes next left → Judged bytes) → Judged bytes
-    by true ends read is later = inl (reading.state, image_here bytes reading rest made ends)
+    by true ends read is later = inl (
+      state_in reading.version reading.state,
+      image_here bytes reading.version reading.state (whole_here bytes reading rest made ends),
+    )
     by false ends (Ok part) is later =
         let shorter = record_shorter reading rest part is in
         later (with_record reading part.0) part.1 (omega arith) (makes_more bytes reading rest part made is)

@@ -1,5 +1,5 @@
 -- Each field of an image: its reader and its writer.
-use Rattle.std.proofs.Common.{◌≡◌, ℕ, zero, suc, ◌<◌, ◌≤◌, ◌^◌, ◌==◌, Bool, true, false, not, ◌&&◌, ◌||◌, nat_lt, cond, List, [], ◌∷◌, length, get_or, Ok, Err, refl, ap, subst, sym, ◌∙◌, arith, rules}
+use Rattle.std.proofs.Common.{◌≡◌, ℕ, zero, suc, ◌<◌, ◌≤◌, ◌^◌, ◌==◌, Bool, true, false, not, ◌&&◌, ◌||◌, nat_lt, cond, List, [], ◌∷◌, ◌++◌, length, get_or, Result, Ok, Err, refl, ap, subst, sym, ◌∙◌, arith, rules}
 use Rattle.std.specs.Char.{is_ascii_digit, is_ascii_lowercase}
 use Rattle.std.specs.Fmt.{decimal}
 use Rattle.std.specs.List.{join_with_byte, list_all, slice_split}
@@ -12,6 +12,7 @@ use Rattle.std.proofs.lemmas.Str.Parse.{IsNumeralModel, digits_value_short, nume
 use Rattle.cm_text.specs.Bytes.{is_name, is_text, is_word}
 use Rattle.cm_files.specs.Catalogue.{is_directory_name, is_upper_name}
 use Rattle.ex_store.specs.WellFormed.{is_file_name, is_file_type}
+use Rattle.ex_image.specs.declared.fault.Kind.{Kind}
 use Rattle.ex_image.specs.declared.fault.Kind.TheVariants.{Form}
 use Rattle.ex_image.specs.Fields.{directory_of, formed, is_logical, is_note, is_numeral, job_of, logical_of, note_of, number_of}
 use Rattle.ex_image.specs.Grammar.{is_short}
@@ -190,3 +191,13 @@ name_spelling = tested is_file_name is_name file_name_names
 
 pub kind_spelling : IsSpelling (formed is_file_type) itself (λ kind. is_file_type kind ≡ true) is_name
 kind_spelling = tested is_file_type is_name file_type_names
+
+-- a field within a line
+pub within : {A : Type 0} {read : List ℕ → Result A Kind} {write : A → List ℕ} {Good : A → Type 0}
+    → IsSpelling read write Good is_dark → (x : A) → Good x → list_all is_inside (write x) ≡ true
+within {write = write} spelling x good = all_weaker is_dark is_inside dark_inside (write x) (spelling.only x good)
+
+-- one field more
+pub field_more : (letter rest : List ℕ) → list_all is_inside letter ≡ true → list_all is_inside rest ≡ true
+    → list_all is_inside (letter ++ 32 ∷ rest) ≡ true
+field_more letter rest one two = all_joined is_inside letter 32 rest one refl two

@@ -3,6 +3,7 @@ use Rattle.std.proofs.Common.{◌≡◌, ℕ, zero, suc, ◌<◌, ℤ, pos, negs
 use Rattle.std.specs.Char.{is_ascii_digit}
 use Rattle.std.specs.Fmt.{decimal}
 use Rattle.std.specs.List.{list_all}
+use Rattle.std.specs.Option.{option_map}
 use Rattle.std.specs.Str.{bytes_eq}
 use Rattle.std.proofs.lemmas.Bool.{and_from, and_parts, le-leb, ltb-true}
 use Rattle.std.proofs.lemmas.Slice.Eq.{bytes_eq-Decides}
@@ -13,9 +14,9 @@ use Rattle.ex_store.specs.Forms.{form_text}
 use Rattle.ex_store.specs.WellFormed.{is_file_name, is_file_type}
 use Rattle.ex_image.specs.declared.fault.Kind.{Kind}
 use Rattle.ex_image.specs.declared.fault.Kind.TheVariants.{Form}
-use Rattle.ex_image.specs.Fields.{after_of, file_of, form_of, mark_of}
-use Rattle.ex_image.specs.Grammar.{is_short, is_short_day}
-use Rattle.ex_image.specs.Record.{after_text, file_text, mark_text}
+use Rattle.ex_image.specs.Fields.{◌>>=◌, after_of, file_of, form_of, mark_of, optional_of}
+use Rattle.ex_image.specs.Grammar.{is_short, is_short_day, is_short_optional}
+use Rattle.ex_image.specs.Record.{after_text, file_text, mark_text, optional_text}
 use Rattle.ex_image.proofs.FieldLaws.{file_name_names, file_type_names, is_dark, name_dark, kind_spelling, name_spelling, number_digits, number_spelling, point_no_name}
 use Rattle.ex_image.proofs.Spelling.{IsSpelling, all_joined, all_weaker, by_part, by_rest, by_word, done, part_again}
 
@@ -130,27 +131,21 @@ form_only (suc (suc form)) good = refl
 pub form_spelling : IsSpelling form_of form_text (λ form. is_form form ≡ true) is_dark
 form_spelling = record { takes = form_takes; again = form_again; only = form_only }
 
--- a day of ten digits
-short_day : (day : ℕ) → is_short day ≡ true → is_short_day (Some (pos day)) ≡ true
-short_day day short = and_from _ _ (le-leb 0 day (omega arith)) short
-
-pub day_short : (day : ℕ) → is_short_day (Some (pos day)) ≡ true → is_short day ≡ true
-day_short day short = (and_parts _ _ short).1
-
-after_takes : (bytes : List ℕ) (after : Option ℤ) → after_of bytes ≡ Ok after
-    → (bytes ≡ after_text after) × (is_short_day after ≡ true)
-unfolding after_of
-after_takes bytes after is =
-    chosen bytes (codes "-") None _ after _ is
-    (λ word e. (word ∙ ap after_text e, ap is_short_day (sym e))) λ is.
-    by_rest _ _ _ _ number_spelling bytes _ after _ is λ day text short is.
-    after_end bytes day after text short is
+-- a number or a hyphen
+optional_takes : (bytes : List ℕ) (number : Option ℕ) → optional_of bytes ≡ Ok number
+    → (bytes ≡ optional_text number) × (is_short_optional number ≡ true)
+unfolding optional_of
+optional_takes bytes number is =
+    chosen bytes (codes "-") None _ number _ is
+    (λ word e. (word ∙ ap optional_text e, ap is_short_optional (sym e))) λ is.
+    by_rest _ _ _ _ number_spelling bytes _ number _ is λ found text short is.
+    some_end bytes found number text short is
   where
-    after_end : (bytes : List ℕ) (day : ℕ) (after : Option ℤ) → bytes ≡ decimal day → is_short day ≡ true
-        → done (Some (pos day)) ≡ done after → (bytes ≡ after_text after) × (is_short_day after ≡ true)
-    after_end bytes day after text short is =
-        let same : Some (pos day) ≡ after = cc in
-        (text ∙ ap after_text same, subst (λ after. is_short_day after ≡ true) same (short_day day short))
+    some_end : (bytes : List ℕ) (found : ℕ) (number : Option ℕ) → bytes ≡ decimal found → is_short found ≡ true
+        → done (Some found) ≡ done number → (bytes ≡ optional_text number) × (is_short_optional number ≡ true)
+    some_end bytes found number text short is =
+        let same : Some found ≡ number = cc in
+        (text ∙ ap optional_text same, subst (λ number. is_short_optional number ≡ true) same short)
 
 hyphen_no_number : (number : ℕ) → is_short number ≡ true → bytes_eq (decimal number) (codes "-") ≡ false
 hyphen_no_number number short =
@@ -163,11 +158,50 @@ hyphen_no_number number short =
         absurd (cc)
     by false means = refl
 
+optional_again : (number : Option ℕ) → is_short_optional number ≡ true → optional_of (optional_text number) ≡ Ok number
+unfolding optional_of
+optional_again None good = refl
+optional_again (Some number) good = rw (hyphen_no_number number good, number_spelling.again number good) refl
+
+optional_only : (number : Option ℕ) → is_short_optional number ≡ true → list_all is_dark (optional_text number) ≡ true
+optional_only None good = refl
+optional_only (Some number) good = number_spelling.only number good
+
+pub optional_spelling : IsSpelling optional_of optional_text (λ number. is_short_optional number ≡ true) is_dark
+optional_spelling = record { takes = optional_takes; again = optional_again; only = optional_only }
+
+-- a day of ten digits
+short_day : (day : Option ℕ) → is_short_optional day ≡ true → is_short_day (option_map pos day) ≡ true
+short_day None short = refl
+short_day (Some day) short = and_from _ _ (le-leb 0 day (omega arith)) short
+
+pub day_short : (day : ℕ) → is_short_day (Some (pos day)) ≡ true → is_short day ≡ true
+day_short day short = (and_parts _ _ short).1
+
+day_text : (day : Option ℕ) → optional_text day ≡ after_text (option_map pos day)
+day_text None = refl
+day_text (Some day) = refl
+
+after_takes : (bytes : List ℕ) (after : Option ℤ) → after_of bytes ≡ Ok after
+    → (bytes ≡ after_text after) × (is_short_day after ≡ true)
+unfolding after_of
+after_takes bytes after is =
+    by_rest _ _ _ _ optional_spelling bytes _ after _ is λ day text short is.
+    after_end day text short is
+  where
+    after_end : (day : Option ℕ) → bytes ≡ optional_text day → is_short_optional day ≡ true
+        → done (option_map pos day) ≡ done after → (bytes ≡ after_text after) × (is_short_day after ≡ true)
+    after_end day text short is =
+        let same : option_map pos day ≡ after = cc in (
+          text ∙ (day_text day ∙ ap after_text same),
+          subst (λ after. is_short_day after ≡ true) same (short_day day short),
+        )
+
 after_again : (after : Option ℤ) → is_short_day after ≡ true → after_of (after_text after) ≡ Ok after
 unfolding after_of
-after_again None good = refl
+after_again None good = ap (λ read. read >>= λ day. done (option_map pos day)) (optional_again None refl)
 after_again (Some (pos day)) good =
-    rw (hyphen_no_number day (day_short day good), number_spelling.again day (day_short day good)) refl
+    ap (λ read. read >>= λ day. done (option_map pos day)) (optional_again (Some day) (day_short day good))
 after_again (Some (negsuc day)) good = absurd (cc)
 
 after_only : (after : Option ℤ) → is_short_day after ≡ true → list_all is_dark (after_text after) ≡ true

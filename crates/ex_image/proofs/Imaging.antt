@@ -1,5 +1,5 @@
 -- The text of a well-formed state is its image.
-use Rattle.std.proofs.Common.{◌≡◌, ◌↔◌, ℕ, true, List, [], ◌∷◌, ◌++◌, map, refl, sym, ◌∙◌}
+use Rattle.std.proofs.Common.{◌≡◌, ℕ, true, List, [], ◌∷◌, ◌++◌, map, refl, sym, ◌∙◌}
 use Rattle.std.proofs.lemmas.List.{append-nil}
 use Rattle.ex_store.specs.declared.directory.Directory.{Directory}
 use Rattle.ex_store.specs.Draft.{empty_state}
@@ -7,8 +7,9 @@ use Rattle.ex_store.specs.State.{State, has_directory}
 use Rattle.ex_store.specs.WellFormed.{IsWellFormed}
 use Rattle.ex_image.specs.declared.tag.Tag.{Tag}
 use Rattle.ex_image.specs.declared.tag.Tag.TheVariants as tags
-use Rattle.ex_image.specs.Grammar.{IsImage, Leads, Makes, MayStand}
-use Rattle.ex_image.specs.Image.{directory_record, file_record, image_text, logical_record, records_of, request_record}
+use Rattle.ex_image.specs.declared.version.Version.{Version}
+use Rattle.ex_image.specs.Grammar.{IsImageIn, Leads, Makes, MayStand, are_told_in}
+use Rattle.ex_image.specs.Image.{directory_record, file_record, logical_record, records_of, request_record, text_in}
 use Rattle.ex_image.specs.Reading.{may_follow, start}
 use Rattle.ex_image.specs.Record.{Entry, Connected, End, Head}
 use Rattle.ex_image.proofs.Endings.{whole}
@@ -16,20 +17,21 @@ use Rattle.ex_image.proofs.Leading.{leads_append}
 use Rattle.ex_image.proofs.Runs.{behind_all, of_last, run_leads}
 use Rattle.ex_image.proofs.Standing.{faultless_is}
 use Rattle.ex_image.proofs.Telling.{at_directories, at_logical, at_queue, at_rows, connected_stands, directories_run, logical_run, queue_run, rows_run}
-use Rattle.ex_image.proofs.Written.{image_of}
 
-head_stands : MayStand start (Head, [])
-head_stands = record {
+head_stands : (version : Version) → MayStand start (Head version, [])
+head_stands version = record {
   shape = refl;
+  written = tt;
   place = refl;
   content = refl;
-  faultless = faultless_is empty_state Head (record { range = refl; there = refl; above = refl; room = refl });
+  faultless = faultless_is empty_state (Head version) (record { range = refl; there = refl; above = refl; room = refl });
 }
 
-end_stands : (state : State) (last : Tag) → may_follow last tags.End ≡ true
-    → MayStand (record { last = last; state = state }) (End, [])
-end_stands state last place = record {
+end_stands : (version : Version) (state : State) (last : Tag) → may_follow last tags.End ≡ true
+    → MayStand (record { version = version; last = last; state = state }) (End, [])
+end_stands version state last place = record {
   shape = refl;
+  written = tt;
   place = place;
   content = refl;
   faultless = faultless_is state End (record { range = refl; there = refl; above = refl; room = refl });
@@ -70,63 +72,67 @@ latest state =
     (later state tags.End refl refl refl) refl
 
 -- the records before the files, before the queue and before the end
-abbrev named_records : State → List (Entry × List ℕ)
-named_records state =
-    ((Head, []) ∷ map directory_record state.directories)
+abbrev pub named_records : Version → State → List (Entry × List ℕ)
+named_records version state =
+    ((Head version, []) ∷ map directory_record state.directories)
     ++ (Connected state.connected, []) ∷ map logical_record state.logical
 
-abbrev filed_records : State → List (Entry × List ℕ)
-filed_records state = named_records state ++ map file_record state.rows
+abbrev pub filed_records : Version → State → List (Entry × List ℕ)
+filed_records version state = named_records version state ++ map (file_record version) state.rows
 
-abbrev queued_records : State → List (Entry × List ℕ)
-queued_records state = filed_records state ++ map request_record state.queue
+abbrev pub queued_records : Version → State → List (Entry × List ℕ)
+queued_records version state = filed_records version state ++ map request_record state.queue
 
-names_lead : (state : State) → IsWellFormed state
-    → Leads start (named_records state) (at_logical state (named_last state) state.logical)
-names_lead state good =
+names_lead : (version : Version) (state : State) → IsWellFormed state
+    → Leads start (named_records version state) (at_logical version state (named_last state) state.logical)
+names_lead version state good =
     let last = behind_all tags.Head tags.Directory state.directories in
     let next = connected_next state.connected state.directories good.connected_there in
-    leads_append start (at_directories last state.directories) (at_logical state (named_last state) state.logical)
-    ((Head, []) ∷ map directory_record state.directories)
+    leads_append start (at_directories version last state.directories)
+    (at_logical version state (named_last state) state.logical)
+    ((Head version, []) ∷ map directory_record state.directories)
     ((Connected state.connected, []) ∷ map logical_record state.logical) (
-      head_stands,
-      run_leads state.directories at_directories directory_record tags.Directory (directories_run state good.draft)
-          tags.Head refl,
+      head_stands version,
+      run_leads state.directories (at_directories version) directory_record tags.Directory
+          (directories_run version state good.draft) tags.Head refl,
     ) (
-      connected_stands state good last next,
-      run_leads state.logical (at_logical state) logical_record tags.Logical (logical_run state good.draft)
-          tags.Connected refl,
+      connected_stands version state good last next,
+      run_leads state.logical (at_logical version state) logical_record tags.Logical
+          (logical_run version state good.draft) tags.Connected refl,
     )
 
-files_lead : (state : State) → IsWellFormed state
-    → Leads start (filed_records state) (at_rows state (filed_last state) state.rows)
-files_lead state good =
-    leads_append start (at_logical state (named_last state) state.logical) (at_rows state (filed_last state) state.rows)
-    (named_records state) (map file_record state.rows) (names_lead state good)
-    (run_leads state.rows (at_rows state) file_record tags.File (rows_run state good.draft) (named_last state)
-    (late state tags.File refl refl))
+files_lead : (version : Version) (state : State) → IsWellFormed state → are_told_in version state.rows ≡ true
+    → Leads start (filed_records version state) (at_rows version state (filed_last state) state.rows)
+files_lead version state good told =
+    leads_append start (at_logical version state (named_last state) state.logical)
+    (at_rows version state (filed_last state) state.rows)
+    (named_records version state) (map (file_record version) state.rows) (names_lead version state good)
+    (run_leads state.rows (at_rows version state) (file_record version) tags.File
+    (rows_run version state good.draft told) (named_last state) (late state tags.File refl refl))
 
-queue_leads : (state : State) → IsWellFormed state
-    → Leads start (queued_records state) (at_queue state (queued_last state) state.queue)
-queue_leads state good =
-    leads_append start (at_rows state (filed_last state) state.rows) (at_queue state (queued_last state) state.queue)
-    (filed_records state) (map request_record state.queue) (files_lead state good)
-    (run_leads state.queue (at_queue state) request_record tags.Request (queue_run state good.draft) (filed_last state)
-    (later state tags.Request refl refl refl))
+queue_leads : (version : Version) (state : State) → IsWellFormed state → are_told_in version state.rows ≡ true
+    → Leads start (queued_records version state) (at_queue version state (queued_last state) state.queue)
+queue_leads version state good told =
+    leads_append start (at_rows version state (filed_last state) state.rows)
+    (at_queue version state (queued_last state) state.queue)
+    (filed_records version state) (map request_record state.queue) (files_lead version state good told)
+    (run_leads state.queue (at_queue version state) request_record tags.Request (queue_run version state good.draft)
+    (filed_last state) (later state tags.Request refl refl refl))
 
--- the records of a well-formed state may stand one behind the other
-records_lead : (state : State) → IsWellFormed state → Leads start (records_of state) (whole state)
-records_lead state good =
-    leads_append start (at_queue state (queued_last state) state.queue) (whole state) (queued_records state)
-    ((End, []) ∷ []) (queue_leads state good) (end_stands state (queued_last state) (latest state), refl)
+-- the records of a well-formed state may stand one behind the other, in a version that tells all of its files
+records_lead : (version : Version) (state : State) → IsWellFormed state → are_told_in version state.rows ≡ true
+    → Leads start (records_of version state) (whole version state)
+records_lead version state good told =
+    leads_append start (at_queue version state (queued_last state) state.queue) (whole version state)
+    (queued_records version state) ((End, []) ∷ []) (queue_leads version state good told)
+    (end_stands version state (queued_last state) (latest state), refl)
 
--- the text of a well-formed state is its image
-pub image_told : (bytes : List ℕ) (state : State) → IsWellFormed state → bytes ≡ image_text state → IsImage bytes state
-unfolding IsImage Makes
-image_told bytes state good text =
-    (records_of state, records_lead state good, text ∙ sym (append-nil (image_text state)))
-
--- so an image is the text of its state
-pub image_is : (bytes : List ℕ) (state : State)
-    → IsImage bytes state ↔ (IsWellFormed state × (bytes ≡ image_text state))
-image_is bytes state = (image_of bytes state, λ told. image_told bytes state told.0 told.1)
+-- the text of such a state is its image
+pub image_told : (version : Version) (bytes : List ℕ) (state : State) → IsWellFormed state
+    → are_told_in version state.rows ≡ true → bytes ≡ text_in version state → IsImageIn version bytes state
+unfolding IsImageIn Makes
+image_told version bytes state good told text = (
+  records_of version state,
+  records_lead version state good told,
+  text ∙ sym (append-nil (text_in version state)),
+)

@@ -9,6 +9,7 @@ pub mod FieldLaws
 pub mod FileLaws
 pub mod Imaging
 pub mod Joining
+pub mod KeptLaws
 pub mod Leading
 pub mod Leaving
 pub mod LineLaws
@@ -22,6 +23,8 @@ pub mod Runs
 pub mod Sizes
 pub mod Sounding
 pub mod Spelling
+pub mod StampLaws
 pub mod Standing
 pub mod Telling
+pub mod Versions
 pub mod Written

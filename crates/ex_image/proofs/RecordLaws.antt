@@ -6,44 +6,48 @@ use Rattle.ex_image.specs.declared.fault.Kind.{Kind}
 use Rattle.ex_image.specs.declared.fault.Kind.TheVariants.{Cut, Form}
 use Rattle.ex_image.specs.declared.tag.Tag.{Tag}
 use Rattle.ex_image.specs.declared.tag.Tag.TheVariants as tags
+use Rattle.ex_image.specs.declared.version.Version.{Version}
 use Rattle.ex_image.specs.Fields.{content_at}
-use Rattle.ex_image.specs.Grammar.{HasContent, MayStand, is_shaped}
+use Rattle.ex_image.specs.Grammar.{HasContent, MayStand}
 use Rattle.ex_image.specs.Reading.{Reading, behind, fault_of, is_ended, may_follow, record_at, record_behind, standing, tag_of, unless}
 use Rattle.ex_image.specs.Record.{Entry, File, content_text, line_text, record_text}
-use Rattle.ex_image.proofs.EntryLaws.{entry_spelling}
+use Rattle.ex_image.proofs.EntryLaws.{IsEntry, entry_spelling}
 use Rattle.ex_image.proofs.FieldLaws.{is_inside}
 use Rattle.ex_image.proofs.Spelling.{IsSpelling, by_part, by_rest, done, part_again, steps_of}
 
--- an entry that may stand behind a record
-pub record IsPlaced (last : Tag) (entry : Entry) : Type 0 where
-  pub shape : is_shaped entry ≡ true
+-- an entry that may stand behind a record, in an image of a version
+pub record IsPlaced (version : Version) (last : Tag) (entry : Entry) : Type 0 where
+  pub is : IsEntry version entry
   pub place : may_follow last (tag_of entry) ≡ true
 
-standing_takes : (last : Tag) (line : List ℕ) (entry : Entry) → standing last line ≡ Ok entry
-    → (line ≡ line_text entry) × IsPlaced last entry
+standing_takes : (version : Version) (last : Tag) (line : List ℕ) (entry : Entry)
+    → standing version last line ≡ Ok entry → (line ≡ line_text entry) × IsPlaced version last entry
 unfolding standing
-standing_takes last line entry is =
-    by_rest _ _ _ _ entry_spelling line _ entry _ is λ other one shape is.
-    by other (may_follow last (tag_of other)) refl one shape is
+standing_takes version last line entry is =
+    by_rest _ _ _ _ (entry_spelling version) line _ entry _ is λ other one good is.
+    by other (may_follow last (tag_of other)) refl one good is
   where
     by : (other : Entry) (may : Bool) → may_follow last (tag_of other) ≡ may → line ≡ line_text other
-        → is_shaped other ≡ true → cond may (done other) (Err Form) ≡ done entry
-        → (line ≡ line_text entry) × IsPlaced last entry
-    by other true place one shape is =
+        → IsEntry version other → cond may (done other) (Err Form) ≡ done entry
+        → (line ≡ line_text entry) × IsPlaced version last entry
+    by other true place one good is =
         let same : other ≡ entry = cc in
-        subst (λ entry. (line ≡ line_text entry) × IsPlaced last entry) same
-        (one, record { shape = shape; place = place })
-    by other false place one shape is = absurd (cc)
+        subst (λ entry. (line ≡ line_text entry) × IsPlaced version last entry) same
+        (one, record { is = good; place = place })
+    by other false place one good is = absurd (cc)
 
-standing_again : (last : Tag) (entry : Entry) → IsPlaced last entry → standing last (line_text entry) ≡ Ok entry
+standing_again : (version : Version) (last : Tag) (entry : Entry) → IsPlaced version last entry
+    → standing version last (line_text entry) ≡ Ok entry
 unfolding standing
-standing_again last entry placed = rw (entry_spelling.again entry placed.shape, placed.place) refl
+standing_again version last entry placed =
+    rw ((entry_spelling version).again entry placed.is, placed.place) refl
 
-standing_spelling : (last : Tag) → IsSpelling (standing last) line_text (IsPlaced last) is_inside
-standing_spelling last = record {
-  takes = standing_takes last;
-  again = standing_again last;
-  only = λ entry placed. entry_spelling.only entry placed.shape;
+standing_spelling : (version : Version) (last : Tag)
+    → IsSpelling (standing version last) line_text (IsPlaced version last) is_inside
+standing_spelling version last = record {
+  takes = standing_takes version last;
+  again = standing_again version last;
+  only = λ entry placed. (entry_spelling version).only entry placed.is;
 }
 
 -- the bytes of a file
@@ -97,12 +101,12 @@ nothing_takes bytes parts is =
 
 behind_takes : (entry : Entry) (bytes : List ℕ) (parts : List ℕ × List ℕ) → behind entry bytes ≡ Ok parts
     → (bytes ≡ content_text entry parts.0 ++ parts.1) × HasContent entry parts.0
-behind_takes (File row size) bytes parts is = content_takes size bytes parts is
+behind_takes (File version row size) bytes parts is = content_takes size bytes parts is
 behind_takes entry bytes parts is = nothing_takes bytes parts is
 
 behind_again : (entry : Entry) (bytes rest : List ℕ) → HasContent entry bytes
     → behind entry (content_text entry bytes ++ rest) ≡ Ok (bytes, rest)
-behind_again (File row size) bytes rest content =
+behind_again (File version row size) bytes rest content =
     ap (λ size. content_at size ((bytes ++ 10 ∷ []) ++ rest)) (sym content) ∙ content_again bytes rest
 behind_again entry bytes rest content = ap (λ bytes. done (bytes, rest)) (sym content)
 
@@ -118,7 +122,7 @@ pub record IsRead (reading : Reading) (bytes : List ℕ) (part : (Entry × List 
   pub stands : MayStand reading part.0
 
 read_of : (reading : Reading) (bytes line : List ℕ) (entry : Entry) (parts : List ℕ × List ℕ)
-    (part : (Entry × List ℕ) × List ℕ) → bytes ≡ line_text entry ++ 10 ∷ line → IsPlaced reading.last entry
+    (part : (Entry × List ℕ) × List ℕ) → bytes ≡ line_text entry ++ 10 ∷ line → IsPlaced reading.version reading.last entry
     → (line ≡ content_text entry parts.0 ++ parts.1) × HasContent entry parts.0
     → (fault_of reading.state entry ≡ None) × (((entry, parts.0), parts.1) ≡ part) → IsRead reading bytes part
 read_of reading bytes line entry parts part one placed two three =
@@ -126,14 +130,20 @@ read_of reading bytes line entry parts part one placed two three =
       joined =
           one ∙ ap (λ line. line_text entry ++ 10 ∷ line) two.0
           ∙ sym (append_assoc (line_text entry) (10 ∷ content_text entry parts.0) parts.1);
-      stands = record { shape = placed.shape; place = placed.place; content = two.1; faultless = three.0 };
+      stands = record {
+        shape = placed.is.shape;
+        written = placed.is.written;
+        place = placed.place;
+        content = two.1;
+        faultless = three.0;
+      };
     })
 
 behind_record : (reading : Reading) (bytes : List ℕ) (part : (Entry × List ℕ) × List ℕ)
     → record_behind reading bytes ≡ Ok part → IsRead reading bytes part
 unfolding record_behind
 behind_record reading bytes part is =
-    by_part _ _ _ _ (standing_spelling reading.last) 10 Cut bytes _ part _ is λ entry line one placed is.
+    by_part _ _ _ _ (standing_spelling reading.version reading.last) 10 Cut bytes _ part _ is λ entry line one placed is.
     let step = steps_of (behind entry line) _ part is in
     let two = behind_takes entry line step.value step.first in
     let three = unless_takes (fault_of reading.state entry) ((entry, step.value.0), step.value.1) part step.then in
@@ -162,8 +172,8 @@ again_behind : (reading : Reading) (entry : Entry) (bytes rest : List ℕ) → M
 unfolding record_behind
 again_behind reading entry bytes rest stands =
     rw (
-      part_again _ _ _ _ (standing_spelling reading.last) 10 Cut refl entry (content_text entry bytes ++ rest)
-          (record { shape = stands.shape; place = stands.place }),
+      part_again _ _ _ _ (standing_spelling reading.version reading.last) 10 Cut refl entry (content_text entry bytes ++ rest)
+          (record { is = record { shape = stands.shape; written = stands.written }; place = stands.place }),
       behind_again entry bytes rest stands.content,
       stands.faultless,
     ) refl

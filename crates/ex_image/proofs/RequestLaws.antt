@@ -8,6 +8,7 @@ use Rattle.ex_store.specs.declared.queue.QueueEntry.{QueueEntry}
 use Rattle.ex_store.specs.Forms.{form_text}
 use Rattle.ex_store.specs.WellFormed.{is_file_name}
 use Rattle.ex_image.specs.declared.fault.Kind.TheVariants.{Form}
+use Rattle.ex_image.specs.declared.version.Version.{Version}
 use Rattle.ex_image.specs.Fields.{is_note}
 use Rattle.ex_image.specs.Grammar.{is_shaped, is_short, is_short_day}
 use Rattle.ex_image.specs.Lines.{request_line}
@@ -82,9 +83,10 @@ told_shape directory full copies form after job note named file many formed late
   note = noted;
 }
 
-pub request_takes : (bytes : List ℕ) (entry : Entry) → request_line bytes ≡ Ok entry → IsLine (codes "Q") bytes entry
+pub request_takes : (version : Version) (bytes : List ℕ) (entry : Entry) → request_line bytes ≡ Ok entry
+    → IsLine version (codes "Q") bytes entry
 unfolding request_line
-request_takes bytes entry is =
+request_takes version bytes entry is =
     by_part _ _ _ _ directory_spelling 32 Form bytes _ entry _ is λ directory files one named is.
     by_part _ _ _ _ (file_spelling directory) 32 Form files _ entry _ is λ full counts two file is.
     by_part _ _ _ _ number_spelling 32 Form counts _ entry _ is λ copies forms three many is.
@@ -92,11 +94,13 @@ request_takes bytes entry is =
     by_part _ _ _ _ after_spelling 32 Form days _ entry _ is λ after jobs five later is.
     by_part _ _ _ _ job_spelling 32 Form jobs _ entry _ is λ job notes six by_job is.
     by_rest _ _ _ _ note_spelling notes _ entry _ is λ note seven noted is.
-    line_end (codes "Q") bytes (Request (entry_told full copies form after job note)) entry is (
-      rw (one, two, three, four, five, six, seven, file.directory_is) refl,
-      request_shaped (entry_told full copies form after job note)
-          (told_shape directory full copies form after job note named file many formed later by_job noted),
-    )
+    line_end version (codes "Q") bytes (Request (entry_told full copies form after job note)) entry is (record {
+      text = rw (one, two, three, four, five, six, seven, file.directory_is) refl;
+      shape =
+          request_shaped (entry_told full copies form after job note)
+          (told_shape directory full copies form after job note named file many formed later by_job noted);
+      written = tt;
+    })
 
 -- what follows the fields of the file
 abbrev pub late_fields : QueueEntry → List ℕ

@@ -16,16 +16,19 @@ use Rattle.ex_store.specs.State.{State}
 use Rattle.ex_store.specs.WellFormed.{IsDraft, is_file_name, is_file_type}
 use Rattle.ex_image.specs.declared.tag.Tag.{Tag}
 use Rattle.ex_image.specs.declared.tag.Tag.TheVariants as tags
+use Rattle.ex_image.specs.declared.version.Version.{Version}
+use Rattle.ex_image.specs.declared.version.Version.TheVariants as versions
 use Rattle.ex_image.specs.Fields.{is_logical, is_note}
-use Rattle.ex_image.specs.Grammar.{IsImage, Leads, Makes, is_shaped, is_short, is_short_day}
+use Rattle.ex_image.specs.Grammar.{IsImage, IsImageIn, Leads, Makes, is_shaped, is_short, is_short_day, is_short_optional, is_stamp}
 use Rattle.ex_image.specs.Image.{directory_record, file_record, logical_record, request_record}
 use Rattle.ex_image.specs.Reading.{Reading, start, with_record}
-use Rattle.ex_image.specs.Record.{Entry, Head, Directory, Connected, Logical, File, Request, End, after_text, content_text, file_text, line_text, mark_text, record_text}
+use Rattle.ex_image.specs.Record.{Entry, Head, Directory, Connected, Logical, File, Request, End, Stamp, after_text, content_text, file_text, line_text, mark_text, optional_text, record_text, stamp_of, stamp_text}
 use Rattle.ex_image.proofs.Drafting.{makes_sound, start_sound}
 use Rattle.ex_image.proofs.Endings.{whole}
 use Rattle.ex_image.proofs.FileLaws.{IsFile, day_short}
 use Rattle.ex_image.proofs.LineLaws.{file_shape}
 use Rattle.ex_image.proofs.RequestLaws.{request_shape}
+use Rattle.ex_image.proofs.StampLaws.{stamp_shape}
 use Rattle.ex_image.proofs.Written.{leads_written, written}
 
 -- pieces, each with one byte more
@@ -85,13 +88,30 @@ after_size None short = omega arith
 after_size (Some (pos day)) short = number_size day (day_short day short)
 after_size (Some (negsuc day)) short = absurd (cc)
 
+optional_size : (number : Option ℕ) → is_short_optional number ≡ true → length (optional_text number) ≤ 10
+optional_size None short = omega arith
+optional_size (Some number) short = number_size number short
+
+stamp_size : (version : Version) (stamp : Stamp) → is_stamp version stamp ≡ true
+    → length (stamp_text version stamp) ≤ 33
+stamp_size versions.One stamp good =
+    let one = number_size stamp.moment (stamp_shape versions.One stamp good).moment in omega arith
+stamp_size versions.Two stamp good =
+    let shape = stamp_shape versions.Two stamp good in
+    let one = number_size stamp.keep shape.keep in
+    let two = number_size stamp.moment shape.moment in
+    let three = optional_size stamp.read shape.read in
+    let joined = joined_size 32 (decimal stamp.keep ∷ decimal stamp.moment ∷ optional_text stamp.read ∷ []) in
+    omega arith
+
 -- a record has at most 400 bytes beside those of a file
 record_size : (line content : List ℕ) (most : ℕ) → length line ≤ 398 → length content ≤ most + 1
     → length (line ++ 10 ∷ content) ≤ 400 + most
 record_size line content most short few = omega (arith, length-append line (10 ∷ content))
 
 line_size : (entry : Entry) → is_shaped entry ≡ true → length (line_text entry) ≤ 398
-line_size Head shape = omega arith
+line_size (Head versions.One) shape = omega arith
+line_size (Head versions.Two) shape = omega arith
 line_size (Directory name retention) shape =
     let both = and_parts (is_directory_name name) (is_short retention) shape in
     let one = directory_size name both.0 in
@@ -108,16 +128,16 @@ line_size (Logical name directory) shape =
     let two = directory_size directory both.1 in
     let joined = joined_size 32 (codes "L" ∷ name ∷ directory ∷ []) in
     omega arith
-line_size (File row size) shape =
-    let is = file_shape row size shape in
+line_size (File version row size) shape =
+    let is = file_shape version row size shape in
     let one = directory_size row.key.directory is.directory in
     let two = file_size row.key.directory (full_of row) is.file in
     let three = mark_size row.file.deleted in
-    let four = number_size row.file.moment is.moment in
+    let four = stamp_size version (stamp_of row) is.stamp in
     let five = number_size size is.size_short in
     let joined =
     joined_size 32 (codes "F" ∷ row.key.directory ∷ file_text (full_of row) ∷ mark_text row.file.deleted
-    ∷ decimal row.file.moment ∷ decimal size ∷ []) in
+    ∷ stamp_text version (stamp_of row) ∷ decimal size ∷ []) in
     omega arith
 line_size (Request entry) shape =
     let is = request_shape entry shape in
@@ -135,8 +155,8 @@ line_size (Request entry) shape =
 line_size End shape = omega arith
 
 content_size : (entry : Entry) (bytes : List ℕ) → length (content_text entry bytes) ≤ length bytes + 1
-content_size (File row size) bytes = omega (arith, length-append bytes (10 ∷ []))
-content_size Head bytes = omega arith
+content_size (File version row size) bytes = omega (arith, length-append bytes (10 ∷ []))
+content_size (Head version) bytes = omega arith
 content_size (Directory name retention) bytes = omega arith
 content_size (Connected name) bytes = omega arith
 content_size (Logical name directory) bytes = omega arith
@@ -169,55 +189,59 @@ plain_room record_of plain [] = refl
 plain_room record_of plain (x ∷ xs) =
     let rest = plain_room record_of plain xs in omega (arith, ap length (plain x))
 
-rows_room : (rows : List Row) → room (map file_record rows) ≡ 400 * length rows + total rows
-rows_room [] = refl
-rows_room (row ∷ rows) =
-    let rest = rows_room rows in omega (arith, sum_by-cons (λ (each : Row). length each.file.bytes) row rows)
+rows_room : (version : Version) (rows : List Row)
+    → room (map (file_record version) rows) ≡ 400 * length rows + total rows
+rows_room version [] = refl
+rows_room version (row ∷ rows) =
+    let rest = rows_room version rows in omega (arith, sum_by-cons (λ (each : Row). length each.file.bytes) row rows)
 
 -- the records of a state, by the lists that they come from
-abbrev front : State → List (Entry × List ℕ)
-front state = (Head, []) ∷ map directory_record state.directories
+abbrev front : Version → State → List (Entry × List ℕ)
+front version state = (Head version, []) ∷ map directory_record state.directories
 
 abbrev named : State → List (Entry × List ℕ)
 named state = (Connected state.connected, []) ∷ map logical_record state.logical
 
-front_room : (state : State) → room (front state) ≡ 400 + 400 * length state.directories
-front_room state = let rest = plain_room directory_record (λ x. refl) state.directories in omega arith
+front_room : (version : Version) (state : State)
+    → room (front version state) ≡ 400 + 400 * length state.directories
+front_room version state = let rest = plain_room directory_record (λ x. refl) state.directories in omega arith
 
 named_room : (state : State) → room (named state) ≡ 400 + 400 * length state.logical
 named_room state = let rest = plain_room logical_record (λ x. refl) state.logical in omega arith
 
-abbrev body : State → List (Entry × List ℕ)
-body state = front state ++ named state ++ map file_record state.rows ++ map request_record state.queue
+abbrev body : Version → State → List (Entry × List ℕ)
+body version state =
+    front version state ++ named state ++ map (file_record version) state.rows ++ map request_record state.queue
 
 abbrev most : State → ℕ
 most state =
     800 + 400 * length state.directories + 400 * length state.logical + (400 * length state.rows + total state.rows)
     + 400 * length state.queue
 
-body_room : (state : State) → room (body state) ≡ most state
-body_room state =
-    let one = front_room state in
+body_room : (version : Version) (state : State) → room (body version state) ≡ most state
+body_room version state =
+    let one = front_room version state in
     let two = named_room state in
-    let three = rows_room state.rows in
+    let three = rows_room version state.rows in
     let four = plain_room request_record (λ x. refl) state.queue in
     omega (
       arith,
-      room_append (front state ++ named state ++ map file_record state.rows) (map request_record state.queue),
-      room_append (front state ++ named state) (map file_record state.rows),
-      room_append (front state) (named state),
+      room_append (front version state ++ named state ++ map (file_record version) state.rows)
+          (map request_record state.queue),
+      room_append (front version state ++ named state) (map (file_record version) state.rows),
+      room_append (front version state) (named state),
     )
 
-written_room : (last : Tag) (state : State) → room (written last state) ≤ most state + 400
-written_room tags.Start state = omega arith
-written_room tags.Head state = let all = front_room state in omega arith
-written_room tags.Directory state = let all = front_room state in omega arith
-written_room tags.Connected state = let all = body_room state in omega arith
-written_room tags.Logical state = let all = body_room state in omega arith
-written_room tags.File state = let all = body_room state in omega arith
-written_room tags.Request state = let all = body_room state in omega arith
-written_room tags.End state =
-    let all = body_room state in omega (arith, room_append (body state) ((End, []) ∷ []))
+written_room : (version : Version) (last : Tag) (state : State) → room (written version last state) ≤ most state + 400
+written_room version tags.Start state = omega arith
+written_room version tags.Head state = let all = front_room version state in omega arith
+written_room version tags.Directory state = let all = front_room version state in omega arith
+written_room version tags.Connected state = let all = body_room version state in omega arith
+written_room version tags.Logical state = let all = body_room version state in omega arith
+written_room version tags.File state = let all = body_room version state in omega arith
+written_room version tags.Request state = let all = body_room version state in omega arith
+written_room version tags.End state =
+    let all = body_room version state in omega (arith, room_append (body version state) ((End, []) ∷ []))
 
 -- the limits of a store
 most_small : (state : State) → IsDraft state → most state + 400 < 16777216
@@ -235,12 +259,12 @@ pub read_size : (bytes : List ℕ) (reading : Reading) (rest : List ℕ) → Mak
 unfolding Makes
 read_size bytes reading rest made =
     let small = most_small reading.state (makes_sound bytes reading rest made).draft in
-    let all = written_room reading.last reading.state in
+    let all = written_room reading.version reading.last reading.state in
     let same = ap room (leads_written start reading made.0 start_sound made.1) in
     let size = leads_size start reading made.0 made.1 in
     omega (arith, ap length made.2, length-append (flat_map record_text made.0) rest)
 
 -- an image has fewer than 16,777,216 bytes
 pub image_size : (bytes : List ℕ) (state : State) → IsImage bytes state → length bytes < 16777216
-unfolding IsImage
-image_size bytes state image = read_size bytes (whole state) [] image
+unfolding IsImage IsImageIn
+image_size bytes state image = read_size bytes (whole image.0 image.1) [] image.2

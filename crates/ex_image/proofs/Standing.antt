@@ -57,19 +57,19 @@ Stands tags.End state = IsConnected state
 pub stands_more : (last : Tag) (state : State) (entry : Entry) (bytes : List ℕ) → Stands last state
     → may_follow last (tag_of entry) ≡ true → is_there state entry ≡ true
     → Stands (tag_of entry) (with_entry state entry bytes)
-stands_more tags.Start state Head bytes stands place there = stands
+stands_more tags.Start state (Head version) bytes stands place there = stands
 stands_more tags.Head state (Directory name retention) bytes stands place there = (stands.1, stands.2, stands.3)
 stands_more tags.Directory state (Directory name retention) bytes stands place there = stands
 stands_more tags.Directory state (Connected name) bytes stands place there = (stands.0, stands.1, stands.2, there)
 stands_more tags.Connected state (Logical name directory) bytes stands place there = (stands.1, stands.2, stands.3)
-stands_more tags.Connected state (File row size) bytes stands place there = (stands.2, stands.3)
+stands_more tags.Connected state (File version row size) bytes stands place there = (stands.2, stands.3)
 stands_more tags.Connected state (Request entry) bytes stands place there = stands.3
 stands_more tags.Connected state End bytes stands place there = stands.3
 stands_more tags.Logical state (Logical name directory) bytes stands place there = stands
-stands_more tags.Logical state (File row size) bytes stands place there = (stands.1, stands.2)
+stands_more tags.Logical state (File version row size) bytes stands place there = (stands.1, stands.2)
 stands_more tags.Logical state (Request entry) bytes stands place there = stands.2
 stands_more tags.Logical state End bytes stands place there = stands.2
-stands_more tags.File state (File row size) bytes stands place there = stands
+stands_more tags.File state (File version row size) bytes stands place there = stands
 stands_more tags.File state (Request entry) bytes stands place there = stands.1
 stands_more tags.File state End bytes stands place there = stands.1
 stands_more tags.Request state (Request entry) bytes stands place there = stands
@@ -82,3 +82,9 @@ pub only_directories : (last : Tag) (state : State) → Stands last state → ma
 only_directories tags.Head state stands place = (stands.1, stands.2, stands.3)
 only_directories tags.Directory state stands place = stands
 only_directories last state stands place = absurd (false≢true place)
+
+-- where a head may follow, nothing is there
+pub nothing_there : (last : Tag) (state : State) → Stands last state → may_follow last tags.Head ≡ true
+    → state.rows ≡ []
+nothing_there tags.Start state stands place = stands.2
+nothing_there last state stands place = absurd (false≢true place)

@@ -14,15 +14,16 @@ use Rattle.ex_store.specs.declared.limits.TheConstants.{COPIES_LIMIT, DIRECTORY_
 use Rattle.ex_store.specs.declared.queue.QueueEntry.{QueueEntry}
 use Rattle.ex_store.specs.declared.row.Row.{Row}
 use Rattle.ex_store.specs.Draft.{empty_state}
-use Rattle.ex_store.specs.Rows.{blank, by_row, total}
+use Rattle.ex_store.specs.Rows.{by_row, total}
 use Rattle.ex_store.specs.State.{State, has_directory}
-use Rattle.ex_store.specs.WellFormed.{IsDraft, IsWellFormed, is_day, is_definition_among, is_directory, is_entry_among, is_row_among}
+use Rattle.ex_store.specs.WellFormed.{IsDraft, IsWellFormed, is_day, is_definition_among, is_directory, is_entry_among, is_reading, is_row_among, is_stamped}
 use Rattle.ex_image.specs.declared.tag.Tag.{Tag}
 use Rattle.ex_image.specs.declared.tag.Tag.TheVariants as tags
-use Rattle.ex_image.specs.Grammar.{MayStand, is_shaped, is_short, is_short_day}
-use Rattle.ex_image.specs.Image.{directory_record, file_record, logical_record, request_record}
+use Rattle.ex_image.specs.declared.version.Version.{Version}
+use Rattle.ex_image.specs.Grammar.{MayStand, are_told_in, is_shaped, is_short, is_short_day, is_short_optional, is_stamp, is_told_in}
+use Rattle.ex_image.specs.Image.{bare, directory_record, file_record, logical_record, request_record}
 use Rattle.ex_image.specs.Reading.{Reading, is_in_range, may_follow, stands_above}
-use Rattle.ex_image.specs.Record.{Connected, File, Request}
+use Rattle.ex_image.specs.Record.{Connected, File, Request, stamp_of}
 use Rattle.ex_image.proofs.Ascents.{above_of, above_same}
 use Rattle.ex_image.proofs.RequestLaws.{request_shaped}
 use Rattle.ex_image.proofs.Runs.{IsRun, all_there, fewer}
@@ -61,18 +62,20 @@ named_there name (directory ∷ all) there within =
     by false means there later = later there
 
 -- the directories
-abbrev pub at_directories : Tag → List directories.Directory → Reading
-at_directories last directories = record { last = last; state = record empty_state { directories = directories } }
+abbrev pub at_directories : Version → Tag → List directories.Directory → Reading
+at_directories version last directories =
+    record { version = version; last = last; state = record empty_state { directories = directories } }
 
-directory_stands : (state : State) → IsDraft state → (last : Tag) (before : List directories.Directory)
+directory_stands : (version : Version) (state : State) → IsDraft state → (last : Tag) (before : List directories.Directory)
     (directory : directories.Directory) (more : List directories.Directory)
     → state.directories ≡ before ++ directory ∷ more → may_follow last tags.Directory ≡ true
-    → MayStand (at_directories last before) (directory_record directory)
-directory_stands state draft last before directory more same place =
+    → MayStand (at_directories version last before) (directory_record directory)
+directory_stands version state draft last before directory more same place =
     let is = and_parts (is_directory_name directory.name) (nat_le directory.retention RETENTION_LIMIT)
     (all_there is_directory state.directories before directory more same draft.directories_within) in
     record {
       shape = and_from _ _ is.0 (short_of directory.retention RETENTION_LIMIT is.1 (omega arith));
+      written = tt;
       place = place;
       content = refl;
       faultless = faultless_is (record empty_state { directories = before }) (directory_record directory).0 (record {
@@ -83,19 +86,21 @@ directory_stands state draft last before directory more same place =
       });
     }
 
-pub directories_run : (state : State) → IsDraft state
-    → IsRun state.directories at_directories directory_record tags.Directory
-directories_run state draft =
-    record { again = refl; step = λ last before x. refl; stands = directory_stands state draft }
+pub directories_run : (version : Version) (state : State) → IsDraft state
+    → IsRun state.directories (at_directories version) directory_record tags.Directory
+directories_run version state draft =
+    record { again = refl; step = λ last before x. refl; stands = directory_stands version state draft }
 
 -- the connected directory
 abbrev pub connected_state : State → State
 connected_state state =
     record { directories = state.directories; connected = state.connected; logical = []; rows = []; queue = [] }
 
-pub connected_stands : (state : State) → IsWellFormed state → (last : Tag) → may_follow last tags.Connected ≡ true
-    → MayStand (at_directories last state.directories) (Connected state.connected, [])
-connected_stands state good last place = record {
+pub connected_stands : (version : Version) (state : State) → IsWellFormed state → (last : Tag)
+    → may_follow last tags.Connected ≡ true
+    → MayStand (at_directories version last state.directories) (Connected state.connected, [])
+connected_stands version state good last place = record {
+  written = tt;
   shape = named_there state.connected state.directories good.connected_there good.draft.directories_within;
   place = place;
   content = refl;
@@ -105,13 +110,14 @@ connected_stands state good last place = record {
 }
 
 -- the logical names
-abbrev pub at_logical : State → Tag → List Definition → Reading
-at_logical state last logical = record { last = last; state = record (connected_state state) { logical = logical } }
+abbrev pub at_logical : Version → State → Tag → List Definition → Reading
+at_logical version state last logical =
+    record { version = version; last = last; state = record (connected_state state) { logical = logical } }
 
-logical_stands : (state : State) → IsDraft state → (last : Tag) (before : List Definition) (entry : Definition)
+logical_stands : (version : Version) (state : State) → IsDraft state → (last : Tag) (before : List Definition) (entry : Definition)
     (more : List Definition) → state.logical ≡ before ++ entry ∷ more → may_follow last tags.Logical ≡ true
-    → MayStand (at_logical state last before) (logical_record entry)
-logical_stands state draft last before entry more same place =
+    → MayStand (at_logical version state last before) (logical_record entry)
+logical_stands version state draft last before entry more same place =
     let is =
     and_parts _ _
     (all_there (is_definition_among state.directories) state.logical before entry more same draft.logical_within) in
@@ -120,6 +126,7 @@ logical_stands state draft last before entry more same place =
       shape =
           and_from _ _ (and_from _ _ named.1 is.1)
           (named_there entry.directory state.directories named.0 draft.directories_within);
+      written = tt;
       place = place;
       content = refl;
       faultless = faultless_is (record (connected_state state) { logical = before }) (logical_record entry).0 (record {
@@ -130,28 +137,48 @@ logical_stands state draft last before entry more same place =
       });
     }
 
-pub logical_run : (state : State) → IsDraft state → IsRun state.logical (at_logical state) logical_record tags.Logical
-logical_run state draft =
-    record { again = refl; step = λ last before x. refl; stands = logical_stands state draft }
+pub logical_run : (version : Version) (state : State) → IsDraft state
+    → IsRun state.logical (at_logical version state) logical_record tags.Logical
+logical_run version state draft =
+    record { again = refl; step = λ last before x. refl; stands = logical_stands version state draft }
 
 -- the files
 abbrev pub named_state : State → State
 named_state state = record (connected_state state) { logical = state.logical }
 
-abbrev pub at_rows : State → Tag → List Row → Reading
-at_rows state last rows = record { last = last; state = record (named_state state) { rows = rows } }
+abbrev pub at_rows : Version → State → Tag → List Row → Reading
+at_rows version state last rows =
+    record { version = version; last = last; state = record (named_state state) { rows = rows } }
+
+-- a moment that may be told
+short_reading : (read : Option ℕ) → is_reading read ≡ true → is_short_optional read ≡ true
+short_reading None within = refl
+short_reading (Some moment) within = short_of moment MOMENT_LIMIT within (omega arith)
+
+-- what a row of a store tells beside its name
+stamp_told : (version : Version) (row : Row) → is_told_in version (stamp_of row) ≡ true → is_stamped row.file ≡ true
+    → is_stamp version (stamp_of row) ≡ true
+stamp_told version row told stamped =
+    let read = and_parts _ _ stamped in
+    let moment = and_parts _ _ read.0 in
+    and_from _ _
+    (and_from _ _
+    (and_from _ _ told (short_of row.file.keep RETENTION_LIMIT moment.0 (omega arith)))
+    (short_of row.file.moment MOMENT_LIMIT moment.1 (omega arith)))
+    (short_reading row.file.read read.1)
 
 -- what a row of a store has
-record IsRow (state : State) (row : Row) : Type 0 where
-  shape : is_shaped (File (blank row) (length row.file.bytes)) ≡ true
-  range : is_in_range (File (blank row) (length row.file.bytes)) ≡ true
+record IsRow (version : Version) (state : State) (row : Row) : Type 0 where
+  shape : is_shaped (File version (bare row) (length row.file.bytes)) ≡ true
+  range : is_in_range (File version (bare row) (length row.file.bytes)) ≡ true
   there : has_directory row.key.directory state.directories ≡ true
 
-row_is : (state : State) → IsDraft state → (row : Row) → is_row_among state.directories row ≡ true → IsRow state row
-row_is state draft row among =
+row_is : (version : Version) (state : State) → IsDraft state → (row : Row)
+    → is_row_among state.directories row ≡ true → is_told_in version (stamp_of row) ≡ true → IsRow version state row
+row_is version state draft row among told =
     let size = and_parts _ _ among in
-    let moment = and_parts _ _ size.0 in
-    let generation = and_parts _ _ moment.0 in
+    let stamp = and_parts _ _ size.0 in
+    let generation = and_parts _ _ stamp.0 in
     let kind = and_parts _ _ generation.0 in
     let name = and_parts _ _ kind.0 in
     let named = named_there row.key.directory state.directories name.0 draft.directories_within in
@@ -161,9 +188,9 @@ row_is state draft row among =
       shape =
           and_from _ _ (and_from _ _ (and_from _ _ (and_from _ _ (and_from _ _ (and_from _ _ named name.1) kind.1)
           (short_of row.file.generation GENERATION_LIMIT numbered.1 (omega arith)))
-          (short_of row.file.moment MOMENT_LIMIT moment.1 (omega arith)))
+          (stamp_told version row told stamp.1))
           (short_of (length row.file.bytes) FILE_LIMIT size.1 (omega arith))) refl;
-      range = and_from _ _ (and_from _ _ generation.1 moment.1) size.1;
+      range = and_from _ _ (and_from _ _ generation.1 stamp.1) size.1;
       there = name.0;
     }
 
@@ -175,22 +202,24 @@ row_fits all before row more same small =
     let first = sum_by-cons (λ (each : Row). length each.file.bytes) row more in
     le-leb (total before + length row.file.bytes) STORE_LIMIT (omega arith)
 
-row_stands : (state : State) → IsDraft state → (last : Tag) (before : List Row) (row : Row) (more : List Row)
-    → state.rows ≡ before ++ row ∷ more → may_follow last tags.File ≡ true
-    → MayStand (at_rows state last before) (file_record row)
-row_stands state draft last before row more same place =
+row_stands : (version : Version) (state : State) → IsDraft state → are_told_in version state.rows ≡ true
+    → (last : Tag) (before : List Row) (row : Row) (more : List Row) → state.rows ≡ before ++ row ∷ more
+    → may_follow last tags.File ≡ true → MayStand (at_rows version state last before) (file_record version row)
+row_stands version state draft told last before row more same place =
     let is =
-    row_is state draft row
-    (all_there (is_row_among state.directories) state.rows before row more same draft.rows.within) in
+    row_is version state draft row
+    (all_there (is_row_among state.directories) state.rows before row more same draft.rows.within)
+    (all_there (λ (each : Row). is_told_in version (stamp_of each)) state.rows before row more same told) in
     record {
       shape = is.shape;
+      written = refl;
       place = place;
       content = refl;
-      faultless = faultless_is (record (named_state state) { rows = before }) (file_record row).0 (record {
+      faultless = faultless_is (record (named_state state) { rows = before }) (file_record version row).0 (record {
         range = is.range;
         there = is.there;
         above =
-            sym (above_same by_row before row (blank row) (λ other. refl))
+            sym (above_same by_row before row (bare row) (λ other. refl))
             ∙ above_there by_row state.rows before row more same draft.rows.ascend;
         room =
             and_from _ _ (fewer state.rows before row more ROW_LIMIT same draft.rows.few)
@@ -198,15 +227,18 @@ row_stands state draft last before row more same place =
       });
     }
 
-pub rows_run : (state : State) → IsDraft state → IsRun state.rows (at_rows state) file_record tags.File
-rows_run state draft = record { again = refl; step = λ last before x. refl; stands = row_stands state draft }
+pub rows_run : (version : Version) (state : State) → IsDraft state → are_told_in version state.rows ≡ true
+    → IsRun state.rows (at_rows version state) (file_record version) tags.File
+rows_run version state draft told =
+    record { again = refl; step = λ last before x. refl; stands = row_stands version state draft told }
 
 -- the queue
 abbrev pub filed_state : State → State
 filed_state state = record (named_state state) { rows = state.rows }
 
-abbrev pub at_queue : State → Tag → List QueueEntry → Reading
-at_queue state last queue = record { last = last; state = record (filed_state state) { queue = queue } }
+abbrev pub at_queue : Version → State → Tag → List QueueEntry → Reading
+at_queue version state last queue =
+    record { version = version; last = last; state = record (filed_state state) { queue = queue } }
 
 -- what an entry of the queue of a store has
 record IsEntry (state : State) (entry : QueueEntry) : Type 0 where
@@ -250,15 +282,16 @@ entry_is state draft entry among =
       there = name.0;
     }
 
-request_stands : (state : State) → IsDraft state → (last : Tag) (before : List QueueEntry) (entry : QueueEntry)
+request_stands : (version : Version) (state : State) → IsDraft state → (last : Tag) (before : List QueueEntry) (entry : QueueEntry)
     (more : List QueueEntry) → state.queue ≡ before ++ entry ∷ more → may_follow last tags.Request ≡ true
-    → MayStand (at_queue state last before) (request_record entry)
-request_stands state draft last before entry more same place =
+    → MayStand (at_queue version state last before) (request_record entry)
+request_stands version state draft last before entry more same place =
     let is =
     entry_is state draft entry
     (all_there (is_entry_among state.directories) state.queue before entry more same draft.queue_within) in
     record {
       shape = is.shape;
+      written = tt;
       place = place;
       content = refl;
       faultless = faultless_is (record (filed_state state) { queue = before }) (request_record entry).0 (record {
@@ -269,5 +302,7 @@ request_stands state draft last before entry more same place =
       });
     }
 
-pub queue_run : (state : State) → IsDraft state → IsRun state.queue (at_queue state) request_record tags.Request
-queue_run state draft = record { again = refl; step = λ last before x. refl; stands = request_stands state draft }
+pub queue_run : (version : Version) (state : State) → IsDraft state
+    → IsRun state.queue (at_queue version state) request_record tags.Request
+queue_run version state draft =
+    record { again = refl; step = λ last before x. refl; stands = request_stands version state draft }

@@ -2,6 +2,7 @@
 use Rattle.std.specs.Prelude.{ℕ, ℤ, pos, ◌==◌, ◌+◌, Bool, true, false, not, ◌&&◌, ◌||◌, nat_lt, nat_le, if◌then◌else◌, List, length, take, drop, get_or, codes, Option, Some, None, Result, Ok, Err}
 use Rattle.std.specs.Char.{is_ascii_digit}
 use Rattle.std.specs.List.{after_first, before_first, list_all, list_any}
+use Rattle.std.specs.Option.{option_map}
 use Rattle.std.specs.Str.{bytes_eq}
 use Rattle.std.specs.Str.Parse.{digits_value}
 use Rattle.cm_text.specs.declared.name.TheConstants.{NAME_LIMIT}
@@ -90,10 +91,14 @@ form_of bytes =
     else (if bytes_eq bytes (form_text 1) then Ok 1
     else (if bytes_eq bytes (form_text 2) then Ok 2 else Err Form))
 
+-- a number, or a hyphen for none
+unfoldable pub optional_of : List ℕ → Result (Option ℕ) Kind
+optional_of bytes =
+    if bytes_eq bytes (codes "-") then Ok None else (number_of bytes >>= λ number. Ok (Some number))
+
 -- the number of a day, or a hyphen for none
 unfoldable pub after_of : List ℕ → Result (Option ℤ) Kind
-after_of bytes =
-    if bytes_eq bytes (codes "-") then Ok None else (number_of bytes >>= λ day. Ok (Some (pos day)))
+after_of bytes = optional_of bytes >>= λ day. Ok (option_map pos day)
 
 -- so many bytes of a file, with the line feed behind them, and what follows it
 unfoldable pub content_at : ℕ → List ℕ → Result (List ℕ × List ℕ) Kind

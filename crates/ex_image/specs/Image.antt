@@ -8,8 +8,9 @@ use Rattle.ex_store.specs.declared.directory.Definition.{Definition}
 use Rattle.ex_store.specs.declared.directory.Directory as directories
 use Rattle.ex_store.specs.declared.queue.QueueEntry.{QueueEntry}
 use Rattle.ex_store.specs.declared.row.Row.{Row}
-use Rattle.ex_store.specs.Rows.{blank}
 use Rattle.ex_store.specs.State.{State}
+use Rattle.ex_image.specs.declared.version.Version.{Version}
+use Rattle.ex_image.specs.declared.version.Version.TheVariants as versions
 use Rattle.ex_image.specs.Record.{Entry, Head, Directory, Connected, Logical, File, Request, End, record_text}
 
 -- a record and the bytes behind its line
@@ -19,24 +20,32 @@ directory_record directory = (Directory directory.name directory.retention, [])
 abbrev pub logical_record : Definition → Entry × List ℕ
 logical_record entry = (Logical entry.name entry.directory, [])
 
-abbrev pub file_record : Row → Entry × List ℕ
-file_record row = (File (blank row) (length row.file.bytes), row.file.bytes)
+-- a row without its bytes
+abbrev pub bare : Row → Row
+bare row = record row { file = record row.file { bytes = [] } }
+
+abbrev pub file_record : Version → Row → Entry × List ℕ
+file_record version row = (File version (bare row) (length row.file.bytes), row.file.bytes)
 
 abbrev pub request_record : QueueEntry → Entry × List ℕ
 request_record entry = (Request entry, [])
 
--- the records of a state, in their order
-abbrev pub records_of : State → List (Entry × List ℕ)
-records_of state =
-    ((Head, []) ∷ map directory_record state.directories)
+-- the records of a state in a version, in their order
+abbrev pub records_of : Version → State → List (Entry × List ℕ)
+records_of version state =
+    ((Head version, []) ∷ map directory_record state.directories)
     ++ ((Connected state.connected, []) ∷ map logical_record state.logical)
-    ++ map file_record state.rows
+    ++ map (file_record version) state.rows
     ++ map request_record state.queue
     ++ (End, []) ∷ []
 
--- the image of a state
+-- the text of a state in a version
+abbrev pub text_in : Version → State → List ℕ
+text_in version state = flat_map record_text (records_of version state)
+
+-- the image of a state, as it is written
 abbrev pub image_text : State → List ℕ
-image_text state = flat_map record_text (records_of state)
+image_text state = text_in versions.Two state
 
 -- a file is absent, as before, or holds a prefix of an image
 abbrev pub HoldsPart : List ℕ → Option (List ℕ) → Option (List ℕ) → Type 0

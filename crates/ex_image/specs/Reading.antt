@@ -4,35 +4,38 @@ use Rattle.std.specs.Ordering.{is_lt, on}
 use Rattle.std.specs.declared.cmp.Ordering.{Ordering}
 use Rattle.cm_files.specs.Catalogue.{by_bytes}
 use Rattle.ex_generations.specs.declared.file.TheConstants.{FILE_LIMIT}
-use Rattle.ex_store.specs.declared.limits.TheConstants.{COPIES_LIMIT, DIRECTORY_LIMIT, LOGICAL_LIMIT, MOMENT_LIMIT, QUEUE_LIMIT, RETENTION_LIMIT, ROW_LIMIT, STORE_LIMIT}
+use Rattle.ex_store.specs.declared.limits.TheConstants.{COPIES_LIMIT, DIRECTORY_LIMIT, LOGICAL_LIMIT, QUEUE_LIMIT, RETENTION_LIMIT, ROW_LIMIT, STORE_LIMIT}
 use Rattle.ex_store.specs.Draft.{and_directory, and_logical, and_request, and_row, empty_state}
 use Rattle.ex_store.specs.Rows.{by_row, total}
 use Rattle.ex_store.specs.State.{State, has_directory}
-use Rattle.ex_store.specs.WellFormed.{is_day, is_numbered}
+use Rattle.ex_store.specs.WellFormed.{is_day, is_numbered, is_stamped}
 use Rattle.ex_image.specs.declared.fault.Kind.{Kind}
 use Rattle.ex_image.specs.declared.fault.Kind.TheVariants.{Cut, Form, Range, Name, Order, Limit}
 use Rattle.ex_image.specs.declared.tag.Tag.{Tag}
 use Rattle.ex_image.specs.declared.tag.Tag.TheVariants as tags
+use Rattle.ex_image.specs.declared.version.Version.{Version}
+use Rattle.ex_image.specs.declared.version.Version.TheVariants as versions
 use Rattle.ex_image.specs.Fields.{◌>>=◌, content_at, formed, part_at}
 use Rattle.ex_image.specs.Lines.{entry_of}
 use Rattle.ex_image.specs.Record.{Entry, Head, Directory, Connected, Logical, File, Request, End}
 
--- which record was read last, and the state that those so far make; the empty name says that no directory is
--- connected yet
+-- in which version the image is, which record was read last, and the state that those so far make; the empty name says
+-- that no directory is connected yet
 pub record Reading : Type 0 where
+  pub version : Version
   pub last : Tag
   pub state : State
 
--- nothing is read yet
+-- nothing is read yet; before the head the version is of no account
 abbrev pub start : Reading
-start = record { last = tags.Start; state = empty_state }
+start = record { version = versions.Two; last = tags.Start; state = empty_state }
 
 abbrev pub tag_of : Entry → Tag
-tag_of Head = tags.Head
+tag_of (Head version) = tags.Head
 tag_of (Directory name retention) = tags.Directory
 tag_of (Connected name) = tags.Connected
 tag_of (Logical name directory) = tags.Logical
-tag_of (File row size) = tags.File
+tag_of (File version row size) = tags.File
 tag_of (Request entry) = tags.Request
 tag_of End = tags.End
 
@@ -60,12 +63,12 @@ may_follow last next = false
 
 -- the numbers are in their ranges
 abbrev pub is_in_range : Entry → Bool
-is_in_range Head = true
+is_in_range (Head version) = true
 is_in_range (Directory name retention) = nat_le retention RETENTION_LIMIT
 is_in_range (Connected name) = true
 is_in_range (Logical name directory) = true
-is_in_range (File row size) =
-    is_numbered row.file.generation && nat_le row.file.moment MOMENT_LIMIT && nat_le size FILE_LIMIT
+is_in_range (File version row size) =
+    is_numbered row.file.generation && is_stamped row.file && nat_le size FILE_LIMIT
 is_in_range (Request entry) =
     is_numbered entry.file.generation && nat_lt 0 entry.copies && nat_le entry.copies COPIES_LIMIT
     && is_day entry.after
@@ -73,11 +76,11 @@ is_in_range End = true
 
 -- the directory that is named is there
 abbrev pub is_there : State → Entry → Bool
-is_there state Head = true
+is_there state (Head version) = true
 is_there state (Directory name retention) = true
 is_there state (Connected name) = has_directory name state.directories
 is_there state (Logical name directory) = has_directory directory state.directories
-is_there state (File row size) = has_directory row.key.directory state.directories
+is_there state (File version row size) = has_directory row.key.directory state.directories
 is_there state (Request entry) = has_directory entry.file.key.directory state.directories
 is_there state End = true
 
@@ -89,24 +92,25 @@ stands_above compare (y ∷ z ∷ more) x = stands_above compare (z ∷ more) x
 
 -- it stands above the one of its kind before it
 abbrev pub is_above : State → Entry → Bool
-is_above state Head = true
+is_above state (Head version) = true
 is_above state (Directory name retention) =
     stands_above (on (λ directory. directory.name) by_bytes) state.directories
     (record { name = name; retention = retention })
 is_above state (Connected name) = true
 is_above state (Logical name directory) =
     stands_above (on (λ entry. entry.name) by_bytes) state.logical (record { name = name; directory = directory })
-is_above state (File row size) = stands_above by_row state.rows row
+is_above state (File version row size) = stands_above by_row state.rows row
 is_above state (Request entry) = true
 is_above state End = true
 
 -- there is room for one more of its kind, and for the bytes of a file
 abbrev pub has_room : State → Entry → Bool
-has_room state Head = true
+has_room state (Head version) = true
 has_room state (Directory name retention) = nat_lt (length state.directories) DIRECTORY_LIMIT
 has_room state (Connected name) = true
 has_room state (Logical name directory) = nat_lt (length state.logical) LOGICAL_LIMIT
-has_room state (File row size) = nat_lt (length state.rows) ROW_LIMIT && nat_le (total state.rows + size) STORE_LIMIT
+has_room state (File version row size) =
+    nat_lt (length state.rows) ROW_LIMIT && nat_le (total state.rows + size) STORE_LIMIT
 has_room state (Request entry) = nat_lt (length state.queue) QUEUE_LIMIT
 has_room state End = true
 
@@ -120,17 +124,26 @@ fault_of state entry =
 
 -- the state with what a record says, and the bytes behind its line
 abbrev pub with_entry : State → Entry → List ℕ → State
-with_entry state Head bytes = state
+with_entry state (Head version) bytes = state
 with_entry state (Directory name retention) bytes = and_directory (record { name = name; retention = retention }) state
 with_entry state (Connected name) bytes = record state { connected = name }
 with_entry state (Logical name directory) bytes = and_logical (record { name = name; directory = directory }) state
-with_entry state (File row size) bytes = and_row (record row { file = record row.file { bytes = bytes } }) state
+with_entry state (File version row size) bytes = and_row (record row { file = record row.file { bytes = bytes } }) state
 with_entry state (Request entry) bytes = and_request entry state
 with_entry state End bytes = state
 
+-- a head says in which version the image is
+abbrev pub version_behind : Version → Entry → Version
+version_behind version (Head told) = told
+version_behind version entry = version
+
 abbrev pub with_record : Reading → Entry × List ℕ → Reading
 with_record reading (entry, bytes) =
-    record { last = tag_of entry; state = with_entry reading.state entry bytes }
+    record {
+      version = version_behind reading.version entry;
+      last = tag_of entry;
+      state = with_entry reading.state entry bytes;
+    }
 
 abbrev pub is_ended : Tag → Bool
 is_ended tags.Start = false
@@ -143,16 +156,16 @@ is_ended tags.Request = false
 is_ended tags.End = true
 
 -- a line that may stand here
-unfoldable pub standing : Tag → List ℕ → Result Entry Kind
-standing last line = entry_of line >>= λ entry. formed (λ entry. may_follow last (tag_of entry)) entry
+unfoldable pub standing : Version → Tag → List ℕ → Result Entry Kind
+standing version last line = entry_of version line >>= λ entry. formed (λ entry. may_follow last (tag_of entry)) entry
 
 -- the bytes behind a line, and what follows
 abbrev pub behind : Entry → List ℕ → Result (List ℕ × List ℕ) Kind
-behind Head bytes = Ok ([], bytes)
+behind (Head version) bytes = Ok ([], bytes)
 behind (Directory name retention) bytes = Ok ([], bytes)
 behind (Connected name) bytes = Ok ([], bytes)
 behind (Logical name directory) bytes = Ok ([], bytes)
-behind (File row size) bytes = content_at size bytes
+behind (File version row size) bytes = content_at size bytes
 behind (Request entry) bytes = Ok ([], bytes)
 behind End bytes = Ok ([], bytes)
 
@@ -164,7 +177,7 @@ unless (Some kind) value = Err kind
 -- the next record, and what follows it; or the first kind of its fault. Behind the end nothing may stand.
 unfoldable pub record_behind : Reading → List ℕ → Result ((Entry × List ℕ) × List ℕ) Kind
 record_behind reading bytes = do
-  line ← part_at 10 Cut (standing reading.last) bytes
+  line ← part_at 10 Cut (standing reading.version reading.last) bytes
   content ← behind line.0 line.1
   unless (fault_of reading.state line.0) ((line.0, content.0), content.1)
 

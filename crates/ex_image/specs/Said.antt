@@ -1,5 +1,5 @@
 -- What a line says, as the code has it.
-use Rattle.std.specs.Prelude.{ℕ, List, [], pos}
+use Rattle.std.specs.Prelude.{ℕ, List, pos}
 use Rattle.std.specs.Option.{option_map}
 use Rattle.ex_store.specs.declared.key.FullName as names
 use Rattle.ex_store.specs.declared.queue.QueueEntry.{QueueEntry}
@@ -8,9 +8,11 @@ use Rattle.ex_image.specs.declared.entry.FileEntry.{FileEntry}
 use Rattle.ex_image.specs.declared.entry.FileName.{FileName}
 use Rattle.ex_image.specs.declared.entry.RequestEntry.{RequestEntry}
 use Rattle.ex_image.specs.declared.entry.Entry as entries
+use Rattle.ex_image.specs.declared.entry.Stamp as stamps
 use Rattle.ex_image.specs.declared.entry.Entry.TheVariants as entry
 use Rattle.ex_image.specs.declared.reading.Next.{Next}
-use Rattle.ex_image.specs.Record.{Entry, Head, Directory, Connected, Logical, File, Request, End}
+use Rattle.ex_image.specs.Lines.{row_of}
+use Rattle.ex_image.specs.Record.{Entry, Head, Directory, Connected, Logical, File, Request, End, Stamp}
 
 abbrev pub name_said : FileName → names.FullName
 name_said file =
@@ -19,12 +21,11 @@ name_said file =
       generation = file.generation;
     }
 
+abbrev pub stamp_said : stamps.Stamp → Stamp
+stamp_said stamp = record { keep = stamp.keep; moment = stamp.moment; read = stamp.read }
+
 abbrev pub row_said : FileEntry → Row
-row_said it =
-    record {
-      key = (name_said it.file).key;
-      file = record { generation = it.file.generation; deleted = it.deleted; moment = it.moment; bytes = [] };
-    }
+row_said it = row_of (name_said it.file) it.deleted (stamp_said it.stamp)
 
 abbrev pub request_said : RequestEntry → QueueEntry
 request_said it =
@@ -38,11 +39,11 @@ request_said it =
     }
 
 abbrev pub entry_said : entries.Entry → Entry
-entry_said entry.Head = Head
+entry_said (entry.Head version) = Head version
 entry_said (entry.Directory name retention) = Directory name.now retention
 entry_said (entry.Connected name) = Connected name.now
 entry_said (entry.Logical name directory) = Logical name.now directory.now
-entry_said (entry.File it) = File (row_said it) it.size
+entry_said (entry.File it) = File it.version (row_said it) it.size
 entry_said (entry.Request it) = Request (request_said it)
 entry_said entry.End = End
 

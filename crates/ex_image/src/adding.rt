@@ -57,7 +57,9 @@ fn add_file(
     let file = File {
         generation: it.file.generation as u32,
         deleted: it.deleted,
-        moment: it.moment,
+        keep: it.stamp.keep as u8,
+        moment: it.stamp.moment,
+        read: it.stamp.read,
         bytes,
     };
     draft.file(it.file.directory, it.file.name, it.file.kind, file)
@@ -77,7 +79,7 @@ pub(crate) fn add(
     ensures refused { OnErr result (draft.new ≡ draft.old) }
 {
     match entry {
-        Entry::Head => Ok(()),
+        Entry::Head(_) => Ok(()),
         Entry::Directory { name, retention } => draft.directory(name, *retention as u8),
         Entry::Connected { name } => {
             draft.connect(name);

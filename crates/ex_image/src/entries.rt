@@ -2,14 +2,16 @@
 ghost use Rattle.ex_image.specs.declared.fault.Kind.TheVariants.{Form};
 ghost use Rattle.ex_image.specs.Fields.{cut, file_of};
 ghost use Rattle.ex_image.specs.Gives.{Gives};
-ghost use Rattle.ex_image.specs.Lines.{connected_line, directory_line, entry_of, file_line, lettered, logical_line, request_line};
-ghost use Rattle.ex_image.specs.Said.{entry_said, name_said};
+ghost use Rattle.ex_image.specs.Lines.{connected_line, directory_line, entry_of, file_line, first_stamp, lettered, logical_line, request_line, second_stamp, stamp_at};
+ghost use Rattle.ex_image.specs.Said.{entry_said, name_said, stamp_said};
 
 use crate::Kind;
-use crate::entry::{Entry, FileEntry, FileName, RequestEntry};
+use crate::entry::{Entry, FileEntry, FileName, RequestEntry, Stamp};
 use crate::fields::{
-    after_of, cut, directory_of, form_of, logical_of, mark_of, name_of, note_of, number_of, type_of,
+    after_of, cut, directory_of, form_of, logical_of, mark_of, name_of, note_of, number_of,
+    optional_of, type_of,
 };
+use crate::version::Version;
 
 // What stands before the next space, and what follows it.
 fn field(bytes: &[u8]) -> Result<(&[u8], &[u8]), Kind>
@@ -64,9 +66,48 @@ fn logical_line(bytes: &[u8]) -> Result<Entry<'_>, Kind>
     Ok(Entry::Logical { name, directory })
 }
 
+// What a line of a file in version 1 says of how it is kept and when it was written, and what follows.
+#[tactic(auto, unfolding(crate::specs::Lines::first_stamp))]
+fn first_stamp(bytes: &[u8]) -> Result<(Stamp, &[u8]), Kind>
+    ensures { Gives (λ x. (stamp_said x.0, x.1.now)) result (first_stamp bytes.now) }
+{
+    let (moment, rest) = field(bytes)?;
+    let moment = number_of(moment)?;
+    let stamp = Stamp {
+        keep: 0,
+        moment,
+        read: None,
+    };
+    Ok((stamp, rest))
+}
+
+// The same of version 2.
+#[tactic(auto, unfolding(crate::specs::Lines::second_stamp))]
+fn second_stamp(bytes: &[u8]) -> Result<(Stamp, &[u8]), Kind>
+    ensures { Gives (λ x. (stamp_said x.0, x.1.now)) result (second_stamp bytes.now) }
+{
+    let (keep, rest) = field(bytes)?;
+    let keep = number_of(keep)?;
+    let (moment, rest) = field(rest)?;
+    let moment = number_of(moment)?;
+    let (read, rest) = field(rest)?;
+    let read = optional_of(read)?;
+    Ok((Stamp { keep, moment, read }, rest))
+}
+
+// The same of either version.
+fn stamp_at(version: Version, bytes: &[u8]) -> Result<(Stamp, &[u8]), Kind>
+    ensures { Gives (λ x. (stamp_said x.0, x.1.now)) result (stamp_at version bytes.now) }
+{
+    match version {
+        Version::One => first_stamp(bytes),
+        Version::Two => second_stamp(bytes),
+    }
+}
+
 #[tactic(auto, unfolding(crate::specs::Lines::file_line))]
-fn file_line(bytes: &[u8]) -> Result<Entry<'_>, Kind>
-    ensures { Gives entry_said result (file_line bytes.now) }
+fn file_line(version: Version, bytes: &[u8]) -> Result<Entry<'_>, Kind>
+    ensures { Gives entry_said result (file_line version bytes.now) }
 {
     let (directory, rest) = field(bytes)?;
     let directory = directory_of(directory)?;
@@ -74,13 +115,13 @@ fn file_line(bytes: &[u8]) -> Result<Entry<'_>, Kind>
     let file = file_of(directory, file)?;
     let (mark, rest) = field(rest)?;
     let deleted = mark_of(mark)?;
-    let (moment, size) = field(rest)?;
-    let moment = number_of(moment)?;
+    let (stamp, size) = stamp_at(version, rest)?;
     let size = number_of(size)?;
     Ok(Entry::File(FileEntry {
+        version,
         file,
         deleted,
-        moment,
+        stamp,
         size,
     }))
 }
@@ -114,30 +155,33 @@ fn request_line(bytes: &[u8]) -> Result<Entry<'_>, Kind>
 
 // What follows the letter of a record.
 #[tactic(auto, unfolding(crate::specs::Lines::lettered))]
-fn lettered<'a>(letter: &[u8], bytes: &'a [u8]) -> Result<Entry<'a>, Kind>
-    ensures { Gives entry_said result (lettered letter.now bytes.now) }
+fn lettered<'a>(version: Version, letter: &[u8], bytes: &'a [u8]) -> Result<Entry<'a>, Kind>
+    ensures { Gives entry_said result (lettered version letter.now bytes.now) }
 {
     match letter {
         b"D" => directory_line(bytes),
         b"C" => connected_line(bytes),
         b"L" => logical_line(bytes),
-        b"F" => file_line(bytes),
+        b"F" => file_line(version, bytes),
         b"Q" => request_line(bytes),
         _ => Err(Kind::Form),
     }
 }
 
-/// What a line says, without the line feed that ends it.
+/// What a line says in a version, without the line feed that ends it.
 #[tactic(auto, unfolding(crate::specs::Lines::entry_of))]
-pub(crate) fn entry_of(line: &[u8]) -> Result<Entry<'_>, Kind>
-    ensures { Gives entry_said result (entry_of line.now) }
+pub(crate) fn entry_of(version: Version, line: &[u8]) -> Result<Entry<'_>, Kind>
+    ensures { Gives entry_said result (entry_of version line.now) }
 {
     if line == b"EXEC20 1".as_slice() {
-        return Ok(Entry::Head);
+        return Ok(Entry::Head(Version::One));
+    }
+    if line == b"EXEC20 2".as_slice() {
+        return Ok(Entry::Head(Version::Two));
     }
     if line == b"E".as_slice() {
         return Ok(Entry::End);
     }
     let (letter, rest) = field(line)?;
-    lettered(letter, rest)
+    lettered(version, letter, rest)
 }

@@ -4,6 +4,7 @@ ghost use Rattle.ex_image.specs.Reading.{tag_of};
 ghost use Rattle.ex_image.specs.Said.{entry_said};
 
 use crate::tag::Tag;
+use crate::version::Version;
 
 /// The name, type and generation of a file in a directory. The generation may be none that there is.
 #[derive(Clone, Copy)]
@@ -14,12 +15,22 @@ pub(crate) struct FileName<'a> {
     pub(crate) generation: u64,
 }
 
-/// A file without its bytes, and how many they are.
+/// How many generations a file keeps, when it was written, and when it was last read. Version 1 says only when it was
+/// written: there the others are 0 and None.
+#[derive(Clone, Copy)]
+pub(crate) struct Stamp {
+    pub(crate) keep: u64,
+    pub(crate) moment: u64,
+    pub(crate) read: Option<u64>,
+}
+
+/// A file without its bytes, how many they are, and in which version that is written.
 #[derive(Clone, Copy)]
 pub(crate) struct FileEntry<'a> {
+    pub(crate) version: Version,
     pub(crate) file: FileName<'a>,
     pub(crate) deleted: bool,
-    pub(crate) moment: u64,
+    pub(crate) stamp: Stamp,
     pub(crate) size: u64,
 }
 
@@ -38,8 +49,8 @@ pub(crate) struct RequestEntry<'a> {
 /// ranges.
 #[derive(Clone, Copy)]
 pub(crate) enum Entry<'a> {
-    /// An image begins.
-    Head,
+    /// An image begins, of this version.
+    Head(Version),
     /// A directory, and how many generations it keeps.
     Directory { name: &'a str, retention: u64 },
     /// The connected directory.
@@ -60,7 +71,7 @@ impl Entry<'_> {
         ensures { result ≡ tag_of (entry_said self.now) }
     {
         match self {
-            Entry::Head => Tag::Head,
+            Entry::Head(_) => Tag::Head,
             Entry::Directory { .. } => Tag::Directory,
             Entry::Connected { .. } => Tag::Connected,
             Entry::Logical { .. } => Tag::Logical,

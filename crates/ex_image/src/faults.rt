@@ -6,7 +6,7 @@ ghost use Rattle.ex_image.specs.Reading.{fault_of, has_room, is_above, is_in_ran
 ghost use Rattle.ex_image.specs.Said.{entry_said, row_said};
 ghost use Rattle.ex_store.specs.Lent.{row_of_view};
 ghost use Rattle.ex_store.specs.Rows.{by_row, total};
-ghost use Rattle.ex_store.specs.WellFormed.{is_day, is_numbered};
+ghost use Rattle.ex_store.specs.WellFormed.{is_day, is_numbered, is_reading, is_stamped};
 
 use crate::Kind;
 use crate::entry::{Entry, FileEntry, RequestEntry};
@@ -31,10 +31,27 @@ fn is_day(after: Option<u64>) -> bool
     }
 }
 
+fn is_reading(read: Option<u64>) -> bool
+    ensures { result ≡ is_reading read }
+{
+    match read {
+        None => true,
+        Some(moment) => moment <= MOMENT_LIMIT,
+    }
+}
+
+fn is_stamped(it: &FileEntry<'_>) -> bool
+    ensures { result ≡ is_stamped (row_said it.now).file }
+{
+    it.stamp.keep <= u64::from(RETENTION_LIMIT)
+        && it.stamp.moment <= MOMENT_LIMIT
+        && is_reading(it.stamp.read)
+}
+
 fn is_file_in_range(it: &FileEntry<'_>) -> bool
     ensures { result ≡ is_in_range (entry_said (Entry.File it.now)) }
 {
-    is_numbered(it.file.generation) && it.moment <= MOMENT_LIMIT && it.size <= FILE_LIMIT as u64
+    is_numbered(it.file.generation) && is_stamped(it) && it.size <= FILE_LIMIT as u64
 }
 
 fn is_request_in_range(it: &RequestEntry<'_>) -> bool
@@ -51,7 +68,7 @@ fn is_in_range(entry: &Entry<'_>) -> bool
     ensures { result ≡ is_in_range (entry_said entry.now) }
 {
     match entry {
-        Entry::Head => true,
+        Entry::Head(_) => true,
         Entry::Directory { retention, .. } => *retention <= u64::from(RETENTION_LIMIT),
         Entry::Connected { .. } => true,
         Entry::Logical { .. } => true,
@@ -66,7 +83,7 @@ fn is_there(parts: &Parts<'_>, entry: &Entry<'_>) -> bool
     ensures { result ≡ is_there parts.now (entry_said entry.now) }
 {
     match entry {
-        Entry::Head => true,
+        Entry::Head(_) => true,
         Entry::Directory { .. } => true,
         Entry::Connected { name } => parts.has_directory(name),
         Entry::Logical { directory, .. } => parts.has_directory(directory),
@@ -131,7 +148,7 @@ fn is_above(parts: &Parts<'_>, entry: &Entry<'_>) -> bool
     ensures { result ≡ is_above parts.now (entry_said entry.now) }
 {
     match entry {
-        Entry::Head => true,
+        Entry::Head(_) => true,
         Entry::Directory { name, .. } => is_directory_above(parts, name),
         Entry::Connected { .. } => true,
         Entry::Logical { name, .. } => is_logical_above(parts, name),
@@ -148,7 +165,7 @@ fn has_room(parts: &Parts<'_>, bytes: usize, entry: &Entry<'_>) -> bool
     ensures { result ≡ has_room parts.now (entry_said entry.now) }
 {
     match entry {
-        Entry::Head => true,
+        Entry::Head(_) => true,
         Entry::Directory { .. } => parts.directories() < DIRECTORY_LIMIT,
         Entry::Connected { .. } => true,
         Entry::Logical { .. } => parts.logicals() < LOGICAL_LIMIT,

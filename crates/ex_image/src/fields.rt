@@ -3,7 +3,7 @@ ghost use Rattle.std.specs.Prelude.{◌≡◌, ◌==◌, ◌≤◌, true, if◌t
 ghost use Rattle.std.specs.List.{position_or_len};
 ghost use Rattle.std.specs.Str.{IsAscii};
 ghost use Rattle.ex_image.specs.declared.fault.Kind.TheVariants.{Form};
-ghost use Rattle.ex_image.specs.Fields.{after_of, content_at, cut, directory_of, form_of, formed, is_numeral, logical_of, mark_of, note_of, number_of};
+ghost use Rattle.ex_image.specs.Fields.{after_of, content_at, cut, directory_of, form_of, formed, is_numeral, logical_of, mark_of, note_of, number_of, optional_of};
 ghost use Rattle.ex_image.specs.Gives.{Gives};
 ghost use Rattle.ex_store.specs.WellFormed.{is_file_name, is_file_type};
 
@@ -138,16 +138,25 @@ pub(crate) fn form_of(bytes: &[u8]) -> Result<u8, Kind>
     }
 }
 
+/// A number; none for a hyphen.
+#[tactic(auto, unfolding(crate::specs::Fields::optional_of))]
+pub(crate) fn optional_of(bytes: &[u8]) -> Result<Option<u64>, Kind>
+    ensures { Gives (λ x. x) result (optional_of bytes.now) }
+{
+    if bytes == b"-".as_slice() {
+        return Ok(None);
+    }
+    let number = number_of(bytes)?;
+    Ok(Some(number))
+}
+
 /// The number of a day; none for a hyphen.
 #[tactic(auto, unfolding(crate::specs::Fields::after_of))]
 pub(crate) fn after_of(bytes: &[u8]) -> Result<Option<u64>, Kind>
     ensures { Gives (λ x. option_map pos x) result (after_of bytes.now) }
 {
-    if bytes == b"-".as_slice() {
-        return Ok(None);
-    }
-    let day = number_of(bytes)?;
-    Ok(Some(day))
+    let day = optional_of(bytes)?;
+    Ok(day)
 }
 
 /// So many bytes of a file, with the line feed behind them, and what follows it.

@@ -4,6 +4,7 @@ ghost use Rattle.std.specs.List.{flat_map, list_all};
 ghost use Rattle.cm_io.specs.Fault.{PutCause, next_count};
 ghost use Rattle.cm_io.specs.Host.{KeepsOthers};
 ghost use Rattle.ex_store.specs.declared.limits.TheConstants.{FORMS};
+ghost use Rattle.ex_image.specs.declared.version.Version.TheVariants as versions;
 ghost use Rattle.ex_image.specs.Image.{Saves, directory_record, file_record, image_text, logical_record, request_record};
 ghost use Rattle.ex_image.specs.Record.{record_text};
 ghost use Rattle.ex_image.specs.Record as records;
@@ -33,11 +34,11 @@ fn put_behind<S: Series, T: Target>(line: &[u8], parts: &S, target: &mut T) -> P
 fn put_names<T: Target>(parts: &Parts<'_>, target: &mut T) -> Put
     requires { IsTrue (T.outside target.old).is_open }
     ensures { Appends T.tells (T.outside target.old) (T.outside target.new)
-        ((record_text (records.Head, []) ++ flat_map record_text (map directory_record parts.now.directories))
+        ((record_text (records.Head versions.Two, []) ++ flat_map record_text (map directory_record parts.now.directories))
         ++ (record_text (records.Connected parts.now.connected, [])
         ++ flat_map record_text (map logical_record parts.now.logical))) result }
 {
-    if let Put::Failed = put_behind(b"EXEC20 1\n", &Directories { parts }, target) {
+    if let Put::Failed = put_behind(b"EXEC20 2\n", &Directories { parts }, target) {
         return Put::Failed;
     }
     let line = connected_line(parts.connected());
@@ -50,7 +51,7 @@ fn put_files<T: Target>(parts: &Parts<'_>, target: &mut T) -> Put
     requires opened { IsTrue (T.outside target.old).is_open }
     requires forms { list_all (λ entry. nat_lt entry.form FORMS) parts.now.queue ≡ true }
     ensures { Appends T.tells (T.outside target.old) (T.outside target.new)
-        ((flat_map record_text (map file_record parts.now.rows)
+        ((flat_map record_text (map (file_record versions.Two) parts.now.rows)
         ++ flat_map record_text (map request_record parts.now.queue))
         ++ record_text (records.End, [])) result }
 {
@@ -76,7 +77,7 @@ pub(crate) fn put_all<T: Target>(parts: &Parts<'_>, target: &mut T) -> Put
     put_files(parts, target)
 }
 
-/// Writes the image of a store to a file of a host: a head, a line for each directory, for the connected one, for each
+/// Writes the image of a store, in version 2, to a file of a host: a head, a line for each directory, for the connected one, for each
 /// logical name, for each file, with its bytes behind it, and for each entry of the print queue, and an end. It takes
 /// no memory. The file is created once. Where the host fails, the file is absent, as before, or holds a prefix of the
 /// image. No file is open afterwards.

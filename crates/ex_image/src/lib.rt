@@ -18,6 +18,7 @@ mod reading;
 mod records;
 mod tag;
 mod target;
+mod version;
 
 pub use decoding::decode;
 pub use fault::{ImageFault, Kind};

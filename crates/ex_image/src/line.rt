@@ -2,7 +2,7 @@
 ghost use Rattle.std.specs.Prelude.{◌≡◌, ◌+◌, ◌<◌, ◌≤◌, ℕ, List, [], ◌∷◌, ◌++◌, length};
 ghost use Rattle.std.specs.Fmt.{decimal, signed_decimal};
 ghost use Rattle.std.specs.List.{join_with_byte};
-ghost use Rattle.ex_image.specs.Record.{after_text};
+ghost use Rattle.ex_image.specs.Record.{after_text, optional_text};
 
 use arrayvec::ArrayString;
 use cm_text::{DIGIT_LIMIT, NAME_LIMIT, Name, decimal_digits};
@@ -78,6 +78,18 @@ impl Line {
     {
         self.text.push(' ');
         self.push_number(number);
+    }
+
+    /// Puts a space and a number behind the line, or a hyphen where there is none.
+    pub(crate) fn optional(&mut self, number: Option<u64>)
+        requires { length self.old + FIELD_LIMIT ≤ LINE_ROOM }
+        ensures bytes { self.new ≡ self.old ++ 32 ∷ optional_text number }
+        ensures len { length self.new ≤ length self.old + FIELD_LIMIT }
+    {
+        match number {
+            Some(number) => self.number(number),
+            None => self.field("-"),
+        }
     }
 
     // Puts a space and the number of a day behind the line.

@@ -4,7 +4,9 @@ ghost use Rattle.std.specs.Fmt.{decimal};
 ghost use Rattle.ex_store.specs.declared.limits.TheConstants.{FORMS};
 ghost use Rattle.ex_store.specs.Forms.{form_text};
 ghost use Rattle.ex_store.specs.Lent.{definition_of_view, directory_of_view, row_of_view};
+ghost use Rattle.ex_store.specs.Rows.{full_of};
 ghost use Rattle.ex_image.specs.declared.line.TheConstants.{FIELD_LIMIT};
+ghost use Rattle.ex_image.specs.declared.version.Version.TheVariants as versions;
 ghost use Rattle.ex_image.specs.Image.{directory_record, file_record, logical_record, request_record};
 ghost use Rattle.ex_image.specs.Record.{fields, file_text, line_text, mark_text};
 ghost use Rattle.ex_image.specs.Record as records;
@@ -51,15 +53,27 @@ fn mark_text(deleted: bool) -> &'static str
     if deleted { "D" } else { "U" }
 }
 
-/// The line of a file.
-pub(crate) fn file_line(row: RowView<'_>) -> Line
-    ensures { result ≡ line_text (file_record (row_of_view row.entry)).0 ++ 10 ∷ [] }
+// The line of a file as far as its mark.
+fn marked_line(row: RowView<'_>) -> Line
+    ensures bytes { let it = row_of_view row.entry in
+        result ≡ fields (codes "F" ∷ it.key.directory ∷ file_text (full_of it) ∷ mark_text it.file.deleted ∷ []) }
+    ensures len { length result ≤ 5 * FIELD_LIMIT + 1 }
 {
     let mut line = Line::new("F");
     line.field(row.directory.as_str());
     line.file(row.name, row.kind, row.file.generation);
     line.field(mark_text(row.file.deleted));
+    line
+}
+
+/// The line of a file.
+pub(crate) fn file_line(row: RowView<'_>) -> Line
+    ensures { result ≡ line_text (file_record versions.Two (row_of_view row.entry)).0 ++ 10 ∷ [] }
+{
+    let mut line = marked_line(row);
+    line.number(u64::from(row.file.keep));
     line.number(row.file.moment);
+    line.optional(row.file.read);
     line.number(row.file.bytes.len() as u64);
     line.end();
     line

@@ -1,8 +1,8 @@
 // The records of an image, one behind the other.
 ghost use Rattle.std.specs.Prelude.{◌≡◌, ◌==◌, ◌&&◌, true, OnErr, OnOk, length};
 ghost use Rattle.ex_image.specs.Gives.{Gives};
-ghost use Rattle.ex_image.specs.Grammar.{MayStand};
-ghost use Rattle.ex_image.specs.Reading.{behind, is_ended, record_at, record_behind, standing, start, with_record};
+ghost use Rattle.ex_image.specs.Grammar.{MayStand, state_in};
+ghost use Rattle.ex_image.specs.Reading.{behind, is_ended, record_at, record_behind, standing, start, version_behind, with_record};
 ghost use Rattle.ex_image.specs.Said.{entry_said, next_said};
 ghost use Rattle.ex_store.specs.State.{has_directory};
 ghost use Rattle.ex_store.specs.WellFormed.{IsDraft};
@@ -14,6 +14,7 @@ use crate::entry::Entry;
 use crate::faults::fault_of;
 use crate::fields::{content_at, cut};
 use crate::tag::Tag;
+use crate::version::Version;
 use cm_io::NoMemory;
 use ex_store::{Draft, Store};
 use std::alloc::Global;
@@ -27,10 +28,12 @@ pub(crate) struct Next<'a> {
     pub(crate) behind: &'a [u8],
 }
 
-/// What was read so far. Contracts see which record was read last, and the state that those so far make.
+/// What was read so far. Contracts see in which version the image is, which record was read last, and the state that
+/// those so far make.
 #[derive(Drop)]
 pub(crate) struct Reading {
     draft: Draft,
+    version: Version,
     last: Tag,
     // How many bytes the files have together.
     bytes: usize,
@@ -43,17 +46,17 @@ impl Model for Reading {
 
     ghost Value = { readings.Reading };
 
-    ghost view = { λ it. record { last = it.last; state = it.draft } };
+    ghost view = { λ it. record { version = it.version; last = it.last; state = it.draft } };
 
     ghost invariant = { λ it. it.bytes ≡ total it.draft.rows };
 }
 
-// A line that may stand behind a record.
+// A line that may stand behind a record of an image of this version.
 #[tactic(auto, unfolding(crate::specs::Reading::standing))]
-fn standing(last: Tag, line: &[u8]) -> Result<Entry<'_>, Kind>
-    ensures { Gives entry_said result (standing last line.now) }
+fn standing(version: Version, last: Tag, line: &[u8]) -> Result<Entry<'_>, Kind>
+    ensures { Gives entry_said result (standing version last line.now) }
 {
-    let entry = entry_of(line)?;
+    let entry = entry_of(version, line)?;
     if last.may_precede(entry.tag()) {
         Ok(entry)
     } else {
@@ -71,6 +74,16 @@ fn behind<'a>(entry: &Entry<'_>, bytes: &'a [u8]) -> Result<(&'a [u8], &'a [u8])
     }
 }
 
+// In which version an image is, behind a record.
+fn version_behind(version: Version, entry: &Entry<'_>) -> Version
+    ensures { result ≡ version_behind version (entry_said entry.now) }
+{
+    match entry {
+        Entry::Head(told) => *told,
+        _ => version,
+    }
+}
+
 impl Reading {
     /// Nothing is read yet.
     pub(crate) fn new(alloc: Global) -> Reading
@@ -78,6 +91,7 @@ impl Reading {
     {
         Reading {
             draft: Draft::new(alloc),
+            version: Version::Two,
             last: Tag::Start,
             bytes: 0,
         }
@@ -96,7 +110,7 @@ impl Reading {
         ensures { Gives next_said result (record_behind self.now bytes.now) }
     {
         let (line, rest) = cut(bytes, b'\n', Kind::Cut)?;
-        let entry = standing(self.last, line)?;
+        let entry = standing(self.version, self.last, line)?;
         let (content, behind) = behind(&entry, rest)?;
         match fault_of(&self.draft.parts(), self.bytes, &entry) {
             Some(kind) => Err(kind),
@@ -128,8 +142,21 @@ impl Reading {
     {
         add(&mut self.draft, alloc, &next.entry, next.content)?;
         self.bytes += next.content.len();
+        self.version = version_behind(self.version, &next.entry);
         self.last = next.entry.tag();
         Ok(())
+    }
+
+    /// Makes of what the records say the state of the image: in version 1 each file keeps as many generations as its
+    /// directory.
+    #[tactic(auto, using(crate::proofs::KeptLaws::kept_total))]
+    pub(crate) fn migrate(&mut self)
+        ensures { self.new ≡ record self.old { state = state_in self.old.version self.old.state } }
+    {
+        match self.version {
+            Version::One => self.draft.keep_by_directories(),
+            Version::Two => {}
+        }
     }
 
     /// The store, once a directory is connected.

@@ -2,6 +2,7 @@
 ghost use Rattle.std.specs.Prelude.{◌≡◌, ◌<◌, Bool, true, nat_lt, List, ℕ, [], ◌∷◌, ◌++◌, length, map, slice_get, Some, IsTrue};
 ghost use Rattle.std.specs.List.{flat_map, list_all};
 ghost use Rattle.ex_store.specs.declared.limits.TheConstants.{FORMS};
+ghost use Rattle.ex_image.specs.declared.version.Version.TheVariants as versions;
 ghost use Rattle.ex_image.specs.Image.{directory_record, file_record, logical_record, request_record};
 ghost use Rattle.ex_image.specs.Record.{Entry, record_text};
 ghost use Rattle.ex_image.specs.Writing.{Appends, Outside};
@@ -79,7 +80,7 @@ pub(crate) struct Files<'a> {
 }
 
 impl Series for Files<'_> {
-    ghost records = { λ it. map file_record it.parts.now.rows };
+    ghost records = { λ it. map (file_record versions.Two) it.parts.now.rows };
 
     ghost is_sound = { λ it. true };
 

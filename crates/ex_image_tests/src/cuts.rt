@@ -6,8 +6,30 @@ use ex_image::Kind::Cut;
 use std::process::Abort;
 use std::test::Fail;
 
-// The records of an image, a line each.
+// The records of images in version 2, a line each.
 const ONE_OF_EACH: &str = "\
+EXEC20 2|
+D OPERATOR 0|
+D SMITH 2|
+C SMITH|
+L HOME SMITH|
+F OPERATOR A.TXT.7 U 3 5 4102444799 9|one||E|F||
+F SMITH B..1 D 0 0 - 0||
+Q SMITH B..1 2 WIDE - JOB a note|
+E|";
+
+const TWO_DIRECTORIES: &str = "\
+EXEC20 2|
+D OPERATOR 1|
+D SMITH 2|
+D SMITH.SRC 0|
+C OPERATOR|
+F SMITH LOGIN.CMD.1 U 2 86400 - 9|INF VER^||
+F SMITH REPORT.TXT.3 U 2 946684800 0 7|HELLO^||
+E|";
+
+// And in version 1.
+const FIRST_OF_EACH: &str = "\
 EXEC20 1|
 D OPERATOR 0|
 D SMITH 2|
@@ -18,7 +40,7 @@ F SMITH B..1 D 0 0||
 Q SMITH B..1 2 WIDE - JOB a note|
 E|";
 
-const TWO_DIRECTORIES: &str = "\
+const FIRST_DIRECTORIES: &str = "\
 EXEC20 1|
 D OPERATOR 1|
 D SMITH 2|
@@ -56,5 +78,7 @@ fn is_cut_everywhere(rt: &(impl Abort + AllocGlobal), records: &str) -> Result<(
 #[test]
 fn the_record_that_ends_early_is_cut(rt: HostRuntime) -> Result<(), Fail> {
     is_cut_everywhere(&rt, ONE_OF_EACH)?;
-    is_cut_everywhere(&rt, TWO_DIRECTORIES)
+    is_cut_everywhere(&rt, TWO_DIRECTORIES)?;
+    is_cut_everywhere(&rt, FIRST_OF_EACH)?;
+    is_cut_everywhere(&rt, FIRST_DIRECTORIES)
 }

@@ -25,7 +25,7 @@ fn put_part(told: &mut String, file: Option<&[u8]>) -> Result<(), AllocError> {
 
 // What comes of writing a store where a call fails, and what then stands in OUT and in IN.
 fn told(alloc: Global, store: &Store, file: &str, call: u32) -> Result<String, NoMemory> {
-    let (put, host) = written(alloc, store, file, 96, &[call])?;
+    let (put, host) = written(alloc, store, file, 104, &[call])?;
     let mut told = format!(in alloc; "{put:?}")?;
     put_part(&mut told, host.file("OUT"))?;
     put_part(&mut told, host.file("IN"))?;
@@ -51,14 +51,14 @@ IN 2 -> Failed 9 old
 IN 3 -> Failed 22 old
 IN 4 -> Failed 32 old
 IN 5 -> Failed 40 old
-IN 6 -> Failed 62 old
-IN 7 -> Failed 70 old
-IN 8 -> Failed 71 old
-IN 9 -> Failed 93 old
-IN 10 -> Failed 93 old
-IN 11 -> Failed 94 old
-IN 12 -> Failed 96 old
-IN 13 -> Done 96 old";
+IN 6 -> Failed 66 old
+IN 7 -> Failed 74 old
+IN 8 -> Failed 75 old
+IN 9 -> Failed 101 old
+IN 10 -> Failed 101 old
+IN 11 -> Failed 102 old
+IN 12 -> Failed 104 old
+IN 13 -> Done 104 old";
     for case in cases.lines() {
         leaves(&rt, &store, case);
     }

@@ -1,6 +1,6 @@
 // Lines whose fields are not of their forms.
 
-use crate::given::{FRONT, all_behind};
+use crate::given::{FIRST_FRONT, FRONT, all_behind};
 
 #[test]
 fn a_logical_name_stands_before_its_directory(rt: HostRuntime) {
@@ -34,6 +34,83 @@ fn a_file_has_a_name_a_type_and_a_generation(rt: HostRuntime) {
         FRONT,
         "0 Form",
         "\
+F OPERATOR A.1 U 0 0 - 0||
+F OPERATOR A U 0 0 - 0||
+F OPERATOR .B.1 U 0 0 - 0||
+F OPERATOR A.B. U 0 0 - 0||
+F OPERATOR A.B.C.1 U 0 0 - 0||
+F OPERATOR A..01 U 0 0 - 0||
+F OPERATOR A..-1 U 0 0 - 0||
+F OPERATOR A..* U 0 0 - 0||
+F OPERATOR a..1 U 0 0 - 0||
+F OPERATOR A.b.1 U 0 0 - 0||
+F OPERATOR A,..1 U 0 0 - 0||
+F OPERATOR A-NAME-OF-FORTY-BYTES-IN-ITS-LENGTH-OF-1..1 U 0 0 - 0||
+F OPERATOR A.A-TYPE-OF-FORTY-BYTES-IN-ITS-LENGTH-OF-1.1 U 0 0 - 0||",
+    );
+}
+
+#[test]
+fn a_file_has_a_mark_a_count_a_moment_and_a_length(rt: HostRuntime) {
+    all_behind(
+        &rt,
+        FRONT,
+        "0 Form",
+        "\
+F operator A..1 U 0 0 - 0||
+F OPERATOR A..1 X 0 0 - 0||
+F OPERATOR A..1 u 0 0 - 0||
+F OPERATOR A..1 UD 0 0 - 0||
+F OPERATOR A..1  0 0 - 0||
+F OPERATOR A..1 0 0 - 0||
+F OPERATOR A..1 U 00 0 - 0||
+F OPERATOR A..1 U  0 - 0||
+F OPERATOR A..1 U - 0 - 0||
+F OPERATOR A..1 U -1 0 - 0||
+F OPERATOR A..1 U 10000000000 0 - 0||
+F OPERATOR A..1 U 0 00 - 0||
+F OPERATOR A..1 U 0  - 0||
+F OPERATOR A..1 U 0 - - 0||
+F OPERATOR A..1 U 0 10000000000 - 0||
+F OPERATOR A..1 U 0 0 - 00||
+F OPERATOR A..1 U 0 0 - -||
+F OPERATOR A..1 U 0 0 - 10000000000||
+F OPERATOR A..1 U 0 0 - 0 ||
+F OPERATOR A..1 U 0 0 -  0||
+F  OPERATOR A..1 U 0 0 - 0||
+F OPERATOR  A..1 U 0 0 - 0||
+F OPERATOR A..1 U 0 0 -||
+F OPERATOR A..1 U 0 0||
+F OPERATOR A..1 U 0||",
+    );
+}
+
+#[test]
+fn a_file_has_a_moment_of_reading_or_a_hyphen(rt: HostRuntime) {
+    all_behind(
+        &rt,
+        FRONT,
+        "0 Form",
+        "\
+F OPERATOR A..1 U 0 0  0||
+F OPERATOR A..1 U 0 0 -- 0||
+F OPERATOR A..1 U 0 0 -1 0||
+F OPERATOR A..1 U 0 0 -0 0||
+F OPERATOR A..1 U 0 0 00 0||
+F OPERATOR A..1 U 0 0 01 0||
+F OPERATOR A..1 U 0 0 +1 0||
+F OPERATOR A..1 U 0 0 N 0||
+F OPERATOR A..1 U 0 0 10000000000 0||",
+    );
+}
+
+#[test]
+fn a_file_has_a_name_in_version_1(rt: HostRuntime) {
+    all_behind(
+        &rt,
+        FIRST_FRONT,
+        "0 Form",
+        "\
 F OPERATOR A.1 U 0 0||
 F OPERATOR A U 0 0||
 F OPERATOR .B.1 U 0 0||
@@ -51,10 +128,10 @@ F OPERATOR A.A-TYPE-OF-FORTY-BYTES-IN-ITS-LENGTH-OF-1.1 U 0 0||",
 }
 
 #[test]
-fn a_file_has_a_mark_a_moment_and_a_length(rt: HostRuntime) {
+fn a_file_has_a_mark_a_moment_and_a_length_in_version_1(rt: HostRuntime) {
     all_behind(
         &rt,
-        FRONT,
+        FIRST_FRONT,
         "0 Form",
         "\
 F operator A..1 U 0 0||
@@ -71,7 +148,9 @@ F OPERATOR A..1 U 0 0 ||
 F OPERATOR A..1 U 0  0||
 F  OPERATOR A..1 U 0 0||
 F OPERATOR  A..1 U 0 0||
-F OPERATOR A..1 U 0||",
+F OPERATOR A..1 U 0||
+F OPERATOR A..1 U 0 0 - 0||
+F OPERATOR A..1 U - 0||",
     );
 }
 

@@ -8,14 +8,17 @@ use std::alloc::{AllocError, Global};
 use std::process::Abort;
 
 /// The image of a new store without its end, 33 bytes.
-pub(crate) const FRONT: &[u8] = b"EXEC20 1\nD OPERATOR 1\nC OPERATOR\n";
+pub(crate) const FRONT: &[u8] = b"EXEC20 2\nD OPERATOR 1\nC OPERATOR\n";
 
 /// The image of a new store, 35 bytes.
-pub(crate) const NEW_IMAGE: &[u8] = b"EXEC20 1\nD OPERATOR 1\nC OPERATOR\nE\n";
+pub(crate) const NEW_IMAGE: &[u8] = b"EXEC20 2\nD OPERATOR 1\nC OPERATOR\nE\n";
 
-/// The image of a store with two generations of <SMITH>A.TXT, 96 bytes.
-pub(crate) const IMAGE: &[u8] = b"EXEC20 1\nD OPERATOR 1\nD SMITH 1\nC SMITH\n\
-    F SMITH A.TXT.1 D 7 8\none\ntwo\n\nF SMITH A.TXT.2 U 8 0\n\nE\n";
+/// The front of an image in version 1, 33 bytes.
+pub(crate) const FIRST_FRONT: &[u8] = b"EXEC20 1\nD OPERATOR 1\nC OPERATOR\n";
+
+/// The image of a store with two generations of <SMITH>A.TXT, 104 bytes.
+pub(crate) const IMAGE: &[u8] = b"EXEC20 2\nD OPERATOR 1\nD SMITH 1\nC SMITH\n\
+    F SMITH A.TXT.1 D 1 7 - 8\none\ntwo\n\nF SMITH A.TXT.2 U 1 8 5 0\n\nE\n";
 
 /// That store, with the lower generation marked, and SMITH connected.
 pub(crate) fn store(rt: &(impl Abort + AllocGlobal)) -> Store {

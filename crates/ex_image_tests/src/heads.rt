@@ -8,17 +8,24 @@ fn an_image_begins_with_its_head(rt: HostRuntime) {
         &rt,
         b"",
         "\
-EXEC20 1 -> 0 Cut
+EXEC20 2 -> 0 Cut
  -> 0 Cut
 | -> 0 Form
 EXEC20 3| -> 0 Form
-exec20 1| -> 0 Form
-EXEC20  1| -> 0 Form
-EXEC20 1 | -> 0 Form
-EXEC20 1^| -> 0 Form
+exec20 2| -> 0 Form
+EXEC20  2| -> 0 Form
+EXEC20 2 | -> 0 Form
+EXEC20 2^| -> 0 Form
 D OPERATOR 1| -> 0 Form
-EXEC20 1| -> 9 Cut
-EXEC20 1|EXEC20 1| -> 9 Form",
+EXEC20 2| -> 9 Cut
+EXEC20 2|EXEC20 2| -> 9 Form
+EXEC20 2|EXEC20 1| -> 9 Form
+EXEC20 1|EXEC20 2| -> 9 Form
+EXEC20 1|EXEC20 1| -> 9 Form
+EXEC20 0| -> 0 Form
+EXEC20 12| -> 0 Form
+EXEC20 1 -> 0 Cut
+EXEC20 1| -> 9 Cut",
     );
 }
 
@@ -28,18 +35,18 @@ fn directories_follow_the_head(rt: HostRuntime) {
         &rt,
         b"",
         "\
-EXEC20 1|C A| -> 9 Form
-EXEC20 1|E| -> 9 Form
-EXEC20 1|L A A| -> 9 Form
-EXEC20 1|D OPERATOR 01| -> 9 Form
-EXEC20 1|D OPERATOR 64| -> 9 Range
-EXEC20 1|D OPERATOR 9999999999| -> 9 Range
-EXEC20 1|D OPERATOR 10000000000| -> 9 Form
-EXEC20 1|D OPERATOR 1 -> 9 Cut
-EXEC20 1|D A 1|D A 1| -> 15 Order
-EXEC20 1|D B 1|D A 1| -> 15 Order
-EXEC20 1|D B 1|D A 64| -> 15 Range
-EXEC20 1|D AB 1|D A 1| -> 16 Order",
+EXEC20 2|C A| -> 9 Form
+EXEC20 2|E| -> 9 Form
+EXEC20 2|L A A| -> 9 Form
+EXEC20 2|D OPERATOR 01| -> 9 Form
+EXEC20 2|D OPERATOR 64| -> 9 Range
+EXEC20 2|D OPERATOR 9999999999| -> 9 Range
+EXEC20 2|D OPERATOR 10000000000| -> 9 Form
+EXEC20 2|D OPERATOR 1 -> 9 Cut
+EXEC20 2|D A 1|D A 1| -> 15 Order
+EXEC20 2|D B 1|D A 1| -> 15 Order
+EXEC20 2|D B 1|D A 64| -> 15 Range
+EXEC20 2|D AB 1|D A 1| -> 16 Order",
     );
 }
 
@@ -50,25 +57,25 @@ fn a_directory_has_a_name_and_a_number(rt: HostRuntime) {
         b"",
         "9 Form",
         "\
-EXEC20 1|D|
-EXEC20 1|D |
-EXEC20 1|D A|
-EXEC20 1|D A |
-EXEC20 1|D A 1 |
-EXEC20 1|D  A 1|
-EXEC20 1|D A  1|
-EXEC20 1| D A 1|
-EXEC20 1|d A 1|
-EXEC20 1|D a 1|
-EXEC20 1|D .A 1|
-EXEC20 1|D A. 1|
-EXEC20 1|D A..B 1|
-EXEC20 1|D A* 1|
-EXEC20 1|D A -1|
-EXEC20 1|D A +1|
-EXEC20 1|D A 1x|
-EXEC20 1|D A 00|
-EXEC20 1|D A-NAME-OF-FORTY-BYTES-IN-ITS-LENGTH-OF-1 1|",
+EXEC20 2|D|
+EXEC20 2|D |
+EXEC20 2|D A|
+EXEC20 2|D A |
+EXEC20 2|D A 1 |
+EXEC20 2|D  A 1|
+EXEC20 2|D A  1|
+EXEC20 2| D A 1|
+EXEC20 2|d A 1|
+EXEC20 2|D a 1|
+EXEC20 2|D .A 1|
+EXEC20 2|D A. 1|
+EXEC20 2|D A..B 1|
+EXEC20 2|D A* 1|
+EXEC20 2|D A -1|
+EXEC20 2|D A +1|
+EXEC20 2|D A 1x|
+EXEC20 2|D A 00|
+EXEC20 2|D A-NAME-OF-FORTY-BYTES-IN-ITS-LENGTH-OF-1 1|",
     );
 }
 
@@ -78,21 +85,21 @@ fn one_of_them_is_connected(rt: HostRuntime) {
         &rt,
         b"",
         "\
-EXEC20 1|D A 1|C B| -> 15 Name
-EXEC20 1|D A 1|C AB| -> 15 Name
-EXEC20 1|D A 1|C| -> 15 Form
-EXEC20 1|D A 1|C | -> 15 Form
-EXEC20 1|D A 1|C a| -> 15 Form
-EXEC20 1|D A 1|C A | -> 15 Form
-EXEC20 1|D A 1|C  A| -> 15 Form
-EXEC20 1|D A 1|C A -> 15 Cut
-EXEC20 1|D A 1|E| -> 15 Form
-EXEC20 1|D A 1|L A A| -> 15 Form
-EXEC20 1|D A 1|F A A..1 U 0 5| -> 15 Form
-EXEC20 1|D A 1|Q A A..1 1 NORMAL - A | -> 15 Form
-EXEC20 1|D A 1|C A|C A| -> 19 Form
-EXEC20 1|D A 1|C A|D B 1| -> 19 Form
-EXEC20 1|D A 1|C A|EXEC20 1| -> 19 Form",
+EXEC20 2|D A 1|C B| -> 15 Name
+EXEC20 2|D A 1|C AB| -> 15 Name
+EXEC20 2|D A 1|C| -> 15 Form
+EXEC20 2|D A 1|C | -> 15 Form
+EXEC20 2|D A 1|C a| -> 15 Form
+EXEC20 2|D A 1|C A | -> 15 Form
+EXEC20 2|D A 1|C  A| -> 15 Form
+EXEC20 2|D A 1|C A -> 15 Cut
+EXEC20 2|D A 1|E| -> 15 Form
+EXEC20 2|D A 1|L A A| -> 15 Form
+EXEC20 2|D A 1|F A A..1 U 0 0 - 5| -> 15 Form
+EXEC20 2|D A 1|Q A A..1 1 NORMAL - A | -> 15 Form
+EXEC20 2|D A 1|C A|C A| -> 19 Form
+EXEC20 2|D A 1|C A|D B 1| -> 19 Form
+EXEC20 2|D A 1|C A|EXEC20 2| -> 19 Form",
     );
 }
 
@@ -105,7 +112,7 @@ fn nothing_stands_behind_the_end(rt: HostRuntime) {
 E|X -> 2 Form
 E|| -> 2 Form
 E|E| -> 2 Form
-E|EXEC20 1|D OPERATOR 1|C OPERATOR|E| -> 2 Form
+E|EXEC20 2|D OPERATOR 1|C OPERATOR|E| -> 2 Form
 E | -> 0 Form
  E| -> 0 Form
 e| -> 0 Form

@@ -2,9 +2,13 @@
 #![tactic(auto)]
 
 #[cfg(test)]
+mod brim;
+#[cfg(test)]
 mod cases;
 #[cfg(test)]
 mod cuts;
+#[cfg(test)]
+mod damages;
 #[cfg(test)]
 mod failing;
 #[cfg(test)]
@@ -19,5 +23,7 @@ mod limits;
 mod orders;
 #[cfg(test)]
 mod ranges;
+#[cfg(test)]
+mod versions;
 #[cfg(test)]
 mod whole;

@@ -7,7 +7,7 @@ use std::test::Fail;
 
 // A head, and 64 directories.
 fn directories(alloc: Global) -> Result<String, AllocError> {
-    let mut image = String::from_str(alloc, "EXEC20 1\n")?;
+    let mut image = String::from_str(alloc, "EXEC20 2\n")?;
     for number in 100..164 {
         write!(image, "D D{number} 1\n")?;
     }
@@ -31,7 +31,7 @@ C D163|E| -> an image",
 
 // The front of a new store, as a text.
 fn front(alloc: Global) -> Result<String, AllocError> {
-    String::from_str(alloc, "EXEC20 1\nD OPERATOR 1\nC OPERATOR\n")
+    String::from_str(alloc, "EXEC20 2\nD OPERATOR 1\nC OPERATOR\n")
 }
 
 // A new store with 64 logical names.
@@ -86,7 +86,7 @@ E| -> an image",
 fn files(alloc: Global) -> Result<String, AllocError> {
     let mut image = front(alloc)?;
     for number in 1_001..5_097 {
-        write!(image, "F OPERATOR A..{number} U 0 0\n\n")?;
+        write!(image, "F OPERATOR A..{number} U 0 0 - 0\n\n")?;
     }
     Ok(image)
 }
@@ -98,9 +98,9 @@ fn there_are_4096_files(rt: HostRuntime) -> Result<(), Fail> {
         &rt,
         image.as_bytes(),
         "\
-F OPERATOR A..5097 U 0 0|| -> 0 Limit
-F OPERATOR A..5096 U 0 0|| -> 0 Order
-F NONE A..5097 U 0 0|| -> 0 Name
+F OPERATOR A..5097 U 0 0 - 0|| -> 0 Limit
+F OPERATOR A..5096 U 0 0 - 0|| -> 0 Order
+F NONE A..5097 U 0 0 - 0|| -> 0 Name
 E| -> an image",
     );
     Ok(())
@@ -125,9 +125,9 @@ fn image_of(alloc: Global, line: &str, size: usize) -> Result<Vec<u8>, AllocErro
 
 #[test]
 fn a_file_has_65536_bytes(rt: HostRuntime) -> Result<(), Fail> {
-    let image = image_of(rt.alloc(), "F OPERATOR A..1 U 0 65536\n", 65_536)?;
+    let image = image_of(rt.alloc(), "F OPERATOR A..1 U 0 0 - 65536\n", 65_536)?;
     assert_eq!(rt; fault(&rt, &image), None);
-    let image = image_of(rt.alloc(), "F OPERATOR A..1 U 0 65537\n", 65_537)?;
+    let image = image_of(rt.alloc(), "F OPERATOR A..1 U 0 0 - 65537\n", 65_537)?;
     assert_eq!(rt; fault(&rt, &image), Some((33, Range)));
     Ok(())
 }
@@ -136,7 +136,7 @@ fn a_file_has_65536_bytes(rt: HostRuntime) -> Result<(), Fail> {
 fn full(alloc: Global) -> Result<Vec<u8>, AllocError> {
     let mut image = Vec::from_slice(alloc, FRONT)?;
     for number in 100..228 {
-        let line = format!(in alloc; "F OPERATOR A..{number} U 0 65536\n")?;
+        let line = format!(in alloc; "F OPERATOR A..{number} U 0 0 - 65536\n")?;
         push_file(&mut image, line.as_str(), 65_536)?;
     }
     Ok(image)
@@ -149,9 +149,9 @@ fn the_files_have_8388608_bytes(rt: HostRuntime) -> Result<(), Fail> {
         &rt,
         &image,
         "\
-F OPERATOR A..228 U 0 1|x| -> 0 Limit
-F OPERATOR A..227 U 0 1|x| -> 0 Order
-F OPERATOR A..228 U 0 0||E| -> an image",
+F OPERATOR A..228 U 0 0 - 1|x| -> 0 Limit
+F OPERATOR A..227 U 0 0 - 1|x| -> 0 Order
+F OPERATOR A..228 U 0 0 - 0||E| -> an image",
     );
     Ok(())
 }

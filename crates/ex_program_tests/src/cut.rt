@@ -124,7 +124,7 @@ keys INF VER{CR}
 status HostFault
 screen @INF VER{EOL} EXEC20 1{EOL}@{EOL}?Host fault{EOL}
 log ..
-out EXEC20 1{LF}
+out EXEC20 2{LF}
 acts 1
 
 call 5
@@ -139,7 +139,7 @@ keys INF VER{CR}
 status HostFault
 screen @INF VER{EOL} EXEC20 1{EOL}@{EOL}?Host fault{EOL}
 log ..
-out EXEC20 1{LF}D
+out EXEC20 2{LF}D
 acts 1
 
 get 2

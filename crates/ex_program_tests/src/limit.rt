@@ -80,7 +80,7 @@ fn ends_with(runtime: &HostRuntime, room: u32, message: &[u8]) -> Result<bool, N
             && keys.gets == LIMIT
             && screen.puts == 0
             && screen.late.bytes() == message
-            && host.file("OUT") == Some(b"EXEC20 1\nD OPERATOR 1\nC OPERATOR\nE\n"),
+            && host.file("OUT") == Some(b"EXEC20 2\nD OPERATOR 1\nC OPERATOR\nE\n"),
     )
 }
 

@@ -10,7 +10,7 @@ const NAMES: [(&str, &str); 17] = [
     ("EOL", "\r\n"),
     ("ESC", "\x1b"),
     // the records of an image with one directory, up to its files
-    ("HEAD", "EXEC20 1\nD OPERATOR 1\nC OPERATOR\n"),
+    ("HEAD", "EXEC20 2\nD OPERATOR 1\nC OPERATOR\n"),
     ("LF", "\n"),
     ("RUB", "\x08 \x08"),
     ("SP", " "),

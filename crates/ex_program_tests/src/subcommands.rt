@@ -3,8 +3,8 @@ use crate::case::try_cases;
 use std::test::Fail;
 
 const GOES_THROUGH_DIRECTORIES: &str = "words IN,OUT
-in EXEC20 1{LF}D OPERATOR 1{LF}D SMITH 2{LF}D SMITH.SRC 0{LF}C OPERATOR{LF}F SMITH LOGIN.CMD.1 U 86400 9{LF}
-in INF VER{EOL}{LF}F SMITH REPORT.TXT.3 U 946684800 7{LF}HELLO{EOL}{LF}E{LF}
+in EXEC20 2{LF}D OPERATOR 1{LF}D SMITH 2{LF}D SMITH.SRC 0{LF}C OPERATOR{LF}F SMITH LOGIN.CMD.1 U 2 86400 - 9{LF}
+in INF VER{EOL}{LF}F SMITH REPORT.TXT.3 U 2 946684800 - 7{LF}HELLO{EOL}{LF}E{LF}
 clock 0
 keys CONNECT <SM{ESC}>{CR}DIRECTORY ,{CR}SINCE 1-JAN-2000{CR}{CR}TYPE R{ESC}{CR}TYPE R{^F}?{^U}
 keys PRINT R{ESC}/FORMS:NA{ESC}{CR}
@@ -12,8 +12,8 @@ screen @CONNECT <SMITH{BEL}>{EOL}@DIRECTORY ,{EOL}@@SINCE 1-JAN-2000{EOL}@@{EOL}
 screen  REPORT.TXT.3 1 7 1-JAN-2000{EOL} Total of 1 files{EOL}@TYPE REPORT.TXT.3 {EOL}HELLO{EOL}
 screen @TYPE REPORT.? input file{EOL}@TYPE REPORT.{RUB}{RUB}{RUB}{RUB}{RUB}{RUB}{RUB}{RUB}{RUB}{RUB}{RUB}{RUB}
 screen PRINT REPORT.TXT.3 /FORMS:NARROW {EOL} Queued <SMITH>REPORT.TXT.3{EOL}@{EOL}
-out EXEC20 1{LF}D OPERATOR 1{LF}D SMITH 2{LF}D SMITH.SRC 0{LF}C SMITH{LF}F SMITH LOGIN.CMD.1 U 86400 9{LF}
-out INF VER{EOL}{LF}F SMITH REPORT.TXT.3 U 946684800 7{LF}HELLO{EOL}{LF}
+out EXEC20 2{LF}D OPERATOR 1{LF}D SMITH 2{LF}D SMITH.SRC 0{LF}C SMITH{LF}F SMITH LOGIN.CMD.1 U 2 86400 - 9{LF}
+out INF VER{EOL}{LF}F SMITH REPORT.TXT.3 U 2 946684800 - 7{LF}HELLO{EOL}{LF}
 out Q SMITH REPORT.TXT.3 1 NARROW - REPORT {LF}E{LF}";
 
 #[test]
@@ -26,7 +26,7 @@ clock 0
 keys BUILD <X>,{CR}GEN 64{CR}GEN 3{CR}{CR}DEFINE SRC: <X>{CR}INF LOG{CR}DEFINE PS: <X>{CR}
 screen @BUILD <X>,{EOL}@@GEN 64{EOL}?Value not accepted{EOL}@@GEN 3{EOL}@@{EOL}@DEFINE SRC: <X>{EOL}@INF LOG{EOL}
 screen  SRC: => PS:<X>{EOL}@DEFINE PS: <X>{EOL}?Value not accepted{EOL}@{EOL}
-out EXEC20 1{LF}D OPERATOR 1{LF}D X 3{LF}C OPERATOR{LF}L SRC X{LF}E{LF}
+out EXEC20 2{LF}D OPERATOR 1{LF}D X 3{LF}C OPERATOR{LF}L SRC X{LF}E{LF}
 
 words -n,OUT
 clock 0
@@ -34,7 +34,7 @@ keys BUILD <X>,{CR}G{ESC}5{CR}GEN 7{CR}! as said{CR}INF DIR{CR}CONNECT <X>{CR}IN
 screen @BUILD <X>,{EOL}@@GENERATIONS (TO KEEP) 5{EOL}@@GEN 7{EOL}@@! as said{EOL}@INF DIR{EOL} PS:<OPERATOR>{EOL}
 screen  Generations to keep: 1{EOL} Pages: 0{EOL}@CONNECT <X>{EOL}@INF DIR{EOL} PS:<X>{EOL}
 screen  Generations to keep: 7{EOL} Pages: 0{EOL}@{EOL}
-out EXEC20 1{LF}D OPERATOR 1{LF}D X 7{LF}C X{LF}E{LF}";
+out EXEC20 2{LF}D OPERATOR 1{LF}D X 7{LF}C X{LF}E{LF}";
 
 #[test]
 fn builds_behind_its_subcommands(rt: HostRuntime) -> Result<(), Fail> {
@@ -59,7 +59,7 @@ get 13
 keys BUILD <X>,{CR}{CR}{CR}
 status ReadFault
 screen @BUILD <X>,{EOL}@@{EOL}@{EOL}@{EOL}?Read fault{EOL}
-out EXEC20 1{LF}D OPERATOR 1{LF}D X 1{LF}C OPERATOR{LF}E{LF}
+out EXEC20 2{LF}D OPERATOR 1{LF}D X 1{LF}C OPERATOR{LF}E{LF}
 
 words -n,OUT
 clock 0
@@ -80,13 +80,13 @@ clock 0
 keys BUILD <X>,{CR}LOGOUT{CR}GEN 64{CR}{^H}3{CR}{CR}
 screen @BUILD <X>,{EOL}@@LOGOUT{EOL}?Unrecognized keyword{EOL}@@GEN 64{EOL}?Value not accepted{EOL}@@GEN 3{EOL}@@{EOL}
 screen @{EOL}
-out EXEC20 1{LF}D OPERATOR 1{LF}D X 3{LF}C OPERATOR{LF}E{LF}
+out EXEC20 2{LF}D OPERATOR 1{LF}D X 3{LF}C OPERATOR{LF}E{LF}
 
 words -n,OUT
 clock 0
 keys BUILD <X>,{CR}{256*A}{^U}GEN{DEL}{^W}{CR}
 screen @BUILD <X>,{EOL}@@{255*A}{BEL}{255*~}GEN{RUB}{RUB}{RUB}{EOL}@{EOL}
-out EXEC20 1{LF}D OPERATOR 1{LF}D X 1{LF}C OPERATOR{LF}E{LF}";
+out EXEC20 2{LF}D OPERATOR 1{LF}D X 1{LF}C OPERATOR{LF}E{LF}";
 
 #[test]
 fn keeps_what_waits_behind_a_refusal(rt: HostRuntime) -> Result<(), Fail> {
@@ -94,14 +94,14 @@ fn keeps_what_waits_behind_a_refusal(rt: HostRuntime) -> Result<(), Fail> {
 }
 
 const AN_END_OF_A_LINE_IS_AN_EMPTY_SUBCOMMAND: &str = "words IN,OUT
-in {HEAD}F OPERATOR A.TXT.1 U 0 0{LF}{LF}E{LF}
+in {HEAD}F OPERATOR A.TXT.1 U 1 0 - 0{LF}{LF}E{LF}
 keys DIRECTORY ,{CR}{LF}{LF}
 acts 2
 screen @DIRECTORY ,{EOL}@@{EOL}   PS:<OPERATOR>{EOL} A.TXT.1 0 0 1-JAN-1970{EOL} Total of 1 files{EOL}@{EOL}@{EOL}
-out {HEAD}F OPERATOR A.TXT.1 U 0 0{LF}{LF}E{LF}
+out {HEAD}F OPERATOR A.TXT.1 U 1 0 - 0{LF}{LF}E{LF}
 
 words IN,OUT
-in {HEAD}F OPERATOR A.TXT.1 U 0 0{LF}{LF}F OPERATOR B.TXT.1 D 86400 0{LF}{LF}E{LF}
+in {HEAD}F OPERATOR A.TXT.1 U 1 0 - 0{LF}{LF}F OPERATOR B.TXT.1 D 1 86400 - 0{LF}{LF}E{LF}
 clock 0
 keys DIRECTORY ,{CR}DELETED{CR}{CR}DIRECTORY A.*,{CR}BEFORE 1-JAN-1970{CR}BEFORE 2-JAN-1970{CR}{CR}
 keys DIRECTORY ,{CR}S 1-JAN-1971{CR}{CR}
@@ -109,7 +109,7 @@ screen @DIRECTORY ,{EOL}@@DELETED{EOL}@@{EOL}   PS:<OPERATOR>{EOL} B.TXT.1 0 0 2
 screen @DIRECTORY A.*,{EOL}@@BEFORE 1-JAN-1970{EOL}@@BEFORE 2-JAN-1970{EOL}@@{EOL}   PS:<OPERATOR>{EOL}
 screen  A.TXT.1 0 0 1-JAN-1970{EOL} Total of 1 files{EOL}@DIRECTORY ,{EOL}@@S 1-JAN-1971{EOL}@@{EOL}
 screen ?No files match{EOL}@{EOL}
-out {HEAD}F OPERATOR A.TXT.1 U 0 0{LF}{LF}F OPERATOR B.TXT.1 D 86400 0{LF}{LF}E{LF}";
+out {HEAD}F OPERATOR A.TXT.1 U 1 0 - 0{LF}{LF}F OPERATOR B.TXT.1 D 1 86400 - 0{LF}{LF}E{LF}";
 
 #[test]
 fn an_end_of_a_line_is_an_empty_subcommand(rt: HostRuntime) -> Result<(), Fail> {
@@ -145,7 +145,7 @@ words -n,OUT
 clock 0
 keys BUILD <X>{CR}DEFINE a: <OPERATOR>{CR}DEFINE A: <X>{CR}INF LOG{CR}
 screen @BUILD <X>{EOL}@DEFINE a: <OPERATOR>{EOL}@DEFINE A: <X>{EOL}@INF LOG{EOL} A: => PS:<X>{EOL}@{EOL}
-out EXEC20 1{LF}D OPERATOR 1{LF}D X 1{LF}C OPERATOR{LF}L A X{LF}E{LF}";
+out EXEC20 2{LF}D OPERATOR 1{LF}D X 1{LF}C OPERATOR{LF}L A X{LF}E{LF}";
 
 #[test]
 fn takes_a_logical_name_away_once(rt: HostRuntime) -> Result<(), Fail> {

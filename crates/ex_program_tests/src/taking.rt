@@ -6,43 +6,43 @@ use std::test::Fail;
 
 const TAKES_LINE_BY_LINE: &str = "# A file that takes itself is taken four times.
 words IN,OUT
-in {HEAD}F OPERATOR L.CMD.1 U 0 19{LF}INF VER{LF}TAKE L.CMD{LF}{LF}E{LF}
+in {HEAD}F OPERATOR L.CMD.1 U 1 0 - 19{LF}INF VER{LF}TAKE L.CMD{LF}{LF}E{LF}
 clock 0
 keys TAKE L.CMD{CR}
 screen @TAKE L.CMD{EOL} EXEC20 1{EOL} EXEC20 1{EOL} EXEC20 1{EOL} EXEC20 1{EOL}?TAKE too deep{EOL}@{EOL}
-out {HEAD}F OPERATOR L.CMD.1 U 0 19{LF}INF VER{LF}TAKE L.CMD{LF}{LF}E{LF}
+out {HEAD}F OPERATOR L.CMD.1 U 1 0 - 19{LF}INF VER{LF}TAKE L.CMD{LF}{LF}E{LF}
 
 # Behind the end of a file the one around it goes on.
 words IN,OUT
-in {HEAD}F OPERATOR A.CMD.1 U 0 19{LF}TAKE B.CMD{LF}INF DIR{LF}{LF}F OPERATOR B.CMD.1 U 0 8{LF}INF VER{LF}{LF}E{LF}
+in {HEAD}F OPERATOR A.CMD.1 U 1 0 - 19{LF}TAKE B.CMD{LF}INF DIR{LF}{LF}F OPERATOR B.CMD.1 U 1 0 - 8{LF}INF VER{LF}{LF}E{LF}
 clock 0
 keys TAKE A.CMD{CR}INF VER{CR}
 screen @TAKE A.CMD{EOL} EXEC20 1{EOL} PS:<OPERATOR>{EOL} Generations to keep: 1{EOL} Pages: 2{EOL}
 screen @INF VER{EOL} EXEC20 1{EOL}@{EOL}
-out {HEAD}F OPERATOR A.CMD.1 U 0 19{LF}TAKE B.CMD{LF}INF DIR{LF}{LF}
-out F OPERATOR B.CMD.1 U 0 8{LF}INF VER{LF}{LF}E{LF}
+out {HEAD}F OPERATOR A.CMD.1 U 1 0 - 19{LF}TAKE B.CMD{LF}INF DIR{LF}{LF}
+out F OPERATOR B.CMD.1 U 1 0 - 8{LF}INF VER{LF}{LF}E{LF}
 
 # Each line has the moment of the typed one, and takes none.
 words IN,OUT
-in {HEAD}F OPERATOR C.CMD.1 U 0 17{LF}COPY C.CMD D.CMD{LF}{LF}E{LF}
+in {HEAD}F OPERATOR C.CMD.1 U 1 0 - 17{LF}COPY C.CMD D.CMD{LF}{LF}E{LF}
 keys TAKE C.CMD{CR}
 screen @TAKE C.CMD{EOL} <OPERATOR>C.CMD.1 => <OPERATOR>D.CMD.1 [OK]{EOL}@{EOL}
-out {HEAD}F OPERATOR C.CMD.1 U 0 17{LF}COPY C.CMD D.CMD{LF}{LF}
-out F OPERATOR D.CMD.1 U 1 17{LF}COPY C.CMD D.CMD{LF}{LF}E{LF}
+out {HEAD}F OPERATOR C.CMD.1 U 1 0 1 17{LF}COPY C.CMD D.CMD{LF}{LF}
+out F OPERATOR D.CMD.1 U 1 1 - 17{LF}COPY C.CMD D.CMD{LF}{LF}E{LF}
 acts 1
 
 # LOGOUT ends the run.
 words IN,OUT
-in {HEAD}F OPERATOR L.CMD.1 U 0 23{LF}INF VER{LF}LOGOUT{LF}INF VER{LF}{LF}E{LF}
+in {HEAD}F OPERATOR L.CMD.1 U 1 0 - 23{LF}INF VER{LF}LOGOUT{LF}INF VER{LF}{LF}E{LF}
 clock 0
 keys TAKE L.CMD{CR}INF VER{CR}
 screen @TAKE L.CMD{EOL} EXEC20 1{EOL}Logged out{EOL}
 left INF VER{CR}
-out {HEAD}F OPERATOR L.CMD.1 U 0 23{LF}INF VER{LF}LOGOUT{LF}INF VER{LF}{LF}E{LF}
+out {HEAD}F OPERATOR L.CMD.1 U 1 0 - 23{LF}INF VER{LF}LOGOUT{LF}INF VER{LF}{LF}E{LF}
 
 # A file is taken as it stood, though it removes itself.
 words IN,OUT
-in {HEAD}F OPERATOR S.CMD.1 U 0 26{LF}DEL S.CMD{LF}EXPUNGE{LF}INF VER{LF}{LF}E{LF}
+in {HEAD}F OPERATOR S.CMD.1 U 1 0 - 26{LF}DEL S.CMD{LF}EXPUNGE{LF}INF VER{LF}{LF}E{LF}
 clock 0
 keys TAKE S.CMD{CR}
 screen @TAKE S.CMD{EOL} <OPERATOR>S.CMD.1 [OK]{EOL} <OPERATOR> [Pages freed: 1]{EOL} EXEC20 1{EOL}@{EOL}
@@ -54,35 +54,35 @@ fn takes_line_by_line(rt: HostRuntime) -> Result<(), Fail> {
 }
 
 const KNOWS_LINES_BY_THEIR_ENDS: &str = "words IN,OUT
-in {HEAD}F OPERATOR E.CMD.1 U 0 18{LF}INF VER{EOL}INF VER{EOL}{LF}E{LF}
+in {HEAD}F OPERATOR E.CMD.1 U 1 0 - 18{LF}INF VER{EOL}INF VER{EOL}{LF}E{LF}
 clock 0
 keys TAKE E.CMD{CR}
 screen @TAKE E.CMD{EOL} EXEC20 1{EOL} EXEC20 1{EOL}@{EOL}
-out {HEAD}F OPERATOR E.CMD.1 U 0 18{LF}INF VER{EOL}INF VER{EOL}{LF}E{LF}
+out {HEAD}F OPERATOR E.CMD.1 U 1 0 - 18{LF}INF VER{EOL}INF VER{EOL}{LF}E{LF}
 
 # The last line wants no end.
 words IN,OUT
-in {HEAD}F OPERATOR E.CMD.1 U 0 7{LF}INF VER{LF}E{LF}
+in {HEAD}F OPERATOR E.CMD.1 U 1 0 - 7{LF}INF VER{LF}E{LF}
 clock 0
 keys TAKE E.CMD{CR}
 screen @TAKE E.CMD{EOL} EXEC20 1{EOL}@{EOL}
-out {HEAD}F OPERATOR E.CMD.1 U 0 7{LF}INF VER{LF}E{LF}
+out {HEAD}F OPERATOR E.CMD.1 U 1 0 - 7{LF}INF VER{LF}E{LF}
 
 # But a carriage return at its end is a byte of it then.
 words IN,OUT
-in {HEAD}F OPERATOR E.CMD.1 U 0 16{LF}INF VER{LF}INF VER{CR}{LF}E{LF}
+in {HEAD}F OPERATOR E.CMD.1 U 1 0 - 16{LF}INF VER{LF}INF VER{CR}{LF}E{LF}
 clock 0
 keys TAKE E.CMD{CR}
 screen @TAKE E.CMD{EOL} EXEC20 1{EOL}?Invalid line in command file{EOL}@{EOL}
-out {HEAD}F OPERATOR E.CMD.1 U 0 16{LF}INF VER{LF}INF VER{CR}{LF}E{LF}
+out {HEAD}F OPERATOR E.CMD.1 U 1 0 - 16{LF}INF VER{LF}INF VER{CR}{LF}E{LF}
 
 # Nothing is in it.
 words IN,OUT
-in {HEAD}F OPERATOR E.CMD.1 U 0 0{LF}{LF}E{LF}
+in {HEAD}F OPERATOR E.CMD.1 U 1 0 - 0{LF}{LF}E{LF}
 clock 0
 keys TAKE E.CMD{CR}
 screen @TAKE E.CMD{EOL}@{EOL}
-out {HEAD}F OPERATOR E.CMD.1 U 0 0{LF}{LF}E{LF}";
+out {HEAD}F OPERATOR E.CMD.1 U 1 0 - 0{LF}{LF}E{LF}";
 
 #[test]
 fn knows_lines_by_their_ends(rt: HostRuntime) -> Result<(), Fail> {
@@ -91,49 +91,49 @@ fn knows_lines_by_their_ends(rt: HostRuntime) -> Result<(), Fail> {
 
 const STOPS_AT_A_REFUSAL: &str = "# What the lines before have done stands.
 words IN,OUT
-in {HEAD}F OPERATOR B.CMD.1 U 0 26{LF}BUILD <X>{LF}DEL Z{LF}BUILD <Y>{LF}{LF}E{LF}
+in {HEAD}F OPERATOR B.CMD.1 U 1 0 - 26{LF}BUILD <X>{LF}DEL Z{LF}BUILD <Y>{LF}{LF}E{LF}
 clock 0
 keys TAKE B.CMD{CR}
 screen @TAKE B.CMD{EOL}?No such file{EOL}@{EOL}
-out EXEC20 1{LF}D OPERATOR 1{LF}D X 1{LF}C OPERATOR{LF}
-out F OPERATOR B.CMD.1 U 0 26{LF}BUILD <X>{LF}DEL Z{LF}BUILD <Y>{LF}{LF}E{LF}
+out EXEC20 2{LF}D OPERATOR 1{LF}D X 1{LF}C OPERATOR{LF}
+out F OPERATOR B.CMD.1 U 1 0 - 26{LF}BUILD <X>{LF}DEL Z{LF}BUILD <Y>{LF}{LF}E{LF}
 
 # All files are closed, also where an act is refused.
 words IN,OUT
-in {HEAD}F OPERATOR A.CMD.1 U 0 19{LF}TAKE B.CMD{LF}INF VER{LF}{LF}
-in F OPERATOR B.CMD.1 U 0 19{LF}COPY A.CMD B.CMD.1{LF}{LF}E{LF}
+in {HEAD}F OPERATOR A.CMD.1 U 1 0 - 19{LF}TAKE B.CMD{LF}INF VER{LF}{LF}
+in F OPERATOR B.CMD.1 U 1 0 - 19{LF}COPY A.CMD B.CMD.1{LF}{LF}E{LF}
 clock 0
 keys TAKE A.CMD{CR}INF VER{CR}
 screen @TAKE A.CMD{EOL}?File already exists{EOL}@INF VER{EOL} EXEC20 1{EOL}@{EOL}
 out ..E{LF}
 
 words IN,OUT
-in {HEAD}F OPERATOR C.CMD.1 U 0 11{LF}COPY TTY: A{LF}E{LF}
+in {HEAD}F OPERATOR C.CMD.1 U 1 0 - 11{LF}COPY TTY: A{LF}E{LF}
 clock 0
 keys TAKE C.CMD{CR}
 screen @TAKE C.CMD{EOL}?Not allowed in a command file{EOL}@{EOL}
-out {HEAD}F OPERATOR C.CMD.1 U 0 11{LF}COPY TTY: A{LF}E{LF}
+out {HEAD}F OPERATOR C.CMD.1 U 1 0 - 11{LF}COPY TTY: A{LF}E{LF}
 
 words IN,OUT
-in {HEAD}F OPERATOR B.CMD.1 U 0 6{LF}INF ?{LF}{LF}E{LF}
+in {HEAD}F OPERATOR B.CMD.1 U 1 0 - 6{LF}INF ?{LF}{LF}E{LF}
 clock 0
 keys TAKE B.CMD{CR}
 screen @TAKE B.CMD{EOL}?Invalid line in command file{EOL}@{EOL}
-out {HEAD}F OPERATOR B.CMD.1 U 0 6{LF}INF ?{LF}{LF}E{LF}
+out {HEAD}F OPERATOR B.CMD.1 U 1 0 - 6{LF}INF ?{LF}{LF}E{LF}
 
 words IN,OUT
-in {HEAD}F OPERATOR B.CMD.1 U 0 10{LF}INF VER{BEL}{LF}{LF}{LF}E{LF}
+in {HEAD}F OPERATOR B.CMD.1 U 1 0 - 10{LF}INF VER{BEL}{LF}{LF}{LF}E{LF}
 clock 0
 keys TAKE B.CMD{CR}
 screen @TAKE B.CMD{EOL}?Invalid line in command file{EOL}@{EOL}
-out {HEAD}F OPERATOR B.CMD.1 U 0 10{LF}INF VER{BEL}{LF}{LF}{LF}E{LF}
+out {HEAD}F OPERATOR B.CMD.1 U 1 0 - 10{LF}INF VER{BEL}{LF}{LF}{LF}E{LF}
 
 words IN,OUT
-in {HEAD}F OPERATOR B.CMD.1 U 0 257{LF}{256*A}{LF}{LF}E{LF}
+in {HEAD}F OPERATOR B.CMD.1 U 1 0 - 257{LF}{256*A}{LF}{LF}E{LF}
 clock 0
 keys TAKE B.CMD{CR}
 screen @TAKE B.CMD{EOL}?Invalid line in command file{EOL}@{EOL}
-out {HEAD}F OPERATOR B.CMD.1 U 0 257{LF}{256*A}{LF}{LF}E{LF}";
+out {HEAD}F OPERATOR B.CMD.1 U 1 0 - 257{LF}{256*A}{LF}{LF}E{LF}";
 
 #[test]
 fn stops_at_a_refusal(rt: HostRuntime) -> Result<(), Fail> {
@@ -142,37 +142,37 @@ fn stops_at_a_refusal(rt: HostRuntime) -> Result<(), Fail> {
 
 const ADDS_SUBCOMMANDS_FROM_A_FILE: &str = "# The example of the list of commands.
 words IN,OUT
-in {HEAD}F OPERATOR A.TXT.1 U 0 0{LF}{LF}F OPERATOR DAILY.CMD.1 U 0 55{LF}
+in {HEAD}F OPERATOR A.TXT.1 U 1 0 - 0{LF}{LF}F OPERATOR DAILY.CMD.1 U 1 0 - 55{LF}
 in BUILD <SRC>,{LF}GENERATIONS 3{LF}{LF}COPY *.TXT <SRC>*.*{LF}INF VER{LF}E{LF}
 clock 0
 keys TAKE DAILY.CMD{CR}
 screen @TAKE DAILY.CMD{EOL} <OPERATOR>A.TXT.1 => <SRC>A.TXT.1 [OK]{EOL} EXEC20 1{EOL}@{EOL}
-out ..F SRC A.TXT.1 U 0 0{LF}{LF}E{LF}
+out ..F SRC A.TXT.1 U 3 0 - 0{LF}{LF}E{LF}
 
 # The end of the file is an empty line of them.
 words IN,OUT
-in {HEAD}F OPERATOR B.CMD.1 U 0 17{LF}BUILD <X>,{LF}GEN 3{LF}{LF}E{LF}
+in {HEAD}F OPERATOR B.CMD.1 U 1 0 - 17{LF}BUILD <X>,{LF}GEN 3{LF}{LF}E{LF}
 clock 0
 keys TAKE B.CMD{CR}
 screen @TAKE B.CMD{EOL}@{EOL}
-out EXEC20 1{LF}D OPERATOR 1{LF}D X 3{LF}C OPERATOR{LF}
-out F OPERATOR B.CMD.1 U 0 17{LF}BUILD <X>,{LF}GEN 3{LF}{LF}E{LF}
+out EXEC20 2{LF}D OPERATOR 1{LF}D X 3{LF}C OPERATOR{LF}
+out F OPERATOR B.CMD.1 U 1 0 - 17{LF}BUILD <X>,{LF}GEN 3{LF}{LF}E{LF}
 
 words IN,OUT
-in {HEAD}F OPERATOR B.CMD.1 U 0 26{LF}BUILD <X>,{LF}GEN 3{LF}{LF}INF VER{LF}{LF}E{LF}
+in {HEAD}F OPERATOR B.CMD.1 U 1 0 - 26{LF}BUILD <X>,{LF}GEN 3{LF}{LF}INF VER{LF}{LF}E{LF}
 clock 0
 keys TAKE B.CMD{CR}
 screen @TAKE B.CMD{EOL} EXEC20 1{EOL}@{EOL}
-out EXEC20 1{LF}D OPERATOR 1{LF}D X 3{LF}C OPERATOR{LF}
-out F OPERATOR B.CMD.1 U 0 26{LF}BUILD <X>,{LF}GEN 3{LF}{LF}INF VER{LF}{LF}E{LF}
+out EXEC20 2{LF}D OPERATOR 1{LF}D X 3{LF}C OPERATOR{LF}
+out F OPERATOR B.CMD.1 U 1 0 - 26{LF}BUILD <X>,{LF}GEN 3{LF}{LF}INF VER{LF}{LF}E{LF}
 
 # A refusal drops what waits.
 words IN,OUT
-in {HEAD}F OPERATOR B.CMD.1 U 0 18{LF}BUILD <X>,{LF}GEN 64{LF}{LF}E{LF}
+in {HEAD}F OPERATOR B.CMD.1 U 1 0 - 18{LF}BUILD <X>,{LF}GEN 64{LF}{LF}E{LF}
 clock 0
 keys TAKE B.CMD{CR}INF VER{CR}
 screen @TAKE B.CMD{EOL}?Value not accepted{EOL}@INF VER{EOL} EXEC20 1{EOL}@{EOL}
-out {HEAD}F OPERATOR B.CMD.1 U 0 18{LF}BUILD <X>,{LF}GEN 64{LF}{LF}E{LF}";
+out {HEAD}F OPERATOR B.CMD.1 U 1 0 - 18{LF}BUILD <X>,{LF}GEN 64{LF}{LF}E{LF}";
 
 #[test]
 fn adds_subcommands_from_a_file(rt: HostRuntime) -> Result<(), Fail> {
@@ -181,8 +181,8 @@ fn adds_subcommands_from_a_file(rt: HostRuntime) -> Result<(), Fail> {
 
 // Two command files, each with a byte that no line has: 0 and 200.
 const NUL_AND_200: &[u8] =
-    b"EXEC20 1\nD OPERATOR 1\nC OPERATOR\nF OPERATOR A.CMD.1 U 0 9\nINF VER\x00\n
-F OPERATOR B.CMD.1 U 0 9\nINF VER\xc8\n
+    b"EXEC20 2\nD OPERATOR 1\nC OPERATOR\nF OPERATOR A.CMD.1 U 1 0 - 9\nINF VER\x00\n
+F OPERATOR B.CMD.1 U 1 0 - 9\nINF VER\xc8\n
 E\n";
 
 const REFUSED_TWICE: &str = "@TAKE A.CMD{EOL}?Invalid line in command file{EOL}@TAKE B.CMD{EOL}
@@ -213,7 +213,7 @@ fn refuses_bytes_that_are_no_text(rt: HostRuntime) -> Result<(), Fail> {
 
 const TAKES_10000_LINES: &str = "words IN,OUT
 file-room 20000
-in {HEAD}F OPERATOR B.CMD.1 U 0 10000{LF}{10000*LF}{LF}E{LF}
+in {HEAD}F OPERATOR B.CMD.1 U 1 0 - 10000{LF}{10000*LF}{LF}E{LF}
 clock 0
 keys TAKE B.CMD{CR}
 screen @TAKE B.CMD{EOL}@{EOL}
@@ -221,7 +221,7 @@ out ..E{LF}
 
 words IN,OUT
 file-room 20000
-in {HEAD}F OPERATOR B.CMD.1 U 0 10001{LF}{10001*LF}{LF}E{LF}
+in {HEAD}F OPERATOR B.CMD.1 U 1 0 - 10001{LF}{10001*LF}{LF}E{LF}
 clock 0
 keys TAKE B.CMD{CR}
 screen @TAKE B.CMD{EOL}?Too many lines{EOL}@{EOL}
@@ -230,8 +230,8 @@ out ..E{LF}
 # The lines of all files of a typed line are counted together.
 words IN,OUT
 file-room 20000
-in {HEAD}F OPERATOR A.CMD.1 U 0 5010{LF}{4999*LF}TAKE B.CMD{LF}{LF}
-in F OPERATOR B.CMD.1 U 0 5000{LF}{5000*LF}{LF}E{LF}
+in {HEAD}F OPERATOR A.CMD.1 U 1 0 - 5010{LF}{4999*LF}TAKE B.CMD{LF}{LF}
+in F OPERATOR B.CMD.1 U 1 0 - 5000{LF}{5000*LF}{LF}E{LF}
 clock 0
 keys TAKE A.CMD{CR}TAKE A.CMD{CR}
 screen @TAKE A.CMD{EOL}@TAKE A.CMD{EOL}@{EOL}
@@ -239,8 +239,8 @@ out ..E{LF}
 
 words IN,OUT
 file-room 20000
-in {HEAD}F OPERATOR A.CMD.1 U 0 5010{LF}{4999*LF}TAKE B.CMD{LF}{LF}
-in F OPERATOR B.CMD.1 U 0 5001{LF}{5001*LF}{LF}E{LF}
+in {HEAD}F OPERATOR A.CMD.1 U 1 0 - 5010{LF}{4999*LF}TAKE B.CMD{LF}{LF}
+in F OPERATOR B.CMD.1 U 1 0 - 5001{LF}{5001*LF}{LF}E{LF}
 clock 0
 keys TAKE A.CMD{CR}
 screen @TAKE A.CMD{EOL}?Too many lines{EOL}@{EOL}
@@ -249,7 +249,7 @@ out ..E{LF}
 # It is not even looked at, whatever it is.
 words IN,OUT
 file-room 20000
-in {HEAD}F OPERATOR B.CMD.1 U 0 10002{LF}{10000*LF}?{LF}{LF}E{LF}
+in {HEAD}F OPERATOR B.CMD.1 U 1 0 - 10002{LF}{10000*LF}?{LF}{LF}E{LF}
 clock 0
 keys TAKE B.CMD{CR}
 screen @TAKE B.CMD{EOL}?Too many lines{EOL}@{EOL}
@@ -257,7 +257,7 @@ out ..E{LF}
 
 words IN,OUT
 file-room 80000
-in {HEAD}F OPERATOR B.CMD.1 U 0 65536{LF}{65536*A}{LF}E{LF}
+in {HEAD}F OPERATOR B.CMD.1 U 1 0 - 65536{LF}{65536*A}{LF}E{LF}
 clock 0
 keys TAKE B.CMD{CR}
 screen @TAKE B.CMD{EOL}?Invalid line in command file{EOL}@{EOL}

@@ -1,10 +1,12 @@
 -- Bytes are put behind those of a file: the rows stay those of a store, and what the plan comes to.
-use Rattle.std.proofs.Common.{◌≡◌, ◌≤◌, ◌+◌, ◌&&◌, nat_le, ℕ, suc, Bool, true, false, not, cond, List, [], ◌∷◌, length, unwrap_or, Ok, Option, Some, None, refl, ap, arith, ◌∙◌, subst}
+use Rattle.std.proofs.Common.{◌≡◌, ◌≤◌, ◌+◌, ◌&&◌, nat_le, ℕ, suc, Bool, true, false, not, cond, List, [], ◌∷◌, length, unwrap_or, Ok, Err, Option, Some, None, refl, ap, arith, ◌∙◌, subst}
 use Rattle.std.specs.List.{list_all}
 use Rattle.std.specs.Option.{option_map_or}
 use Rattle.std.specs.Ordering.{is_lt}
 use Rattle.std.proofs.lemmas.Bool.{and_from, and_parts, le-leb, leb-true, not-true}
 use Rattle.std.proofs.lemmas.List.{length-map}
+use Rattle.cm_fields.specs.declared.code.Code.{Code}
+use Rattle.ex_generations.specs.declared.file.File.{File}
 use Rattle.ex_generations.specs.declared.file.TheConstants.{FILE_LIMIT}
 use Rattle.cm_files.specs.Catalogue.{ascends}
 use Rattle.ex_generations.specs.Generations.{has, rewritten}
@@ -12,22 +14,24 @@ use Rattle.ex_store.specs.declared.append.Opening.{Opening}
 use Rattle.ex_store.specs.declared.directory.Directory.{Directory}
 use Rattle.ex_store.specs.declared.key.FullName.{FullName}
 use Rattle.ex_store.specs.declared.key.NamePair.{NamePair}
-use Rattle.ex_store.specs.declared.limits.TheConstants.{MOMENT_LIMIT, STORE_LIMIT}
+use Rattle.ex_store.specs.declared.limits.TheConstants.{MOMENT_LIMIT, RETENTION_LIMIT, STORE_LIMIT}
 use Rattle.ex_store.specs.declared.place.Place.{Place}
 use Rattle.ex_store.specs.declared.ready.RowChange.{RowChange}
 use Rattle.ex_store.specs.declared.row.Row.{Row}
-use Rattle.ex_store.specs.Adding.{admitted, new_row}
+use Rattle.ex_store.specs.Adding.{admitted, keep_at, new_row}
 use Rattle.ex_store.specs.Appending.{appended, bytes_at, found, opened, opening_of, pairs_to, poured, row_changes_of, with_opened}
 use Rattle.ex_store.specs.Copying.{moment_of, own_key}
-use Rattle.ex_store.specs.Plan.{IsOneFile, has_plain_kind, has_plain_name}
+use Rattle.ex_store.specs.declared.plan.Refusal.{Refusal}
+use Rattle.ex_store.specs.declared.plan.Refusal.TheVariants as refusals
+use Rattle.ex_store.specs.Plan.{IsOneFile, IsRefused, has_plain_kind, has_plain_name}
 use Rattle.ex_store.specs.Positions.{elements_at}
 use Rattle.ex_store.specs.declared.ready.RowChange.TheVariants as changes
 use Rattle.ex_store.specs.Ready.{are_doable, is_lawful, rows_after_all}
 use Rattle.ex_store.specs.Rows.{added, by_row, files_of, filled, full_of, is_full, row_at, total}
-use Rattle.ex_store.specs.WellFormed.{AreRows, is_file_name, is_file_type, is_row_among}
+use Rattle.ex_store.specs.WellFormed.{AreRows, is_file_name, is_file_type, is_row_among, is_stamped}
 use Rattle.ex_store.proofs.AdmittedLaws.{admitted_is, and_then_ok, counted_file, rows_added}
 use Rattle.ex_store.proofs.AscendsLaws.{all_above, ascends_sorted, is_sorted, sorted_ascends}
-use Rattle.ex_store.proofs.AllCopiedLaws.{formed, formed_is, moment_within}
+use Rattle.ex_store.proofs.AllCopiedLaws.{formed, formed_is, keep_within, moment_within, new_stamped}
 use Rattle.ex_store.proofs.ElementsLaws.{length_elements}
 use Rattle.ex_store.proofs.PouredLaws.{poured_within}
 use Rattle.ex_store.proofs.TotalLaws.{total_added, total_cons}
@@ -129,6 +133,13 @@ absent_bytes full (row ∷ rows) absent =
     by true is rest = absurd (cc)
     by false is rest = rest
 
+-- other bytes of another moment leave what a file keeps, and who has read it
+refilled_stamped : (file : File) (moment : ℕ) (bytes : List ℕ) → is_stamped file ≡ true → nat_le moment MOMENT_LIMIT ≡ true
+    → is_stamped (rewritten moment bytes file) ≡ true
+refilled_stamped file moment bytes is within =
+    let parts = and_parts _ _ is in
+    and_from _ _ (and_from _ _ (and_parts _ _ parts.0).0 within) parts.1
+
 rows_filled : (directories : List Directory) (full : FullName) (moment : ℕ) (bytes : List ℕ) (rows : List Row) → AreRows directories rows
     → nat_le moment MOMENT_LIMIT ≡ true → length bytes ≤ FILE_LIMIT → total (filled full moment bytes rows) ≤ STORE_LIMIT
     → AreRows directories (filled full moment bytes rows)
@@ -147,7 +158,7 @@ rows_filled directories full moment bytes rows are within short small = record {
           name = parts.name;
           kind = parts.kind;
           generation = parts.generation;
-          moment = within;
+          stamped = refilled_stamped row.file moment bytes parts.stamped within;
           short = le-leb (length bytes) FILE_LIMIT short;
         })
 
@@ -162,12 +173,12 @@ is_lawful_new None = true
 is_lawful_new (Some row) = is_lawful (changes.Add row)
 
 -- the rows with the file that is put behind, and how many bytes they have
-record IsOpened (directories : List Directory) (retention : ℕ) (rows : List Row) (there : Opening) : Type 0 where
-  are : AreRows directories (with_opened retention rows there.new)
+record IsOpened (directories : List Directory) (rows : List Row) (there : Opening) : Type 0 where
+  are : AreRows directories (with_opened rows there.new)
   new : is_new rows there.new ≡ true
   lawful : is_lawful_new there.new ≡ true
-  room : total (with_opened retention rows there.new) + length (bytes_at there.target rows)
-      ≤ total rows + length (bytes_at there.target (with_opened retention rows there.new))
+  room : total (with_opened rows there.new) + length (bytes_at there.target rows)
+      ≤ total rows + length (bytes_at there.target (with_opened rows there.new))
 
 plain_name : (name : Option (List ℕ)) → has_plain_name name ≡ true → is_file_name (unwrap_or name []) ≡ true
 plain_name None has = absurd (cc)
@@ -178,11 +189,11 @@ plain_kind None has = refl
 plain_kind (Some kind) has = has
 
 new_opened : (directories : List Directory) (retention moment : ℕ) (to : Place) (rows : List Row) (number : ℕ) → AreRows directories rows
-    → IsOneFile to directories → admitted (own_key to) to.generation 0 rows ≡ Ok number
-    → (let row = new_row (own_key to) (moment_of moment) [] number in
-    IsOpened directories retention rows (record { target = full_of row; new = Some row }))
-new_opened directories retention moment to rows number are one admits =
-    let row = new_row (own_key to) (moment_of moment) [] number in
+    → IsOneFile to directories → nat_le retention RETENTION_LIMIT ≡ true → admitted (own_key to) to.generation 0 rows ≡ Ok number
+    → (let row = new_row (own_key to) (keep_at retention (own_key to) rows) (moment_of moment) [] number in
+    IsOpened directories rows (record { target = full_of row; new = Some row }))
+new_opened directories retention moment to rows number are one few admits =
+    let row = new_row (own_key to) (keep_at retention (own_key to) rows) (moment_of moment) [] number in
     let known = admitted_is (own_key to) to.generation 0 rows number (counted_file to.generation one.generation) admits in
     let form : is_row_among directories row ≡ true =
     formed_is directories row (record {
@@ -190,59 +201,61 @@ new_opened directories retention moment to rows number are one admits =
       name = plain_name to.name one.name;
       kind = plain_kind to.kind one.kind;
       generation = known.free.within;
-      moment = moment_within moment;
+      stamped = new_stamped (keep_at retention (own_key to) rows) (moment_of moment) number (own_key to) []
+          (keep_within directories retention (own_key to) rows few are.within) (moment_within moment);
       short = refl;
     }) in
     let none : length (bytes_at (full_of row) rows) ≡ 0 = ap length (absent_bytes (full_of row) rows (absent_has (own_key to) number rows known.free.absent)) in
-    let same : total (added retention row rows) ≡ 0 + total rows = total_added retention row rows in
+    let same : total (added row.file.keep row rows) ≡ 0 + total rows = total_added row.file.keep row rows in
     record {
-      are = rows_added directories retention row rows are known form;
+      are = rows_added directories row.file.keep row rows are known form;
       new = ap not known.free.absent;
       lawful = and_from _ _ known.free.within refl;
       room = omega (arith, none, same);
     }
 
 opening_is : (directories : List Directory) (retention moment : ℕ) (to : Place) (rows : List Row) (number : Option ℕ) (there : Opening)
-    → AreRows directories rows → IsOneFile to directories → opening_of moment (own_key to) number to.generation rows ≡ Ok there
-    → IsOpened directories retention rows there
-opening_is directories retention moment to rows (Some number) there are one is =
+    → AreRows directories rows → IsOneFile to directories → nat_le retention RETENTION_LIMIT ≡ true → opening_of retention moment (own_key to) number to.generation rows ≡ Ok there
+    → IsOpened directories rows there
+opening_is directories retention moment to rows (Some number) there are one few is =
     let same : record { target = record { key = own_key to; generation = number }; new = None } ≡ there = cc in
-    subst (IsOpened directories retention rows) same (record { are = are; new = refl; lawful = refl; room = omega arith })
-opening_is directories retention moment to rows None there are one is =
+    subst (IsOpened directories rows) same (record { are = are; new = refl; lawful = refl; room = omega arith })
+opening_is directories retention moment to rows None there are one few is =
     let parts = and_then_ok (λ number.
-    let row = new_row (own_key to) (moment_of moment) [] number in
+    let row = new_row (own_key to) (keep_at retention (own_key to) rows) (moment_of moment) [] number in
     Ok (record { target = full_of row; new = Some row })) (admitted (own_key to) to.generation 0 rows) there is in
-    let row = new_row (own_key to) (moment_of moment) [] parts.0 in
+    let row = new_row (own_key to) (keep_at retention (own_key to) rows) (moment_of moment) [] parts.0 in
     let told : Ok (record { target = full_of row; new = Some row }) ≡ Ok there = parts.2 in
     let same : record { target = full_of row; new = Some row } ≡ there = cc in
-    subst (IsOpened directories retention rows) same (new_opened directories retention moment to rows parts.0 are one parts.1)
+    subst (IsOpened directories rows) same (new_opened directories retention moment to rows parts.0 are one few parts.1)
 
 opened_is : (directories : List Directory) (retention moment : ℕ) (to : Place) (rows : List Row) (there : Opening)
-    → AreRows directories rows → IsOneFile to directories → opened moment (own_key to) to.generation rows ≡ Ok there
-    → IsOpened directories retention rows there
-opened_is directories retention moment to rows there are one is =
-    let parts = and_then_ok (λ number. opening_of moment (own_key to) number to.generation rows) (found to.generation (files_of (own_key to) rows)) there is in
-    opening_is directories retention moment to rows parts.0 there are one parts.2
+    → AreRows directories rows → IsOneFile to directories → nat_le retention RETENTION_LIMIT ≡ true
+    → opened retention moment (own_key to) to.generation rows ≡ Ok there → IsOpened directories rows there
+opened_is directories retention moment to rows there are one few is =
+    let parts = and_then_ok (λ number. opening_of retention moment (own_key to) number to.generation rows) (found to.generation (files_of (own_key to) rows)) there is in
+    opening_is directories retention moment to rows parts.0 there are one few parts.2
 
 -- the empty row is added, and the bytes are filled in
-changes_opened : (retention : ℕ) (rows : List Row) (target : FullName) (new : Option Row) (moment : ℕ) (bytes : List ℕ)
-    → rows_after_all retention rows (row_changes_of (record { target = target; new = new }) moment bytes) ≡ filled target moment bytes (with_opened retention rows new)
-changes_opened retention rows target None moment bytes = refl
-changes_opened retention rows target (Some row) moment bytes = refl
+changes_opened : (rows : List Row) (target : FullName) (new : Option Row) (moment : ℕ) (bytes : List ℕ)
+    → rows_after_all rows (row_changes_of (record { target = target; new = new }) moment bytes) ≡ filled target moment bytes (with_opened rows new)
+changes_opened rows target None moment bytes = refl
+changes_opened rows target (Some row) moment bytes = refl
 
-doable_opened : (retention : ℕ) (rows : List Row) (target : FullName) (new : Option Row) (moment : ℕ) (bytes : List ℕ)
+doable_opened : (rows : List Row) (target : FullName) (new : Option Row) (moment : ℕ) (bytes : List ℕ)
     → is_new rows new ≡ true
-    → are_doable retention rows (row_changes_of (record { target = target; new = new }) moment bytes) ≡ true
-doable_opened retention rows target None moment bytes is = refl
-doable_opened retention rows target (Some row) moment bytes is = and_from _ _ is refl
+    → are_doable rows (row_changes_of (record { target = target; new = new }) moment bytes) ≡ true
+doable_opened rows target None moment bytes is = refl
+doable_opened rows target (Some row) moment bytes is = and_from _ _ is refl
 
 -- and the changes can be done
 pub append_doable : (directories : List Directory) (retention moment : ℕ) (to : Place) (rows : List Row) (there : Opening) (bytes : List ℕ) (done : List RowChange)
-    → AreRows directories rows → IsOneFile to directories → opened moment (own_key to) to.generation rows ≡ Ok there
-    → done ≡ row_changes_of there (moment_of moment) bytes → are_doable retention rows done ≡ true
-append_doable directories retention moment to rows there bytes done are one opens is =
-    let known = opened_is directories retention moment to rows there are one opens in
-    rw is (doable_opened retention rows there.target there.new (moment_of moment) bytes known.new)
+    → AreRows directories rows → IsOneFile to directories → nat_le retention RETENTION_LIMIT ≡ true
+    → opened retention moment (own_key to) to.generation rows ≡ Ok there
+    → done ≡ row_changes_of there (moment_of moment) bytes → are_doable rows done ≡ true
+append_doable directories retention moment to rows there bytes done are one few opens is =
+    let known = opened_is directories retention moment to rows there are one few opens in
+    rw is (doable_opened rows there.target there.new (moment_of moment) bytes known.new)
 
 lawful_opened : (target : FullName) (new : Option Row) (moment : ℕ) (bytes : List ℕ) → is_lawful_new new ≡ true
     → nat_le (length bytes) FILE_LIMIT ≡ true → list_all is_lawful (row_changes_of (record { target = target; new = new }) moment bytes) ≡ true
@@ -250,36 +263,50 @@ lawful_opened target None moment bytes is short = and_from _ _ short refl
 lawful_opened target (Some row) moment bytes is short = and_from _ _ is (and_from _ _ short refl)
 
 -- they are lawful
-pub append_lawful : (directories : List Directory) (moment : ℕ) (to : Place) (rows sources : List Row) (there : Opening) (bytes : List ℕ) (done : List RowChange)
-    → AreRows directories rows → IsOneFile to directories → opened moment (own_key to) to.generation rows ≡ Ok there
+pub append_lawful : (directories : List Directory) (retention moment : ℕ) (to : Place) (rows sources : List Row) (there : Opening) (bytes : List ℕ) (done : List RowChange)
+    → AreRows directories rows → IsOneFile to directories → nat_le retention RETENTION_LIMIT ≡ true
+    → opened retention moment (own_key to) to.generation rows ≡ Ok there
     → poured (total rows) (bytes_at there.target rows) sources ≡ Ok bytes → done ≡ row_changes_of there (moment_of moment) bytes
     → list_all is_lawful done ≡ true
-append_lawful directories moment to rows sources there bytes done are one opens pours is =
-    let known = opened_is directories 0 moment to rows there are one opens in
+append_lawful directories retention moment to rows sources there bytes done are one few opens pours is =
+    let known = opened_is directories retention moment to rows there are one few opens in
     let limits = poured_within (total rows) (bytes_at there.target rows) sources bytes pours (bytes_short directories there.target rows are.within) are.small in
     rw is (lawful_opened there.target there.new (moment_of moment) bytes known.lawful (le-leb (length bytes) FILE_LIMIT limits.0))
 
 -- the rows behind the changes are those of a store
 pub append_sound : (directories : List Directory) (retention moment : ℕ) (to : Place) (rows sources : List Row) (there : Opening) (bytes : List ℕ) (done : List RowChange)
-    → AreRows directories rows → IsOneFile to directories → opened moment (own_key to) to.generation rows ≡ Ok there
+    → AreRows directories rows → IsOneFile to directories → nat_le retention RETENTION_LIMIT ≡ true
+    → opened retention moment (own_key to) to.generation rows ≡ Ok there
     → poured (total rows) (bytes_at there.target rows) sources ≡ Ok bytes → done ≡ row_changes_of there (moment_of moment) bytes
-    → AreRows directories (rows_after_all retention rows done)
-append_sound directories retention moment to rows sources there bytes done are one opens pours is =
-    let known = opened_is directories retention moment to rows there are one opens in
+    → AreRows directories (rows_after_all rows done)
+append_sound directories retention moment to rows sources there bytes done are one few opens pours is =
+    let known = opened_is directories retention moment to rows there are one few opens in
     let limits = poured_within (total rows) (bytes_at there.target rows) sources bytes pours (bytes_short directories there.target rows are.within) are.small in
-    let grows = total_filled there.target (moment_of moment) bytes (with_opened retention rows there.new) in
-    let small : total (filled there.target (moment_of moment) bytes (with_opened retention rows there.new)) ≤ STORE_LIMIT =
+    let grows = total_filled there.target (moment_of moment) bytes (with_opened rows there.new) in
+    let small : total (filled there.target (moment_of moment) bytes (with_opened rows there.new)) ≤ STORE_LIMIT =
     omega (arith, known.room, limits.1, grows) in
-    rw (is, changes_opened retention rows there.target there.new (moment_of moment) bytes)
-    (rows_filled directories there.target (moment_of moment) bytes (with_opened retention rows there.new) known.are (moment_within moment) limits.0 small)
+    rw (is, changes_opened rows there.target there.new (moment_of moment) bytes)
+    (rows_filled directories there.target (moment_of moment) bytes (with_opened rows there.new) known.are (moment_within moment) limits.0 small)
 
 -- what the plan comes to
 pub append_ready : (retention moment : ℕ) (to : Place) (rows sources : List Row) (there : Opening) (bytes : List ℕ) (done : List RowChange) (pairs : List NamePair)
-    → opened moment (own_key to) to.generation rows ≡ Ok there → poured (total rows) (bytes_at there.target rows) sources ≡ Ok bytes
+    → opened retention moment (own_key to) to.generation rows ≡ Ok there → poured (total rows) (bytes_at there.target rows) sources ≡ Ok bytes
     → done ≡ row_changes_of there (moment_of moment) bytes → pairs ≡ pairs_to there.target sources
-    → appended retention moment to sources rows ≡ Ok (record { rows = rows_after_all retention rows done; pairs = pairs })
+    → appended retention moment to sources rows ≡ Ok (record { rows = rows_after_all rows done; pairs = pairs })
 append_ready retention moment to rows sources there bytes done pairs opens pours is told =
-    rw (is, told, changes_opened retention rows there.target there.new (moment_of moment) bytes) (rw (opens, pours) refl)
+    rw (is, told, changes_opened rows there.target there.new (moment_of moment) bytes) (rw (opens, pours) refl)
+
+-- what refuses the file that is put behind, or the bytes, refuses the plan
+pub append_refused : (retention moment : ℕ) (to : Place) (rows sources : List Row) (code : Code)
+    → opened retention moment (own_key to) to.generation rows ≡ Err code → appended retention moment to sources rows ≡ Err code
+append_refused retention moment to rows sources code opens = rw opens refl
+
+pub pour_refused : (retention moment : ℕ) (to : Place) (rows sources : List Row) (there : Opening) (refusal : Refusal)
+    → opened retention moment (own_key to) to.generation rows ≡ Ok there
+    → IsRefused (poured (total rows) (bytes_at there.target rows) sources) refusal
+    → IsRefused (appended retention moment to sources rows) refusal
+pour_refused retention moment to rows sources there (refusals.Code code) opens refused = rw (opens, refused) refl
+pour_refused retention moment to rows sources there refusals.NoMemory opens refused = tt
 
 abbrev pair_to : FullName → Row → NamePair
 pair_to target source = record { source = full_of source; target = target }

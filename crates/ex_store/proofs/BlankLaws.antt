@@ -1,19 +1,22 @@
--- Rows without their bytes are counted, added and taken out as the rows themselves.
-use Rattle.std.proofs.Common.{◌≡◌, ℕ, suc, max, ◌==◌, ◌&&◌, ◌||◌, nat_le, Bool, true, false, not, cond, List, [], ◌∷◌, length, filter, map, Option, Some, None, refl, ap}
+-- Rows without their bytes, as if nobody had read them, are counted, added and taken out as the rows themselves.
+use Rattle.std.proofs.Common.{◌≡◌, ℕ, suc, max, min, ◌==◌, ◌&&◌, ◌||◌, nat_le, Bool, true, false, not, cond, List, [], ◌∷◌, length, filter, map, Option, Some, None, Ok, Err, refl, ap, ◌∙◌}
 use Rattle.std.specs.Option.{option_map, option_map_or}
 use Rattle.std.specs.Ordering.{is_lt}
+use Rattle.std.proofs.lemmas.List.{length-map}
+use Rattle.cm_fields.specs.declared.code.Code.TheVariants.{NoFile}
 use Rattle.cm_fields.specs.declared.value.Gen.{Gen}
 use Rattle.cm_fields.specs.declared.value.Gen.TheVariants.{Missing, Highest, Next, Lowest, All, Number}
 use Rattle.ex_generations.specs.declared.file.File.{File}
 use Rattle.ex_generations.specs.Generations as generations
-use Rattle.ex_generations.specs.Generations.{has, highest, is_generation, unmarked}
-use Rattle.ex_generations.specs.Retention.{live}
+use Rattle.ex_generations.specs.Generations.{has, highest, is_generation, lowest, unmarked}
+use Rattle.ex_generations.specs.Retention.{keep_for, live}
 use Rattle.ex_store.specs.declared.key.FullName.{FullName}
 use Rattle.ex_store.specs.declared.key.Key.{Key}
 use Rattle.ex_store.specs.declared.row.Row.{Row}
-use Rattle.ex_store.specs.Adding.{next_of, numbered}
-use Rattle.ex_store.specs.Ready.{reinserted, with_name}
-use Rattle.ex_store.specs.Rows.{added, blank, by_row, files_of, inserted, is_full, is_of, kept_newest, retained, row_at, with_mark, without}
+use Rattle.ex_store.specs.Adding.{keep_at, next_of, numbered}
+use Rattle.ex_store.specs.Appending.{found}
+use Rattle.ex_store.specs.Ready.{reinserted}
+use Rattle.ex_store.specs.Rows.{added, blank, by_row, files_of, inserted, is_full, is_of, kept_newest, retained, row_at, with_mark, with_name, without}
 
 files_blank : (key : Key) (rows : List Row) → files_of key (map blank rows) ≡ map generations.blank (files_of key rows)
 files_blank key [] = refl
@@ -24,6 +27,9 @@ files_blank key (row ∷ rows) = by (is_of key row) (files_blank key rows)
         ≡ map generations.blank (map (λ (each : Row). each.file) (cond b (row ∷ filter (is_of key) rows) (filter (is_of key) rows)))
     by true rest = ap (λ files. generations.blank row.file ∷ files) rest
     by false rest = rest
+
+pub size_blank : (key : Key) (rows : List Row) → length (files_of key (map blank rows)) ≡ length (files_of key rows)
+size_blank key rows = ap (λ (it : List File). length it) (files_blank key rows) ∙ length-map (files_of key rows) generations.blank
 
 live_blank : (files : List File) → live (map generations.blank files) ≡ live files
 live_blank [] = refl
@@ -58,6 +64,47 @@ numbered_files (Number number) files = rw (has_blank number files)
 pub numbered_blank : (generation : Gen) (key : Key) (rows : List Row)
     → numbered generation (files_of key (map blank rows)) ≡ numbered generation (files_of key rows)
 numbered_blank generation key rows = rw (files_blank key rows) (numbered_files generation (files_of key rows))
+
+lowest_blank : (files : List File) → lowest (map generations.blank files) ≡ lowest files
+lowest_blank [] = refl
+lowest_blank (file ∷ files) =
+    ap (λ rest. Some (option_map_or (min file.generation) rest file.generation)) (lowest_blank files)
+
+unmarked_blank : (files : List File) → unmarked (map generations.blank files) ≡ map generations.blank (unmarked files)
+unmarked_blank [] = refl
+unmarked_blank (file ∷ files) = by file.deleted (unmarked_blank files)
+  where
+    by : (b : Bool) → unmarked (map generations.blank files) ≡ map generations.blank (unmarked files)
+        → cond (not b) (generations.blank file ∷ unmarked (map generations.blank files)) (unmarked (map generations.blank files))
+        ≡ map generations.blank (cond (not b) (file ∷ unmarked files) (unmarked files))
+    by true rest = rest
+    by false rest = ap (λ more. generations.blank file ∷ more) rest
+
+highest_unmarked : (files : List File) → highest (unmarked (map generations.blank files)) ≡ highest (unmarked files)
+highest_unmarked files = ap highest (unmarked_blank files) ∙ highest_blank (unmarked files)
+
+found_files : (generation : Gen) (files : List File) → found generation (map generations.blank files) ≡ found generation files
+found_files Missing files = ap Ok (highest_unmarked files)
+found_files Highest files = ap Ok (highest_unmarked files)
+found_files Next files = refl
+found_files Lowest files = ap Ok (ap lowest (unmarked_blank files) ∙ lowest_blank (unmarked files))
+found_files All files = ap Ok (highest_unmarked files)
+found_files (Number number) files =
+    let live : has number (unmarked (map generations.blank files)) ≡ has number (unmarked files) =
+    ap (has number) (unmarked_blank files) ∙ has_blank number (unmarked files) in
+    ap (λ (b : Bool). cond b (Ok (Some number)) (cond (has number (map generations.blank files)) (Err NoFile) (Ok None))) live
+    ∙ ap (λ (b : Bool). cond (has number (unmarked files)) (Ok (Some number)) (cond b (Err NoFile) (Ok None))) (has_blank number files)
+
+pub found_blank : (generation : Gen) (key : Key) (rows : List Row)
+    → found generation (files_of key (map blank rows)) ≡ found generation (files_of key rows)
+found_blank generation key rows = ap (found generation) (files_blank key rows) ∙ found_files generation (files_of key rows)
+
+keep_files : (retention : ℕ) (files : List File) → keep_for retention (map generations.blank files) ≡ keep_for retention files
+keep_files retention [] = refl
+keep_files retention (file ∷ files) = keep_files file.keep files
+
+pub keep_blank : (retention : ℕ) (key : Key) (rows : List Row) → keep_at retention key (map blank rows) ≡ keep_at retention key rows
+keep_blank retention key rows = rw (files_blank key rows) (keep_files retention (files_of key rows))
 
 inserted_blank : (row : Row) (rows : List Row) → inserted (blank row) (map blank rows) ≡ map blank (inserted row rows)
 inserted_blank row [] = refl
@@ -117,7 +164,7 @@ row_at_blank full (row ∷ rows) = by (is_full full row) (row_at_blank full rows
     by true rest = refl
     by false rest = rest
 
-pub reinserted_blank : (retention : ℕ) (target : FullName) (rows : List Row) (row : Option Row)
-    → reinserted retention target (map blank rows) (option_map blank row) ≡ map blank (reinserted retention target rows row)
-reinserted_blank retention target rows None = refl
-reinserted_blank retention target rows (Some row) = added_blank retention (with_name target row) rows
+pub reinserted_blank : (target : FullName) (rows : List Row) (row : Option Row)
+    → reinserted target (map blank rows) (option_map blank row) ≡ map blank (reinserted target rows row)
+reinserted_blank target rows None = refl
+reinserted_blank target rows (Some row) = added_blank row.file.keep (with_name target row.file) rows

@@ -3,7 +3,7 @@ use Rattle.std.proofs.Common.{◌≡◌, ℕ, ◌<◌, ◌≤◌, Bool, true, fa
 use Rattle.std.specs.Cmp.{IsTotalOrder}
 use Rattle.std.specs.Cmp.Lexicographic.{on_texts, texts_ties}
 use Rattle.std.specs.List.{list_all, list_any}
-use Rattle.std.specs.Option.{option_map}
+use Rattle.std.specs.Option.{option_map, option_map_or}
 use Rattle.std.specs.Ordering.{is_eq, is_lt}
 use Rattle.std.specs.Str.{bytes_eq}
 use Rattle.std.proofs.lemmas.Bool.{and_from, and_parts, both_ways, le-leb, leb-false, leb-true, lt-leb, or_parts, or_right}
@@ -21,7 +21,7 @@ use Rattle.ex_store.specs.Building.{built, by_directory, new_retention, with_dir
 use Rattle.ex_store.specs.Insertion.{insertion}
 use Rattle.ex_store.specs.Plan.{planned}
 use Rattle.ex_store.specs.Ready.{Change, applied, done_on, of_directory}
-use Rattle.ex_store.specs.State.{State, has_directory, is_named}
+use Rattle.ex_store.specs.State.{State, has_directory, is_named, retention_of}
 use Rattle.ex_store.specs.WellFormed.{IsWellFormed, is_definition_among, is_directory, is_entry_among, is_row_among}
 use Rattle.ex_store.proofs.AscendsLaws.{ascends_map}
 use Rattle.ex_store.proofs.ElementsLaws.{found_any}
@@ -95,6 +95,17 @@ found_retention name (other ∷ more) within = by (is_named name other) (found_r
     by : (named : Bool) → unwrap_or (option_map (λ (directory : Directory). directory.retention) (find (is_named name) more)) 1 ≤ RETENTION_LIMIT
         → unwrap_or (option_map (λ (directory : Directory). directory.retention) (cond named (Some other) (find (is_named name) more))) 1 ≤ RETENTION_LIMIT
     by true rest = leb-true other.retention RETENTION_LIMIT (and_parts _ _ (and_parts _ _ within).0).1
+    by false rest = rest
+
+-- so is what a directory keeps
+pub retention_within : (name : List ℕ) (directories : List Directory) → list_all is_directory directories ≡ true
+    → nat_le (retention_of name directories) RETENTION_LIMIT ≡ true
+retention_within name [] within = refl
+retention_within name (other ∷ more) within = by (is_named name other) (retention_within name more (and_parts _ _ within).1)
+  where
+    by : (named : Bool) → nat_le (retention_of name more) RETENTION_LIMIT ≡ true
+        → nat_le (option_map_or (λ (directory : Directory). directory.retention) (cond named (Some other) (find (is_named name) more)) 0) RETENTION_LIMIT ≡ true
+    by true rest = (and_parts _ _ (and_parts _ _ within).0).1
     by false rest = rest
 
 kept_limit : (name : List ℕ) (retention : Option ℕ) (directories : List Directory) → IfSome retention (λ count. count ≤ RETENTION_LIMIT)

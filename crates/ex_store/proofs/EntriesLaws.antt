@@ -1,21 +1,25 @@
 -- Directories and logical names as the entries of maps.
-use Rattle.std.proofs.Common.{◌≡◌, ℕ, ◌+◌, Bool, true, false, not, ◌||◌, cond, nat_lt, List, [], ◌∷◌, ◌++◌, length, map, find, position, Some, None, is_some, unwrap_or, refl, ap, arith, sym, ◌∙◌}
+use Rattle.std.proofs.Common.{◌≡◌, ℕ, ◌+◌, ◌<◌, Bool, Option, true, false, not, ◌||◌, cond, nat_lt, List, [], ◌∷◌, ◌++◌, length, map, find, position, Some, None, is_some, unwrap_or, refl, ap, arith, sym, ◌∙◌}
 use Rattle.std.specs.List.{list_all, list_any, position_or_len}
 use Rattle.std.specs.Map.{keys_of, lookup}
 use Rattle.std.specs.Option.{option_map}
 use Rattle.std.specs.Ordering.{is_lt}
 use Rattle.std.specs.Str.{bytes_eq}
 use Rattle.std.specs.declared.cmp.Ordering.{Ordering}
-use Rattle.std.proofs.lemmas.Bool.{and_parts, or_parts}
+use Rattle.std.specs.Cmp.Lexicographic.{nat_list_eq_equiv}
+use Rattle.std.proofs.lemmas.Bool.{and_from, and_parts, leb-true, or_parts}
+use Rattle.std.proofs.lemmas.Slice.Eq.{bytes_eq-Decides}
+use Rattle.cm_text.specs.declared.name.TheConstants.{NAME_LIMIT}
 use Rattle.std.proofs.lemmas.List.{map-append}
 use Rattle.cm_files.specs.Catalogue.{ascends}
 use Rattle.indexmap.proofs.MapLemmas.{some_index}
 use Rattle.ex_store.specs.declared.directory.Directory.{Directory}
 use Rattle.ex_store.specs.Building.{by_directory, with_directory}
-use Rattle.ex_store.specs.Entries.{directories_of, directory_entry}
+use Rattle.ex_store.specs.Entries.{directories_of, directory_entry, is_short}
 use Rattle.ex_store.specs.Insertion.{insertion}
 use Rattle.ex_store.specs.State.{has_directory, is_named, number_of}
 use Rattle.ex_store.proofs.AscendsLaws.{ascends_map}
+use Rattle.ex_store.proofs.InsertionLaws.{inserted_all}
 use Rattle.ex_store.proofs.SortedEntriesLaws.{added_is_new, by_key, entries_with, put}
 
 -- entries ascend as what they stand for
@@ -154,3 +158,69 @@ number_or_all name directories = by (has_directory name directories) refl
         → unwrap_or (cond there (Some (number_of name directories)) None) (length directories) ≡ number_of name directories
     by true is = refl
     by false is = sym (number_absent name directories is)
+
+-- a name is looked up by itself, so the test has it first
+pub lookup_turned : {V : Type 0} (name : List ℕ) (entries : List (List ℕ × V))
+    → lookup (bytes_eq name) entries ≡ lookup (λ other. bytes_eq other name) entries
+lookup_turned name [] = refl
+lookup_turned {V = V} name (entry ∷ entries) =
+    ap (λ (b : Bool). cond b (Some entry.1) (lookup (bytes_eq name) entries)) (nat_list_eq_equiv.symm name entry.0)
+    ∙ ap (λ (rest : Option V). cond (bytes_eq entry.0 name) (Some entry.1) rest) (lookup_turned name entries)
+
+place_turned : {V : Type 0} (name : List ℕ) (entries : List (List ℕ × V))
+    → position_or_len (bytes_eq name) (keys_of entries) ≡ position_or_len (λ other. bytes_eq other name) (keys_of entries)
+place_turned name [] = refl
+place_turned name (entry ∷ entries) =
+    ap (λ (n : ℕ). cond (not (bytes_eq name entry.0)) (1 + n) 0) (place_turned name entries)
+    ∙ ap (λ (b : Bool). cond (not b) (1 + position_or_len (λ other. bytes_eq other name) (keys_of entries)) 0) (nat_list_eq_equiv.symm name entry.0)
+
+pub position_turned : {V : Type 0} (name : List ℕ) (entries : List (List ℕ × V))
+    → position (bytes_eq name) (keys_of entries) ≡ position (λ other. bytes_eq other name) (keys_of entries)
+position_turned name entries =
+    ap (λ (n : ℕ). cond (nat_lt n (length (keys_of entries))) (Some n) None) (place_turned name entries)
+
+-- no directory has a name that is too long
+long_apart : (name : List ℕ) (other : Directory) → NAME_LIMIT < length name → is_short other ≡ true → is_named name other ≡ false
+long_apart name other long short = by (is_named name other) refl
+  where
+    by : (same : Bool) → is_named name other ≡ same → is_named name other ≡ false
+    by true same =
+        let sizes : length other.name ≡ length name = ap length ((bytes_eq-Decides other.name name).0 same) in
+        absurd (omega (arith, sizes, leb-true (length other.name) NAME_LIMIT short, long))
+    by false same = same
+
+pub has_long : (name : List ℕ) (directories : List Directory) → NAME_LIMIT < length name → list_all is_short directories ≡ true
+    → has_directory name directories ≡ false
+has_long name [] long short = refl
+has_long name (other ∷ directories) long short =
+    let parts = and_parts _ _ short in
+    rw (long_apart name other long parts.0) (has_long name directories long parts.1)
+
+pub find_long : (name : List ℕ) (directories : List Directory) → NAME_LIMIT < length name → list_all is_short directories ≡ true
+    → find (is_named name) directories ≡ None
+find_long name [] long short = refl
+find_long name (other ∷ directories) long short =
+    let parts = and_parts _ _ short in
+    rw (long_apart name other long parts.0) (find_long name directories long parts.1)
+
+-- with one that is made, the names are short
+short_kept : (new : Directory) (directories : List Directory) → list_all is_short directories ≡ true
+    → list_all is_short (map (λ (other : Directory). cond (is_named new.name other) (record other { retention = new.retention }) other) directories) ≡ true
+short_kept new [] short = refl
+short_kept new (other ∷ directories) short =
+    let parts = and_parts _ _ short in
+    and_from _ _ (by (is_named new.name other) parts.0) (short_kept new directories parts.1)
+  where
+    by : (same : Bool) → is_short other ≡ true → is_short (cond same (record other { retention = new.retention }) other) ≡ true
+    by true short = short
+    by false short = short
+
+pub short_made : (new : Directory) (directories : List Directory) → is_short new ≡ true → list_all is_short directories ≡ true
+    → list_all is_short (with_directory new directories) ≡ true
+short_made new directories own short = by (has_directory new.name directories)
+  where
+    by : (there : Bool) → list_all is_short (cond there
+        (map (λ (other : Directory). cond (is_named new.name other) (record other { retention = new.retention }) other) directories)
+        (insertion by_directory new directories)) ≡ true
+    by true = short_kept new directories short
+    by false = inserted_all by_directory is_short new directories own short

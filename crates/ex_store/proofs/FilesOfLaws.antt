@@ -157,7 +157,7 @@ files_retained retention key rows = by (retention == 0)
 -- what is added to the rows is added to the generations of its name and type
 pub files_added : (retention : ℕ) (row : Row) (rows : List Row) → ascends by_row rows ≡ true
     → has row.file.generation (files_of row.key rows) ≡ false
-    → files_of row.key (added retention row rows) ≡ retaining.added retention row.file (files_of row.key rows)
+    → files_of row.key (added retention row rows) ≡ retaining.retained retention (generations.inserted row.file (files_of row.key rows))
 files_added retention row rows ascend none =
     files_retained retention row.key (inserted row rows)
     ∙ ap (retaining.retained retention)

@@ -105,15 +105,15 @@ ascends_under key own ascend = ascends_sorted by_row (map (row_under key) own) (
 
 -- a file is added to the generations of a name
 pub added_under : (retention : ℕ) (key : Key) (file : File) (own : List File) → IsAscending 0 own → has file.generation own ≡ false
-    → map (row_under key) (retaining.added retention file own) ≡ added retention (row_under key file) (map (row_under key) own)
+    → map (row_under key) (retaining.retained retention (generations.inserted file own)) ≡ added retention (row_under key file) (map (row_under key) own)
 added_under retention key file own ascend none =
     let rows = map (row_under key) own in
     let new = added retention (row_under key file) rows in
     let all : list_all (is_of key) new ≡ true =
     all_added (is_of key) (λ row. refl) retention (row_under key file) rows (key_own key) (under_own key own) in
-    let is : files_of key new ≡ retaining.added retention file own =
+    let is : files_of key new ≡ retaining.retained retention (generations.inserted file own) =
     files_added retention (row_under key file) rows (ascends_under key own ascend) (ap (has file.generation) (files_of_under key own) ∙ none)
-    ∙ ap (retaining.added retention file) (files_of_under key own) in
+    ∙ ap (λ (files : List File). retaining.retained retention (generations.inserted file files)) (files_of_under key own) in
     sym (rows_own key new all ∙ ap (map (row_under key)) (sym (files_all key new all) ∙ is))
 
 -- a file is taken out of the generations of a name

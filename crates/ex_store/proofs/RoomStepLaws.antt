@@ -10,8 +10,8 @@ use Rattle.ex_store.specs.declared.ready.RowChange.{RowChange}
 use Rattle.ex_store.specs.declared.ready.RowChange.TheVariants as changes
 use Rattle.ex_store.specs.declared.row.Row.{Row}
 use Rattle.ex_store.specs.FileNames.{room_at}
-use Rattle.ex_store.specs.Ready.{count_under, puts_under, reinserted, rows_after, rows_after_all, with_name}
-use Rattle.ex_store.specs.Rows.{added, by_key, by_row, filled, files_of, inserted, is_full, is_of, kept_newest, row_at, with_mark, without}
+use Rattle.ex_store.specs.Ready.{count_under, puts_under, reinserted, rows_after, rows_after_all}
+use Rattle.ex_store.specs.Rows.{added, by_key, by_row, filled, files_of, inserted, is_full, is_of, kept_newest, row_at, with_mark, with_name, without}
 use Rattle.ex_store.specs.State.{NameRoom}
 use Rattle.ex_store.proofs.DoableLaws.{split_at}
 
@@ -81,31 +81,31 @@ size_filled full moment bytes key (row ∷ rows) = by (is_full full row) (size_f
         omega (arith, same, size_more key (record row { file = rewritten moment bytes row.file }) rows, size_more key row rows)
     by false rest = omega (arith, rest, size_more key row rows, size_more key row (filled full moment bytes rows))
 
-size_moved : (retention : ℕ) (key : Key) (target : FullName) (rows : List Row) (row : Option Row)
-    → size key (reinserted retention target rows row) ≤ cond (is_eq (by_key target.key key)) 1 0 + size key rows
-size_moved retention key target rows None = omega arith
-size_moved retention key target rows (Some row) =
-    let same : one key (with_name target row) ≡ cond (is_eq (by_key target.key key)) 1 0 = refl in
-    omega (arith, same, size_added retention key (with_name target row) rows)
+size_moved : (key : Key) (target : FullName) (rows : List Row) (row : Option Row)
+    → size key (reinserted target rows row) ≤ cond (is_eq (by_key target.key key)) 1 0 + size key rows
+size_moved key target rows None = omega arith
+size_moved key target rows (Some row) =
+    let same : one key (with_name target row.file) ≡ cond (is_eq (by_key target.key key)) 1 0 = refl in
+    omega (arith, same, size_added row.file.keep key (with_name target row.file) rows)
 
-pub size_after : (retention : ℕ) (key : Key) (rows : List Row) (change : RowChange)
-    → length (files_of key (rows_after retention rows change)) ≤ cond (puts_under key change) 1 0 + length (files_of key rows)
-size_after retention key rows (changes.Add row) =
+pub size_after : (key : Key) (rows : List Row) (change : RowChange)
+    → length (files_of key (rows_after rows change)) ≤ cond (puts_under key change) 1 0 + length (files_of key rows)
+size_after key rows (changes.Add row) =
     let same : one key row ≡ cond (puts_under key (changes.Add row)) 1 0 = refl in
-    omega (arith, same, size_added retention key row rows)
-size_after retention key rows (changes.Move pair) =
+    omega (arith, same, size_added row.file.keep key row rows)
+size_after key rows (changes.Move pair) =
     let same : cond {A = ℕ} (is_eq (by_key pair.target.key key)) 1 0 ≡ cond (puts_under key (changes.Move pair)) 1 0 = refl in
-    omega (arith, same, size_moved retention key pair.target (without pair.source rows) (row_at pair.source rows), size_without pair.source key rows)
-size_after retention key rows (changes.Fill target moment bytes) = omega (arith, size_filled target moment bytes key rows)
+    omega (arith, same, size_moved key pair.target (without pair.source rows) (row_at pair.source rows), size_without pair.source key rows)
+size_after key rows (changes.Fill target moment bytes) = omega (arith, size_filled target moment bytes key rows)
 
 -- there is room under each key for what some changes put there
 abbrev pub RoomFor : List NameRoom → List Row → List RowChange → Type 0
 RoomFor rooms rows changes = (key : Key) → 0 < count_under key changes → length (files_of key rows) + count_under key changes ≤ room_at key rooms
 
-pub room_after : (retention : ℕ) (rooms : List NameRoom) (rows : List Row) (change : RowChange) (more : List RowChange)
-    → RoomFor rooms rows (change ∷ more) → RoomFor rooms (rows_after retention rows change) more
-room_after retention rooms rows change more room key some =
-    let step = size_after retention key rows change in
+pub room_after : (rooms : List NameRoom) (rows : List Row) (change : RowChange) (more : List RowChange)
+    → RoomFor rooms rows (change ∷ more) → RoomFor rooms (rows_after rows change) more
+room_after rooms rows change more room key some =
+    let step = size_after key rows change in
     let counted = count_more key change more in
     omega (arith, step, some, counted, room key (omega (arith, some, counted)))
 
@@ -116,18 +116,18 @@ room_now rooms rows change more key room puts =
     count_more key change more ∙ ap (λ (b : Bool). cond b 1 0 + count_under key more) puts in
     omega (arith, first, room key (omega (arith, first)))
 
-room_behind : (retention : ℕ) (rooms : List NameRoom) (rows : List Row) (done more : List RowChange)
-    → RoomFor rooms rows (done ++ more) → RoomFor rooms (rows_after_all retention rows done) more
-room_behind retention rooms rows [] more room = room
-room_behind retention rooms rows (first ∷ done) more room =
-    room_behind retention rooms (rows_after retention rows first) done more (room_after retention rooms rows first (done ++ more) room)
+room_behind : (rooms : List NameRoom) (rows : List Row) (done more : List RowChange)
+    → RoomFor rooms rows (done ++ more) → RoomFor rooms (rows_after_all rows done) more
+room_behind rooms rows [] more room = room
+room_behind rooms rows (first ∷ done) more room =
+    room_behind rooms (rows_after rows first) done more (room_after rooms rows first (done ++ more) room)
 
-pub room_turn : (retention : ℕ) (rooms : List NameRoom) (rows : List Row) (items done : List RowChange) (change : RowChange)
+pub room_turn : (rooms : List NameRoom) (rows : List Row) (items done : List RowChange) (change : RowChange)
     → RoomFor rooms rows items
     → map (λ (each : RowChange). each) done ≡ take (length done) items → length done < length items
     → change ≡ get_or items (length done) change
-    → (key : Key) → puts_under key change ≡ true → length (files_of key (rows_after_all retention rows done)) < room_at key rooms
-room_turn retention rooms rows items done change room so_far within is key puts =
-    room_now rooms (rows_after_all retention rows done) change (drop (length done + 1) items) key
-    (room_behind retention rooms rows done (change ∷ drop (length done + 1) items)
+    → (key : Key) → puts_under key change ≡ true → length (files_of key (rows_after_all rows done)) < room_at key rooms
+room_turn rooms rows items done change room so_far within is key puts =
+    room_now rooms (rows_after_all rows done) change (drop (length done + 1) items) key
+    (room_behind rooms rows done (change ∷ drop (length done + 1) items)
     (subst (RoomFor rooms rows) (split_at items done change so_far within is) room)) puts

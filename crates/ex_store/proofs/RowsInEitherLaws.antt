@@ -12,8 +12,8 @@ use Rattle.ex_generations.specs.Retention.{live}
 use Rattle.ex_store.specs.declared.key.FullName.{FullName}
 use Rattle.ex_store.specs.declared.key.Key.{Key}
 use Rattle.ex_store.specs.declared.row.Row.{Row}
-use Rattle.ex_store.specs.Ready.{reinserted, with_name}
-use Rattle.ex_store.specs.Rows.{added, by_key, by_row, files_of, inserted, is_full, is_in_either, is_of, kept_newest, row_at, rows_in_either, with_mark, without}
+use Rattle.ex_store.specs.Ready.{reinserted}
+use Rattle.ex_store.specs.Rows.{added, by_key, by_row, files_of, inserted, is_full, is_in_either, is_of, kept_newest, row_at, rows_in_either, with_mark, with_name, without}
 use Rattle.ex_store.proofs.AscendsLaws.{all_above, all_filter, is_less, is_sorted, less_is, sorted_ascends}
 use Rattle.ex_store.proofs.AreRowsLaws.{by_row_total}
 use Rattle.ex_store.proofs.CatalogueLaws.{text_itself}
@@ -194,9 +194,9 @@ added_either from to retention row rows here ascend =
     (sorted_ascends by_row by_row_total rows ascend)
 
 -- the same with a row that was taken out, where there is one
-pub reinserted_either : (from to : List ℕ) (retention : ℕ) (target : FullName) (rows : List Row) (row : Option Row)
+pub reinserted_either : (from to : List ℕ) (target : FullName) (rows : List Row) (row : Option Row)
     → is_either from to target.key.directory ≡ true → ascends by_row rows ≡ true
-    → reinserted retention target (rows_in_either from to rows) row ≡ rows_in_either from to (reinserted retention target rows row)
-reinserted_either from to retention target rows None here ascend = refl
-reinserted_either from to retention target rows (Some row) here ascend =
-    added_either from to retention (with_name target row) rows here ascend
+    → reinserted target (rows_in_either from to rows) row ≡ rows_in_either from to (reinserted target rows row)
+reinserted_either from to target rows None here ascend = refl
+reinserted_either from to target rows (Some row) here ascend =
+    added_either from to row.file.keep (with_name target row.file) rows here ascend

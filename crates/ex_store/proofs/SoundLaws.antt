@@ -1,39 +1,41 @@
 -- What a plan makes of a state that is well formed is well formed.
-use Rattle.std.proofs.Common.{◌≡◌, ℕ, Bool, true, false, cond, List, [], ◌∷◌, ◌++◌, length, Result, Ok, Err, Option, Some, None, refl, ap, subst}
+use Rattle.std.proofs.Common.{◌≡◌, ℕ, nat_le, Bool, true, false, cond, List, [], ◌∷◌, ◌++◌, length, Result, Ok, Err, Option, Some, None, refl, ap, subst}
 use Rattle.std.specs.List.{list_all}
 use Rattle.std.proofs.lemmas.Bool.{and_parts}
 use Rattle.cm_fields.specs.declared.code.Code.{Code}
 use Rattle.cm_fields.specs.declared.code.Code.TheVariants.{NameNeeded}
+use Rattle.ex_generations.specs.declared.file.Remark.TheVariants as remarks
 use Rattle.ex_store.specs.declared.directory.Definition.{Definition}
 use Rattle.ex_store.specs.declared.directory.Directory.{Directory}
 use Rattle.ex_store.specs.declared.key.FullName.{FullName}
+use Rattle.ex_store.specs.declared.limits.TheConstants.{RETENTION_LIMIT}
 use Rattle.ex_store.specs.declared.place.Place.{Place}
 use Rattle.ex_store.specs.declared.plan.Plan.{Plan}
 use Rattle.ex_store.specs.declared.plan.Plan.TheVariants as plans
 use Rattle.ex_store.specs.declared.queue.QueueEntry.{QueueEntry}
 use Rattle.ex_store.specs.declared.row.Row.{Row}
-use Rattle.ex_store.specs.Adding.{Outcome, admitted, and_then, each_in_turn, new_row, placed}
+use Rattle.ex_store.specs.Adding.{Outcome, admitted, and_then, each_in_turn, keep_at, new_row, placed}
 use Rattle.ex_store.specs.Appending.{appended, bytes_at, opened, pairs_to, poured, row_changes_of}
 use Rattle.ex_store.specs.Building.{built, with_directory}
 use Rattle.ex_store.specs.Copying.{all_copied, copied, key_from, lacks_name, moment_of, own_key, written}
 use Rattle.ex_store.specs.Defining.{definition_of, with_definition}
-use Rattle.ex_store.specs.Plan.{IsOneFile, IsTarget, MayPlan, Planned, planned, retention_at, sources, with_rows}
+use Rattle.ex_store.specs.Plan.{IsOneFile, IsTarget, MayPlan, Planned, planned, read_at, retention_at, sources, with_rows}
 use Rattle.ex_store.specs.Printing.{entries_for, own_pairs}
 use Rattle.ex_store.specs.Ready.{rows_after_all}
 use Rattle.ex_store.specs.Renaming.{all_renamed, renamed}
-use Rattle.ex_store.specs.Rows.{full_of, is_full, row_at, total, without}
+use Rattle.ex_store.specs.Rows.{full_of, is_full, row_at, total, with_name, without}
 use Rattle.ex_store.specs.Selection.{is_meant}
 use Rattle.ex_store.specs.State.{State}
 use Rattle.ex_store.specs.WellFormed.{AreRows, IsWellFormed, is_row_among}
 use Rattle.ex_store.proofs.AdmittedLaws.{admitted_is, and_then_ok, counted_target, ok_same, rows_added}
-use Rattle.ex_store.proofs.AllCopiedLaws.{formed, from_formed, moment_within}
+use Rattle.ex_store.proofs.AllCopiedLaws.{from_formed, keep_within, moment_within, renamed_formed}
 use Rattle.ex_store.proofs.AllRenamedLaws.{rows_without}
 use Rattle.ex_store.proofs.AppendedLaws.{append_ready, append_sound}
 use Rattle.ex_store.proofs.AscendsLaws.{all_filter}
-use Rattle.ex_store.proofs.BuiltLaws.{well_formed_built}
+use Rattle.ex_store.proofs.BuiltLaws.{retention_within, well_formed_built}
 use Rattle.ex_store.proofs.DefinedLaws.{well_formed_defined}
 use Rattle.ex_store.proofs.PrintedLaws.{well_formed_printed}
-use Rattle.ex_store.proofs.RemarkedLaws.{well_formed_with_rows}
+use Rattle.ex_store.proofs.RemarkedLaws.{rows_remarked, well_formed_with_rows}
 use Rattle.ex_store.proofs.WrittenLaws.{rows_written, written_row}
 
 -- a step for one source, behind which the rows are those of a store
@@ -54,17 +56,20 @@ each_sound directories step sound (source ∷ more) before after all are is =
     each_sound directories step sound more parts.0 after forms.1 (sound source before parts.0 forms.0 are parts.1) parts.2
 
 copied_sound : (directories : List Directory) (retention moment : ℕ) (to : Place) → IsTarget to directories
-    → KeepsRows directories (copied retention moment to)
-copied_sound directories retention moment to target source before after form are is =
+    → nat_le retention RETENTION_LIMIT ≡ true → KeepsRows directories (copied retention moment to)
+copied_sound directories retention moment to target few source before after form are is =
     let key = key_from to source.key in
+    let keep = keep_at retention key before.rows in
     let parts = and_then_ok
-    (λ generation. Ok (placed retention (full_of source) before (new_row key (moment_of moment) source.file.bytes generation)))
+    (λ generation. Ok (placed (full_of source) before (new_row key keep (moment_of moment) source.file.bytes generation)))
     (admitted key to.generation (length source.file.bytes) before.rows) after is in
+    let new = new_row key keep (moment_of moment) source.file.bytes parts.0 in
     let known = admitted_is key to.generation (length source.file.bytes) before.rows parts.0 (counted_target to.generation target.generation) parts.1 in
-    let shape = from_formed directories to source (moment_of moment) parts.0 target form (moment_within moment) known.free.within in
-    let same : placed retention (full_of source) before (new_row key (moment_of moment) source.file.bytes parts.0) ≡ after = ok_same _ _ after refl parts.2 in
+    let shape = from_formed directories to source keep (moment_of moment) parts.0 target form (keep_within directories retention key before.rows few are.within)
+    (moment_within moment) known.free.within in
+    let same : placed (full_of source) before new ≡ after = ok_same _ _ after refl parts.2 in
     subst (λ (outcome : Outcome). AreRows directories outcome.rows) same
-    (rows_added directories retention (new_row key (moment_of moment) source.file.bytes parts.0) before.rows are known shape)
+    (rows_added directories keep new before.rows are known shape)
 
 -- without a row that is not there, the rows are the same
 without_none : (full : FullName) (rows : List Row) → row_at full rows ≡ None → without full rows ≡ rows
@@ -84,43 +89,44 @@ left_sound directories full rows are = by (row_at full rows) refl
     by None is = rw (without_none full rows is) are
     by (Some row) is = rows_without directories full rows row are is
 
-renamed_sound : (directories : List Directory) (retention : ℕ) (to : Place) → IsTarget to directories
-    → KeepsRows directories (renamed retention to)
-renamed_sound directories retention to target source before after form are is =
+renamed_sound : (directories : List Directory) (to : Place) → IsTarget to directories
+    → KeepsRows directories (renamed to)
+renamed_sound directories to target source before after form are is =
     let key = key_from to source.key in
     let left : Outcome = record before { rows = without (full_of source) before.rows } in
     let parts = and_then_ok
-    (λ generation. Ok (placed retention (full_of source) left (new_row key source.file.moment source.file.bytes generation)))
+    (λ generation. Ok (placed (full_of source) left (with_name (record { key = key; generation = generation }) source.file)))
     (admitted key to.generation (length source.file.bytes) left.rows) after is in
+    let new = with_name (record { key = key; generation = parts.0 }) source.file in
     let known = admitted_is key to.generation (length source.file.bytes) left.rows parts.0 (counted_target to.generation target.generation) parts.1 in
-    let shape = from_formed directories to source source.file.moment parts.0 target form (formed directories source form).moment known.free.within in
-    let same : placed retention (full_of source) left (new_row key source.file.moment source.file.bytes parts.0) ≡ after = ok_same _ _ after refl parts.2 in
+    let shape = renamed_formed directories to source parts.0 target form known.free.within in
+    let same : placed (full_of source) left new ≡ after = ok_same _ _ after refl parts.2 in
     subst (λ (outcome : Outcome). AreRows directories outcome.rows) same
-    (rows_added directories retention (new_row key source.file.moment source.file.bytes parts.0) left.rows
+    (rows_added directories source.file.keep new left.rows
     (left_sound directories (full_of source) before.rows are) known shape)
 
 appended_sound : (directories : List Directory) (retention moment : ℕ) (to : Place) (taken rows : List Row) (after : Outcome)
-    → AreRows directories rows → IsOneFile to directories → appended retention moment to taken rows ≡ Ok after
-    → AreRows directories after.rows
-appended_sound directories retention moment to taken rows after are one is =
-    let opens = and_then_ok _ (opened moment (own_key to) to.generation rows) after is in
+    → AreRows directories rows → IsOneFile to directories → nat_le retention RETENTION_LIMIT ≡ true
+    → appended retention moment to taken rows ≡ Ok after → AreRows directories after.rows
+appended_sound directories retention moment to taken rows after are one few is =
+    let opens = and_then_ok _ (opened retention moment (own_key to) to.generation rows) after is in
     let pours = and_then_ok _ (poured (total rows) (bytes_at opens.0.target rows) taken) after opens.2 in
     let done = row_changes_of opens.0 (moment_of moment) pours.0 in
     let pairs = pairs_to opens.0.target taken in
     let comes = append_ready retention moment to rows taken opens.0 pours.0 done pairs opens.1 pours.1 refl refl in
-    let same : record { rows = rows_after_all retention rows done; pairs = pairs } ≡ after = ok_same _ _ after comes is in
+    let same : record { rows = rows_after_all rows done; pairs = pairs } ≡ after = ok_same _ _ after comes is in
     subst (λ (outcome : Outcome). AreRows directories outcome.rows) same
-    (append_sound directories retention moment to rows taken opens.0 pours.0 done are one opens.1 pours.1 refl)
+    (append_sound directories retention moment to rows taken opens.0 pours.0 done are one few opens.1 pours.1 refl)
 
 written_sound : (directories : List Directory) (retention moment : ℕ) (to : Place) (bytes : List ℕ) (rows : List Row) (after : Outcome)
-    → AreRows directories rows → IsTarget to directories → written retention moment to bytes rows ≡ Ok after
-    → AreRows directories after.rows
-written_sound directories retention moment to bytes rows after are target is = by (lacks_name to) refl is
+    → AreRows directories rows → IsTarget to directories → nat_le retention RETENTION_LIMIT ≡ true
+    → written retention moment to bytes rows ≡ Ok after → AreRows directories after.rows
+written_sound directories retention moment to bytes rows after are target few is = by (lacks_name to) refl is
   where
     added_as : ℕ → Outcome
     added_as generation =
-        let row = written_row to moment bytes generation in
-        placed retention (full_of row) (record { rows = rows; pairs = [] }) row
+        let row = written_row to (keep_at retention (own_key to) rows) moment bytes generation in
+        placed (full_of row) (record { rows = rows; pairs = [] }) row
 
     by : (lacks : Bool) → lacks_name to ≡ lacks
         → cond lacks (Err NameNeeded) (and_then (λ generation. Ok (added_as generation)) (admitted (own_key to) to.generation (length bytes) rows)) ≡ Ok after
@@ -130,7 +136,8 @@ written_sound directories retention moment to bytes rows after are target is = b
         let parts = and_then_ok (λ generation. Ok (added_as generation)) (admitted (own_key to) to.generation (length bytes) rows) after is in
         let same : added_as parts.0 ≡ after = ok_same _ _ after refl parts.2 in
         subst (λ (outcome : Outcome). AreRows directories outcome.rows) same
-        (rows_written directories retention moment to bytes rows parts.0 are target known parts.1)
+        (rows_written directories (keep_at retention (own_key to) rows) moment to bytes rows parts.0 are target
+        (keep_within directories retention (own_key to) rows few are.within) known parts.1)
 
 -- a plan that changes files alone
 rows_sound : (state : State) (plan : Result Outcome Code) (made : Planned) → IsWellFormed state
@@ -145,6 +152,15 @@ rows_sound state (Err code) made well sound is = absurd (cc)
 sources_within : (state : State) (from : Place) → IsWellFormed state → list_all (is_row_among state.directories) (sources from state) ≡ true
 sources_within state from well =
     all_filter (is_row_among state.directories) (is_meant from.flags.deleted from state) state.rows well.draft.rows.within
+
+-- when they are read, the rows are those of a store
+rows_read_at : (moment : ℕ) (from : Place) (state : State) → IsWellFormed state → AreRows state.directories (read_at moment from state)
+rows_read_at moment from state well =
+    rows_remarked state.directories state.rows (is_meant from.flags.deleted from state) (remarks.Read (moment_of moment)) (moment_within moment) well.draft.rows
+
+-- a directory keeps no more generations than one may
+few_kept : (state : State) (to : Place) → IsWellFormed state → nat_le (retention_at to state) RETENTION_LIMIT ≡ true
+few_kept state to well = retention_within to.directory state.directories well.draft.directories_within
 
 pub plan_sound : (plan : Plan) (moment : ℕ) (state : State) (made : Planned) → IsWellFormed state → MayPlan plan state
     → planned plan moment state ≡ Ok made → IsWellFormed made.state
@@ -162,21 +178,25 @@ plan_sound (plans.Define name directory) moment state made well may is =
     subst (λ (each : Planned). IsWellFormed each.state) (ok_same _ _ made refl parts.2)
     (well_formed_defined state name directory parts.0 well may.0 may.1 parts.1)
 plan_sound (plans.Copy from to) moment state made well may is =
-    rows_sound state (all_copied (retention_at to state) moment to (sources from state) state.rows) made well
+    let retention = retention_at to state in
+    rows_sound state (all_copied retention moment to (sources from state) (read_at moment from state)) made well
     (λ outcome comes.
-    each_sound state.directories (copied (retention_at to state) moment to) (copied_sound state.directories (retention_at to state) moment to may.1)
-    (sources from state) (record { rows = state.rows; pairs = [] }) outcome (sources_within state from well) well.draft.rows comes) is
+    each_sound state.directories (copied retention moment to) (copied_sound state.directories retention moment to may.1 (few_kept state to well))
+    (sources from state) (record { rows = read_at moment from state; pairs = [] }) outcome (sources_within state from well) (rows_read_at moment from state well) comes) is
 plan_sound (plans.Rename from to) moment state made well may is =
-    rows_sound state (all_renamed (retention_at to state) to (sources from state) state.rows) made well
+    rows_sound state (all_renamed to (sources from state) state.rows) made well
     (λ outcome comes.
-    each_sound state.directories (renamed (retention_at to state) to) (renamed_sound state.directories (retention_at to state) to may.1)
+    each_sound state.directories (renamed to) (renamed_sound state.directories to may.1)
     (sources from state) (record { rows = state.rows; pairs = [] }) outcome (sources_within state from well) well.draft.rows comes) is
 plan_sound (plans.Append from to) moment state made well may is =
-    rows_sound state (appended (retention_at to state) moment to (sources from state) state.rows) made well
-    (λ outcome comes. appended_sound state.directories (retention_at to state) moment to (sources from state) state.rows outcome well.draft.rows may.1 comes) is
+    let retention = retention_at to state in
+    rows_sound state (appended retention moment to (sources from state) (read_at moment from state)) made well
+    (λ outcome comes. appended_sound state.directories retention moment to (sources from state) (read_at moment from state) outcome (rows_read_at moment from state well) may.1
+    (few_kept state to well) comes) is
 plan_sound (plans.Write to bytes) moment state made well may is =
-    rows_sound state (written (retention_at to state) moment to bytes state.rows) made well
-    (λ outcome comes. written_sound state.directories (retention_at to state) moment to bytes state.rows outcome well.draft.rows may comes) is
+    let retention = retention_at to state in
+    rows_sound state (written retention moment to bytes state.rows) made well
+    (λ outcome comes. written_sound state.directories retention moment to bytes state.rows outcome well.draft.rows may (few_kept state to well) comes) is
 plan_sound (plans.Print files request) moment state made well may is =
     let parts = and_then_ok
     (λ (entries : List QueueEntry). Ok (record { state = record state { queue = state.queue ++ entries }; pairs = own_pairs (sources files state) }))

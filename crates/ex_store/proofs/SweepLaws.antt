@@ -20,6 +20,7 @@ use Rattle.ex_store.specs.FileNames.{by_name, bytes_of, is_under_directory, room
 use Rattle.ex_store.specs.Rows.{by_key, expunged, is_in, is_short, pages_in, pages_marked, total}
 use Rattle.ex_store.proofs.AscendsLaws.{ascends_filter, ascends_map}
 use Rattle.ex_store.proofs.FileNamesLaws.{by_name_total}
+use Rattle.ex_store.proofs.FileNumbersLaws.{length_more}
 
 -- bytes
 total_own : (key : Key) (own : List File) → total (map (row_under key) own) ≡ bytes_of own
@@ -49,6 +50,18 @@ rows_filled (name ∷ names) = by name.gens.files refl (rows_filled names)
         → rows_of (cond (not (length name.gens.files == 0)) (name ∷ filter has_files names) (filter has_files names)) ≡ rows_under name ++ rows_of names
     by [] is rest = rw is rest
     by (file ∷ own) is rest = rw (is, some_files (length own)) (ap (λ more. map (row_under name.key) (file ∷ own) ++ more) rest)
+
+-- each name that is left has a file
+pub few_filled : (names : List FileName) → length (filter has_files names) ≤ length (rows_of names)
+few_filled [] = omega arith
+few_filled (name ∷ names) = by (has_files name) refl (few_filled names)
+  where
+    by : (b : Bool) → has_files name ≡ b → length (filter has_files names) ≤ length (rows_of names)
+        → length (cond b (name ∷ filter has_files names) (filter has_files names)) ≤ length (rows_of (name ∷ names))
+    by true is rest =
+        let some : 1 ≤ length name.gens.files = grind (arith, nat_tests) in
+        omega (arith, rest, some, length_more name names)
+    by false is rest = omega (arith, rest, length_more name names)
 
 pub ascends_filled : (names : List FileName) → ascends by_name names ≡ true → ascends by_name (filter has_files names) ≡ true
 ascends_filled names ascend = ascends_filter by_name by_name_total has_files names ascend

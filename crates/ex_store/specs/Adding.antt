@@ -1,5 +1,5 @@
 -- A file is added to the rows: under which generation, or why it is refused.
-use Rattle.std.specs.Prelude.{ℕ, ◌+◌, nat_lt, nat_le, if◌then◌else◌, List, [], ◌∷◌, ◌++◌, false, length, unwrap_or, Result, Ok, Err}
+use Rattle.std.specs.Prelude.{ℕ, ◌+◌, nat_lt, nat_le, if◌then◌else◌, List, [], ◌∷◌, ◌++◌, false, length, unwrap_or, None, Result, Ok, Err}
 use Rattle.cm_fields.specs.declared.code.Code.{Code}
 use Rattle.cm_fields.specs.declared.code.Code.TheVariants.{GenFull, FileExists, FileLimit, FileSize, StoreSize}
 use Rattle.cm_fields.specs.declared.value.Gen.{Gen}
@@ -7,6 +7,7 @@ use Rattle.cm_fields.specs.declared.value.Gen.TheVariants.{Missing, Highest, Nex
 use Rattle.ex_generations.specs.declared.file.File.{File}
 use Rattle.ex_generations.specs.declared.file.TheConstants.{FILE_LIMIT, GENERATION_LIMIT}
 use Rattle.ex_generations.specs.Generations.{has, highest, next_generation}
+use Rattle.ex_generations.specs.Retention.{keep_for}
 use Rattle.ex_store.specs.declared.key.FullName.{FullName}
 use Rattle.ex_store.specs.declared.key.Key.{Key}
 use Rattle.ex_store.specs.declared.key.NamePair.{NamePair}
@@ -50,12 +51,23 @@ admitted_beside files bytes key generation size rows =
 abbrev pub admitted : Key → Gen → ℕ → List Row → Result ℕ Code
 admitted key generation size rows = admitted_beside (length rows) (total rows) key generation size rows
 
--- a new file, unmarked, of this moment
-abbrev pub new_row : Key → ℕ → List ℕ → ℕ → Row
-new_row key moment bytes generation =
+-- how many generations a new file keeps: as many as the highest of its name and type, and else this number
+abbrev pub keep_at : ℕ → Key → List Row → ℕ
+keep_at retention key rows = keep_for retention (files_of key rows)
+
+-- a new file, unmarked, that keeps so many generations and was written at this moment; nobody has read it
+abbrev pub new_row : Key → ℕ → ℕ → List ℕ → ℕ → Row
+new_row key keep moment bytes generation =
     record {
       key = key;
-      file = record { generation = generation; deleted = false; moment = moment; bytes = bytes };
+      file = record {
+        generation = generation;
+        deleted = false;
+        keep = keep;
+        moment = moment;
+        read = None;
+        bytes = bytes;
+      };
     }
 
 -- what a plan has come to: the rows, and from which file to which one each went
@@ -64,10 +76,10 @@ pub record Outcome : Type 0 where
   pub pairs : List NamePair
 
 -- a row is added that comes from this file
-abbrev pub placed : ℕ → FullName → Outcome → Row → Outcome
-placed retention source outcome row =
+abbrev pub placed : FullName → Outcome → Row → Outcome
+placed source outcome row =
     record {
-      rows = added retention row outcome.rows;
+      rows = added row.file.keep row outcome.rows;
       pairs = outcome.pairs ++ (record { source = source; target = full_of row }) ∷ [];
     }
 

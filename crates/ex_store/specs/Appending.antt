@@ -17,7 +17,7 @@ use Rattle.ex_store.specs.declared.place.Place.{Place}
 use Rattle.ex_store.specs.declared.ready.RowChange.{RowChange}
 use Rattle.ex_store.specs.declared.ready.RowChange.TheVariants as changes
 use Rattle.ex_store.specs.declared.row.Row.{Row}
-use Rattle.ex_store.specs.Adding.{Outcome, admitted, and_then, new_row}
+use Rattle.ex_store.specs.Adding.{Outcome, admitted, and_then, keep_at, new_row}
 use Rattle.ex_store.specs.Copying.{moment_of, own_key}
 use Rattle.ex_store.specs.Rows.{added, files_of, filled, full_of, row_at, total}
 
@@ -33,23 +33,23 @@ found (Number number) files =
     else (if has number files then Err NoFile else Ok None)
 
 -- the file that is put behind: its full name, and the empty row that is added where it is a new one
-abbrev pub opening_of : ℕ → Key → Option ℕ → Gen → List Row → Result Opening Code
-opening_of moment key (Some number) generation rows =
+abbrev pub opening_of : ℕ → ℕ → Key → Option ℕ → Gen → List Row → Result Opening Code
+opening_of retention moment key (Some number) generation rows =
     Ok (record { target = record { key = key; generation = number }; new = None })
-opening_of moment key None generation rows =
+opening_of retention moment key None generation rows =
     and_then (λ number.
-    let row = new_row key (moment_of moment) [] number in
+    let row = new_row key (keep_at retention key rows) (moment_of moment) [] number in
     Ok (record { target = full_of row; new = Some row }))
     (admitted key generation 0 rows)
 
-abbrev pub opened : ℕ → Key → Gen → List Row → Result Opening Code
-opened moment key generation rows =
-    and_then (λ there. opening_of moment key there generation rows) (found generation (files_of key rows))
+abbrev pub opened : ℕ → ℕ → Key → Gen → List Row → Result Opening Code
+opened retention moment key generation rows =
+    and_then (λ there. opening_of retention moment key there generation rows) (found generation (files_of key rows))
 
 -- the rows with the file that is put behind
-abbrev pub with_opened : ℕ → List Row → Option Row → List Row
-with_opened retention rows None = rows
-with_opened retention rows (Some row) = added retention row rows
+abbrev pub with_opened : List Row → Option Row → List Row
+with_opened rows None = rows
+with_opened rows (Some row) = added row.file.keep row rows
 
 -- what a file holds; nothing where it is not there
 abbrev pub bytes_at : FullName → List Row → List ℕ
@@ -78,11 +78,11 @@ appended retention moment to sources rows =
     and_then (λ there.
     and_then (λ bytes.
     Ok (record {
-      rows = filled there.target (moment_of moment) bytes (with_opened retention rows there.new);
+      rows = filled there.target (moment_of moment) bytes (with_opened rows there.new);
       pairs = pairs_to there.target sources;
     }))
     (poured (total rows) (bytes_at there.target rows) sources))
-    (opened moment (own_key to) to.generation rows)
+    (opened retention moment (own_key to) to.generation rows)
 
 -- what is to be done for it: the empty row is added, and then the bytes are filled in
 abbrev pub row_changes_of : Opening → ℕ → List ℕ → List RowChange

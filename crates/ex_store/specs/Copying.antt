@@ -7,7 +7,7 @@ use Rattle.ex_store.specs.declared.key.Key.{Key}
 use Rattle.ex_store.specs.declared.limits.TheConstants.{MOMENT_LIMIT}
 use Rattle.ex_store.specs.declared.place.Place.{Place}
 use Rattle.ex_store.specs.declared.row.Row.{Row}
-use Rattle.ex_store.specs.Adding.{Outcome, admitted, and_then, each_in_turn, new_row, placed}
+use Rattle.ex_store.specs.Adding.{Outcome, admitted, and_then, each_in_turn, keep_at, new_row, placed}
 use Rattle.ex_store.specs.Rows.{full_of}
 
 -- the moment of a line, as a file may have it
@@ -32,12 +32,13 @@ key_from to source =
       kind = part_from to.kind source.kind;
     }
 
--- a source is added under the target's name, with its bytes
+-- a source is added under the target's name, with its bytes, in a directory that keeps so many generations
 abbrev pub copied : ℕ → ℕ → Place → Row → Outcome → Result Outcome Code
 copied retention moment to source outcome =
     let key = key_from to source.key in
     and_then (λ generation.
-    Ok (placed retention (full_of source) outcome (new_row key (moment_of moment) source.file.bytes generation)))
+    let keep = keep_at retention key outcome.rows in
+    Ok (placed (full_of source) outcome (new_row key keep (moment_of moment) source.file.bytes generation)))
     (admitted key to.generation (length source.file.bytes) outcome.rows)
 
 -- the sources are copied one after the other
@@ -69,6 +70,6 @@ abbrev pub written : ℕ → ℕ → Place → List ℕ → List Row → Result 
 written retention moment to bytes rows =
     if lacks_name to then Err NameNeeded
     else and_then (λ generation.
-    let row = new_row (own_key to) (moment_of moment) bytes generation in
-    Ok (placed retention (full_of row) (record { rows = rows; pairs = [] }) row))
+    let row = new_row (own_key to) (keep_at retention (own_key to) rows) (moment_of moment) bytes generation in
+    Ok (placed (full_of row) (record { rows = rows; pairs = [] }) row))
     (admitted (own_key to) to.generation (length bytes) rows)

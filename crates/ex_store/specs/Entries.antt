@@ -14,6 +14,15 @@ directory_entry entry = record { name = entry.0; retention = entry.1 }
 abbrev pub directories_of : List (List ℕ × ℕ) → List Directory
 directories_of entries = map directory_entry entries
 
+-- a directory's name has at most 39 bytes
+abbrev pub is_short : Directory → Bool
+is_short directory = nat_le (length directory.name) NAME_LIMIT
+
+-- directories of such names; and room is promised to so many more, in a map that has room for these
+pub record AreShort (directories : List Directory) (promised spare : ℕ) : Type 0 where
+  pub short : list_all is_short directories ≡ true
+  pub within : promised ≤ spare
+
 -- under a logical name, the name of the directory that it stands for
 abbrev pub definition_entry : List ℕ × List ℕ → Definition
 definition_entry entry = record { name = entry.0; directory = entry.1 }

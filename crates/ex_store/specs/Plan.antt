@@ -21,11 +21,11 @@ use Rattle.ex_store.specs.declared.row.Row.{Row}
 use Rattle.ex_store.specs.Adding.{Outcome, and_then}
 use Rattle.ex_store.specs.Appending.{appended}
 use Rattle.ex_store.specs.Building.{built, with_directory}
-use Rattle.ex_store.specs.Copying.{all_copied, is_star, written}
+use Rattle.ex_store.specs.Copying.{all_copied, is_star, moment_of, written}
 use Rattle.ex_store.specs.Defining.{definition_of, with_definition}
 use Rattle.ex_store.specs.Printing.{entries_for, own_pairs}
 use Rattle.ex_store.specs.Renaming.{all_renamed}
-use Rattle.ex_store.specs.Selection.{meant}
+use Rattle.ex_store.specs.Selection.{meant, touched}
 use Rattle.ex_store.specs.State.{State, has_directory, retention_of}
 use Rattle.ex_store.specs.WellFormed.{is_day, is_file_name, is_file_type, is_numbered}
 
@@ -47,7 +47,11 @@ with_rows state =
 abbrev pub retention_at : Place → State → ℕ
 retention_at to state = retention_of to.directory state.directories
 
--- sources are those of the start, in ascending order, and each is taken in turn
+-- the rows, where the sources are read at the moment of the line
+abbrev pub read_at : ℕ → Place → State → List Row
+read_at moment from state = touched (moment_of moment) from state
+
+-- sources are those of the start, in ascending order, and each is taken in turn; a copy and an appending read them first
 unfoldable pub planned : Plan → ℕ → State → Result Planned Code
 planned (plans.Build directory retention) moment state =
     and_then (λ made.
@@ -58,11 +62,11 @@ planned (plans.Define name directory) moment state =
     Ok (record { state = record state { logical = with_definition made state.logical }; pairs = [] }))
     (definition_of name directory state.logical)
 planned (plans.Copy from to) moment state =
-    with_rows state (all_copied (retention_at to state) moment to (sources from state) state.rows)
+    with_rows state (all_copied (retention_at to state) moment to (sources from state) (read_at moment from state))
 planned (plans.Rename from to) moment state =
-    with_rows state (all_renamed (retention_at to state) to (sources from state) state.rows)
+    with_rows state (all_renamed to (sources from state) state.rows)
 planned (plans.Append from to) moment state =
-    with_rows state (appended (retention_at to state) moment to (sources from state) state.rows)
+    with_rows state (appended (retention_at to state) moment to (sources from state) (read_at moment from state))
 planned (plans.Write to bytes) moment state =
     with_rows state (written (retention_at to state) moment to bytes state.rows)
 planned (plans.Print files request) moment state =

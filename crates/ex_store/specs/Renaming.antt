@@ -8,23 +8,23 @@ use Rattle.ex_store.specs.declared.key.Key.{Key}
 use Rattle.ex_store.specs.declared.key.NamePair.{NamePair}
 use Rattle.ex_store.specs.declared.place.Place.{Place}
 use Rattle.ex_store.specs.declared.row.Row.{Row}
-use Rattle.ex_store.specs.Adding.{Outcome, admitted, and_then, each_in_turn, new_row, numbered, placed}
+use Rattle.ex_store.specs.Adding.{Outcome, admitted, and_then, each_in_turn, numbered, placed}
 use Rattle.ex_store.specs.Copying.{key_from}
-use Rattle.ex_store.specs.Rows.{files_of, full_of, is_full, without}
+use Rattle.ex_store.specs.Rows.{files_of, full_of, is_full, with_name, without}
 
--- a source is taken out, and added under the target's name with its own moment and bytes
-abbrev pub renamed : ℕ → Place → Row → Outcome → Result Outcome Code
-renamed retention to source outcome =
+-- a source is taken out, and added under the target's name with all else that it has
+abbrev pub renamed : Place → Row → Outcome → Result Outcome Code
+renamed to source outcome =
     let key = key_from to source.key in
     let left : Outcome = record outcome { rows = without (full_of source) outcome.rows } in
     and_then (λ generation.
-    Ok (placed retention (full_of source) left (new_row key source.file.moment source.file.bytes generation)))
+    Ok (placed (full_of source) left (with_name (record { key = key; generation = generation }) source.file)))
     (admitted key to.generation (length source.file.bytes) left.rows)
 
 -- the sources are given other names, one after the other
-abbrev pub all_renamed : ℕ → Place → List Row → List Row → Result Outcome Code
-all_renamed retention to sources rows =
-    each_in_turn (renamed retention to) sources (record { rows = rows; pairs = [] })
+abbrev pub all_renamed : Place → List Row → List Row → Result Outcome Code
+all_renamed to sources rows =
+    each_in_turn (renamed to) sources (record { rows = rows; pairs = [] })
 
 -- the names that a file had among these rows and has then under another key, or the refusal of its generation
 abbrev pub pair_to : FullName → Key → Gen → List Row → Result NamePair Code

@@ -1,10 +1,11 @@
 -- The files of a store: one flat list of rows, in ascending order of directory, name, type and generation.
-use Rattle.std.specs.Prelude.{ℕ, ◌==◌, ◌&&◌, ◌||◌, nat_le, if◌then◌else◌, Bool, true, not, List, [], ◌∷◌, length, map, filter, find, sum_by, Option}
+use Rattle.std.specs.Prelude.{ℕ, ◌≡◌, ◌==◌, ◌&&◌, ◌||◌, nat_le, if◌then◌else◌, Bool, true, false, not, List, [], ◌∷◌, length, map, filter, find, sum_by, Option, None}
 use Rattle.std.specs.List.{prefix_len}
 use Rattle.std.specs.Ordering.{is_eq, is_le, is_lt, nat_cmp, on, then_cmp}
 use Rattle.std.specs.declared.cmp.Ordering.{Ordering}
 use Rattle.cm_files.specs.Catalogue.{by_bytes}
 use Rattle.ex_generations.specs.declared.file.File.{File}
+use Rattle.ex_generations.specs.declared.file.Remark.{Remark}
 use Rattle.ex_generations.specs.declared.file.TheConstants.{FILE_LIMIT}
 use Rattle.ex_generations.specs.Generations as generations
 use Rattle.ex_generations.specs.Generations.{marked_as, pages, rewritten}
@@ -64,6 +65,15 @@ inserted row (other ∷ more) = if is_lt (by_row other row) then other ∷ inser
 abbrev pub with_mark : Bool → Row → Row
 with_mark deleted row = record row { file = marked_as deleted row.file }
 
+-- the row, of which one thing is changed that may change of a file that stays as it was written
+abbrev pub with_remark : Remark → Row → Row
+with_remark remark row = record row { file = generations.with_remark remark row.file }
+
+-- a file under another full name, unmarked
+abbrev pub with_name : FullName → File → Row
+with_name target file =
+    record { key = target.key; file = record file { generation = target.generation; deleted = false } }
+
 -- each row of this directory, name and type is marked that has at least so many unmarked ones above it
 abbrev pub kept_newest : ℕ → Key → List Row → List Row
 kept_newest retention key [] = []
@@ -121,7 +131,15 @@ first_in directory rows = prefix_len (λ row. is_lt (by_bytes row.key.directory 
 abbrev pub end_in : List ℕ → List Row → ℕ
 end_in directory rows = prefix_len (λ row. is_le (by_bytes row.key.directory directory)) rows
 
--- a row without its bytes
+-- a row, as if nobody had read it
+abbrev pub unread : Row → Row
+unread row = record row { file = record row.file { read = None } }
+
+-- rows that differ in their moments of reading alone
+abbrev pub AreAlike : List Row → List Row → Type 0
+AreAlike rows other = map unread rows ≡ map unread other
+
+-- a row without its bytes, as if nobody had read it
 abbrev pub blank : Row → Row
 blank row = record row { file = generations.blank row.file }
 

@@ -2,10 +2,12 @@
 use Rattle.std.specs.Prelude.{ℕ, ◌≡◌, ◌+◌, ◌<◌, ◌≤◌, Bool, true, ◌&&◌, if◌then◌else◌, List, [], ◌∷◌, drop, map, filter, codes, Option, None, Some}
 use Rattle.std.specs.Option.{MatchOption}
 use Rattle.cm_files.specs.Selection.{Wanted, is_selected}
+use Rattle.ex_generations.specs.declared.file.Remark.{Remark}
+use Rattle.ex_generations.specs.declared.file.Remark.TheVariants as remarks
 use Rattle.ex_store.specs.declared.limits.TheConstants.{ROW_LIMIT}
 use Rattle.ex_store.specs.declared.place.Place.{Place}
 use Rattle.ex_store.specs.declared.row.Row.{Row}
-use Rattle.ex_store.specs.Rows.{is_in, rows_in, with_mark}
+use Rattle.ex_store.specs.Rows.{is_in, rows_in, with_remark}
 use Rattle.ex_store.specs.State.{State, file_row, has_directory, number_of}
 
 -- a name that is not given is any under the flag `default_all`, and else none
@@ -51,10 +53,14 @@ IsNext deleted place state from found =
     let left = meant_from deleted place state in
     MatchOption found (left from ≡ []) (λ next. (left from ≡ next.1 ∷ left (next.0 + 1)) × (next.0 < ROW_LIMIT))
 
--- the rows, where those that a place means are given a mark
-abbrev pub remarked : Bool → Place → State → List Row
-remarked deleted place state =
-    map (λ row. if is_meant place.flags.deleted place state row then with_mark deleted row else row) state.rows
+-- the rows, where one thing is changed of those that a place means
+abbrev pub remarked : Remark → Place → State → List Row
+remarked remark place state =
+    map (λ row. if is_meant place.flags.deleted place state row then with_remark remark row else row) state.rows
+
+-- the rows, where those that a place means are read at this moment
+abbrev pub touched : ℕ → Place → State → List Row
+touched moment place state = remarked (remarks.Read moment) place state
 
 -- the number of the directory of this name; without one it has no rows
 abbrev pub IsNumber : List ℕ → State → Option ℕ → Type 0

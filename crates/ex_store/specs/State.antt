@@ -86,7 +86,7 @@ abbrev pub logical_name : List Directory → Definition → LogicalName
 logical_name directories entry =
     record { name = entry.name; directory = number_of entry.directory directories }
 
--- the catalogue: the state without moments, bytes, retentions and queue
+-- the catalogue: the state without bytes, moments, what directories and files keep, and queue
 abbrev pub catalogue_of : State → Catalogue
 catalogue_of state =
     record {

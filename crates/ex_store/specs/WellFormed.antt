@@ -7,6 +7,9 @@ use Rattle.cm_text.specs.Bytes.{is_text}
 use Rattle.cm_text.specs.declared.name.TheConstants.{NAME_LIMIT}
 use Rattle.cm_files.specs.Catalogue.{ascends, by_bytes, is_directory_name, is_upper_name}
 use Rattle.cm_files.specs.LogicalName.{is_logical_name}
+use Rattle.ex_generations.specs.declared.file.File.{File}
+use Rattle.ex_generations.specs.declared.file.Remark.{Remark}
+use Rattle.ex_generations.specs.declared.file.Remark.TheVariants.{Deleted, Keep, Read}
 use Rattle.ex_generations.specs.declared.file.TheConstants.{FILE_LIMIT, GENERATION_LIMIT}
 use Rattle.ex_store.specs.declared.directory.Definition.{Definition}
 use Rattle.ex_store.specs.declared.directory.Directory.{Directory}
@@ -31,11 +34,26 @@ is_file_type kind = nat_le (length kind) NAME_LIMIT && is_upper_name kind
 abbrev pub is_numbered : ℕ → Bool
 is_numbered generation = nat_lt 0 generation && nat_le generation GENERATION_LIMIT
 
+-- a moment of reading that may be, or none
+abbrev pub is_reading : Option ℕ → Bool
+is_reading None = true
+is_reading (Some moment) = nat_le moment MOMENT_LIMIT
+
+-- a file keeps at most 63 generations, and no moment of it is past the last
+abbrev pub is_stamped : File → Bool
+is_stamped file = nat_le file.keep RETENTION_LIMIT && nat_le file.moment MOMENT_LIMIT && is_reading file.read
+
+-- what may be changed of a file of a store
+abbrev pub is_remark : Remark → Bool
+is_remark (Deleted deleted) = true
+is_remark (Keep keep) = nat_le keep RETENTION_LIMIT
+is_remark (Read moment) = nat_le moment MOMENT_LIMIT
+
 -- a file of one of these directories
 abbrev pub is_row_among : List Directory → Row → Bool
 is_row_among directories row =
     has_directory row.key.directory directories && is_file_name row.key.name && is_file_type row.key.kind
-    && is_numbered row.file.generation && nat_le row.file.moment MOMENT_LIMIT
+    && is_numbered row.file.generation && is_stamped row.file
     && nat_le (length row.file.bytes) FILE_LIMIT
 
 -- a logical name that stands for one of these directories

@@ -1,16 +1,17 @@
 // The bytes of files are put behind those of one file.
-ghost use Rattle.std.specs.Prelude.{◌≡◌, ◌≤◌, true, length, nat_lt, IfOk, IfErr, Ok};
+ghost use Rattle.std.specs.Prelude.{◌≡◌, ◌≤◌, List, Some, true, length, nat_le, nat_lt, IfOk, IfErr, Ok};
 ghost use Rattle.std.specs.List.{list_all};
 ghost use Rattle.cm_files.specs.Catalogue.{ascends};
-ghost use Rattle.ex_store.specs.declared.limits.TheConstants.{ROW_LIMIT, STORE_LIMIT};
+ghost use Rattle.ex_store.specs.declared.limits.TheConstants.{RETENTION_LIMIT, ROW_LIMIT, STORE_LIMIT};
 ghost use Rattle.ex_generations.specs.declared.file.TheConstants.{FILE_LIMIT};
 ghost use Rattle.ex_store.specs.declared.plan.Plan.TheVariants as plans;
+ghost use Rattle.ex_store.specs.declared.row.Row.{Row as Filed};
 ghost use Rattle.ex_store.specs.Appending.{appended, fitting, opened, pairs_to, poured, row_changes_of};
 ghost use Rattle.ex_store.specs.Copying.{moment_of};
 ghost use Rattle.ex_store.specs.Plan.{IsOneFile, IsRefused, MayPlan, planned};
 ghost use Rattle.ex_store.specs.Positions.{elements_at};
-ghost use Rattle.ex_store.specs.Ready.{IsMade, applied, are_doable, done_on};
-ghost use Rattle.ex_store.specs.Rows.{by_row, total};
+ghost use Rattle.ex_store.specs.Ready.{IsMade, applied, are_doable, done_on, is_reading_within, rows_read};
+ghost use Rattle.ex_store.specs.Rows.{AreAlike, by_row, total};
 ghost use Rattle.ex_store.specs.State.{retention_of};
 ghost use Rattle.ex_store.specs.WellFormed.{AreRows, IsWellFormed};
 
@@ -19,6 +20,7 @@ use crate::copy::moment_of;
 use crate::directories::Directories;
 use crate::files::Files;
 use crate::limits::STORE_LIMIT;
+use crate::ready::Reading;
 use crate::{FullName, Key, NamePair, Place, Ready, Refusal, Row, RowChange, Store};
 use cm_fields::{Code, Gen};
 use cm_io::NoMemory;
@@ -100,10 +102,11 @@ fn opened(
     key: Key,
     generation: Gen,
     moment: u64,
+    retention: u8,
 ) -> Result<Opening, Code>
     requires rows { ascends by_row files.now.rows ≡ true }
     requires bytes { total files.now.rows ≤ STORE_LIMIT }
-    ensures { result ≡ opened moment key generation files.now.rows }
+    ensures { result ≡ opened retention moment key generation files.now.rows }
 {
     let number = match files.found(&key, generation) {
         Ok(Some(number)) => {
@@ -122,7 +125,9 @@ fn opened(
         }
         Err(code) => return Err(code),
     };
-    let new = Row::new(key, number, moment_of(moment), Bytes::new(Vec::new(alloc)));
+    let keep = files.keep_at(&key, retention);
+    let bytes = Bytes::new(Vec::new(alloc));
+    let new = Row::new(key, keep, number, moment_of(moment), bytes);
     Ok(Opening {
         target: new.full_name(),
         new: Some(new),
@@ -151,7 +156,8 @@ fn row_changes_of(
     Ok(row_changes)
 }
 
-// The sources at these places are put behind one file.
+// The sources at these places are put behind one file, and then are read. What is made does not depend on who has read
+// what.
 fn appends(
     alloc: Global,
     directories: &Directories,
@@ -159,19 +165,32 @@ fn appends(
     positions: &[u16],
     to: &Place,
     moment: u64,
+    reading: Reading,
 ) -> Result<Ready, Refusal>
     requires rows { AreRows directories.now.list files.now.rows }
     requires within { list_all (λ at. nat_lt at (length files.now.rows)) positions.now ≡ true }
     requires few { length positions.now ≤ ROW_LIMIT }
     requires target { IsOneFile to.now directories.now.list }
+    requires retention { nat_le (retention_of to.now.directory directories.now.list) RETENTION_LIMIT ≡ true }
+    requires reading { is_reading_within (Some reading) ≡ true }
     ensures made { let sources = elements_at files.now.rows positions.now in
-        IfOk result (IsMade directories.now.list files.now.rows
-        (appended (retention_of to.now.directory directories.now.list) moment to.now sources files.now.rows)) }
+        let retention = retention_of to.now.directory directories.now.list in
+        (rows : List Filed) → AreAlike files.now.rows rows → AreRows directories.now.list rows
+        → IfOk result (IsMade directories.now.list rows (appended retention moment to.now sources rows) (Some reading)) }
     ensures refused { let sources = elements_at files.now.rows positions.now in
-        IfErr result (IsRefused
-        (appended (retention_of to.now.directory directories.now.list) moment to.now sources files.now.rows)) }
+        let retention = retention_of to.now.directory directories.now.list in
+        (rows : List Filed) → AreAlike files.now.rows rows → AreRows directories.now.list rows
+        → IfErr result (IsRefused (appended retention moment to.now sources rows)) }
 {
-    let opening = match opened(alloc, files, to.own_key(), to.generation, moment) {
+    let retention = directories.retention_of(to.directory.as_str());
+    let opening = match opened(
+        alloc,
+        files,
+        to.own_key(),
+        to.generation,
+        moment,
+        retention,
+    ) {
         Ok(opening) => opening,
         Err(code) => return Err(Refusal::Code(code)),
     };
@@ -188,10 +207,7 @@ fn appends(
         Err(NoMemory) => return Err(Refusal::NoMemory),
     };
     match row_changes_of(alloc, opening, moment, bytes) {
-        Ok(row_changes) => {
-            let retention = directories.retention_of(to.directory.as_str());
-            Ok(Ready::of_files(alloc, retention, row_changes, pairs))
-        }
+        Ok(row_changes) => Ok(Ready::of_files(alloc, Some(reading), row_changes, pairs)),
         Err(NoMemory) => Err(Refusal::NoMemory),
     }
 }
@@ -204,10 +220,14 @@ impl Store {
             planned (plans.Append from.now to.now) moment self.now.state ≡ Ok (done_on self.now.state ready)) }
         ensures sound { IfOk result (λ ready. IsWellFormed (applied ready self.now.state)) }
         ensures doable { IfOk result (λ ready.
-            are_doable ready.retention self.now.state.rows ready.row_changes ≡ true) }
+            are_doable (rows_read ready.reading self.now.state) ready.row_changes ≡ true) }
         ensures refused { IfErr result (IsRefused (planned (plans.Append from.now to.now) moment self.now.state)) }
     {
         let positions = self.positions(from, from.flags.deleted);
+        let reading = Reading {
+            files: from.copy(),
+            moment: moment_of(moment),
+        };
         appends(
             self.alloc,
             &self.directories,
@@ -215,6 +235,7 @@ impl Store {
             &positions,
             to,
             moment,
+            reading,
         )
     }
 }

@@ -1,27 +1,29 @@
 // Files are copied.
-ghost use Rattle.std.specs.Prelude.{◌≡◌, ◌≤◌, true, false, [], ◌∷◌, ◌++◌, length, nat_lt, IfOk, IfErr, OnOk, Ok};
+ghost use Rattle.std.specs.Prelude.{◌≡◌, List, Some, ◌≤◌, true, false, [], ◌∷◌, ◌++◌, length, nat_le, nat_lt, IfOk, IfErr, OnOk, Ok};
 ghost use Rattle.std.specs.List.{list_all};
 ghost use Rattle.cm_files.specs.Catalogue.{ascends};
 ghost use Rattle.ex_generations.specs.Generations.{has};
 ghost use Rattle.ex_store.specs.Lent.{row_of_view};
-ghost use Rattle.ex_store.specs.declared.limits.TheConstants.{ROW_LIMIT};
+ghost use Rattle.ex_store.specs.declared.limits.TheConstants.{RETENTION_LIMIT, ROW_LIMIT};
 ghost use Rattle.ex_store.specs.declared.plan.Plan.TheVariants as plans;
 ghost use Rattle.ex_store.specs.declared.ready.RowChange.TheVariants as changes;
+ghost use Rattle.ex_store.specs.declared.row.Row.{Row as Filed};
 ghost use Rattle.ex_store.specs.Adding.{new_row};
 ghost use Rattle.ex_store.specs.Copying.{all_copied, moment_of};
 ghost use Rattle.ex_store.specs.FileNames.{by_name, rows_of};
 ghost use Rattle.ex_store.specs.Plan.{IsRefused, IsTarget, MayPlan, planned};
 ghost use Rattle.ex_store.specs.Positions.{elements_at};
-ghost use Rattle.ex_store.specs.Ready.{IsMade, applied, are_doable, done_on};
-ghost use Rattle.ex_store.specs.Rows.{added, blank, files_of, full_of};
+ghost use Rattle.ex_store.specs.Ready.{IsMade, applied, are_doable, done_on, is_reading_within, rows_read};
+ghost use Rattle.ex_store.specs.Rows.{AreAlike, added, blank, files_of, full_of};
 ghost use Rattle.ex_store.specs.State.{retention_of};
 ghost use Rattle.ex_store.specs.WellFormed.{AreRows, IsWellFormed, is_numbered};
 
 use crate::adding::admitted;
 use crate::directories::Directories;
-use crate::file_name::{add, numbered};
+use crate::file_name::{add, keep_at, numbered};
 use crate::files::Files;
 use crate::limits::MOMENT_LIMIT;
+use crate::ready::Reading;
 use crate::simulation::Simulation;
 use crate::{Key, NamePair, Place, Ready, Refusal, Row, RowChange, RowView, Store};
 use cm_fields::Code;
@@ -35,7 +37,7 @@ pub(crate) fn moment_of(moment: u64) -> u64
 }
 
 impl Simulation {
-    // A source is copied under a name and a generation.
+    // A source is copied under a name and a generation, and keeps so many generations there.
     fn copy(
         &mut self,
         alloc: Global,
@@ -43,26 +45,26 @@ impl Simulation {
         key: Key,
         generation: u32,
         moment: u64,
-        retention: u8,
+        keep: u8,
     ) -> Result<(), NoMemory>
         requires names { ascends by_name self.old.names.items ≡ true }
         requires number { is_numbered generation ≡ true }
         requires absent { has generation (files_of key (rows_of self.old.names.items)) ≡ false }
         ensures row_changes { OnOk result (self.new.row_changes.items
             ≡ self.old.row_changes.items
-            ++ changes.Add (new_row key moment (row_of_view source.entry).file.bytes generation) ∷ []) }
+            ++ changes.Add (new_row key keep moment (row_of_view source.entry).file.bytes generation) ∷ []) }
         ensures pairs { OnOk result (self.new.pairs.items
             ≡ self.old.pairs.items ++ (record {
               source = full_of (row_of_view source.entry);
               target = record { key = key; generation = generation };
             }) ∷ []) }
         ensures names { OnOk result (rows_of self.new.names.items
-            ≡ added retention (blank (new_row key moment (row_of_view source.entry).file.bytes generation))
+            ≡ added keep (blank (new_row key keep moment (row_of_view source.entry).file.bytes generation))
             (rows_of self.old.names.items)) }
         ensures ascend { OnOk result (ascends by_name self.new.names.items ≡ true) }
     {
-        let row = Row::new(key, generation, moment, source.file.bytes.copy(alloc)?);
-        add(&mut self.names, alloc, row.blank(alloc), retention)?;
+        let row = Row::new(key, keep, generation, moment, source.file.bytes.copy(alloc)?);
+        add(&mut self.names, alloc, row.blank(alloc))?;
         self.pairs.push(NamePair {
             source: source.full_name(),
             target: row.full_name(),
@@ -72,7 +74,8 @@ impl Simulation {
     }
 }
 
-// The sources at these places are copied, one after the other. This touches the rows of the target's directory alone.
+// The sources at these places are copied, one after the other, and then are read. Copies go to the target's directory
+// alone, and what is made does not depend on who has read what.
 fn copies(
     alloc: Global,
     directories: &Directories,
@@ -80,17 +83,22 @@ fn copies(
     positions: &[u16],
     to: &Place,
     moment: u64,
+    reading: Reading,
 ) -> Result<Ready, Refusal>
     requires rows { AreRows directories.now.list files.now.rows }
     requires within { list_all (λ at. nat_lt at (length files.now.rows)) positions.now ≡ true }
     requires few { length positions.now ≤ ROW_LIMIT }
     requires target { IsTarget to.now directories.now.list }
+    requires retention { nat_le (retention_of to.now.directory directories.now.list) RETENTION_LIMIT ≡ true }
+    requires reading { is_reading_within (Some reading) ≡ true }
     ensures made { let sources = elements_at files.now.rows positions.now in
-        IfOk result (IsMade directories.now.list files.now.rows
-        (all_copied (retention_of to.now.directory directories.now.list) moment to.now sources files.now.rows)) }
+        let retention = retention_of to.now.directory directories.now.list in
+        (rows : List Filed) → AreAlike files.now.rows rows → AreRows directories.now.list rows
+        → IfOk result (IsMade directories.now.list rows (all_copied retention moment to.now sources rows) (Some reading)) }
     ensures refused { let sources = elements_at files.now.rows positions.now in
-        IfErr result (IsRefused
-        (all_copied (retention_of to.now.directory directories.now.list) moment to.now sources files.now.rows)) }
+        let retention = retention_of to.now.directory directories.now.list in
+        (rows : List Filed) → AreAlike files.now.rows rows → AreRows directories.now.list rows
+        → IfErr result (IsRefused (all_copied retention moment to.now sources rows)) }
 {
     let directory = to.directory.as_bytes();
     let retention = directories.retention_of(to.directory.as_str());
@@ -109,7 +117,8 @@ fn copies(
             Ok(generation) => generation,
             Err(code) => return Err(Refusal::Code(code)),
         };
-        match simulation.copy(alloc, source, key, generation, moment_of(moment), retention) {
+        let keep = keep_at(&simulation.names, &key, retention);
+        match simulation.copy(alloc, source, key, generation, moment_of(moment), keep) {
             Ok(()) => {
                 count += 1;
                 bytes += size;
@@ -117,7 +126,7 @@ fn copies(
             Err(NoMemory) => return Err(Refusal::NoMemory),
         }
     }
-    Ok(simulation.ready(alloc, retention))
+    Ok(simulation.ready(alloc, Some(reading)))
 }
 
 impl Store {
@@ -128,10 +137,14 @@ impl Store {
             planned (plans.Copy from.now to.now) moment self.now.state ≡ Ok (done_on self.now.state ready)) }
         ensures sound { IfOk result (λ ready. IsWellFormed (applied ready self.now.state)) }
         ensures doable { IfOk result (λ ready.
-            are_doable ready.retention self.now.state.rows ready.row_changes ≡ true) }
+            are_doable (rows_read ready.reading self.now.state) ready.row_changes ≡ true) }
         ensures refused { IfErr result (IsRefused (planned (plans.Copy from.now to.now) moment self.now.state)) }
     {
         let positions = self.positions(from, from.flags.deleted);
+        let reading = Reading {
+            files: from.copy(),
+            moment: moment_of(moment),
+        };
         copies(
             self.alloc,
             &self.directories,
@@ -139,6 +152,7 @@ impl Store {
             &positions,
             to,
             moment,
+            reading,
         )
     }
 }

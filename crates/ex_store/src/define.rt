@@ -4,7 +4,7 @@ ghost use Rattle.cm_files.specs.LogicalName.{is_logical_name};
 ghost use Rattle.ex_store.specs.declared.plan.Plan.TheVariants as plans;
 ghost use Rattle.ex_store.specs.Defining.{definition_of};
 ghost use Rattle.ex_store.specs.Plan.{IsRefused, MayPlan, planned};
-ghost use Rattle.ex_store.specs.Ready.{applied, are_doable, done_on};
+ghost use Rattle.ex_store.specs.Ready.{applied, are_doable, done_on, rows_read};
 ghost use Rattle.ex_store.specs.WellFormed.{IsWellFormed};
 
 use crate::limits::LOGICAL_LIMIT;
@@ -35,7 +35,7 @@ impl Store {
             → planned (plans.Define name.now directory) moment self.now.state ≡ Ok (done_on self.now.state ready)) }
         ensures sound { IfOk result (λ ready. IsWellFormed (applied ready self.now.state)) }
         ensures doable { IfOk result (λ ready.
-            are_doable ready.retention self.now.state.rows ready.row_changes ≡ true) }
+            are_doable (rows_read ready.reading self.now.state) ready.row_changes ≡ true) }
         ensures refused { (moment : ℕ)
             → IfErr result (IsRefused (planned (plans.Define name.now directory) moment self.now.state)) }
     {

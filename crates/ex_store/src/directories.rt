@@ -1,56 +1,38 @@
 // The directories of a store by name.
-ghost use Rattle.std.specs.Prelude.{◌≡◌, ◌<◌, [], ◌∷◌, ◌++◌, true, find, length, option_map, slice_get, None, Some, if◌then◌else◌, OnErr, OnOk};
-ghost use Rattle.std.proofs.Common.{ap, sym, ◌∙◌};
-ghost use Rattle.std.specs.Cmp.Lexicographic.{bytes_decides, nat_list_eq_equiv};
-ghost use Rattle.std.specs.Hash as fed;
-ghost use Rattle.std.specs.Str.{bytes_eq};
+ghost use Rattle.std.specs.Prelude.{◌≡◌, ◌-◌, ◌<◌, [], ◌∷◌, ◌++◌, true, find, length, option_map, slice_get, None, Some, if◌then◌else◌, OnErr, OnOk};
 ghost use Rattle.cm_files.specs.Catalogue.{ascends};
 ghost use Rattle.ex_store.specs.Building.{by_directory, with_directory};
 ghost use Rattle.ex_store.specs.Lent.{directory_of_view};
 ghost use Rattle.ex_store.specs.State.{has_directory, is_named, number_of, retention_of};
 
+use crate::key::short;
 use crate::{Directory, DirectoryView};
 use cm_io::NoMemory;
 use cm_text::Name;
-use indexmap::{Equivalent, IndexMap};
+use indexmap::IndexMap;
 use std::alloc::Global;
 use std::marker::Model;
 
-// A text by which a name is looked up.
-#[derive(Clone, Copy, PartialEq, Eq, Hash)]
-struct Text<'a> {
-    bytes: &'a str,
-}
-
-impl Equivalent<Name> for Text<'_> {
-    ghost equivalent = { λ text name. bytes_eq name text.bytes.now };
-
-    ghost respects_hash = { λ text name same. ap fed.str (sym ((bytes_decides name text.bytes.now).0 same)) };
-
-    ghost respects_eq = { λ text name other same.
-        ap (bytes_eq other) (sym ((bytes_decides name text.bytes.now).0 same)) ∙ nat_list_eq_equiv.symm other name };
-
-    fn equivalent(&self, name: &Name) -> bool {
-        name.as_str() == self.bytes
-    }
-}
-
-// How many generations each directory keeps, by its name. Contracts see a list of directories, and for how many more
-// there is room.
+// How many generations each directory keeps, by its name. To how many more room is promised is counted here, since of
+// the map it is only known that a new one takes no more than one place. Contracts see a list of directories, and that
+// count.
 #[derive(Drop)]
 pub(crate) struct Directories {
     retentions: IndexMap<Name, u8>,
+    promised: usize,
 }
 
 impl Model for Directories {
     ghost use Rattle.indexmap.specs.IndexMap.{spare};
-    ghost use Rattle.ex_store.specs.Entries.{directories_of};
+    ghost use Rattle.ex_store.specs.Entries.{AreShort, directories_of};
     ghost use Rattle.ex_store.specs.State.{WithSpare};
     ghost use Rattle.ex_store.specs.declared.directory.Directory.{Directory};
 
     ghost Value = { WithSpare Directory };
 
-    ghost view = { λ it. record { list = directories_of it.retentions.entries; spare = spare it.retentions } };
+    ghost view = { λ it. record { list = directories_of it.retentions.entries; spare = it.promised } };
+
+    ghost invariant = { λ it. AreShort (directories_of it.retentions.entries) it.promised (spare it.retentions) };
 }
 
 impl Directories {
@@ -60,6 +42,7 @@ impl Directories {
     {
         Directories {
             retentions: IndexMap::new(alloc),
+            promised: 0,
         }
     }
 
@@ -86,7 +69,7 @@ impl Directories {
     pub(crate) fn retention(&self, name: &str) -> Option<u8>
         ensures { result ≡ option_map (λ directory. directory.retention) (find (is_named name.now) self.now.list) }
     {
-        self.retentions.get(Text { bytes: name }).copied()
+        self.retentions.get(&short(name)?).copied()
     }
 
     // The same, 0 where there is none of that name.
@@ -100,7 +83,10 @@ impl Directories {
     pub(crate) fn has(&self, name: &str) -> bool
         ensures { result ≡ has_directory name.now self.now.list }
     {
-        self.retentions.contains_key(Text { bytes: name })
+        match short(name) {
+            Some(name) => self.retentions.contains_key(&name),
+            None => false,
+        }
     }
 
     // The number of the directory of this name; None where there is none of that name.
@@ -108,7 +94,7 @@ impl Directories {
         ensures { result ≡ (if has_directory name.now self.now.list
             then Some (number_of name.now self.now.list) else None) }
     {
-        self.retentions.get_index_of(Text { bytes: name })
+        self.retentions.get_index_of(&short(name)?)
     }
 
     // How many directories stand before the one of this name; the number of all where there is none.
@@ -124,6 +110,9 @@ impl Directories {
         ensures added { OnOk result (self.new.list ≡ self.old.list ++ new ∷ []) }
         ensures refused { OnErr result (self.new.list ≡ self.old.list) }
     {
+        // A use of the name, for the proof: it has at most 39 bytes.
+        let _ = new.name.as_str();
+        self.promised = 0;
         self.retentions.insert(new.name, new.retention)?;
         Ok(())
     }
@@ -134,6 +123,7 @@ impl Directories {
         ensures room { OnOk result (0 < self.new.spare) }
     {
         self.retentions.reserve(1)?;
+        self.promised = 1;
         Ok(())
     }
 
@@ -141,8 +131,12 @@ impl Directories {
     pub(crate) fn make(&mut self, new: Directory)
         requires ascend { ascends by_directory self.old.list ≡ true }
         requires room { 0 < self.old.spare }
-        ensures { self.new.list ≡ with_directory new self.old.list }
+        ensures list { self.new.list ≡ with_directory new self.old.list }
+        ensures room { self.new.spare ≡ self.old.spare - 1 }
     {
+        // A use of the name, for the proof: it has at most 39 bytes.
+        let _ = new.name.as_str();
+        self.promised -= 1;
         match self.retentions.insert_sorted(new.name, new.retention) {
             Ok(_) => {}
             Err(_) => unreachable!(),

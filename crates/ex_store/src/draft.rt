@@ -1,8 +1,8 @@
 // A store that is filled part by part.
-ghost use Rattle.std.specs.Prelude.{◌≡◌, true, OnErr, OnOk, find, option_map};
-ghost use Rattle.ex_store.specs.Draft.{and_directory, and_logical, and_request, and_row, empty_state};
+ghost use Rattle.std.specs.Prelude.{◌≡◌, true, OnErr, OnOk, map};
+ghost use Rattle.ex_store.specs.Draft.{and_directory, and_logical, and_request, and_row, empty_state, kept_by, kept_by_directories};
 ghost use Rattle.ex_store.specs.Lent.{queue_entry};
-ghost use Rattle.ex_store.specs.State.{has_directory, is_named};
+ghost use Rattle.ex_store.specs.State.{has_directory};
 ghost use Rattle.ex_store.specs.WellFormed.{IsDraft};
 
 use crate::directories::Directories;
@@ -12,9 +12,19 @@ use crate::logical_names::LogicalNames;
 use crate::{Definition, Directory, Key, Parts, QueueEntry, Queued, Row, Store};
 use cm_io::NoMemory;
 use cm_text::Name;
-use ex_generations::File;
+use ex_generations::{File, Remark};
 use std::alloc::Global;
 use std::marker::Model;
+
+// Has each file keep as many generations as its directory.
+fn keep_by(directories: &Directories, files: &mut Files)
+    ensures { files.new.rows ≡ map (kept_by directories.now.list) files.old.rows }
+{
+    for i in 0..files.len() {
+        let keep = directories.retention_of(files.row_at(i).directory.as_str());
+        files.remark(i, Remark::Keep(keep));
+    }
+}
 
 /// A store under way. It is filled part by part, those of each kind in their order, and then is done. Contracts see it
 /// as a state; the empty name stands where no directory is connected yet.
@@ -139,13 +149,11 @@ impl Draft {
         Ok(())
     }
 
-    /// How many generations of each file a directory keeps that was added, 0 where it keeps all; None where none of
-    /// that name was.
-    pub fn retention(&self, directory: &str) -> Option<u8>
-        ensures { result
-            ≡ option_map (λ directory. directory.retention) (find (is_named directory.now) self.now.directories) }
+    /// Has each file that was added keep as many generations as its directory.
+    pub fn keep_by_directories(&mut self)
+        ensures { self.new ≡ kept_by_directories self.old }
     {
-        self.directories.retention(directory)
+        keep_by(&self.directories, &mut self.files);
     }
 
     /// All that was added, and the connected directory.

@@ -1,17 +1,17 @@
 // Files by name: each directory, name and type with its generations, as a store has them, and a plan that is played.
-ghost use Rattle.std.specs.Prelude.{◌≡◌, ◌<◌, ◌≤◌, [], true, false, get_or, length, map, position, take, ◌+◌, IfOk, IfSome, OnErr, OnOk, Ok, option_map};
+ghost use Rattle.std.specs.Prelude.{◌≡◌, ◌<◌, ◌≤◌, ◌-◌, ◌*◌, ◌^◌, [], true, false, get_or, length, map, position, take, ◌+◌, IfOk, IfSome, OnErr, OnOk, Ok, option_copied, option_map};
 ghost use Rattle.std.specs.List.{prefix_len};
 ghost use Rattle.std.specs.Ordering.{is_lt};
 ghost use Rattle.cm_files.specs.Catalogue.{ascends};
 ghost use Rattle.ex_generations.specs.declared.file.TheConstants.{FILE_LIMIT, GENERATION_LIMIT};
 ghost use Rattle.ex_generations.specs.Generations.{IsAscending, has};
-ghost use Rattle.ex_store.specs.Adding.{numbered};
+ghost use Rattle.ex_store.specs.Adding.{keep_at, numbered};
 ghost use Rattle.ex_store.specs.Appending.{bytes_at, found};
 ghost use Rattle.ex_store.specs.FileNames.{HaveRoom, by_name, is_under, is_under_either, room_at, rooms_of, row_under, rows_of, rows_under, wanted_at};
 ghost use Rattle.ex_store.specs.declared.file_name.FileName.{FileName as Name};
 ghost use Rattle.ex_store.specs.declared.key.FullName.{FullName as Full};
 ghost use Rattle.ex_store.specs.declared.key.Key.{Key as Named};
-ghost use Rattle.ex_store.specs.Rows.{added, blank, by_key, filled, files_of, row_at, rows_in_either, without};
+ghost use Rattle.ex_store.specs.Rows.{added, blank, by_key, filled, files_of, inserted, row_at, rows_in_either, without};
 
 use crate::key::key_cmp;
 use crate::{FullName, Key, Row};
@@ -64,25 +64,42 @@ impl Entry {
         })
     }
 
-    // Adds a file, and then so many unmarked generations are kept.
-    pub(crate) fn add(&mut self, file: File, retention: u8) -> Result<(), NoMemory>
+    // Adds a file, and then as many unmarked generations are kept as it says.
+    fn add(&mut self, file: File) -> Result<(), NoMemory>
         requires short { length file.bytes ≤ FILE_LIMIT }
         requires from_one { 0 < file.generation }
         requires to_limit { file.generation ≤ GENERATION_LIMIT }
         requires absent { has file.generation self.old.gens.files ≡ false }
         ensures key { self.new.key ≡ self.old.key }
         ensures rows { OnOk result
-            (rows_under self.new ≡ added retention (row_under self.old.key file) (rows_under self.old)) }
+            (rows_under self.new ≡ added file.keep (row_under self.old.key file) (rows_under self.old)) }
         ensures few { length self.new.gens.files ≤ length self.old.gens.files + 1 }
         ensures refused { OnErr result (rows_under self.new ≡ rows_under self.old) }
     {
         self.name.gens.reserve(1)?;
-        self.name.gens.add(file, retention);
+        self.name.gens.add(file);
         Ok(())
     }
 
-    // Adds a file where there is room for it, and then so many unmarked generations are kept.
-    fn put(&mut self, file: File, retention: u8)
+    // Adds a file at its place, and marks none.
+    pub(crate) fn insert(&mut self, file: File) -> Result<(), NoMemory>
+        requires short { length file.bytes ≤ FILE_LIMIT }
+        requires from_one { 0 < file.generation }
+        requires to_limit { file.generation ≤ GENERATION_LIMIT }
+        requires absent { has file.generation self.old.gens.files ≡ false }
+        ensures key { self.new.key ≡ self.old.key }
+        ensures rows { OnOk result
+            (rows_under self.new ≡ inserted (row_under self.old.key file) (rows_under self.old)) }
+        ensures few { length self.new.gens.files ≤ length self.old.gens.files + 1 }
+        ensures refused { OnErr result (rows_under self.new ≡ rows_under self.old) }
+    {
+        self.name.gens.reserve(1)?;
+        self.name.gens.insert(file);
+        Ok(())
+    }
+
+    // Adds a file where there is room for it, and then as many unmarked generations are kept as it says.
+    fn put(&mut self, file: File)
         requires room { length self.old.gens.files < self.old.gens.room }
         requires short { length file.bytes ≤ FILE_LIMIT }
         requires from_one { 0 < file.generation }
@@ -90,9 +107,9 @@ impl Entry {
         requires absent { has file.generation self.old.gens.files ≡ false }
         ensures key { self.new.key ≡ self.old.key }
         ensures room { self.new.gens.room ≡ self.old.gens.room }
-        ensures rows { rows_under self.new ≡ added retention (row_under self.old.key file) (rows_under self.old) }
+        ensures rows { rows_under self.new ≡ added file.keep (row_under self.old.key file) (rows_under self.old) }
     {
-        self.name.gens.add(file, retention);
+        self.name.gens.add(file);
     }
 
     // Gives the file of a generation another moment and other bytes, where there is one.
@@ -108,7 +125,7 @@ impl Entry {
         }
     }
 
-    // The same without the bytes of its files.
+    // The same without the bytes of its files, as if nobody had read them.
     fn blank(&self, alloc: Global) -> Result<Entry, NoMemory>
         ensures key { IfOk result (λ name. name.key ≡ self.now.key) }
         ensures rows { IfOk result (λ name. rows_under name ≡ map blank (rows_under self.now)) }
@@ -133,6 +150,14 @@ impl Entry {
             Some(file) => file.bytes.as_slice(),
             None => b"",
         }
+    }
+
+    // The file of a generation, where there is one.
+    fn find(&self, generation: u32) -> Option<&File>
+        ensures { let full : Full = record { key = self.now.key; generation = generation } in
+            option_map (row_under self.now.key) (option_copied result) ≡ row_at full (rows_under self.now) }
+    {
+        self.name.gens.find(generation)
     }
 
     // Its directory, name and type.
@@ -182,25 +207,28 @@ impl Entry {
     }
 }
 
-// How many names stand before the place of this one.
-fn place(names: &[Entry], key: &Key) -> usize
+// How many names stand before the place of this one. How often a name is asked is added to `probes`.
+fn place(names: &[Entry], key: &Key, probes: &mut u64) -> usize
     requires { ascends by_name names.now ≡ true }
-    ensures { result ≡ prefix_len (λ name. is_lt (by_key name.key key.now)) names.now }
+    ensures place { result ≡ prefix_len (λ name. is_lt (by_key name.key key.now)) names.now }
+    ensures later { probes.old ≤ probes.new }
+    ensures few { 2 ^ (probes.new - probes.old) ≤ 2 * length names.now + 1 }
 {
-    let mut probes = 0;
     seek(
         names,
         |entry| key_cmp(entry.key(), key).is_lt(),
-        &mut probes,
+        probes,
     )
 }
 
-// Where a name stands.
-fn position(names: &[Entry], key: &Key) -> Option<usize>
+// Where a name stands. How often a name is asked is added to `probes`.
+pub(crate) fn position(names: &[Entry], key: &Key, probes: &mut u64) -> Option<usize>
     requires { ascends by_name names.now ≡ true }
-    ensures { result ≡ position (is_under key.now) names.now }
+    ensures place { result ≡ position (is_under key.now) names.now }
+    ensures later { probes.old ≤ probes.new }
+    ensures few { 2 ^ (probes.new - probes.old) ≤ 2 * length names.now + 1 }
 {
-    let at = place(names, key);
+    let at = place(names, key, probes);
     match names.get(at) {
         Some(entry) if key_cmp(entry.key(), key).is_eq() => Some(at),
         _ => None,
@@ -236,7 +264,7 @@ pub(crate) fn numbered(names: &[Entry], key: &Key, generation: Gen) -> Result<u3
     requires { ascends by_name names.now ≡ true }
     ensures { result ≡ numbered generation (files_of key.now (rows_of names.now)) }
 {
-    match position(names, key) {
+    match position(names, key, &mut 0) {
         Some(at) => numbered_beside(names[at].gens(), generation),
         None => Ok(first_number(generation)),
     }
@@ -251,36 +279,60 @@ pub(crate) fn enter(names: &mut Vec<Entry>, alloc: Global, key: &Key) -> Result<
     ensures there { IfOk result (λ at. (d : Name) → is_under key.now (get_or names.new.items at d) ≡ true) }
     ensures front { IfOk result (λ at. take at names.new.items ≡ take at names.old.items) }
     ensures refused { OnErr result (names.new.items ≡ names.old.items) }
+    ensures lean { length names.new.items ≤ length names.old.items + 1 }
     ensures wanted { (other : Named) → wanted_at other names.new.items ≡ wanted_at other names.old.items }
     ensures room { HaveRoom names.old.items → HaveRoom names.new.items }
 {
-    if let Some(at) = position(names, key) {
+    if let Some(at) = position(names, key, &mut 0) {
         return Ok(at);
     }
-    let at = place(names, key);
+    let at = place(names, key, &mut 0);
     let entry = Entry::new(alloc, key.copy())?;
     names.insert(at, entry)?;
     Ok(at)
 }
 
-// Adds a file under its name, and then so many unmarked generations are kept.
-pub(crate) fn add(
-    names: &mut Vec<Entry>,
-    alloc: Global,
-    row: Row,
-    retention: u8,
-) -> Result<(), NoMemory>
+// How many generations a new file of a name keeps: as many as the highest of them, and else this number.
+pub(crate) fn keep_at(names: &[Entry], key: &Key, retention: u8) -> u8
+    requires { ascends by_name names.now ≡ true }
+    ensures { result ≡ keep_at retention key.now (rows_of names.now) }
+{
+    match position(names, key, &mut 0) {
+        Some(at) => names[at].gens().keep_for(retention),
+        None => retention,
+    }
+}
+
+// Adds a file under its name, and then as many unmarked generations are kept as it says.
+pub(crate) fn add(names: &mut Vec<Entry>, alloc: Global, row: Row) -> Result<(), NoMemory>
     requires names { ascends by_name names.old.items ≡ true }
     requires short { length row.file.bytes ≤ FILE_LIMIT }
     requires from_one { 0 < row.file.generation }
     requires to_limit { row.file.generation ≤ GENERATION_LIMIT }
     requires absent { has row.file.generation (files_of row.key (rows_of names.old.items)) ≡ false }
-    ensures rows { OnOk result (rows_of names.new.items ≡ added retention row (rows_of names.old.items)) }
+    ensures rows { OnOk result (rows_of names.new.items ≡ added row.file.keep row (rows_of names.old.items)) }
     ensures ascend { ascends by_name names.new.items ≡ true }
 {
     let at = enter(names, alloc, &row.key)?;
-    names[at].add(row.file, retention)?;
+    names[at].add(row.file)?;
     Ok(())
+}
+
+// The file of a full name, where there is one. How often a name is asked is added to `probes`.
+pub(crate) fn find<'a>(
+    names: &'a [Entry],
+    full: &FullName,
+    probes: &mut u64,
+) -> Option<&'a File>
+    requires { ascends by_name names.now ≡ true }
+    ensures file { option_map (row_under full.now.key) (option_copied result) ≡ row_at full.now (rows_of names.now) }
+    ensures later { probes.old ≤ probes.new }
+    ensures few { 2 ^ (probes.new - probes.old) ≤ 2 * length names.now + 1 }
+{
+    match position(names, &full.key, probes) {
+        Some(at) => names[at].find(full.generation),
+        None => None,
+    }
 }
 
 // Takes the file of a full name out, where there is one.
@@ -292,26 +344,26 @@ pub(crate) fn remove(names: &mut [Entry], full: &FullName) -> Option<File>
     ensures ascend { ascends by_name names.new ≡ true }
     ensures rooms { rooms_of names.new ≡ rooms_of names.old }
 {
-    match position(names, &full.key) {
+    match position(names, &full.key, &mut 0) {
         Some(at) => names[at].remove(full.generation),
         None => None,
     }
 }
 
-// Adds a file under a name that has room for it, and then so many unmarked generations are kept.
-pub(crate) fn put(names: &mut [Entry], row: Row, retention: u8)
+// Adds a file under a name that has room for it, and then as many unmarked generations are kept as it says.
+pub(crate) fn put(names: &mut [Entry], row: Row)
     requires names { ascends by_name names.old ≡ true }
     requires room { length (files_of row.key (rows_of names.old)) < room_at row.key (rooms_of names.old) }
     requires short { length row.file.bytes ≤ FILE_LIMIT }
     requires from_one { 0 < row.file.generation }
     requires to_limit { row.file.generation ≤ GENERATION_LIMIT }
     requires absent { has row.file.generation (files_of row.key (rows_of names.old)) ≡ false }
-    ensures rows { rows_of names.new ≡ added retention row (rows_of names.old) }
+    ensures rows { rows_of names.new ≡ added row.file.keep row (rows_of names.old) }
     ensures ascend { ascends by_name names.new ≡ true }
     ensures rooms { rooms_of names.new ≡ rooms_of names.old }
 {
-    match position(names, &row.key) {
-        Some(at) => names[at].put(row.file, retention),
+    match position(names, &row.key, &mut 0) {
+        Some(at) => names[at].put(row.file),
         None => unreachable!(),
     }
 }
@@ -324,12 +376,12 @@ pub(crate) fn fill(names: &mut [Entry], target: &FullName, moment: u64, bytes: B
     ensures ascend { ascends by_name names.new ≡ true }
     ensures rooms { rooms_of names.new ≡ rooms_of names.old }
 {
-    if let Some(at) = position(names, &target.key) {
+    if let Some(at) = position(names, &target.key, &mut 0) {
         names[at].fill(target.generation, moment, bytes);
     }
 }
 
-// The names of two directories, with their files without their bytes.
+// The names of two directories, with their files without their bytes, as if nobody had read them.
 pub(crate) fn blanks(
     alloc: Global,
     names: &[Entry],
@@ -356,7 +408,7 @@ pub(crate) fn bytes_at<'a>(names: &'a [Entry], full: &FullName) -> &'a [u8]
     requires { ascends by_name names.now ≡ true }
     ensures { result.now ≡ bytes_at full.now (rows_of names.now) }
 {
-    match position(names, &full.key) {
+    match position(names, &full.key, &mut 0) {
         Some(at) => names[at].bytes_at(full.generation),
         None => b"",
     }
@@ -383,7 +435,7 @@ pub(crate) fn found(names: &[Entry], key: &Key, generation: Gen) -> Result<Optio
     requires { ascends by_name names.now ≡ true }
     ensures { result ≡ found generation (files_of key.now (rows_of names.now)) }
 {
-    match position(names, key) {
+    match position(names, key, &mut 0) {
         Some(at) => found_beside(names[at].gens(), generation),
         None => Ok(None),
     }

@@ -1,5 +1,5 @@
 // The files of all names, by their number in ascending order.
-ghost use Rattle.std.specs.Prelude.{◌≡◌, ◌+◌, ◌<◌, ◌≤◌, [], ◌∷◌, ◌++◌, OnErr, OnOk, Some, get_or, length, set, slice_get, take, true};
+ghost use Rattle.std.specs.Prelude.{◌≡◌, ◌+◌, ◌-◌, ◌*◌, ◌^◌, ◌<◌, ◌≤◌, [], ◌∷◌, ◌++◌, OnErr, OnOk, Some, get_or, length, set, slice_get, take, true};
 ghost use Rattle.ex_generations.specs.declared.file.TheConstants.{FILE_LIMIT};
 ghost use Rattle.cm_files.specs.Catalogue.{ascends};
 ghost use Rattle.ex_store.specs.declared.limits.TheConstants.{ROW_LIMIT};
@@ -7,13 +7,14 @@ ghost use Rattle.ex_store.specs.FileNames.{AreNames, IsCounted, by_name, counted
 ghost use Rattle.ex_store.specs.Lent.{row_of_view};
 ghost use Rattle.ex_store.specs.declared.file_name.FileName.{FileName as Name};
 ghost use Rattle.ex_store.specs.declared.row.Row.{Row as Filed};
-ghost use Rattle.ex_store.specs.Rows.{by_row, end_in, first_in, with_mark};
+ghost use Rattle.ex_store.specs.Rows.{by_row, end_in, first_in, with_remark};
 ghost use Rattle.ex_store.specs.WellFormed.{is_numbered};
 
 use crate::file_name::{Entry, FileName, enter};
 use crate::{Row, RowView};
 use cm_io::NoMemory;
 use cm_text::seek;
+use ex_generations::Remark;
 use std::alloc::Global;
 
 impl Entry {
@@ -48,17 +49,17 @@ impl Entry {
         }
     }
 
-    // Gives the file at a place of its own a mark.
-    fn set_mark(&mut self, i: usize, deleted: bool)
+    // Changes one thing of the file at a place of its own.
+    fn remark(&mut self, i: usize, remark: Remark)
         requires within { i < length self.old.gens.files }
         ensures key { self.new.key ≡ self.old.key }
         ensures end { self.new.end ≡ self.old.end }
         ensures len { length self.new.gens.files ≡ length self.old.gens.files }
         ensures room { self.new.gens.room ≡ self.old.gens.room }
         ensures rows { (d : Filed) → rows_under self.new
-            ≡ set (rows_under self.old) i (with_mark deleted (get_or (rows_under self.old) i d)) }
+            ≡ set (rows_under self.old) i (with_remark remark (get_or (rows_under self.old) i d)) }
     {
-        self.name.gens.set_mark(i, deleted);
+        self.name.gens.remark(i, remark);
     }
 }
 
@@ -122,46 +123,50 @@ pub(crate) fn end_of(names: &[Entry], directory: &[u8]) -> usize
     files_before(names, n)
 }
 
-// The name that the file with this number stands under, and which of its files it is.
-fn place_of(names: &[Entry], i: usize) -> (usize, usize)
+// The name that the file with this number stands under, and which of its files it is. How often a name is asked is added
+// to `probes`.
+fn place_of(names: &[Entry], i: usize, probes: &mut u64) -> (usize, usize)
     requires counted { IsCounted 0 names.now }
     requires within { i < length (rows_of names.now) }
     requires few { length (rows_of names.now) ≤ ROW_LIMIT }
     ensures name { result.0 < length names.now }
     ensures file { (d : Name) → result.1 < length (get_or names.now result.0 d).gens.files }
     ensures number { length (rows_of (take result.0 names.now)) + result.1 ≡ i }
+    ensures later { probes.old ≤ probes.new }
+    ensures few { 2 ^ (probes.new - probes.old) ≤ 2 * length names.now + 1 }
 {
     let behind = i + 1;
-    let mut probes = 0;
-    let n = seek(names, |entry| entry.end() < behind, &mut probes);
+    let n = seek(names, |entry| entry.end() < behind, probes);
     (n, i - files_before(names, n))
 }
 
-// The file with this number.
-pub(crate) fn row_at(names: &[Entry], i: usize) -> RowView<'_>
+// The file with this number. How often a name is asked is added to `probes`.
+pub(crate) fn row_at<'a>(names: &'a [Entry], i: usize, probes: &mut u64) -> RowView<'a>
     requires counted { IsCounted 0 names.now }
     requires within { i < length (rows_of names.now) }
     requires few { length (rows_of names.now) ≤ ROW_LIMIT }
-    ensures { slice_get (rows_of names.now) i ≡ Some (row_of_view result) }
+    ensures row { slice_get (rows_of names.now) i ≡ Some (row_of_view result) }
+    ensures later { probes.old ≤ probes.new }
+    ensures few { 2 ^ (probes.new - probes.old) ≤ 2 * length names.now + 1 }
 {
-    let (n, at) = place_of(names, i);
+    let (n, at) = place_of(names, i, probes);
     names[n].file_at(at)
 }
 
-// Gives the file with this number a mark.
-pub(crate) fn set_mark(names: &mut [Entry], i: usize, deleted: bool)
+// Changes one thing of the file with this number.
+pub(crate) fn remark_file(names: &mut [Entry], i: usize, remark: Remark)
     requires names { ascends by_name names.old ≡ true }
     requires counted { IsCounted 0 names.old }
     requires within { i < length (rows_of names.old) }
     requires few { length (rows_of names.old) ≤ ROW_LIMIT }
     ensures rows { (d : Filed) → rows_of names.new
-        ≡ set (rows_of names.old) i (with_mark deleted (get_or (rows_of names.old) i d)) }
+        ≡ set (rows_of names.old) i (with_remark remark (get_or (rows_of names.old) i d)) }
     ensures rooms { rooms_of names.new ≡ rooms_of names.old }
     ensures ascend { ascends by_name names.new ≡ true }
     ensures counted { IsCounted 0 names.new }
 {
-    let (n, at) = place_of(names, i);
-    names[n].set_mark(at, deleted);
+    let (n, at) = place_of(names, i, &mut 0);
+    names[n].remark(at, remark);
 }
 
 // Adds a file that goes behind all others.
@@ -176,8 +181,8 @@ pub(crate) fn push(names: &mut Vec<Entry>, alloc: Global, row: Row) -> Result<()
     ensures refused { OnErr result (rows_of names.new.items ≡ rows_of names.old.items) }
 {
     let at = enter(names, alloc, &row.key)?;
-    let added = names[at].add(row.file, 0);
+    let inserted = names[at].insert(row.file);
     count(names, at);
-    added?;
+    inserted?;
     Ok(())
 }

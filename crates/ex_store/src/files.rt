@@ -1,26 +1,27 @@
 // The files of a store by name.
-ghost use Rattle.std.specs.Prelude.{◌≡◌, ◌+◌, ◌<◌, ◌≤◌, Some, [], ◌∷◌, ◌++◌, get_or, length, map, set, slice_get, true, IfOk, OnErr, OnOk};
+ghost use Rattle.std.specs.Prelude.{◌≡◌, ◌+◌, ◌-◌, ◌*◌, ◌^◌, ◌<◌, ◌≤◌, Some, [], ◌∷◌, ◌++◌, get_or, length, map, option_copied, option_map, set, slice_get, true, IfOk, OnErr, OnOk};
 ghost use Rattle.ex_store.specs.declared.limits.TheConstants.{ROW_LIMIT, STORE_LIMIT};
 ghost use Rattle.ex_store.specs.declared.key.Key.{Key as Named};
 ghost use Rattle.ex_store.specs.declared.row.Row.{Row as Filed};
 ghost use Rattle.ex_store.specs.FileNames.{by_name, room_at, rows_of};
 ghost use Rattle.ex_store.specs.Lent.{row_of_view};
 ghost use Rattle.ex_store.specs.Ready.{are_doable, count_under, is_lawful, rows_after_all};
-ghost use Rattle.ex_store.specs.Rows.{blank, by_row, end_in, expunged, files_of, first_in, is_short, pages_in, pages_marked, rows_in_either, total, with_mark};
-ghost use Rattle.ex_store.specs.Adding.{numbered};
+ghost use Rattle.ex_store.specs.Rows.{blank, by_row, end_in, expunged, files_of, first_in, is_short, pages_in, pages_marked, row_at, rows_in_either, total, with_remark};
+ghost use Rattle.ex_store.specs.Adding.{keep_at, numbered};
 ghost use Rattle.ex_store.specs.Appending.{bytes_at, found};
 ghost use Rattle.cm_files.specs.Catalogue.{ascends};
 ghost use Rattle.ex_generations.specs.declared.file.TheConstants.{FILE_LIMIT};
 ghost use Rattle.ex_store.specs.WellFormed.{is_numbered};
 ghost use Rattle.std.specs.List.{list_all};
 
-use crate::file_name::{Entry, blanks, bytes_at, found, numbered};
-use crate::file_numbers::{count, end_of, first_of, len, push, row_at, set_mark};
+use crate::file_name::{Entry, blanks, bytes_at, find, found, keep_at, numbered};
+use crate::file_numbers::{count, end_of, first_of, len, push, remark_file, row_at};
 use crate::room::{change_names, make_room};
 use crate::sweep::{drop_marked, pages_in, total};
 use crate::{FullName, Key, Row, RowChange, RowView};
 use cm_fields::{Code, Gen};
 use cm_io::NoMemory;
+use ex_generations::{File, Remark};
 use std::alloc::Global;
 use std::marker::Model;
 
@@ -63,7 +64,26 @@ impl Files {
         requires { i < length self.now.rows }
         ensures { slice_get self.now.rows i ≡ Some (row_of_view result) }
     {
-        row_at(&self.names, i)
+        self.find_row(i, &mut 0)
+    }
+
+    // The file of a full name, where there is one. How often a name is asked is added to `probes`.
+    pub(crate) fn find(&self, full: &FullName, probes: &mut u64) -> Option<&File>
+        ensures file { option_copied result ≡ option_map (λ row. row.file) (row_at full.now self.now.rows) }
+        ensures later { probes.old ≤ probes.new }
+        ensures few { 2 ^ (probes.new - probes.old) ≤ 2 * length self.now.rooms + 1 }
+    {
+        find(&self.names, full, probes)
+    }
+
+    // The file with this number. How often a name is asked is added to `probes`.
+    pub(crate) fn find_row(&self, i: usize, probes: &mut u64) -> RowView<'_>
+        requires { i < length self.now.rows }
+        ensures row { slice_get self.now.rows i ≡ Some (row_of_view result) }
+        ensures later { probes.old ≤ probes.new }
+        ensures few { 2 ^ (probes.new - probes.old) ≤ 2 * length self.now.rooms + 1 }
+    {
+        row_at(&self.names, i, probes)
     }
 
     // How many files stand before those of a directory.
@@ -80,14 +100,14 @@ impl Files {
         end_of(&self.names, directory)
     }
 
-    // Gives the file with this number a mark.
-    pub(crate) fn set_mark(&mut self, i: usize, deleted: bool)
+    // Changes one thing of the file with this number.
+    pub(crate) fn remark(&mut self, i: usize, remark: Remark)
         requires { i < length self.old.rows }
         ensures rows { (d : Filed) → self.new.rows
-            ≡ set self.old.rows i (with_mark deleted (get_or self.old.rows i d)) }
+            ≡ set self.old.rows i (with_remark remark (get_or self.old.rows i d)) }
         ensures rooms { self.new.rooms ≡ self.old.rooms }
     {
-        set_mark(&mut self.names, i, deleted);
+        remark_file(&mut self.names, i, remark);
     }
 
     // Makes room for what some changes put under each name.
@@ -95,6 +115,7 @@ impl Files {
         ensures rows { self.new.rows ≡ self.old.rows }
         ensures room { OnOk result ((key : Named) → 0 < count_under key changes.now
             → length (files_of key self.old.rows) + count_under key changes.now ≤ room_at key self.new.rooms) }
+        ensures lean { OnOk result (length self.new.rooms ≤ length self.old.rows + length changes.now) }
     {
         let made = make_room(&mut self.names, alloc, changes);
         count(&mut self.names, 0);
@@ -103,16 +124,16 @@ impl Files {
     }
 
     // All changes, one after the other, where there is room for what they put.
-    pub(crate) fn change(&mut self, changes: Vec<RowChange>, retention: u8)
+    pub(crate) fn change(&mut self, changes: Vec<RowChange>)
         requires lawful { list_all is_lawful changes.items ≡ true }
-        requires doable { are_doable retention self.old.rows changes.items ≡ true }
-        requires few { length (rows_after_all retention self.old.rows changes.items) ≤ ROW_LIMIT }
+        requires doable { are_doable self.old.rows changes.items ≡ true }
+        requires few { length (rows_after_all self.old.rows changes.items) ≤ ROW_LIMIT }
         requires room { (key : Named) → 0 < count_under key changes.items
             → length (files_of key self.old.rows) + count_under key changes.items ≤ room_at key self.old.rooms }
-        ensures rows { self.new.rows ≡ rows_after_all retention self.old.rows changes.items }
+        ensures rows { self.new.rows ≡ rows_after_all self.old.rows changes.items }
         ensures rooms { self.new.rooms ≡ self.old.rooms }
     {
-        change_names(&mut self.names, changes, retention);
+        change_names(&mut self.names, changes);
         count(&mut self.names, 0);
     }
 
@@ -131,6 +152,13 @@ impl Files {
         numbered(&self.names, key, generation)
     }
 
+    // How many generations a new file of a name keeps: as many as the highest of them, and else this number.
+    pub(crate) fn keep_at(&self, key: &Key, retention: u8) -> u8
+        ensures { result ≡ keep_at retention key.now self.now.rows }
+    {
+        keep_at(&self.names, key, retention)
+    }
+
     // What a file holds; nothing where it is not there.
     pub(crate) fn bytes_at(&self, full: &FullName) -> &[u8]
         ensures { result.now ≡ bytes_at full.now self.now.rows }
@@ -138,7 +166,7 @@ impl Files {
         bytes_at(&self.names, full)
     }
 
-    // The names of two directories, with their files without their bytes.
+    // The names of two directories, with their files without their bytes, as if nobody had read them.
     pub(crate) fn blanks(
         &self,
         alloc: Global,

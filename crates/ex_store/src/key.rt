@@ -1,9 +1,10 @@
 // What names a file: its directory, name, type and generation.
-ghost use Rattle.std.specs.Prelude.{◌≡◌};
+ghost use Rattle.std.specs.Prelude.{◌≡◌, ◌<◌, length, IfNone, IfSome};
+ghost use Rattle.cm_text.specs.declared.name.TheConstants.{NAME_LIMIT};
 ghost use Rattle.ex_store.specs.Lent.{full_name, name_pair};
 ghost use Rattle.ex_store.specs.Rows.{by_key};
 
-use cm_text::Name;
+use cm_text::{NAME_LIMIT, Name};
 use std::cmp::Ordering;
 
 /// A name and a type in a directory.
@@ -69,6 +70,17 @@ pub(crate) fn copy_of(name: &Name) -> Name
     ensures { result ≡ name.now }
 {
     Name::new(name.as_str())
+}
+
+// The name that a text is; None where it is longer than any.
+pub(crate) fn short(text: &str) -> Option<Name>
+    ensures name { IfSome result (λ name. name ≡ text.now) }
+    ensures none { IfNone result (NAME_LIMIT < length text.now) }
+{
+    if text.len() > NAME_LIMIT {
+        return None;
+    }
+    Some(Name::new(text))
 }
 
 impl Key {

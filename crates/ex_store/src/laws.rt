@@ -15,15 +15,15 @@ ghost use Rattle.ex_store.specs.WellFormed.{IsWellFormed};
 /// A row that is added is one of the generations of its directory, name and type: those are as if it were added to
 /// their list.
 pub fn an_add_is_one_of_generations()
-    ensures { (retention : ℕ) → (row : Row) → (rows : List Row) → ascends by_row rows ≡ true
+    ensures { (row : Row) → (rows : List Row) → ascends by_row rows ≡ true
         → has row.file.generation (files_of row.key rows) ≡ false
-        → files_of row.key (added retention row rows) ≡ generations.added retention row.file (files_of row.key rows) }
+        → files_of row.key (added row.file.keep row rows) ≡ generations.added row.file (files_of row.key rows) }
 {}
 
 /// The files of every other directory, name and type stay as they were.
 pub fn an_add_leaves_other_files()
-    ensures { (retention : ℕ) → (row : Row) → (rows : List Row) → (key : Key) → is_of key row ≡ false
-        → files_of key (added retention row rows) ≡ files_of key rows }
+    ensures { (row : Row) → (rows : List Row) → (key : Key) → is_of key row ≡ false
+        → files_of key (added row.file.keep row rows) ≡ files_of key rows }
 {}
 
 /// What expunging takes away are the marked files of the directory, and no others.

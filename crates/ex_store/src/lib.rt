@@ -52,7 +52,7 @@ pub use place::Place;
 pub use plan::{Plan, Refusal};
 pub use print::Request;
 pub use queue::{QueueEntry, Queued, form_text};
-pub use ready::{Ready, RowChange};
+pub use ready::{Reading, Ready, RowChange};
 pub use row::{Row, RowView};
 pub use selection::Selection;
 pub use store::Store;

@@ -1,5 +1,5 @@
 // The logical names of a store.
-ghost use Rattle.std.specs.Prelude.{ℕ, ◌≡◌, ◌<◌, ◌≤◌, [], ◌∷◌, ◌++◌, List, true, false, not, filter, length, map, option_copied, slice_get, Some, IfNone, IfSome, OnErr, OnOk};
+ghost use Rattle.std.specs.Prelude.{ℕ, ◌≡◌, ◌-◌, ◌<◌, ◌≤◌, [], ◌∷◌, ◌++◌, List, true, false, not, filter, length, map, option_copied, slice_get, Some, IfNone, IfSome, OnErr, OnOk};
 ghost use Rattle.std.specs.Char.{to_ascii_uppercase};
 ghost use Rattle.std.specs.Str.{IsAscii};
 ghost use Rattle.cm_files.specs.Catalogue.{ascends};
@@ -132,7 +132,8 @@ impl LogicalNames {
         requires ascend { ascends by_definition self.old.list ≡ true }
         requires room { 0 < self.old.spare }
         requires kept { is_kept new ≡ true }
-        ensures { self.new.list ≡ with_definition new self.old.list }
+        ensures list { self.new.list ≡ with_definition new self.old.list }
+        ensures room { self.new.spare ≡ self.old.spare - 1 }
     {
         self.promised -= 1;
         match self.directories.insert_sorted(new.name, new.directory) {

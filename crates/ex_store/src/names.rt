@@ -1,11 +1,11 @@
 // The store as the catalogue that file specifications are looked up in.
-ghost use Rattle.std.specs.Prelude.{◌≡◌, ◌<◌, length, option_map, slice_get, Some};
+ghost use Rattle.std.specs.Prelude.{◌≡◌, ◌+◌, ◌-◌, ◌*◌, ◌^◌, ◌<◌, ◌≤◌, length, option_copied, option_map, slice_get, Some};
 ghost use Rattle.cm_files.specs.Catalogue.{rows_of};
 ghost use Rattle.ex_store.specs.Lent.{row_of_view};
-ghost use Rattle.ex_store.specs.Rows.{first_in};
+ghost use Rattle.ex_store.specs.Rows.{first_in, row_at};
 ghost use Rattle.ex_store.specs.State.{catalogue_of, defined, rows_numbered};
 
-use crate::{RowView, Store};
+use crate::{FullName, RowView, Store};
 use cm_files::Names;
 use ex_generations::File;
 
@@ -28,24 +28,39 @@ impl Store {
         usize::from(self.firsts[usize::from(directory)])
     }
 
-    // A row of the directory with this number.
-    pub(crate) fn row_at(&self, directory: u16, i: u32) -> RowView<'_>
+    // A row of the directory with this number. How often a name is asked is added to `probes`.
+    pub(crate) fn row_at(&self, directory: u16, i: u32, probes: &mut u64) -> RowView<'_>
         requires directory { directory < length self.now.state.directories }
         requires row { i < length (rows_numbered directory self.now.state) }
-        ensures { slice_get (rows_numbered directory self.now.state) i ≡ Some (row_of_view result) }
+        ensures row { slice_get (rows_numbered directory self.now.state) i ≡ Some (row_of_view result) }
+        ensures later { probes.old ≤ probes.new }
+        ensures few { 2 ^ (probes.new - probes.old) ≤ 2 * length self.now.name_rooms + 1 }
     {
         let first = self.first_at(directory);
-        self.files.row_at(first + i as usize)
+        self.files.find_row(first + i as usize, probes)
     }
 
-    /// A file of the directory with this number, in ascending order of name, type and generation.
-    pub fn file(&self, directory: u16, i: u32) -> &File
+    /// A file of the directory with this number, in ascending order of name, type and generation. How often a name is
+    /// asked is added to `probes`: as often as the number of names has binary digits, so at most 13 times for 4,096.
+    pub fn file(&self, directory: u16, i: u32, probes: &mut u64) -> &File
         requires directory { directory < length (catalogue_of self.now.state).directories }
         requires row { i < length (rows_of (catalogue_of self.now.state) directory) }
-        ensures { option_map (λ row. row.file) (slice_get (rows_numbered directory self.now.state) i)
+        ensures file { option_map (λ row. row.file) (slice_get (rows_numbered directory self.now.state) i)
             ≡ Some result.now }
+        ensures later { probes.old ≤ probes.new }
+        ensures few { 2 ^ (probes.new - probes.old) ≤ 2 * length self.now.name_rooms + 1 }
     {
-        self.row_at(directory, i).file
+        self.row_at(directory, i, probes).file
+    }
+
+    /// The file of a full name, where there is one. How often a name is asked is added to `probes`: as often as the
+    /// number of names has binary digits, so at most 13 times for 4,096.
+    pub fn find(&self, file: &FullName, probes: &mut u64) -> Option<&File>
+        ensures file { option_copied result ≡ option_map (λ row. row.file) (row_at file.now self.now.state.rows) }
+        ensures later { probes.old ≤ probes.new }
+        ensures few { 2 ^ (probes.new - probes.old) ≤ 2 * length self.now.name_rooms + 1 }
+    {
+        self.files.find(file, probes)
     }
 
     // Whether a logical name stands for a directory.
@@ -84,7 +99,7 @@ impl Names for Store {
     }
 
     fn row(&self, directory: u16, i: u32) -> cm_files::Row<'_> {
-        let row = self.row_at(directory, i);
+        let row = self.row_at(directory, i, &mut 0);
         cm_files::Row {
             name: row.name.as_str(),
             kind: row.kind.as_str(),

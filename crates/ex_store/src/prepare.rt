@@ -5,7 +5,7 @@ ghost use Rattle.ex_store.specs.FileNames.{room_at};
 ghost use Rattle.ex_store.specs.declared.key.Key.{Key as Named};
 ghost use Rattle.ex_store.specs.declared.plan.Plan.TheVariants as plans;
 ghost use Rattle.ex_store.specs.Plan.{IsRefused, MayPlan, planned};
-ghost use Rattle.ex_store.specs.Ready.{IsFor, applied, are_doable, count_made, count_under, done_on};
+ghost use Rattle.ex_store.specs.Ready.{IsFor, applied, are_doable, count_made, count_under, done_on, rows_read};
 ghost use Rattle.ex_store.specs.WellFormed.{IsWellFormed};
 
 use crate::build::built;
@@ -21,7 +21,7 @@ impl Store {
             → planned (plans.Build directory retention) moment self.now.state ≡ Ok (done_on self.now.state ready)) }
         ensures sound { IfOk result (λ ready. IsWellFormed (applied ready self.now.state)) }
         ensures doable { IfOk result (λ ready.
-            are_doable ready.retention self.now.state.rows ready.row_changes ≡ true) }
+            are_doable (rows_read ready.reading self.now.state) ready.row_changes ≡ true) }
         ensures refused { (moment : ℕ)
             → IfErr result (IsRefused (planned (plans.Build directory retention) moment self.now.state)) }
     {
@@ -37,7 +37,7 @@ impl Store {
         ensures ready { IfOk result (λ ready. planned plan moment self.now.state ≡ Ok (done_on self.now.state ready)) }
         ensures sound { IfOk result (λ ready. IsWellFormed (applied ready self.now.state)) }
         ensures doable { IfOk result (λ ready.
-            are_doable ready.retention self.now.state.rows ready.row_changes ≡ true) }
+            are_doable (rows_read ready.reading self.now.state) ready.row_changes ≡ true) }
         ensures refused { IfErr result (IsRefused (planned plan moment self.now.state)) }
     {
         match plan {
@@ -65,6 +65,8 @@ impl Store {
             → length (files_of key self.old.state.rows) + count_under key ready.now.row_changes
             ≤ room_at key self.new.name_rooms) }
         ensures queue { OnOk result (length self.old.state.queue + length ready.now.entries ≤ self.new.queue_room) }
+        ensures lean { OnOk result
+            (length self.new.name_rooms ≤ length self.old.state.rows + length ready.now.row_changes) }
     {
         if ready.directory.is_some() {
             self.directories.reserve()?;
@@ -85,6 +87,8 @@ impl Store {
         ensures state { self.new.state ≡ self.old.state }
         ensures ready { IfOk result (λ ready. planned plan moment self.old.state ≡ Ok (done_on self.old.state ready)) }
         ensures for_it { IfOk result (λ ready. IsFor ready self.new) }
+        ensures lean { IfOk result (λ ready.
+            length self.new.name_rooms ≤ length self.old.state.rows + length ready.row_changes) }
         ensures refused { IfErr result (IsRefused (planned plan moment self.old.state)) }
     {
         let ready = match self.plan(plan, moment) {

@@ -7,7 +7,7 @@ ghost use Rattle.ex_store.specs.declared.plan.Plan.TheVariants as plans;
 ghost use Rattle.ex_store.specs.Plan.{IsRefused, MayPlan, planned};
 ghost use Rattle.ex_store.specs.Positions.{elements_at};
 ghost use Rattle.ex_store.specs.Printing.{entry_for, limit_check, own_pairs};
-ghost use Rattle.ex_store.specs.Ready.{applied, are_doable, done_on, of_entries};
+ghost use Rattle.ex_store.specs.Ready.{applied, are_doable, done_on, of_entries, rows_read};
 ghost use Rattle.ex_store.specs.WellFormed.{IsWellFormed};
 
 use crate::files::Files;
@@ -129,7 +129,7 @@ impl Store {
             → planned (plans.Print files.now request.now) moment self.now.state ≡ Ok (done_on self.now.state ready)) }
         ensures sound { IfOk result (λ ready. IsWellFormed (applied ready self.now.state)) }
         ensures doable { IfOk result (λ ready.
-            are_doable ready.retention self.now.state.rows ready.row_changes ≡ true) }
+            are_doable (rows_read ready.reading self.now.state) ready.row_changes ≡ true) }
         ensures refused { (moment : ℕ)
             → IfErr result (IsRefused (planned (plans.Print files.now request.now) moment self.now.state)) }
     {

@@ -4,9 +4,9 @@ ghost use Rattle.std.specs.List.{list_all};
 ghost use Rattle.ex_store.specs.declared.limits.TheConstants.{ROW_LIMIT};
 ghost use Rattle.ex_store.specs.Entries.{is_kept};
 ghost use Rattle.ex_store.specs.Lent.{name_pair};
-ghost use Rattle.ex_store.specs.Ready.{is_lawful, no_change, of_definition, of_directory, of_entries, of_files};
+ghost use Rattle.ex_store.specs.Ready.{is_lawful, is_reading_within, no_change, of_definition, of_directory, of_entries, of_files};
 
-use crate::{Definition, Directory, FullName, NamePair, Pair, QueueEntry, Row};
+use crate::{Definition, Directory, FullName, NamePair, Pair, Place, QueueEntry, Row};
 use ex_generations::Bytes;
 use std::alloc::Global;
 use std::marker::Model;
@@ -14,9 +14,9 @@ use std::marker::Model;
 /// One change of the files of a store.
 #[derive(Debug, Drop)]
 pub enum RowChange {
-    /// A file is added, and then all unmarked generations of its name and type but those that are kept are marked.
+    /// A file is added, and then all unmarked generations of its name and type but as many as it keeps are marked.
     Add(Row),
-    /// A file is taken out and added under another name, unmarked.
+    /// A file is taken out and added under another name, unmarked, with all else that it has.
     Move(NamePair),
     /// A file is given another moment and other bytes.
     Fill {
@@ -26,12 +26,21 @@ pub enum RowChange {
     },
 }
 
+/// Files that are read, and when.
+#[derive(Debug, Drop)]
+pub struct Reading {
+    /// Which files.
+    pub files: Place,
+    /// The moment, in seconds since 1-JAN-1970.
+    pub moment: u64,
+}
+
 /// A plan that is ready to be done by [`Store::apply`](crate::Store::apply). Contracts see what it is to change.
 #[derive(Drop)]
 pub struct Ready {
     pub(crate) directory: Option<Directory>,
     pub(crate) definition: Option<Definition>,
-    pub(crate) retention: u8,
+    pub(crate) reading: Option<Reading>,
     pub(crate) row_changes: Vec<RowChange>,
     pub(crate) entries: Vec<QueueEntry>,
     pub(crate) pairs: Vec<NamePair>,
@@ -45,13 +54,13 @@ impl Model for Ready {
     ghost view = { λ it. record {
       directory = it.directory;
       definition = it.definition;
-      retention = it.retention;
+      reading = it.reading;
       row_changes = it.row_changes.items;
       entries = it.entries.items;
       pairs = it.pairs.items;
     } };
 
-    ghost invariant = { λ it. AreLawful it.definition it.row_changes.items it.pairs.items };
+    ghost invariant = { λ it. AreLawful it.definition it.reading it.row_changes.items it.pairs.items };
 }
 
 impl Ready {
@@ -62,7 +71,7 @@ impl Ready {
         Ready {
             directory: None,
             definition: None,
-            retention: 0,
+            reading: None,
             row_changes: Vec::new(alloc),
             entries: Vec::new(alloc),
             pairs: Vec::new(alloc),
@@ -88,19 +97,20 @@ impl Ready {
         ready
     }
 
-    // Files are to be changed.
+    // Files are to be changed, and those of a place are read before.
     pub(crate) fn of_files(
         alloc: Global,
-        retention: u8,
+        reading: Option<Reading>,
         row_changes: Vec<RowChange>,
         pairs: Vec<NamePair>,
     ) -> Ready
+        requires within { is_reading_within reading ≡ true }
         requires few { length pairs.items ≤ ROW_LIMIT }
         requires lawful { list_all is_lawful row_changes.items ≡ true }
-        ensures { result ≡ of_files retention row_changes.items pairs.items }
+        ensures { result ≡ of_files reading row_changes.items pairs.items }
     {
         let mut ready = Ready::new(alloc);
-        ready.retention = retention;
+        ready.reading = reading;
         ready.row_changes = row_changes;
         ready.pairs = pairs;
         ready

@@ -1,5 +1,5 @@
 // Files are given other names.
-ghost use Rattle.std.specs.Prelude.{ℕ, ◌≡◌, ◌≤◌, true, false, [], ◌∷◌, ◌++◌, length, nat_lt, IfOk, IfErr, IfSome, OnOk, Ok, option_map};
+ghost use Rattle.std.specs.Prelude.{ℕ, ◌≡◌, ◌≤◌, true, false, [], ◌∷◌, ◌++◌, length, nat_lt, IfOk, IfErr, IfSome, None, OnOk, Ok, option_map};
 ghost use Rattle.std.specs.List.{list_all};
 ghost use Rattle.cm_files.specs.Catalogue.{ascends};
 ghost use Rattle.ex_generations.specs.declared.file.TheConstants.{FILE_LIMIT};
@@ -11,10 +11,9 @@ ghost use Rattle.ex_store.specs.declared.ready.RowChange.TheVariants as changes;
 ghost use Rattle.ex_store.specs.FileNames.{by_name, row_under, rows_of};
 ghost use Rattle.ex_store.specs.Plan.{IsRefused, IsTarget, MayPlan, may_number, planned};
 ghost use Rattle.ex_store.specs.Positions.{elements_at};
-ghost use Rattle.ex_store.specs.Ready.{IsMade, applied, are_doable, done_on, moved, reinserted};
+ghost use Rattle.ex_store.specs.Ready.{IsMade, applied, are_doable, done_on, moved, reinserted, rows_read};
 ghost use Rattle.ex_store.specs.Renaming.{AreDistinct, all_renamed, pair_for};
 ghost use Rattle.ex_store.specs.Rows.{files_of, is_in};
-ghost use Rattle.ex_store.specs.State.{retention_of};
 ghost use Rattle.ex_store.specs.WellFormed.{AreRows, IsWellFormed, is_numbered};
 
 use crate::directories::Directories;
@@ -26,32 +25,25 @@ use cm_io::NoMemory;
 use ex_generations::File;
 use std::alloc::Global;
 
-// Adds a file that was taken out under another name, unmarked.
+// Adds a file that was taken out under another name, unmarked, with all else that it has.
 fn reinsert(
     names: &mut Vec<Entry>,
     alloc: Global,
     target: &FullName,
     file: Option<File>,
-    retention: u8,
 ) -> Result<(), NoMemory>
     requires names { ascends by_name names.old.items ≡ true }
     requires short { IfSome file (λ file. length file.bytes ≤ FILE_LIMIT) }
     requires number { is_numbered target.now.generation ≡ true }
     requires absent { has target.now.generation (files_of target.now.key (rows_of names.old.items)) ≡ false }
     ensures rows { OnOk result (rows_of names.new.items
-        ≡ reinserted retention target.now (rows_of names.old.items) (option_map (row_under target.now.key) file)) }
+        ≡ reinserted target.now (rows_of names.old.items) (option_map (row_under target.now.key) file)) }
     ensures ascend { OnOk result (ascends by_name names.new.items ≡ true) }
 {
     let Some(file) = file else {
         return Ok(());
     };
-    let row = Row::new(
-        target.key.copy(),
-        target.generation,
-        file.moment,
-        file.bytes,
-    );
-    add(names, alloc, row, retention)?;
+    add(names, alloc, Row::with_name(target.copy(), file))?;
     Ok(())
 }
 
@@ -61,7 +53,6 @@ fn simulate(
     alloc: Global,
     source: RowView<'_>,
     to: &Place,
-    retention: u8,
 ) -> Result<NamePair, Refusal>
     requires names { ascends by_name names.old.items ≡ true }
     requires number { may_number to.now.generation ≡ true }
@@ -69,7 +60,7 @@ fn simulate(
         pair_for to.now (row_of_view source.entry) (rows_of names.old.items) ≡ Ok pair) }
     ensures refused { IfErr result (IsRefused (pair_for to.now (row_of_view source.entry) (rows_of names.old.items))) }
     ensures numbered { IfOk result (λ pair. is_numbered pair.target.generation ≡ true) }
-    ensures rows { IfOk result (λ pair. rows_of names.new.items ≡ moved retention pair (rows_of names.old.items)) }
+    ensures rows { IfOk result (λ pair. rows_of names.new.items ≡ moved pair (rows_of names.old.items)) }
     ensures ascend { IfOk result (λ pair. ascends by_name names.new.items ≡ true) }
 {
     let full = source.full_name();
@@ -83,7 +74,7 @@ fn simulate(
         source: full,
         target: FullName { key, generation },
     };
-    match reinsert(names, alloc, &pair.target, file, retention) {
+    match reinsert(names, alloc, &pair.target, file) {
         Ok(()) => Ok(pair),
         Err(NoMemory) => Err(Refusal::NoMemory),
     }
@@ -120,21 +111,18 @@ fn renames(
     requires distinct { AreDistinct (elements_at files.now.rows positions.now) }
     requires target { IsTarget to.now directories.now.list }
     ensures made { let sources = elements_at files.now.rows positions.now in
-        IfOk result (IsMade directories.now.list files.now.rows
-        (all_renamed (retention_of to.now.directory directories.now.list) to.now sources files.now.rows)) }
+        IfOk result (IsMade directories.now.list files.now.rows (all_renamed to.now sources files.now.rows) None) }
     ensures refused { let sources = elements_at files.now.rows positions.now in
-        IfErr result (IsRefused
-        (all_renamed (retention_of to.now.directory directories.now.list) to.now sources files.now.rows)) }
+        IfErr result (IsRefused (all_renamed to.now sources files.now.rows)) }
 {
     let directory = to.directory.as_bytes();
-    let retention = directories.retention_of(to.directory.as_str());
     let mut simulation = match Simulation::new(alloc, files, from, directory) {
         Ok(simulation) => simulation,
         Err(NoMemory) => return Err(Refusal::NoMemory),
     };
     for at in positions {
         let source = files.row_at(usize::from(*at));
-        let pair = match simulate(&mut simulation.names, alloc, source, to, retention) {
+        let pair = match simulate(&mut simulation.names, alloc, source, to) {
             Ok(pair) => pair,
             Err(refusal) => return Err(refusal),
         };
@@ -143,7 +131,7 @@ fn renames(
             Err(NoMemory) => return Err(Refusal::NoMemory),
         }
     }
-    Ok(simulation.ready(alloc, retention))
+    Ok(simulation.ready(alloc, None))
 }
 
 impl Store {
@@ -154,7 +142,7 @@ impl Store {
             → planned (plans.Rename from.now to.now) moment self.now.state ≡ Ok (done_on self.now.state ready)) }
         ensures sound { IfOk result (λ ready. IsWellFormed (applied ready self.now.state)) }
         ensures doable { IfOk result (λ ready.
-            are_doable ready.retention self.now.state.rows ready.row_changes ≡ true) }
+            are_doable (rows_read ready.reading self.now.state) ready.row_changes ≡ true) }
         ensures refused { (moment : ℕ)
             → IfErr result (IsRefused (planned (plans.Rename from.now to.now) moment self.now.state)) }
     {

@@ -71,6 +71,7 @@ fn want(names: &mut Vec<Entry>, alloc: Global, key: &Key) -> Result<(), NoMemory
     ensures wanted { OnOk result ((other : Named) → wanted_at other names.new.items
         ≡ wanted_at other names.old.items + (if is_eq (by_key key.now other) then 1 else 0)) }
     ensures room { OnOk result (HaveRoom names.new.items) }
+    ensures lean { length names.new.items ≤ length names.old.items + 1 }
 {
     let at = enter(names, alloc, key)?;
     names[at].want()?;
@@ -89,6 +90,7 @@ pub(crate) fn make_room(
     ensures room { OnOk result ((key : Named) → 0 < count_under key changes.now
         → length (files_of key (rows_of names.old.items)) + count_under key changes.now
         ≤ room_at key (rooms_of names.new.items)) }
+    ensures lean { OnOk result (length names.new.items ≤ length (rows_of names.old.items) + length changes.now) }
 {
     drop_empty(names);
     want_none(names);
@@ -101,41 +103,37 @@ pub(crate) fn make_room(
     Ok(())
 }
 
-// A file goes to another name that has room for it, and then so many unmarked generations are kept.
-fn rename(names: &mut [Entry], pair: NamePair, retention: u8)
+// A file goes to another name that has room for it, and then as many unmarked generations are kept as it says.
+fn rename(names: &mut [Entry], pair: NamePair)
     requires names { ascends by_name names.old ≡ true }
     requires doable { is_doable (rows_of names.old) (Move pair) ≡ true }
     requires numbered { is_numbered pair.target.generation ≡ true }
     requires room { let key = pair.target.key in
         length (files_of key (rows_of names.old)) < room_at key (rooms_of names.old) }
-    ensures rows { rows_of names.new ≡ moved retention pair (rows_of names.old) }
+    ensures rows { rows_of names.new ≡ moved pair (rows_of names.old) }
     ensures ascend { ascends by_name names.new ≡ true }
     ensures rooms { rooms_of names.new ≡ rooms_of names.old }
 {
     let NamePair { source, target } = pair;
     if let Some(file) = remove(names, &source) {
-        put(
-            names,
-            Row::new(target.key, target.generation, file.moment, file.bytes),
-            retention,
-        );
+        put(names, Row::with_name(target, file));
     }
 }
 
 // One change, where there is room for what it puts.
-fn change_name(names: &mut [Entry], change: RowChange, retention: u8)
+fn change_name(names: &mut [Entry], change: RowChange)
     requires names { ascends by_name names.old ≡ true }
     requires lawful { is_lawful change ≡ true }
     requires doable { is_doable (rows_of names.old) change ≡ true }
     requires room { (key : Named) → puts_under key change ≡ true
         → length (files_of key (rows_of names.old)) < room_at key (rooms_of names.old) }
-    ensures rows { rows_of names.new ≡ rows_after retention (rows_of names.old) change }
+    ensures rows { rows_of names.new ≡ rows_after (rows_of names.old) change }
     ensures ascend { ascends by_name names.new ≡ true }
     ensures rooms { rooms_of names.new ≡ rooms_of names.old }
 {
     match change {
-        RowChange::Add(row) => put(names, row, retention),
-        RowChange::Move(pair) => rename(names, pair, retention),
+        RowChange::Add(row) => put(names, row),
+        RowChange::Move(pair) => rename(names, pair),
         RowChange::Fill {
             target,
             moment,
@@ -145,18 +143,18 @@ fn change_name(names: &mut [Entry], change: RowChange, retention: u8)
 }
 
 // All changes, one after the other, where there is room for what they put.
-pub(crate) fn change_names(names: &mut [Entry], changes: Vec<RowChange>, retention: u8)
+pub(crate) fn change_names(names: &mut [Entry], changes: Vec<RowChange>)
     requires names { ascends by_name names.old ≡ true }
     requires lawful { list_all is_lawful changes.items ≡ true }
-    requires doable { are_doable retention (rows_of names.old) changes.items ≡ true }
+    requires doable { are_doable (rows_of names.old) changes.items ≡ true }
     requires room { (key : Named) → 0 < count_under key changes.items
         → length (files_of key (rows_of names.old)) + count_under key changes.items
         ≤ room_at key (rooms_of names.old) }
-    ensures rows { rows_of names.new ≡ rows_after_all retention (rows_of names.old) changes.items }
+    ensures rows { rows_of names.new ≡ rows_after_all (rows_of names.old) changes.items }
     ensures ascend { ascends by_name names.new ≡ true }
     ensures rooms { rooms_of names.new ≡ rooms_of names.old }
 {
     for change in changes {
-        change_name(names, change, retention);
+        change_name(names, change);
     }
 }

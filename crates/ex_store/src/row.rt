@@ -2,7 +2,7 @@
 ghost use Rattle.std.specs.Prelude.{◌≡◌};
 ghost use Rattle.ex_store.specs.Adding.{new_row};
 ghost use Rattle.ex_store.specs.Lent.{row_of_view};
-ghost use Rattle.ex_store.specs.Rows.{blank, full_of};
+ghost use Rattle.ex_store.specs.Rows.{blank, full_of, with_name};
 
 use crate::key::copy_of;
 use crate::{FullName, Key};
@@ -15,7 +15,7 @@ use std::alloc::Global;
 pub struct Row {
     /// Its directory, name and type.
     pub key: Key,
-    /// Its generation, mark, moment and bytes.
+    /// Its generation, its mark, how many generations it keeps, its moments and its bytes.
     pub file: File,
 }
 
@@ -28,27 +28,46 @@ pub struct RowView<'a> {
     pub name: &'a Name,
     /// Its type.
     pub kind: &'a Name,
-    /// Its generation, mark, moment and bytes.
+    /// Its generation, its mark, how many generations it keeps, its moments and its bytes.
     pub file: &'a File,
 }
 
 impl Row {
-    // A new file, unmarked.
-    pub(crate) fn new(key: Key, generation: u32, moment: u64, bytes: Bytes) -> Row
-        ensures { result ≡ new_row key moment bytes generation }
+    // A new file, unmarked, that keeps so many generations; nobody has read it.
+    pub(crate) fn new(key: Key, keep: u8, generation: u32, moment: u64, bytes: Bytes) -> Row
+        ensures { result ≡ new_row key keep moment bytes generation }
     {
         Row {
             key,
             file: File {
                 generation,
                 deleted: false,
+                keep,
                 moment,
+                read: None,
                 bytes,
             },
         }
     }
 
-    // The same without its bytes.
+    // A file under another full name, unmarked.
+    pub(crate) fn with_name(target: FullName, file: File) -> Row
+        ensures { result ≡ with_name target file }
+    {
+        Row {
+            key: target.key,
+            file: File {
+                generation: target.generation,
+                deleted: false,
+                keep: file.keep,
+                moment: file.moment,
+                read: file.read,
+                bytes: file.bytes,
+            },
+        }
+    }
+
+    // The same without its bytes, as if nobody had read it.
     pub(crate) fn blank(&self, alloc: Global) -> Row
         ensures { result ≡ blank self.now }
     {
@@ -57,7 +76,9 @@ impl Row {
             file: File {
                 generation: self.file.generation,
                 deleted: self.file.deleted,
+                keep: self.file.keep,
                 moment: self.file.moment,
+                read: None,
                 bytes: Bytes::new(Vec::new(alloc)),
             },
         }

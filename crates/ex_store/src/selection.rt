@@ -124,7 +124,7 @@ impl Store {
         // A use of a field, for the proof: the state is well formed.
         let _ = &self.directories;
         let at = self.next_meant(directory, files, deleted, from)?;
-        Some((at, self.row_at(directory, at)))
+        Some((at, self.row_at(directory, at, &mut 0)))
     }
 
     // Where the rows stand that a place means, with this mark.

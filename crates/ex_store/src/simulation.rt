@@ -4,17 +4,18 @@ ghost use Rattle.std.specs.List.{list_all};
 ghost use Rattle.cm_files.specs.Catalogue.{ascends};
 ghost use Rattle.ex_store.specs.declared.limits.TheConstants.{ROW_LIMIT};
 ghost use Rattle.ex_store.specs.FileNames.{by_name, rows_of};
-ghost use Rattle.ex_store.specs.Ready.{is_lawful, of_files};
+ghost use Rattle.ex_store.specs.Ready.{is_lawful, is_reading_within, of_files};
 ghost use Rattle.ex_store.specs.Rows.{blank, rows_in_either};
 
 use crate::file_name::Entry;
 use crate::files::Files;
+use crate::ready::Reading;
 use crate::{NamePair, Ready, RowChange};
 use cm_io::NoMemory;
 use std::alloc::Global;
 
 // What is to be done, from which file to which one each goes, and the files of the directories that the plan touches,
-// by name, as they stand then, without their bytes.
+// by name, as they stand then, without their bytes, as if nobody had read them.
 #[derive(Drop)]
 pub(crate) struct Simulation {
     pub(crate) row_changes: Vec<RowChange>,
@@ -43,17 +44,18 @@ impl Simulation {
         })
     }
 
-    // All that is to be done, where so many generations are kept.
-    pub(crate) fn ready(self, alloc: Global, retention: u8) -> Ready
+    // All that is to be done, where the files of a place are read before.
+    pub(crate) fn ready(self, alloc: Global, reading: Option<Reading>) -> Ready
+        requires within { is_reading_within reading ≡ true }
         requires few { length self.pairs.items ≤ ROW_LIMIT }
         requires lawful { list_all is_lawful self.row_changes.items ≡ true }
-        ensures { result ≡ of_files retention self.row_changes.items self.pairs.items }
+        ensures { result ≡ of_files reading self.row_changes.items self.pairs.items }
     {
         let Simulation {
             row_changes,
             pairs,
             ..
         } = self;
-        Ready::of_files(alloc, retention, row_changes, pairs)
+        Ready::of_files(alloc, reading, row_changes, pairs)
     }
 }

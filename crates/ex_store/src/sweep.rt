@@ -80,6 +80,7 @@ pub(crate) fn drop_empty(names: &mut Vec<Entry>)
     requires { ascends by_name names.old.items ≡ true }
     ensures rows { rows_of names.new.items ≡ rows_of names.old.items }
     ensures ascend { ascends by_name names.new.items ≡ true }
+    ensures lean { length names.new.items ≤ length (rows_of names.old.items) }
 {
     names.retain(|name| !name.files().is_empty());
 }

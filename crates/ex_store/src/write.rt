@@ -1,9 +1,9 @@
 // A file is written.
-ghost use Rattle.std.specs.Prelude.{◌≡◌, true, [], ◌∷◌, IfOk, IfErr, Ok};
+ghost use Rattle.std.specs.Prelude.{◌≡◌, true, [], ◌∷◌, IfOk, IfErr, None, Ok};
 ghost use Rattle.ex_store.specs.declared.plan.Plan.TheVariants as plans;
 ghost use Rattle.ex_store.specs.declared.ready.RowChange.TheVariants as changes;
 ghost use Rattle.ex_store.specs.Plan.{IsRefused, MayPlan, planned};
-ghost use Rattle.ex_store.specs.Ready.{applied, are_doable, done_on, is_lawful, of_files};
+ghost use Rattle.ex_store.specs.Ready.{applied, are_doable, done_on, is_lawful, of_files, rows_read};
 ghost use Rattle.ex_store.specs.Rows.{full_of};
 ghost use Rattle.ex_store.specs.WellFormed.{IsWellFormed};
 
@@ -16,10 +16,10 @@ use ex_generations::Bytes;
 use std::alloc::Global;
 
 // One row is added, which is its own source.
-fn one_add(alloc: Global, row: Row, retention: u8) -> Result<Ready, NoMemory>
+fn one_add(alloc: Global, row: Row) -> Result<Ready, NoMemory>
     requires { is_lawful (changes.Add row) ≡ true }
     ensures { IfOk result (λ ready. ready
-        ≡ of_files retention (changes.Add row ∷ []) ((record { source = full_of row; target = full_of row }) ∷ [])) }
+        ≡ of_files None (changes.Add row ∷ []) ((record { source = full_of row; target = full_of row }) ∷ [])) }
 {
     let mut pairs = Vec::new(alloc);
     pairs.push(NamePair {
@@ -28,7 +28,7 @@ fn one_add(alloc: Global, row: Row, retention: u8) -> Result<Ready, NoMemory>
     })?;
     let mut row_changes = Vec::new(alloc);
     row_changes.push(RowChange::Add(row))?;
-    Ok(Ready::of_files(alloc, retention, row_changes, pairs))
+    Ok(Ready::of_files(alloc, None, row_changes, pairs))
 }
 
 impl Store {
@@ -39,7 +39,7 @@ impl Store {
             planned (plans.Write to.now bytes) moment self.now.state ≡ Ok (done_on self.now.state ready)) }
         ensures sound { IfOk result (λ ready. IsWellFormed (applied ready self.now.state)) }
         ensures doable { IfOk result (λ ready.
-            are_doable ready.retention self.now.state.rows ready.row_changes ≡ true) }
+            are_doable (rows_read ready.reading self.now.state) ready.row_changes ≡ true) }
         ensures refused { IfErr result (IsRefused (planned (plans.Write to.now bytes) moment self.now.state)) }
     {
         if to.lacks_name() {
@@ -53,9 +53,10 @@ impl Store {
             Ok(generation) => generation,
             Err(code) => return Err(Refusal::Code(code)),
         };
-        let row = Row::new(key, generation, moment_of(moment), bytes);
         let retention = self.directories.retention_of(to.directory.as_str());
-        match one_add(self.alloc, row, retention) {
+        let keep = self.files.keep_at(&key, retention);
+        let row = Row::new(key, keep, generation, moment_of(moment), bytes);
+        match one_add(self.alloc, row) {
             Ok(ready) => Ok(ready),
             Err(NoMemory) => Err(Refusal::NoMemory),
         }

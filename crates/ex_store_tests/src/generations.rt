@@ -3,7 +3,7 @@
 mod files;
 mod steps;
 
-use steps::{each_afresh, tells};
+use steps::{each_afresh, even, tells};
 
 #[test]
 fn retention_marks_the_lowest(rt: HostRuntime) {
@@ -65,22 +65,61 @@ fn marks_are_set_and_cleared(rt: HostRuntime) {
 
 #[test]
 fn a_file_is_taken_out(rt: HostRuntime) {
-    tells(&rt, "1 2- 3; remove 2; files -> 2-@5=; 1 3");
+    tells(&rt, "1 2- 3; remove 2; files -> 2-:0@5=; 1 3");
 }
 
 #[test]
 fn a_file_is_replaced(rt: HostRuntime) {
     tells(
         &rt,
-        "1 2; replace 1 77 new; remove 1; files -> 1 2; 1@77=new; 2",
+        "1 2; touch 1 9; replace 1 77 new; remove 1; files -> Ok(()); 1 2; 1:0@77/9=new; 2",
     );
 }
 
 #[test]
-fn a_blank_has_no_bytes(rt: HostRuntime) {
+fn a_blank_has_no_bytes_and_was_not_read(rt: HostRuntime) {
     tells(
         &rt,
-        "1 2-; replace 1 77 new; blank; remove 1 -> 1 2-; 1@77= 2-@5=; 1@77=new",
+        "1 2-; replace 1 77 new; touch 1 9; set_keep 2 3; blank; all -> \
+1 2-; Ok(()); Ok(()); 1:0@77= 2-:3@5=; 1:0@77/9=new 2-:3@5=",
+    );
+}
+
+#[test]
+fn a_file_is_put_in_as_it_is(rt: HostRuntime) {
+    tells(
+        &rt,
+        "1 3; insert 2 1; insert 4 1; all -> 1 2- 3; 1 2- 3 4-; 1:0@5= 2-:1@5= 3:0@5= 4-:1@5=",
+    );
+}
+
+#[test]
+fn the_highest_says_what_the_next_keeps(rt: HostRuntime) {
+    each_afresh(
+        &rt,
+        "\
+; keep_for 7 -> 7
+; keep_for 0 -> 0
+1 2; keep_for 7 -> 0
+1 2; set_keep 1 5; set_keep 2 3; keep_for 7 -> Ok(()); Ok(()); 3
+1 2-; set_keep 1 5; set_keep 2 63; keep_for 7 -> Ok(()); Ok(()); 63",
+    );
+}
+
+#[test]
+fn what_a_file_keeps_marks_no_other(rt: HostRuntime) {
+    tells(
+        &rt,
+        "1 2- 3; set_keep 3 1; set_keep 2 9; set_keep 4 1; all -> \
+Ok(()); Ok(()); Err(NoGen); 1:0@5= 2-:9@5= 3:1@5=",
+    );
+}
+
+#[test]
+fn a_file_is_read(rt: HostRuntime) {
+    tells(
+        &rt,
+        "1 2-; touch 2 77; touch 3 77; touch 1 0; all -> Ok(()); Err(NoGen); Ok(()); 1:0@5/0= 2-:0@5/77=",
     );
 }
 
@@ -95,4 +134,16 @@ fn retention_may_come_alone(rt: HostRuntime) {
 #[test]
 fn room_is_made(rt: HostRuntime) {
     tells(&rt, "; reserve 0; reserve 2; files -> Ok(()); Ok(()); none");
+}
+
+#[test]
+fn a_generation_is_looked_for_by_halving(rt: HostRuntime) {
+    let gens = even(&rt, 1_024);
+    for generation in [0, 1, 2, 3, 1_023, 1_024, 1_025, 2_047, 2_048, 2_049, 131_071] {
+        let mut probes = 0;
+        let found = gens.position(generation, &mut probes);
+        let is_there = generation > 0 && generation <= 2_048 && generation % 2 == 0;
+        assert_eq!(rt; found.is_some(), is_there, "{generation}");
+        assert!(rt; probes <= 11, "{generation}");
+    }
 }

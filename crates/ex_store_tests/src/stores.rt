@@ -14,3 +14,4 @@ mod prints;
 mod refusals;
 mod renames;
 mod retention;
+mod searches;

@@ -1,25 +1,40 @@
 // What is done with the generations of a file, as a text: the generations that there are first, a minus behind each
 // that is marked as deleted, and then the steps.
 
-use super::files::{file, put_numbers, put_whole};
+use super::files::{file, put_all, put_numbers, put_whole};
 use crate::cases::{first_word, halves, is_told};
-use ex_generations::{Bytes, FILE_LIMIT, GENERATION_LIMIT, Gens};
+use ex_generations::{Bytes, FILE_LIMIT, GENERATION_LIMIT, Gens, NoGen};
 use std::alloc::AllocError;
 use std::process::Abort;
 
-// Adds a file of this many bytes.
-fn add(
-    rt: &(impl Abort + AllocGlobal),
-    gens: &mut Gens,
-    generation: u32,
-    retention: u8,
-    size: usize,
-) {
+// Adds a file of this many bytes that keeps so many.
+fn add(rt: &(impl Abort + AllocGlobal), gens: &mut Gens, generation: u32, keep: u8, size: usize) {
     assert!(rt; generation > 0 && generation <= GENERATION_LIMIT && size <= FILE_LIMIT);
     assert!(rt; !gens.has(generation), "{generation} is there");
-    let file = file(rt.alloc(), generation, size).expect(rt, "memory");
+    let file = file(rt.alloc(), generation, keep, size).expect(rt, "memory");
     gens.reserve(1).expect(rt, "memory");
-    gens.add(file, retention);
+    gens.add(file);
+}
+
+// Puts an empty file, marked as deleted, that keeps so many among the others.
+fn insert(rt: &(impl Abort + AllocGlobal), gens: &mut Gens, generation: u32, keep: &str) {
+    assert!(rt; generation > 0 && generation <= GENERATION_LIMIT);
+    assert!(rt; !gens.has(generation), "{generation} is there");
+    let keep = keep.parse().expect(rt, "how many are kept");
+    let mut file = file(rt.alloc(), generation, keep, 0).expect(rt, "memory");
+    file.deleted = true;
+    gens.reserve(1).expect(rt, "memory");
+    gens.insert(file);
+}
+
+// How many a file keeps from now on.
+fn set_keep(rt: &impl Abort, gens: &mut Gens, generation: u32, keep: &str) -> Result<(), NoGen> {
+    gens.set_keep(generation, keep.parse().expect(rt, "how many are kept"))
+}
+
+// When a file is read.
+fn touch(rt: &impl Abort, gens: &mut Gens, generation: u32, moment: &str) -> Result<(), NoGen> {
+    gens.touch(generation, moment.parse().expect(rt, "a moment"))
 }
 
 // Adds an empty file, and marks it where a minus stands behind its generation.
@@ -35,9 +50,9 @@ fn add_marked(rt: &(impl Abort + AllocGlobal), gens: &mut Gens, text: &str) {
 }
 
 fn add_more(rt: &(impl Abort + AllocGlobal), gens: &mut Gens, generation: u32, more: &str) {
-    let (retention, size) = first_word(more);
-    let retention = retention.parse().expect(rt, "how many are kept");
-    add(rt, gens, generation, retention, size.parse().unwrap_or(0));
+    let (keep, size) = first_word(more);
+    let keep = keep.parse().expect(rt, "how many are kept");
+    add(rt, gens, generation, keep, size.parse().unwrap_or(0));
 }
 
 fn replace(rt: &(impl Abort + AllocGlobal), gens: &mut Gens, generation: u32, more: &str) {
@@ -77,13 +92,7 @@ fn put_blank(
     told: &mut String,
 ) -> Result<(), AllocError> {
     let blank = gens.blank(rt.alloc()).expect(rt, "memory");
-    for i in 0..blank.len() {
-        if i > 0 {
-            told.push(' ')?;
-        }
-        put_whole(told, blank.file(i))?;
-    }
-    Ok(())
+    put_all(told, &blank)
 }
 
 // What comes of a step that names a generation, or a number.
@@ -99,6 +108,10 @@ fn put_change(
     match verb {
         "add" => add_more(rt, gens, number, more),
         "replace" => replace(rt, gens, number, more),
+        "insert" => insert(rt, gens, number, more),
+        "set_keep" => return write!(told, "{:?}", set_keep(rt, gens, number, more)),
+        "touch" => return write!(told, "{:?}", touch(rt, gens, number, more)),
+        "keep_for" => return write!(told, "{}", gens.keep_for(number.min(63) as u8)),
         "mark" => return write!(told, "{:?}", gens.mark(number)),
         "unmark" => return write!(told, "{:?}", gens.unmark(number)),
         "remove" => return remove(rt, gens, number, told),
@@ -117,6 +130,7 @@ fn put_step(
     let (verb, rest) = first_word(step);
     match verb {
         "files" => put_numbers(told, gens),
+        "all" => put_all(told, gens),
         "next" => write!(told, "{:?}", gens.next()),
         "ends" => put_ends(told, gens),
         "blank" => put_blank(rt, gens, told),
@@ -145,6 +159,15 @@ fn made(rt: &(impl Abort + AllocGlobal), marks: &str) -> Gens {
     let mut gens = Gens::new(rt.alloc());
     for text in marks.split_whitespace() {
         add_marked(rt, &mut gens, text);
+    }
+    gens
+}
+
+/// Empty files of so many generations: 2, 4, 6 and so on.
+pub(super) fn even(rt: &(impl Abort + AllocGlobal), count: u32) -> Gens {
+    let mut gens = Gens::new(rt.alloc());
+    for number in 0..count {
+        add(rt, &mut gens, number.saturating_add(1).saturating_mul(2), 0, 0);
     }
     gens
 }

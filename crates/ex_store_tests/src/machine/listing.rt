@@ -84,6 +84,29 @@ pub(super) fn put_contents(list: &mut String, store: &Store) -> Result<(), Alloc
     put_end(list, is_first)
 }
 
+// A file with what it keeps, and when it was written and read.
+fn put_stamp(list: &mut String, row: RowView<'_>) -> Result<(), AllocError> {
+    put_row(list, row)?;
+    let keep = row.file.keep;
+    let moment = row.file.moment;
+    write!(list, ":{keep}/{moment}/")?;
+    match row.file.read {
+        Some(read) => write!(list, "{read}"),
+        None => list.push('-'),
+    }
+}
+
+/// All files with what they keep and when they were written and read, with a space between.
+pub(super) fn put_stamps(list: &mut String, store: &Store) -> Result<(), AllocError> {
+    let mut is_first = true;
+    let parts = store.parts();
+    for i in 0..parts.rows() {
+        put_space(list, &mut is_first)?;
+        put_stamp(list, parts.row(i))?;
+    }
+    put_end(list, is_first)
+}
+
 /// How many bytes each file has, with a space between.
 pub(super) fn put_sizes(list: &mut String, store: &Store) -> Result<(), AllocError> {
     let mut is_first = true;

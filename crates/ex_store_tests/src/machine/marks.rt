@@ -1,9 +1,9 @@
-// Files that are deleted, undeleted, expunged and looked for.
+// Files that are deleted, undeleted, read, expunged and looked for.
 
 use super::forms::has;
 use super::places::place;
 use crate::cases::first_word;
-use ex_store::Store;
+use ex_store::{MOMENT_LIMIT, RETENTION_LIMIT, Store};
 use std::process::Abort;
 
 /// Marks the files of a place, or clears their marks.
@@ -18,6 +18,22 @@ pub(super) fn remark(rt: &impl Abort, store: &mut Store, files: &str, deleted: b
     } else {
         store.unmark(&files)
     }
+}
+
+/// Sets how many generations the files of a place keep: the place, and how many.
+pub(super) fn set_keep(rt: &impl Abort, store: &mut Store, words: &str) -> u32 {
+    let (files, keep) = first_word(words);
+    let keep: u8 = keep.parse().expect(rt, "how many are kept");
+    assert!(rt; keep <= RETENTION_LIMIT);
+    store.set_keep(&place(rt, files), keep)
+}
+
+/// Sets when the files of a place were last read: the place, and the moment.
+pub(super) fn touch(rt: &impl Abort, store: &mut Store, words: &str) -> u32 {
+    let (files, moment) = first_word(words);
+    let moment: u64 = moment.parse().expect(rt, "a moment");
+    assert!(rt; moment <= MOMENT_LIMIT);
+    store.touch(&place(rt, files), moment)
 }
 
 /// Expunges a directory.

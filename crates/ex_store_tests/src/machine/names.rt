@@ -61,7 +61,7 @@ fn put_held(
         "there is no such directory"
     );
     assert!(rt; i < store.rows(directory), "there is no such file");
-    let file = store.file(directory, i);
+    let file = store.file(directory, i, &mut 0);
     let moment = file.moment;
     write!(list, "@{moment}=")?;
     for byte in file.bytes.as_slice() {

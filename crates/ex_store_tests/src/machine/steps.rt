@@ -1,7 +1,7 @@
 // What is done with a store, as a text: steps with `; ` between.
 
-use super::listing::{put_contents, put_names, put_selection, put_sizes};
-use super::marks::{connect, expunge, remark, select};
+use super::listing::{put_contents, put_names, put_selection, put_sizes, put_stamps};
+use super::marks::{connect, expunge, remark, select, set_keep, touch};
 use super::names::{
     put_catalogue, put_file, put_logical, put_logicals, put_queue, put_requests, put_retention,
 };
@@ -46,7 +46,7 @@ fn put_list(
 }
 
 // What a store tells: its catalogue, and what each directory keeps; a logical name, or all; a file, or the names, the
-// contents or the sizes of all, or those that a place means; the print queue; what a directory keeps, and its pages;
+// contents, the stamps or the sizes of all, or those that a place means; the print queue; what a directory keeps, and its pages;
 // its image; and the next file that a place means.
 fn put_answer(
     rt: &(impl Abort + AllocGlobal),
@@ -65,6 +65,7 @@ fn put_answer(
         "names" => put_names(told, store, rest),
         "list" => put_list(rt, told, store, rest),
         "contents" => put_contents(told, store),
+        "stamps" => put_stamps(told, store),
         "sizes" => put_sizes(told, store),
         "count" => write!(told, "{}", store.parts().rows()),
         "requests" => put_requests(told, store),
@@ -92,6 +93,8 @@ fn put_step(
         "files" => put_files(rt, store, rest, told),
         "mark" => write!(told, "{}", remark(rt, store, rest, true)),
         "unmark" => write!(told, "{}", remark(rt, store, rest, false)),
+        "keep" => write!(told, "{}", set_keep(rt, store, rest)),
+        "touch" => write!(told, "{}", touch(rt, store, rest)),
         "expunge" => write!(told, "{}", expunge(rt, store, rest)),
         "undefine" => write!(told, "{:?}", store.undefine(rest)),
         "connect" => {

@@ -35,6 +35,21 @@ append each:*.T B.T.-1; contents -> A.T.1=>B.T.2 B.T.1=>B.T.2; A.T.1@10=A.T B.T.
 }
 
 #[test]
+fn each_source_is_read_and_not_the_target(rt: HostRuntime) {
+    each_behind(
+        &rt,
+        "build OPERATOR 1; files A.T B.T; keep A.T 7; touch A.T 50; build OPERATOR 3",
+        "\
+append B.T A.T; stamps -> B.T.1=>A.T.1; A.T.1:7/99/50 B.T.1:1/20/99
+append A.T A.T; stamps -> A.T.1=>A.T.1; A.T.1:7/99/99 B.T.1:1/20/-
+append each:*.T A.T; stamps -> A.T.1=>A.T.1 B.T.1=>A.T.1; A.T.1:7/99/99 B.T.1:1/20/99
+append B.T A.T.-1; stamps -> B.T.1=>A.T.2; A.T.1:7/10/50 A.T.2:7/99/- B.T.1:1/20/99
+append B.T C.T; stamps -> B.T.1=>C.T.1; A.T.1:7/10/50 B.T.1:1/20/99 C.T.1:3/99/-
+append B.T A.T 18446744073709551615; stamps -> B.T.1=>A.T.1; A.T.1:7/4102444799/50 B.T.1:1/20/4102444799",
+    );
+}
+
+#[test]
 fn the_moment_is_at_most_the_last_one(rt: HostRuntime) {
     each_behind(
         &rt,

@@ -43,6 +43,34 @@ copy B.* *.*.9; names -> B.FOR.1=>B.FOR.9 B.TXT.1=>B.TXT.9; A.FOR.1 A.FOR.2 B.FO
 }
 
 #[test]
+fn each_source_is_read(rt: HostRuntime) {
+    each_behind(
+        &rt,
+        "build OPERATOR 0; files A.T B.T B.T; mark B.T.1",
+        "\
+copy *.T *.U; stamps -> A.T.1=>A.U.1 B.T.2=>B.U.1; A.T.1:0/10/99 A.U.1:0/99/- B.T.1-:0/20/- B.T.2:0/30/99 B.U.1:0/99/-
+copy A.T B.T; stamps -> A.T.1=>B.T.3; A.T.1:0/10/99 B.T.1-:0/20/- B.T.2:0/30/- B.T.3:0/99/-
+copy deleted:B.T.* A.T; stamps -> B.T.1=>A.T.2; A.T.1:0/10/- A.T.2:0/99/- B.T.1-:0/20/99 B.T.2:0/30/-
+copy A.T C.T 0; stamps -> A.T.1=>C.T.1; A.T.1:0/10/0 B.T.1-:0/20/- B.T.2:0/30/- C.T.1:0/0/-
+copy A.T C.T 18446744073709551615; stamps -> A.T.1=>C.T.1; \
+A.T.1:0/10/4102444799 B.T.1-:0/20/- B.T.2:0/30/- C.T.1:0/4102444799/-
+touch A.T 5; copy A.T C.T; stamps -> 1; A.T.1=>C.T.1; A.T.1:0/10/99 B.T.1-:0/20/- B.T.2:0/30/- C.T.1:0/99/-",
+    );
+}
+
+#[test]
+fn what_is_refused_is_not_read(rt: HostRuntime) {
+    each_behind(
+        &rt,
+        "build OPERATOR 0; files A.T B.T; touch B.T 5",
+        "\
+copy *.T B.T.1; stamps -> FileExists; A.T.1:0/10/- B.T.1:0/20/5
+copy C.T B.T; stamps -> none; A.T.1:0/10/- B.T.1:0/20/5
+append A.T B.T.9; stamps -> A.T.1=>B.T.9; A.T.1:0/10/99 B.T.1:0/20/5 B.T.9:0/99/-",
+    );
+}
+
+#[test]
 fn a_copy_of_a_marked_file_is_unmarked(rt: HostRuntime) {
     let mut store = store_behind(&rt, "files A.T A.T; build SMITH");
     in_turn(

@@ -9,7 +9,7 @@ fn a_new_store_is_written(rt: HostRuntime) {
     in_turn(
         &rt,
         &mut store,
-        "image -> EXEC20 1|D OPERATOR 1|C OPERATOR|E|",
+        "image -> EXEC20 2|D OPERATOR 1|C OPERATOR|E|",
     );
 }
 
@@ -23,7 +23,10 @@ fn the_files_stand_behind_their_lines(rt: HostRuntime) {
         &rt,
         &mut store,
         "\
-image -> EXEC20 1|D OPERATOR 1|D SMITH 1|C SMITH|\
-F SMITH A.TXT.1 D 7 8|one|two||F SMITH A.TXT.2 U 8 0||E|",
+image -> EXEC20 2|D OPERATOR 1|D SMITH 1|C SMITH|\
+F SMITH A.TXT.1 D 1 7 - 8|one|two||F SMITH A.TXT.2 U 1 8 - 0||E|
+keep <SMITH>A.TXT.2 63; touch deleted:<SMITH>A.TXT.1 9 -> 1; 1
+image -> EXEC20 2|D OPERATOR 1|D SMITH 1|C SMITH|\
+F SMITH A.TXT.1 D 1 7 9 8|one|two||F SMITH A.TXT.2 U 63 8 - 0||E|",
     );
 }

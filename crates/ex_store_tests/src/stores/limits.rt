@@ -31,10 +31,10 @@ build OPERATOR 2 -> none",
 
 // The image of a store with so many empty generations of A.T.
 fn image_with(alloc: Global, count: u32) -> Result<String, AllocError> {
-    let mut image = String::from_str(alloc, "EXEC20 1|D OPERATOR 0|C OPERATOR|")?;
+    let mut image = String::from_str(alloc, "EXEC20 2|D OPERATOR 0|C OPERATOR|")?;
     for i in 0..count {
         let generation = i.saturating_add(1);
-        write!(image, "F OPERATOR A.T.{generation} U 5 0||")?;
+        write!(image, "F OPERATOR A.T.{generation} U 0 5 - 0||")?;
     }
     image.push_str("E|")?;
     Ok(image)

@@ -8,7 +8,7 @@ use std::process::Abort;
 fn sample(rt: &(impl Abort + AllocGlobal)) -> Store {
     store_of(
         rt,
-        "EXEC20 1|D OPERATOR 1|D SMITH 3|C OPERATOR|L HOME SMITH|L SYS OPERATOR|\
+        "EXEC20 2|D OPERATOR 1|D SMITH 3|C OPERATOR|L HOME SMITH|L SYS OPERATOR|\
 Q SMITH A.TXT.7 2 WIDE - JOB-1 by noon|Q SMITH B.TXT.7 63 WIDE 47481 JOB-1 by noon|E|",
     )
 }

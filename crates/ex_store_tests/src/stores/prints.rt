@@ -40,7 +40,7 @@ print C.X; queue -> none; ",
 fn image_with(alloc: Global, count: u32) -> Result<String, AllocError> {
     let mut image = String::from_str(
         alloc,
-        "EXEC20 1|D OPERATOR 0|C OPERATOR|F OPERATOR A.T.1 U 5 0||F OPERATOR A.T.2 U 5 0||F OPERATOR B.X.1 U 5 0||",
+        "EXEC20 2|D OPERATOR 0|C OPERATOR|F OPERATOR A.T.1 U 0 5 - 0||F OPERATOR A.T.2 U 0 5 - 0||F OPERATOR B.X.1 U 0 5 - 0||",
     )?;
     for i in 0..count {
         let generation = i.saturating_add(1);

@@ -53,7 +53,19 @@ rename A.T.1 B.T; names -> none; A.T.1- A.T.2",
 }
 
 #[test]
-fn another_directory_keeps_its_own_number(rt: HostRuntime) {
+fn a_file_takes_what_it_keeps_and_its_reading_along(rt: HostRuntime) {
+    each_behind(
+        &rt,
+        "build OPERATOR 0; files A.T B.T B.T; keep A.T 1; touch A.T 77; build SMITH 2",
+        "\
+rename A.T <SMITH>C.T; stamps -> A.T.1=><SMITH>C.T.1; B.T.1:0/20/- B.T.2:0/30/- C.T.1:1/10/77
+rename A.T B.T; stamps -> A.T.1=>B.T.3; B.T.1-:0/20/- B.T.2-:0/30/- B.T.3:1/10/77
+rename each:B.T.* A.T; stamps -> B.T.1=>A.T.2 B.T.2=>A.T.3; A.T.1:1/10/77 A.T.2:0/20/- A.T.3:0/30/-",
+    );
+}
+
+#[test]
+fn what_it_keeps_counts_in_another_directory(rt: HostRuntime) {
     let mut store = store_behind(
         &rt,
         "build OPERATOR 0; files A.T.3 A.T.8 B.T.1; build SMITH",
@@ -63,6 +75,6 @@ fn another_directory_keeps_its_own_number(rt: HostRuntime) {
         &mut store,
         "\
 rename each:*.* <SMITH> -> A.T.3=><SMITH>A.T.1 A.T.8=><SMITH>A.T.2 B.T.1=><SMITH>B.T.1
-names; names SMITH -> none; A.T.1- A.T.2 B.T.1",
+names; names SMITH -> none; A.T.1 A.T.2 B.T.1",
     );
 }

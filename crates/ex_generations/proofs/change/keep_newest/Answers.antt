@@ -7,5 +7,5 @@ use Rattle.ex_generations.proofs.change.keep_newest.Goals as goal
 
 pub returns-clause-ascending : goal.returns-clause-ascending
 returns-clause-ascending c =
-    let kept : c.loop-file.files ≡ kept_newest c.args.retention c.args.files.now = grind (arith, common_steps) in
-    subst (IsAscending 0) (sym kept) (IsAscending-kept c.args.retention c.args.files.now 0 c.requires)
+    let kept : c.loop-file.files ≡ kept_newest c.args.keep c.args.files.now = grind (arith, common_steps) in
+    subst (IsAscending 0) (sym kept) (IsAscending-kept c.args.keep c.args.files.now 0 c.requires)

@@ -4,4 +4,4 @@ use Rattle.ex_generations.proofs.search.has.Goals as goal
 
 pub returns : goal.returns
 returns c =
-    c.is_some.ensures ∙ has_position c.args.generation c.args.files.now c.position.result c.position.ensures
+    c.is_some.ensures ∙ has_position c.args.generation c.args.files.now c.position.result c.position.ensures.place

@@ -6,19 +6,19 @@ use Rattle.ex_generations.specs.declared.file.File.{File}
 use Rattle.ex_generations.proofs.Halving.{found_at, none_at}
 use Rattle.ex_generations.proofs.search.position.Goals as goal
 
-pub returns-in-Some : goal.returns-in-Some
-returns-in-Some c =
-    found_at c.args.generation c.args.files.now c.place-at.result c.in-Some.file.now c.place-at.ensures
+pub returns-in-Some-clause-place : goal.returns-in-Some-clause-place
+returns-in-Some-clause-place c =
+    found_at c.args.generation c.args.files.now c.place-at.result c.in-Some.file.now c.place-at.ensures.place
     (ltb-true _ _ (sym c.in-Some.ensures.lookup.0)) c.in-Some.ensures.lookup.1 c.if-file-generation.true
 
-pub returns-in_default : goal.returns-in_default
-returns-in_default c =
-    none_at c.args.generation c.args.files.now c.place-at.result c.requires c.place-at.ensures
+pub returns-in_default-clause-place : goal.returns-in_default-clause-place
+returns-in_default-clause-place c =
+    none_at c.args.generation c.args.files.now c.place-at.result c.requires c.place-at.ensures.place
     (λ d within same. c.if-file-generation.false
     (ap (λ (other : File). other.generation) (c.in-Some.ensures.lookup.1 ∙ get_or_default c.args.files.now c.place-at.result c.in-Some.file.now d within) ∙ same))
 
-pub returns-in_default-2 : goal.returns-in_default-2
-returns-in_default-2 c =
+pub returns-in_default-2-clause-place : goal.returns-in_default-2-clause-place
+returns-in_default-2-clause-place c =
     let past : nat_lt c.place-at.result (length c.args.files.now) ≡ false = sym c.get.ensures.lookup.0 ∙ ap is_some c.in_default.is in
-    none_at c.args.generation c.args.files.now c.place-at.result c.requires c.place-at.ensures
+    none_at c.args.generation c.args.files.now c.place-at.result c.requires c.place-at.ensures.place
     (λ d within same. both_ways _ past (lt-ltb _ _ within))

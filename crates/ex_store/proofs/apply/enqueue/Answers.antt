@@ -10,5 +10,5 @@ loop-entry-preserved c =
           ∙ (ap (λ (before : List QueueEntry). before ++ c.in-Some.entry ∷ []) c.loop-entry.invariant.done
           ∙ append_assoc c.args.queue.now.items c.loop-entry.yielded (c.in-Some.entry ∷ []));
       len = omega (arith, longer, c.put_last.ensures.len, c.loop-entry.invariant.len);
-      capacity = omega (arith, c.put_last.ensures.capacity, c.loop-entry.invariant.capacity);
+      capacity = c.put_last.ensures.capacity ∙ c.loop-entry.invariant.capacity;
     }

@@ -17,11 +17,11 @@ add-requires-clause-absent c =
 
 pub returns-clause-rows : goal.returns-clause-rows
 returns-clause-rows c =
-    added_there c.args.retention c.args.row c.enter.new.names.items c.in_ok-at.at c.index_mut.result.now c.add.new.self c.enter.ensures.ascend
+    added_there c.args.row.file.keep c.args.row c.enter.new.names.items c.in_ok-at.at c.index_mut.result.now c.add.new.self c.enter.ensures.ascend
     c.in_ok-at.ensures.within c.in_ok-at.ensures.there
     (c.in_ok-add.ensures.rows
-    ∙ ap (λ (it : FileName). added c.args.retention (row_under it.key c.args.row.file) (rows_under it)) c.index_mut.ensures.value)
-    ∙ ap (added c.args.retention c.args.row) c.enter.ensures.rows
+    ∙ ap (λ (it : FileName). added c.args.row.file.keep (row_under it.key c.args.row.file) (rows_under it)) c.index_mut.ensures.value)
+    ∙ ap (added c.args.row.file.keep c.args.row) c.enter.ensures.rows
 
 pub returns-clause-ascend : goal.returns-clause-ascend
 returns-clause-ascend c =

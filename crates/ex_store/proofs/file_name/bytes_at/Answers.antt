@@ -9,7 +9,7 @@ pub returns-in-Some : goal.returns-in-Some
 returns-in-Some c =
     c.bytes_at.ensures
     ∙ ap (λ (it : FileName). bytes_at (record { key = it.key; generation = c.args.full.now.generation }) (rows_under it)) c.index-names-at.is
-    ∙ bytes_there c.args.full.now c.args.names.now c.in-Some.at c.index-names-at.result c.requires (sym c.position.ensures ∙ c.in-Some.is)
+    ∙ bytes_there c.args.full.now c.args.names.now c.in-Some.at c.index-names-at.result c.requires (sym c.position.ensures.place ∙ c.in-Some.is)
 
 pub returns-in-None : goal.returns-in-None
-returns-in-None c = sym (bytes_absent c.args.full.now c.args.names.now (sym c.position.ensures ∙ c.in-None.is))
+returns-in-None c = sym (bytes_absent c.args.full.now c.args.names.now (sym c.position.ensures.place ∙ c.in-None.is))

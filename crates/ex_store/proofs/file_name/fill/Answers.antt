@@ -5,7 +5,7 @@ use Rattle.ex_store.proofs.file_name.fill.Goals as goal
 pub returns-in-Some-clause-rows : goal.returns-in-Some-clause-rows
 returns-in-Some-clause-rows c =
     filled_there c.args.target.now c.args.moment c.args.bytes c.args.names.now c.in-Some.at c.index-names-at.result c.fill.new.self c.requires.names
-    (sym c.position.ensures ∙ c.in-Some.is) c.fill.ensures.rows
+    (sym c.position.ensures.place ∙ c.in-Some.is) c.fill.ensures.rows
 
 pub returns-in-Some-clause-ascend : goal.returns-in-Some-clause-ascend
 returns-in-Some-clause-ascend c = ascends_set c.args.names.now c.in-Some.at c.fill.new.self c.index-names-at.result c.requires.names c.fill.ensures.key
@@ -15,4 +15,4 @@ returns-in-Some-clause-rooms c = rooms_set c.args.names.now c.in-Some.at c.fill.
 
 pub returns-in_default-clause-rows : goal.returns-in_default-clause-rows
 returns-in_default-clause-rows c =
-    sym (filled_absent c.args.target.now c.args.moment c.args.bytes c.args.names.now (sym c.position.ensures ∙ c.in_default.is))
+    sym (filled_absent c.args.target.now c.args.moment c.args.bytes c.args.names.now (sym c.position.ensures.place ∙ c.in_default.is))

@@ -10,9 +10,9 @@ returns-in-Some c =
     c.found_beside.ensures
     ∙ ap (λ (kept : Kept). found c.args.generation kept.files) c.gens.ensures
     ∙ ap (found c.args.generation)
-    (sym (files_found c.args.key.now c.args.names.now c.in-Some.at c.index-names-at.result c.requires (sym c.position.ensures ∙ c.in-Some.is) c.index-names-at.is))
+    (sym (files_found c.args.key.now c.args.names.now c.in-Some.at c.index-names-at.result c.requires (sym c.position.ensures.place ∙ c.in-Some.is) c.index-names-at.is))
 
 pub returns-in-None : goal.returns-in-None
 returns-in-None c =
     sym (found_none c.args.generation)
-    ∙ ap (found c.args.generation) (sym (files_absent c.args.key.now c.args.names.now (sym c.position.ensures ∙ c.in-None.is)))
+    ∙ ap (found c.args.generation) (sym (files_absent c.args.key.now c.args.names.now (sym c.position.ensures.place ∙ c.in-None.is)))

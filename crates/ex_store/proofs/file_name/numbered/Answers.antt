@@ -9,9 +9,9 @@ returns-in-Some c =
     c.numbered_beside.ensures
     ∙ ap (λ (kept : Kept). numbered c.args.generation kept.files) c.gens.ensures
     ∙ ap (numbered c.args.generation)
-    (sym (files_found c.args.key.now c.args.names.now c.in-Some.at c.index-names-at.result c.requires (sym c.position.ensures ∙ c.in-Some.is) c.index-names-at.is))
+    (sym (files_found c.args.key.now c.args.names.now c.in-Some.at c.index-names-at.result c.requires (sym c.position.ensures.place ∙ c.in-Some.is) c.index-names-at.is))
 
 pub returns-in-None : goal.returns-in-None
 returns-in-None c =
     c.first_number.ensures
-    ∙ ap (numbered c.args.generation) (sym (files_absent c.args.key.now c.args.names.now (sym c.position.ensures ∙ c.in-None.is)))
+    ∙ ap (numbered c.args.generation) (sym (files_absent c.args.key.now c.args.names.now (sym c.position.ensures.place ∙ c.in-None.is)))

@@ -10,21 +10,21 @@ use Rattle.ex_store.proofs.FileNamesLaws.{key_place, names_rise}
 use Rattle.ex_store.proofs.HalvingLaws.{found_at, none_there}
 use Rattle.ex_store.proofs.file_name.position.Goals as goal
 
-pub returns-in-Some : goal.returns-in-Some
-returns-in-Some c =
-    found_at (key_place c.args.key.now) c.args.names.now c.place-at.result c.in-Some.entry.now c.place-at.ensures
+pub returns-in-Some-clause-place : goal.returns-in-Some-clause-place
+returns-in-Some-clause-place c =
+    found_at (key_place c.args.key.now) c.args.names.now c.place-at.result c.in-Some.entry.now c.place-at.ensures.place
     (ltb-true _ _ (sym c.in-Some.ensures.lookup.0)) c.in-Some.ensures.lookup.1
     (ap (λ (it : Key). is_eq (by_key it c.args.key.now)) (sym c.key.ensures) ∙ ap is_eq (sym c.key_cmp.ensures) ∙ sym c.is_eq.ensures ∙ c.if-is_eq.true)
 
-pub returns-in_default : goal.returns-in_default
-returns-in_default c =
-    none_there (key_place c.args.key.now) c.args.names.now c.place-at.result (names_rise c.args.key.now c.args.names.now c.requires) c.place-at.ensures
+pub returns-in_default-clause-place : goal.returns-in_default-clause-place
+returns-in_default-clause-place c =
+    none_there (key_place c.args.key.now) c.args.names.now c.place-at.result (names_rise c.args.key.now c.args.names.now c.requires) c.place-at.ensures.place
     (λ d within. ap (is_under c.args.key.now)
     (sym (c.in-Some.ensures.lookup.1 ∙ get_or_default c.args.names.now c.place-at.result c.in-Some.entry.now d within))
     ∙ ap (λ (it : Key). is_eq (by_key it c.args.key.now)) (sym c.key.ensures) ∙ ap is_eq (sym c.key_cmp.ensures) ∙ sym c.is_eq.ensures ∙ c.if-is_eq.false)
 
-pub returns-in_default-2 : goal.returns-in_default-2
-returns-in_default-2 c =
+pub returns-in_default-2-clause-place : goal.returns-in_default-2-clause-place
+returns-in_default-2-clause-place c =
     let past : nat_lt c.place-at.result (length c.args.names.now) ≡ false = sym c.get.ensures.lookup.0 ∙ ap is_some c.in_default.is in
-    none_there (key_place c.args.key.now) c.args.names.now c.place-at.result (names_rise c.args.key.now c.args.names.now c.requires) c.place-at.ensures
+    none_there (key_place c.args.key.now) c.args.names.now c.place-at.result (names_rise c.args.key.now c.args.names.now c.requires) c.place-at.ensures.place
     (λ d within. absurd (both_ways _ past (lt-ltb _ _ within)))

@@ -8,7 +8,7 @@ use Rattle.ex_store.proofs.file_name.put.Goals as goal
 
 pub put-requires-clause-room : goal.put-requires-clause-room
 put-requires-clause-room c =
-    let found : position (is_under c.args.row.key) c.args.names.now ≡ Some c.in-Some.at = sym c.position.ensures ∙ c.in-Some.is in
+    let found : position (is_under c.args.row.key) c.args.names.now ≡ Some c.in-Some.at = sym c.position.ensures.place ∙ c.in-Some.is in
     let files : files_of c.args.row.key (rows_of c.args.names.now) ≡ (get_or c.args.names.now c.in-Some.at c.index-names-at.result).gens.files =
     files_found c.args.row.key c.args.names.now c.in-Some.at c.index-names-at.result c.requires.names found c.index-names-at.is
     ∙ ap (λ (it : FileName). it.gens.files) c.index-names-at.is in
@@ -18,7 +18,7 @@ put-requires-clause-room c =
 
 pub put-requires-clause-absent : goal.put-requires-clause-absent
 put-requires-clause-absent c =
-    let found : position (is_under c.args.row.key) c.args.names.now ≡ Some c.in-Some.at = sym c.position.ensures ∙ c.in-Some.is in
+    let found : position (is_under c.args.row.key) c.args.names.now ≡ Some c.in-Some.at = sym c.position.ensures.place ∙ c.in-Some.is in
     ap (λ (it : FileName). has c.args.row.file.generation it.gens.files) (sym c.index-names-at.is)
     ∙ ap (has c.args.row.file.generation)
     (sym (files_found c.args.row.key c.args.names.now c.in-Some.at c.index-names-at.result c.requires.names found c.index-names-at.is))
@@ -26,13 +26,13 @@ put-requires-clause-absent c =
 
 pub unreachable-requires : goal.unreachable-requires
 unreachable-requires c =
-    let none = room_none c.args.row.key c.args.names.now (sym c.position.ensures ∙ c.in-None.is) in
+    let none = room_none c.args.row.key c.args.names.now (sym c.position.ensures.place ∙ c.in-None.is) in
     omega (arith, c.requires.room, none)
 
 pub returns-clause-rows : goal.returns-clause-rows
 returns-clause-rows c =
-    added_found c.args.retention c.args.row c.args.names.now c.in-Some.at c.index-names-at.result c.put.new.self c.requires.names
-    (sym c.position.ensures ∙ c.in-Some.is) c.put.ensures.rows
+    added_found c.args.row.file.keep c.args.row c.args.names.now c.in-Some.at c.index-names-at.result c.put.new.self c.requires.names
+    (sym c.position.ensures.place ∙ c.in-Some.is) c.put.ensures.rows
 
 pub returns-clause-ascend : goal.returns-clause-ascend
 returns-clause-ascend c = ascends_set c.args.names.now c.in-Some.at c.put.new.self c.index-names-at.result c.requires.names c.put.ensures.key

@@ -9,7 +9,7 @@ use Rattle.ex_store.proofs.rename.renames.Given as goal
 
 abbrev pub invariant-loop-at : goal.invariant-loop-at
 invariant-loop-at l = record {
-  renaming : IsRenaming l.directories.list l.retention l.from l.to l.files.rows (elements_at l.files.rows l.positions)
+  renaming : IsRenaming l.directories.list l.from l.to l.files.rows (elements_at l.files.rows l.positions)
       (elements_at l.files.rows (drop l.at-index l.positions)) l.simulation.row_changes.items l.simulation.pairs.items (rows_of l.simulation.names.items);
   names : ascends by_name l.simulation.names.items ≡ true;
   count : length l.simulation.pairs.items ≡ l.at-index;

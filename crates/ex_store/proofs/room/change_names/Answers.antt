@@ -12,7 +12,7 @@ change_name-requires-clause-doable c =
     let turn = YieldsList-turn all c.loop-change.yielded c.loop-change.change-iterator c.loop-change.yielded_by c.next.result
     c.next.new.self c.in-Some.change c.in-Some.is c.next.ensures.steps in
     rw c.loop-change.invariant.done
-    (doable_at c.args.retention (rows_of c.args.names.now) c.args.changes.items c.loop-change.yielded c.in-Some.change c.requires.doable
+    (doable_at (rows_of c.args.names.now) c.args.changes.items c.loop-change.yielded c.in-Some.change c.requires.doable
     (YieldsList-so_far all c.loop-change.yielded c.loop-change.change-iterator c.loop-change.yielded_by) turn.0 turn.1)
 
 pub change_name-requires-clause-room : goal.change_name-requires-clause-room
@@ -21,5 +21,5 @@ change_name-requires-clause-room c =
     let turn = YieldsList-turn all c.loop-change.yielded c.loop-change.change-iterator c.loop-change.yielded_by c.next.result
     c.next.new.self c.in-Some.change c.in-Some.is c.next.ensures.steps in
     λ key puts. rw (c.loop-change.invariant.done, c.loop-change.invariant.rooms)
-    (room_turn c.args.retention (rooms_of c.args.names.now) (rows_of c.args.names.now) c.args.changes.items c.loop-change.yielded c.in-Some.change c.requires.room
+    (room_turn (rooms_of c.args.names.now) (rows_of c.args.names.now) c.args.changes.items c.loop-change.yielded c.in-Some.change c.requires.room
     (YieldsList-so_far all c.loop-change.yielded c.loop-change.change-iterator c.loop-change.yielded_by) turn.0 turn.1 key puts)

@@ -6,7 +6,7 @@ use Rattle.ex_store.proofs.room.change_names.Given as goal
 
 abbrev pub invariant-loop-change : goal.invariant-loop-change
 invariant-loop-change l = record {
-  done : rows_of l.names ≡ rows_after_all l.retention (rows_of l.fn.names) l.yielded;
+  done : rows_of l.names ≡ rows_after_all (rows_of l.fn.names) l.yielded;
   ascend : ascends by_name l.names ≡ true;
   rooms : rooms_of l.names ≡ rooms_of l.fn.names;
 }

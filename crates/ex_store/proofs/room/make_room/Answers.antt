@@ -1,5 +1,7 @@
-use Rattle.std.proofs.Common.{◌≡◌, ℕ, length, subst, sym, ap, ◌∙◌, take, arith}
+use Rattle.std.proofs.Common.{◌≡◌, ℕ, List, length, subst, sym, ap, ◌∙◌, take, arith}
 use Rattle.std.proofs.Math.Seq.{take-length}
+use Rattle.std.proofs.lemmas.List.{length-map}
+use Rattle.ex_store.specs.declared.file_name.FileName.{FileName}
 use Rattle.std.proofs.lemmas.Grind.{common_steps}
 use Rattle.ex_store.specs.FileNames.{HaveRoom, rows_of, unwanted, wanted_at}
 use Rattle.ex_store.specs.Ready.{count_under}
@@ -15,6 +17,7 @@ loop-change-init c =
       ascend = rw none (ascends_unwanted names c.drop_empty.ensures.ascend);
       wanted = λ key. ap (wanted_at key) none ∙ wanted_none key names;
       room = subst HaveRoom (sym none) (room_unwanted names);
+      lean = omega (arith, ap (λ (it : List FileName). length it) none, length-map names (λ (name : FileName). record name { wanted = 0 }), c.drop_empty.ensures.lean);
     }
 
 pub returns-clause-room : goal.returns-clause-room

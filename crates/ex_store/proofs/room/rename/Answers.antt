@@ -10,7 +10,7 @@ pub put-requires-clause-room : goal.put-requires-clause-room
 put-requires-clause-room c =
     let size = ap (λ (it : List Row). length (files_of c.args.pair.target.key it)) c.remove.ensures.rows in
     let room = ap (room_at c.args.pair.target.key) c.remove.ensures.rooms in
-    let key : c.new.result.key ≡ c.args.pair.target.key = ap (λ (it : Row). it.key) c.new.ensures in
+    let key : c.with_name.result.key ≡ c.args.pair.target.key = ap (λ (it : Row). it.key) c.with_name.ensures in
     let own = ap (λ (it : Key). length (files_of it (rows_of c.remove.new.names))) key in
     let its = ap (λ (it : Key). room_at it (rooms_of c.remove.new.names)) key in
     omega (arith, size, room, own, its, size_without c.args.pair.source c.args.pair.target.key (rows_of c.args.names.now), c.requires.room)

@@ -1,5 +1,6 @@
 use Rattle.std.proofs.Common.{◌+◌, ℕ, cond, ap, ◌∙◌, arith}
 use Rattle.std.specs.Ordering.{is_eq}
+use Rattle.std.proofs.lemmas.List.{length-set}
 use Rattle.ex_store.specs.declared.file_name.FileName.{FileName}
 use Rattle.ex_store.specs.Rows.{by_key}
 use Rattle.ex_store.proofs.FileNamesLaws.{ascends_set, first_there, first_wanted}
@@ -48,3 +49,9 @@ returns-clause-wanted c =
 pub returns-clause-room : goal.returns-clause-room
 returns-clause-room c =
     room_more c.enter.new.names.items c.in_ok-at.at c.want.new.self c.in_ok-want.ensures.room (c.enter.ensures.room c.requires.room)
+
+pub returns-clause-lean : goal.returns-clause-lean
+returns-clause-lean c = omega (arith, length-set c.enter.new.names.items c.in_ok-at.at c.want.new.self, c.enter.ensures.lean)
+
+pub returns-in_err-want-clause-lean : goal.returns-in_err-want-clause-lean
+returns-in_err-want-clause-lean c = omega (arith, length-set c.enter.new.names.items c.in_ok-at.at c.want.new.self, c.enter.ensures.lean)

@@ -20,14 +20,14 @@ returns-clause-rows c =
     let files : next.gens.files ≡ c.args.self.now.gens.files =
     ap (λ (it : FileName). it.gens.files) c.deref_mut-2.ensures.value ∙ c.reserve.ensures.files ∙ ap (λ (it : FileName). it.gens.files) old in
     ap (λ (kept : Kept). map (row_under next.key) kept.files) c.add.ensures.added
-    ∙ added_under c.args.retention next.key c.args.file next.gens.files c.add.ensures.ordered
+    ∙ added_under c.args.file.keep next.key c.args.file next.gens.files c.add.ensures.ordered
     (ap (has c.args.file.generation) files ∙ c.requires.absent)
-    ∙ ap (λ (it : Key). added c.args.retention (row_under it c.args.file) (map (row_under it) next.gens.files)) key
-    ∙ ap (λ (it : List File). added c.args.retention (row_under c.args.self.now.key c.args.file) (map (row_under c.args.self.now.key) it)) files
+    ∙ ap (λ (it : Key). added c.args.file.keep (row_under it c.args.file) (map (row_under it) next.gens.files)) key
+    ∙ ap (λ (it : List File). added c.args.file.keep (row_under c.args.self.now.key c.args.file) (map (row_under c.args.self.now.key) it)) files
 
 pub returns-clause-few : goal.returns-clause-few
 returns-clause-few c =
     let next : FileName = c.deref_mut-2.result.now in
     let more = ap (λ (it : List Row). length it) (returns-clause-rows c)
-    ∙ length_added c.args.retention (row_under c.args.self.now.key c.args.file) (rows_under c.args.self.now) in
+    ∙ length_added c.args.file.keep (row_under c.args.self.now.key c.args.file) (rows_under c.args.self.now) in
     omega (arith, more, length_under c.args.self.now, length-map c.add.new.self.files (row_under next.key))

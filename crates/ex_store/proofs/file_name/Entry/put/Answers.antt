@@ -10,7 +10,7 @@ pub returns-clause-rows : goal.returns-clause-rows
 returns-clause-rows c =
     let old : FileName = c.deref_mut.result.now in
     let is : old ≡ c.args.self.now = c.deref_mut.ensures.value ∙ c.self.view_is in
-    subst (λ (it : FileName). map (row_under old.key) c.add.new.self.files ≡ added c.args.retention (row_under it.key c.args.file) (rows_under it)) is
+    subst (λ (it : FileName). map (row_under old.key) c.add.new.self.files ≡ added c.args.file.keep (row_under it.key c.args.file) (rows_under it)) is
     (ap (λ (kept : Kept). map (row_under old.key) kept.files) c.add.ensures.added
-    ∙ added_under c.args.retention old.key c.args.file old.gens.files c.add.ensures.ordered
+    ∙ added_under c.args.file.keep old.key c.args.file old.gens.files c.add.ensures.ordered
     (ap (λ (it : FileName). has c.args.file.generation it.gens.files) is ∙ c.requires.absent))

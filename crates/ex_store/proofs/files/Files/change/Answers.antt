@@ -23,7 +23,7 @@ pub returns-clause-rows : goal.returns-clause-rows
 returns-clause-rows c =
     ap rows_of (c.count.ensures ∙ ap (counted 0) (with_items_is c.self.inside.names c.change_names.new.names (omega (arith, c.change_names.auto.names, c.deref_mut.ensures.len))))
     ∙ rows_counted 0 c.change_names.new.names ∙ c.change_names.ensures.rows
-    ∙ ap (λ (it : List Row). rows_after_all c.args.retention it c.args.changes.items)
+    ∙ ap (λ (it : List Row). rows_after_all it c.args.changes.items)
     (ap rows_of c.deref_mut.ensures.value ∙ ap (λ (it : FilesWithRoom). it.rows) c.self.view_is)
 
 pub returns-clause-rooms : goal.returns-clause-rooms

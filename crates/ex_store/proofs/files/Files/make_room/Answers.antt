@@ -1,6 +1,8 @@
-use Rattle.std.proofs.Common.{◌≡◌, ap, ◌∙◌}
+use Rattle.std.proofs.Common.{◌≡◌, List, length, ap, arith, ◌∙◌}
+use Rattle.std.proofs.lemmas.List.{length-map}
+use Rattle.ex_store.specs.declared.file_name.FileName.{FileName}
 use Rattle.ex_store.specs.FileNames.{rooms_of, rows_of}
-use Rattle.ex_store.specs.State.{FilesWithRoom}
+use Rattle.ex_store.specs.State.{FilesWithRoom, NameRoom}
 use Rattle.ex_store.proofs.FileNumbersLaws.{are_names, rooms_counted, rows_counted}
 use Rattle.ex_store.proofs.files.Files.make_room.Goals as goal
 
@@ -28,3 +30,11 @@ returns-clause-room c =
 pub invariant_of-self-2 : goal.invariant_of-self-2
 invariant_of-self-2 c = are_names c.make_room-made.new.names.items c.count.new.names.items c.count.ensures c.make_room-made.ensures.ascend
     (rw c.make_room-made.ensures.rows c.self.invariant.few)
+
+pub returns-clause-lean : goal.returns-clause-lean
+returns-clause-lean c =
+    let names = c.make_room-made.new.names.items in
+    let rooms : length (rooms_of c.count.new.names.items) ≡ length (rooms_of names) =
+    ap (λ (it : List NameRoom). length it) (ap rooms_of c.count.ensures ∙ rooms_counted 0 names) in
+    let rows : length (rows_of c.self.inside.names.items) ≡ length c.args.self.now.rows = ap (λ (it : FilesWithRoom). length it.rows) c.self.view_is in
+    omega (arith, rooms, rows, length-map names (λ (name : FileName). record { key = name.key; room = name.gens.room }), c.in_ok-made.ensures.lean)

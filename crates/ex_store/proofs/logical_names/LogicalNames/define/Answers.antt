@@ -19,5 +19,5 @@ invariant_of-self c = record {
   within = omega (arith, c.self.invariant.within, c.insert_sorted.ensures.spare);
 }
 
-pub returns : goal.returns
-returns c = made c ∙ ap (λ held. with_definition c.args.new held.list) c.self.view_is
+pub returns-clause-list : goal.returns-clause-list
+returns-clause-list c = made c ∙ ap (λ held. with_definition c.args.new held.list) c.self.view_is

@@ -13,5 +13,5 @@ row_at-row-requires-clause-row c =
 -- src/names.rt:107:5
 pub returns-clause-value : goal.returns-clause-value
 returns-clause-value c =
-    catalogue_row c.args.self.now.state c.args.directory c.args.i (row_of_view c.row_at-row.result) c.row_at-row.ensures
+    catalogue_row c.args.self.now.state c.args.directory c.args.i (row_of_view c.row_at-row.result) c.row_at-row.ensures.row
     c.as_str.result.now c.as_str-2.result.now c.as_str.ensures.value c.as_str-2.ensures.value

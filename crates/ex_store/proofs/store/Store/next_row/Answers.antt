@@ -25,4 +25,4 @@ pub returns : goal.returns
 returns c =
     let well = subst (λ held. IsWellFormed held.state) c.self.view_is c.self.invariant.well in
     next_some c.args.deleted c.args.files.now c.args.self.now.state well c.args.from c.in_ok-at.at c.args.directory
-    (row_of_view c.row_at.result) (sym c.in_ok-at.was ∙ c.next_meant.ensures) c.requires.there c.requires.number c.row_at.ensures
+    (row_of_view c.row_at.result) (sym c.in_ok-at.was ∙ c.next_meant.ensures) c.requires.there c.requires.number c.row_at.ensures.row

@@ -1,4 +1,4 @@
-use Rattle.std.proofs.Common.{◌≡◌, true, List, Result, ap, subst}
+use Rattle.std.proofs.Common.{◌≡◌, true, List, None, Result, ap, subst}
 use Rattle.std.proofs.lemmas.Result.{IfErr-weaker, IfOk-weaker}
 use Rattle.cm_fields.specs.declared.code.Code.{Code}
 use Rattle.cm_files.specs.Catalogue.{ascends}
@@ -7,16 +7,17 @@ use Rattle.ex_store.specs.declared.place.Place.{Place}
 use Rattle.ex_store.specs.declared.plan.Refusal.{Refusal}
 use Rattle.ex_store.specs.declared.row.Row.{Row}
 use Rattle.ex_store.specs.Adding.{Outcome}
-use Rattle.ex_store.specs.Plan.{planned}
+use Rattle.ex_store.specs.Plan.{IsRefused, planned}
 use Rattle.ex_store.specs.Positions.{elements_at}
-use Rattle.ex_store.specs.Ready.{Change, are_doable}
+use Rattle.ex_store.specs.Ready.{Change, IsMade}
 use Rattle.ex_store.specs.Renaming.{all_renamed}
 use Rattle.ex_store.specs.Rows.{by_row}
 use Rattle.ex_store.specs.Selection.{is_meant}
-use Rattle.ex_store.specs.State.{StoreWithRoom, retention_of}
+use Rattle.ex_store.specs.State.{StoreWithRoom}
+use Rattle.ex_store.specs.WellFormed.{IsWellFormed}
 use Rattle.ex_store.proofs.MeantLaws.{all_meant_in}
 use Rattle.ex_store.proofs.RemarkedLaws.{positions_fit}
-use Rattle.ex_store.proofs.PlannedLaws.{IsOver, is_over, made_by, refused_by}
+use Rattle.ex_store.proofs.PlannedLaws.{IsOver, doable_by, is_over, made_by, refused_by, sound_by}
 use Rattle.ex_store.proofs.AllRenamedLaws.{distinct_meant}
 use Rattle.ex_store.proofs.store.Store.rename.Goals as goal
 use Rattle.ex_store.proofs.store.Store.rename.Goals.{After-as_bytes}
@@ -46,25 +47,45 @@ renames-requires-clause-distinct c =
 
 -- a renaming, of any directories, sources and rows
 abbrev rename : Place → List Directory → List Row → List Row → Result Outcome Code
-rename to directories taken rows = all_renamed (retention_of to.directory directories) to taken rows
+rename to directories taken rows = all_renamed to taken rows
+
+-- what is made of the rows that the code has is made of those of the state
+made_there : (c : After-as_bytes) (ready : Change)
+    → IsMade c.self.inside.directories.list c.self.inside.files.rows (all_renamed c.args.to.now (elements_at c.self.inside.files.rows c.deref.result.now) c.self.inside.files.rows) None ready
+    → IsMade c.self.inside.directories.list c.args.self.now.state.rows (all_renamed c.args.to.now (elements_at c.self.inside.files.rows c.deref.result.now) c.args.self.now.state.rows) None ready
+made_there c ready made =
+    subst (λ (rows : List Row). IsMade c.self.inside.directories.list rows (all_renamed c.args.to.now (elements_at c.self.inside.files.rows c.deref.result.now) rows) None ready)
+    (over c).rows_are made
 
 pub returns-clause-ready : goal.returns-clause-ready
 unfolding planned
 returns-clause-ready c =
     IfOk-weaker c.renames.result _ _ (λ (ready : Change) made moment.
-    made_by (rename c.args.to.now) c.args.self.now.state c.args.from.now c.self.inside.directories.list _ c.self.inside.files.rows ready (over (goal.at.returns-clause-ready c).After-as_bytes) made)
+    made_by (rename c.args.to.now) c.args.self.now.state c.args.from.now None c.self.inside.directories.list _ c.self.inside.files.rows ready (over (goal.at.returns-clause-ready c).After-as_bytes)
+    (made_there (goal.at.returns-clause-ready c).After-as_bytes ready made))
+    c.renames.ensures.made
+
+pub returns-clause-sound : goal.returns-clause-sound
+returns-clause-sound c =
+    let well = subst (λ (held : StoreWithRoom). IsWellFormed held.state) c.self.view_is c.self.invariant.well in
+    IfOk-weaker c.renames.result _ _ (λ (ready : Change) made.
+    sound_by (rename c.args.to.now) c.args.self.now.state c.args.from.now None c.self.inside.directories.list _ c.self.inside.files.rows ready (over (goal.at.returns-clause-sound c).After-as_bytes) well
+    (made_there (goal.at.returns-clause-sound c).After-as_bytes ready made))
     c.renames.ensures.made
 
 pub returns-clause-refused : goal.returns-clause-refused
 unfolding planned
 returns-clause-refused c = λ moment.
     IfErr-weaker c.renames.result _ _ (λ (refusal : Refusal) refused.
-    refused_by (rename c.args.to.now) c.args.self.now.state c.args.from.now c.self.inside.directories.list _ c.self.inside.files.rows refusal (over (goal.at.returns-clause-refused c).After-as_bytes) refused)
+    refused_by (rename c.args.to.now) c.args.self.now.state c.args.from.now c.self.inside.directories.list _ c.self.inside.files.rows c.args.self.now.state.rows refusal
+    (over (goal.at.returns-clause-refused c).After-as_bytes)
+    (subst (λ (rows : List Row). IsRefused (all_renamed c.args.to.now (elements_at c.self.inside.files.rows c.deref.result.now) rows) refusal)
+    (over (goal.at.returns-clause-refused c).After-as_bytes).rows_are refused))
     c.renames.ensures.refused
 
 pub returns-clause-doable : goal.returns-clause-doable
 returns-clause-doable c =
     IfOk-weaker c.renames.result _ _ (λ (ready : Change) made.
-    subst (λ (rows : List Row). are_doable ready.retention rows ready.row_changes ≡ true)
-    (over (goal.at.returns-clause-doable c).After-as_bytes).rows_are made.doable)
+    doable_by (rename c.args.to.now) c.args.self.now.state None c.self.inside.directories.list _ ready
+    (made_there (goal.at.returns-clause-doable c).After-as_bytes ready made))
     c.renames.ensures.made

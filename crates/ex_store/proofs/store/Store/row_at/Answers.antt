@@ -11,17 +11,17 @@ overflow_add-first c =
     let few = place.2 in
     omega arith
 
-pub row_at-requires : goal.row_at-requires
-row_at-requires c =
+pub find_row-requires : goal.find_row-requires
+find_row-requires c =
     let well = subst (λ held. IsWellFormed held.state) c.self.view_is c.self.invariant.well in
     let place = row_stands c.args.self.now.state well c.args.directory c.args.i c.first_at-first.result
     c.self.inside.files.rows c.first_at-first.ensures c.requires.row (ap (λ held. held.state.rows) c.self.view_is) in
     let within = place.0 in
     omega arith
 
-pub returns : goal.returns
-returns c =
+pub returns-clause-row : goal.returns-clause-row
+returns-clause-row c =
     let well = subst (λ held. IsWellFormed held.state) c.self.view_is c.self.invariant.well in
     let place = row_stands c.args.self.now.state well c.args.directory c.args.i c.first_at-first.result
     c.self.inside.files.rows c.first_at-first.ensures c.requires.row (ap (λ held. held.state.rows) c.self.view_is) in
-    place.1 ∙ c.row_at.ensures
+    place.1 ∙ c.find_row.ensures.row
