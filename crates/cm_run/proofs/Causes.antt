@@ -2,7 +2,7 @@
 use Rattle.std.specs.Prelude.{Bool, true, false, List, [], ◌∷◌, length, ◌<◌, ◌+◌}
 use Rattle.std.proofs.Common.{arith, ◌≡◌, ◌≤◌, ℕ, refl, ap, sym, subst, ◌∙◌}
 use Rattle.std.specs.Prelude.{Result, Ok, Err}
-use Rattle.cm_io.specs.Fault.{Rose}
+use Rattle.cm_io.specs.Fault.{Rose, next_count}
 use Rattle.cm_run.specs.declared.stop.Stop.{Stop}
 use Rattle.cm_run.specs.declared.stop.Stop.TheVariants as stop
 use Rattle.cm_run.specs.Cause.{Counts, KeyCount, ObeyCause, OverCount, RunCause, StopCause, StrokeCause, counts}
@@ -121,3 +121,14 @@ count_more before turn keys left key taken first = let as_many : length keys ≡
 
 pub counts_same : (screen screen' log log' keys keys' : ℕ) → screen' ≡ screen → log' ≡ log → keys' ≡ keys → counts screen' log' keys' ≡ counts screen log keys
 counts_same screen screen' log log' keys keys' a b c = cc
+
+-- one get a turn was asked, and no more turns than the limit says
+pub asked_more : (before gets now turn : ℕ) → gets ≤ before + turn → now ≡ next_count gets → now ≤ before + (turn + 1)
+asked_more before gets now turn few is = omega (arith, few, is)
+
+pub asked_within : (limit before gets turn : ℕ) → gets ≤ before + turn → turn ≤ limit → gets ≤ before + limit
+asked_within limit before gets turn few most = omega (arith, few, most)
+
+pub asked_last : (limit before gets now turn : ℕ) → gets ≤ before + turn → turn < limit → now ≡ next_count gets
+    → now ≤ before + limit
+asked_last limit before gets now turn few below is = omega (arith, few, below, is)

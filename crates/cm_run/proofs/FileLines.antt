@@ -1,13 +1,12 @@
 -- Lines of command files.
 use Rattle.std.proofs.Common.{◌≡◌, ℕ, ◌+◌, List, [], ◌∷◌, refl, sym, arith}
 use Rattle.std.specs.Prelude.{None, Result}
-use Rattle.cm_text.specs.Bytes.{is_text}
 use Rattle.cm_text.specs.Text.{finished}
 use Rattle.cm_io.specs.Told.{Told}
 use Rattle.cm_io.proofs.Adding.{add_none}
-use Rattle.cm_line.specs.Keys.{class_of}
+use Rattle.cm_line.specs.declared.key.KeyClass.TheVariants.{End}
 use Rattle.cm_blocks.specs.Setting.{Setting}
-use Rattle.cm_state.specs.Edit.{edited}
+use Rattle.cm_state.specs.Edit.{edited_as}
 use Rattle.cm_state.specs.SessionState.{at_start, text_of}
 use Rattle.cm_state.specs.declared.prompt.Prompt.TheVariants.{Main}
 use Rattle.cm_run.specs.declared.stop.Stop.{Stop}
@@ -20,14 +19,14 @@ use Rattle.cm_run.specs.Trace.{deeds_trace}
 use Rattle.cm_run.proofs.Deeds.{deeds_traces}
 use Rattle.cm_run.proofs.Joining.{traces_both}
 
--- a line of a command file and CR is the text of the session that has read it
-pub file_text : (s : Setting) (node : ℕ) (line : List ℕ) → text_of (edited s (record (at_start node Main None) { line = line }) 13) ≡ finished line
-unfolding edited class_of is_text
+-- a line of a command file, finished, is the text of the session that has read it
+pub file_text : (s : Setting) (node : ℕ) (line : List ℕ) → text_of (edited_as s (record (at_start node Main None) { line = line }) End 13) ≡ finished line
+unfolding edited_as
 file_text s node line = refl
 
 -- it begins at its node
-pub file_node : (s : Setting) (node : ℕ) (line : List ℕ) → (edited s (record (at_start node Main None) { line = line }) 13).node ≡ node
-unfolding edited
+pub file_node : (s : Setting) (node : ℕ) (line : List ℕ) → (edited_as s (record (at_start node Main None) { line = line }) End 13).node ≡ node
+unfolding edited_as
 file_node s node line = refl
 
 -- its trials are counted

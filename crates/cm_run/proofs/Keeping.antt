@@ -6,7 +6,7 @@ use Rattle.cm_text.specs.Text.{IsLine, finished}
 use Rattle.cm_io.specs.Display.{IsDisplay}
 use Rattle.cm_line.specs.declared.key.KeyClass.{KeyClass}
 use Rattle.cm_line.specs.declared.key.KeyClass.TheVariants.{End, Stop}
-use Rattle.cm_line.specs.Keys.{class_of}
+use Rattle.cm_line.specs.Keys.{class_at, is_end}
 use Rattle.cm_blocks.specs.declared.field.Ending.{Ending}
 use Rattle.cm_blocks.specs.declared.field.Ending.TheVariants as ending
 use Rattle.cm_blocks.specs.Parse.{IsClosed, parse_of}
@@ -15,7 +15,7 @@ use Rattle.cm_blocks.proofs.Closing.{finished_closes}
 use Rattle.cm_state.specs.declared.prompt.Prompt.{Prompt}
 use Rattle.cm_state.specs.declared.prompt.Prompt.TheVariants.{Main}
 use Rattle.cm_state.specs.Echo.{echo, prompt_text}
-use Rattle.cm_state.specs.Edit.{completed, edit, edited, is_end}
+use Rattle.cm_state.specs.Edit.{completed, edit, edited, edited_as}
 use Rattle.cm_state.specs.SessionState.{SessionState, at_start, met_line}
 use Rattle.cm_state.specs.Turn.{turn_of}
 use Rattle.cm_run.specs.declared.engine.TheConstants.{FILE_LINES}
@@ -34,13 +34,13 @@ use Rattle.cm_run.proofs.LineEnds.{ends_both}
 use Rattle.cm_run.proofs.Showing.{fed_none, key_clears, key_shows, reply_shows, start_is_clear, start_shows}
 
 -- a finished line is done or refused
-closed : (s : Setting) → IsSound s → (held : SessionState) (key : ℕ) (class : KeyClass) → class_of key ≡ class → class ≡ End
-    → IsClosed (edited s held key).ending
-unfolding edited
-closed s sound held key class is end =
+closed : (s : Setting) → IsSound s → (held : SessionState) (key : ℕ) (class : KeyClass) → class ≡ End
+    → IsClosed (edited_as s held class key).ending
+unfolding edited_as
+closed s sound held key class end =
     subst (λ it. IsClosed (parse_of s held.node (cond (is_end it) (finished (edit it key (met_line held) held.restorable (completed s held it).bytes))
     (edit it key (met_line held) held.restorable (completed s held it).bytes))).ending)
-    (sym (is ∙ end)) (finished_closes s sound.grammar held.node (edit End key (met_line held) held.restorable (completed s held End).bytes))
+    (sym end) (finished_closes s sound.grammar held.node (edit End key (met_line held) held.restorable (completed s held End).bytes))
 
 module _ {S : Type 0} (m : Meaning S) (keeping : IsLineKeeping m) where
   -- what lines of command files show
@@ -167,12 +167,13 @@ module _ {S : Type 0} (m : Meaning S) (keeping : IsLineKeeping m) where
         let under = setting_of m at.state in
         let session = edited under at.session key in
         let left : IsClear session = key_clears under sound at.session key clear in
-        let o = turn_outcome m at.state session (moment_at m at.state at.moments) (turn_of (class_of key) session.ending) in
+        let o = turn_outcome m at.state session (moment_at m at.state at.moments) (turn_of (class_at (met_line at.session) key) session.ending) in
         subst (λ bytes. Keeps (feed display bytes) (step_of m session at.state at.moments o)) (sym (screen-stroke m logging at.state (line_stroke m at key)))
         (subst (λ (it : D). Keeps it (step_of m session at.state at.moments o)) (sym (is_display.turns display (echo under at.session key) (shown_of at.state o)))
         (by_turn (feed display (echo under at.session key)) session at.state at.moments (moment_at m at.state at.moments) left
         (λ to shown. record { restorable = left.restorable; shows = subst (λ it. ShownBy it to session) (sym is) (left, shown) })
-        (class_of key) session.ending (λ end. closed under sound at.session key (class_of key) refl end)
+        (class_at (met_line at.session) key) session.ending
+        (λ end. closed under sound at.session key (class_at (met_line at.session) key) end)
         (key_shows feed Holds is_display under sound at.session key clear display shows)))
 
     -- a raw key

@@ -4,11 +4,11 @@ use Rattle.std.specs.Prelude.{Bool, true, false, Result, Ok, Err}
 use Rattle.cm_io.specs.declared.sink.Put.{Put}
 use Rattle.cm_io.specs.declared.sink.Put.TheVariants.{Done, Failed}
 use Rattle.cm_io.specs.Told.{Told, Adds, AddsPart, add}
-use Rattle.cm_line.specs.Keys.{class_of}
+use Rattle.cm_line.specs.Keys.{class_at}
 use Rattle.cm_blocks.specs.Kept.{cost}
 use Rattle.cm_blocks.specs.Setting.{Setting}
 use Rattle.cm_state.specs.Echo.{echo}
-use Rattle.cm_state.specs.Edit.{edited}
+use Rattle.cm_state.specs.Edit.{edited, edited_as}
 use Rattle.cm_state.specs.Log.{log_line}
 use Rattle.cm_state.specs.SessionState.{SessionState, met_line, text_of}
 use Rattle.cm_state.specs.Turn.{put_of, turn_of}
@@ -28,7 +28,7 @@ use Rattle.cm_run.proofs.Strokes.{logged_if, stroke_log_cut, stroke_on, stroke_s
 
 -- a key leaves the node at which the line begins
 pub edited_node : (s : Setting) (session : SessionState) (key : ℕ) → (edited s session key).node ≡ session.node
-unfolding edited
+unfolding edited_as
 edited_node s session key = refl
 
 -- the log behind a put that was done, with a log or without
@@ -65,7 +65,7 @@ module _ {S : Type 0} (m : Meaning S) (logging : Bool) (key : ℕ) (session now 
   pub line_on : (it : Turn) (b : Observed S) (result : Result Unit Stop)
       → Traces (observed screen' log' keys gets moments trials' state) b (outcome_trace m state (turn_outcome m state now (moment_at m state moments) it)) result
       → now ≡ edited (setting_of m state) session key
-      → it ≡ turn_of (class_of key) now.ending
+      → it ≡ turn_of (class_at (met_line session) key) now.ending
       → screen' ≡ add screen (echo (setting_of m state) session key)
       → trials' ≡ trials + cost (setting_of m state) session.node (met_line session) (text_of now)
       → (logging ≡ true → Adds log log' (log_line key now) Done) → (logging ≡ false → log' ≡ log)
@@ -75,7 +75,7 @@ module _ {S : Type 0} (m : Meaning S) (logging : Bool) (key : ℕ) (session now 
       let s = line_stroke m (run_state session state moments) key in
       let to : outcome_trace m state (turn_outcome m state now (moment_at m state moments) it) ≡ outcome_trace m state s.outcome
       = ap (λ that. outcome_trace m state (turn_outcome m state now (moment_at m state moments) that)) is
-      ∙ ap (λ (it : SessionState). outcome_trace m state (turn_outcome m state it (moment_at m state moments) (turn_of (class_of key) it.ending))) edits in
+      ∙ ap (λ (it : SessionState). outcome_trace m state (turn_outcome m state it (moment_at m state moments) (turn_of (class_at (met_line session) key) it.ending))) edits in
       stroke_on m state s logging screen log screen' log' keys gets moments trials trials' b result
       (subst (λ events. Traces (observed screen' log' keys gets moments trials' state) b events result) to traces)
       shown
@@ -86,12 +86,12 @@ module _ {S : Type 0} (m : Meaning S) (logging : Bool) (key : ℕ) (session now 
   pub line_next : (it : Turn) (to : RunState S)
       → to ≡ step_of m now state moments (turn_outcome m state now (moment_at m state moments) it)
       → now ≡ edited (setting_of m state) session key
-      → it ≡ turn_of (class_of key) now.ending
+      → it ≡ turn_of (class_at (met_line session) key) now.ending
       → to ≡ step_by m (run_state session state moments) (line_stroke m (run_state session state moments) key)
   unfolding line_stroke
   line_next it to leads edits is =
       leads ∙ ap (λ that. step_of m now state moments (turn_outcome m state now (moment_at m state moments) that)) is
-      ∙ ap (λ (it : SessionState). step_of m it state moments (turn_outcome m state it (moment_at m state moments) (turn_of (class_of key) it.ending))) edits
+      ∙ ap (λ (it : SessionState). step_of m it state moments (turn_outcome m state it (moment_at m state moments) (turn_of (class_at (met_line session) key) it.ending))) edits
 
   -- the echo is cut
   pub line_screen_cut : AddsPart screen screen' (echo (setting_of m state) session key)

@@ -17,6 +17,7 @@ mod Opening
 mod Outcomes
 pub mod Prefixes
 pub mod Progressing
+mod Rows
 mod Running
 pub mod Screens
 pub mod Showing

@@ -1,13 +1,12 @@
--- Lines as they are shown.
-use Rattle.std.proofs.Common.{◌≡◌, ℕ, ◌==◌, ◌&&◌, ◌||◌, not, Bool, true, false, List, [], ◌∷◌, nat_le, if◌then◌else◌, refl, sym}
-use Rattle.std.specs.List.{AllByRecursion}
-use Rattle.cm_text.specs.Bytes.{is_text}
-use Rattle.cm_text.specs.Shown.{screen_byte}
-use Rattle.cm_text.specs.Text.{IsLine}
-use Rattle.cm_io.specs.Display.{ArePrinted, is_printed}
-use Rattle.cm_state.specs.Echo.{screen_line}
+-- Bytes of lines as they are shown.
+use Rattle.std.proofs.Common.{◌≡◌, ℕ, ◌==◌, ◌&&◌, ◌||◌, not, Bool, true, false, List, [], ◌∷◌, nat_le, if◌then◌else◌, refl, sym, arith}
+use Rattle.std.proofs.lemmas.Bool.Decides.{nat_tests}
+use Rattle.cm_text.specs.Bytes.{is_line_byte, is_text}
+use Rattle.cm_text.specs.Shown.{screen_byte, shown_byte}
+use Rattle.cm_text.specs.declared.text.TheConstants.{JOIN}
+use Rattle.cm_io.specs.Display.{is_printed}
 
--- a byte of a line is shown as a printed byte
+-- a text byte is shown as a printed byte
 pub byte_is_printed : (byte : ℕ) → is_text byte ≡ true → is_printed (screen_byte byte) ≡ true
 unfolding is_text is_printed
 byte_is_printed byte text = by (byte == 9) (nat_le 32 byte && nat_le byte 126) (not (byte == 63)) refl text
@@ -18,10 +17,20 @@ byte_is_printed byte text = by (byte == 9) (nat_le 32 byte && nat_le byte 126) (
     by false true other is both = sym is
     by false false other is both = cc
 
--- and so are several
-pub plain_is_printed : (line : List ℕ) → AllByRecursion (λ byte. is_text byte ≡ true) line → ArePrinted (screen_line line)
-plain_is_printed [] plain = tt
-plain_is_printed (byte ∷ line) plain = (byte_is_printed byte plain.0, plain_is_printed line plain.1)
+-- it is no join byte
+text_joins_not : (byte : ℕ) → is_text byte ≡ true → (byte == JOIN) ≡ false
+unfolding is_text
+text_joins_not byte text = grind (arith, nat_tests)
 
-pub line_is_printed : (line : List ℕ) → IsLine line → ArePrinted (screen_line line)
-line_is_printed line is = plain_is_printed line is.plain
+pub text_shown : (byte : ℕ) → is_text byte ≡ true → shown_byte byte ≡ screen_byte byte ∷ []
+unfolding shown_byte
+text_shown byte text = let plain = text_joins_not byte text in rw plain refl
+
+-- and each other byte of a line is one
+pub text_unless : (byte : ℕ) → is_line_byte byte ≡ true → (byte == JOIN) ≡ false → is_text byte ≡ true
+unfolding is_line_byte
+text_unless byte line plain = by (is_text byte) (byte == JOIN) line plain
+  where
+    by : (text joins : Bool) → (text || joins) ≡ true → joins ≡ false → text ≡ true
+    by true joins both none = refl
+    by false joins both none = cc

@@ -1,10 +1,12 @@
 -- A display that shows the prompt and the line of a session.
-use Rattle.std.specs.Prelude.{◌≡◌, ◌⊎◌, ℕ, List, [], ◌∷◌, ◌++◌, IfSome}
+use Rattle.std.specs.Prelude.{◌≡◌, ◌⊎◌, ℕ, List, [], ◌∷◌, ◌++◌, IfSome, ◌==◌, if◌then◌else◌}
+use Rattle.cm_text.specs.Shown.{screen_byte}
 use Rattle.cm_text.specs.Text.{IsLine}
+use Rattle.cm_text.specs.declared.text.TheConstants.{JOIN}
 use Rattle.cm_io.specs.Display.{ArePrinted}
 use Rattle.cm_line.specs.declared.key.KeyClass.{KeyClass}
 use Rattle.cm_line.specs.declared.key.KeyClass.TheVariants.{End, Stop}
-use Rattle.cm_state.specs.Echo.{prompt_text, screen_line}
+use Rattle.cm_state.specs.Echo.{prompt_text}
 use Rattle.cm_state.specs.SessionState.{SessionState, met_line}
 
 -- a session whose prompt is printed bytes; its line and what control-H brings back are lines, and that is there only
@@ -15,15 +17,22 @@ pub record IsClear (held : SessionState) : Type 0 where
   pub restorable : IfSome held.restorable IsLine
   pub empty : IfSome held.restorable (λ (bytes : List ℕ). met_line held ≡ [])
 
--- the prompt, and behind it the line, each TAB as a space
+-- what the last row holds where a line comes to it behind these bytes: each TAB as a space, and nothing of what stands
+-- before a join byte, which begins a row of its own
+abbrev pub row_behind : List ℕ → List ℕ → List ℕ
+row_behind row [] = row
+row_behind row (byte ∷ line) = row_behind (if byte == JOIN then [] else row ++ screen_byte byte ∷ []) line
+
+-- the prompt, and behind it the line, as the last row holds them
 abbrev pub prompt_and_line : SessionState → List ℕ
-prompt_and_line held = prompt_text held.prompt ++ screen_line (met_line held)
+prompt_and_line held = row_behind (prompt_text held.prompt) (met_line held)
 
 -- the display holds prompt and line
 abbrev pub Shows : {D : Type 0} → (D → List ℕ → Type 0) → D → SessionState → Type 0
 Shows Holds display held = Holds display (prompt_and_line held)
 
--- what stands behind the echo of a key: nothing where it finishes or gives up the line, and else prompt and line
+-- what stands behind the echo of a key: nothing where it finishes or gives up the line, and else prompt and line, which
+-- are nothing too where it continues the line
 abbrev pub ShowsBehind : {D : Type 0} → (D → List ℕ → Type 0) → KeyClass → D → SessionState → Type 0
 ShowsBehind Holds End display held = Holds display []
 ShowsBehind Holds Stop display held = Holds display []

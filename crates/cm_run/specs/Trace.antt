@@ -4,10 +4,11 @@ use Rattle.std.specs.List.{flat_map}
 use Rattle.cm_text.specs.Text.{finished}
 use Rattle.cm_io.specs.Clock.{later_moments, next_moment}
 use Rattle.cm_io.specs.Pieces.{hex}
-use Rattle.cm_line.specs.Keys.{class_of}
+use Rattle.cm_line.specs.declared.key.KeyClass.TheVariants as classes
+use Rattle.cm_line.specs.Keys.{class_at}
 use Rattle.cm_blocks.specs.Kept.{cost}
 use Rattle.cm_state.specs.Echo.{echo, prompt_text}
-use Rattle.cm_state.specs.Edit.{edited}
+use Rattle.cm_state.specs.Edit.{edited, edited_as}
 use Rattle.cm_state.specs.Log.{log_line}
 use Rattle.cm_state.specs.SessionState.{SessionState, at_start, met_line, text_of}
 use Rattle.cm_state.specs.Turn.{turn_of}
@@ -66,10 +67,10 @@ line_start (mode.Line node prompt takes_moment) session = at_start node prompt s
 line_start mode.Raw session = session
 line_start mode.Ended session = session
 
--- a session that has read a line of a command file and CR
+-- a session that has read a line of a command file, and finished it whatever its last byte
 abbrev pub file_session : {S : Type 0} → Meaning S → S → List ℕ → SessionState
 file_session m state line =
-    edited (setting_of m state) (record (at_start (node_of (m.mode_of state)) Main None) { line = line }) 13
+    edited_as (setting_of m state) (record (at_start (node_of (m.mode_of state)) Main None) { line = line }) classes.End 13
 
 -- the line that is taken next, where the next key is for a line and one waits
 abbrev pub line_by : Mode → Option (List ℕ) → Option (List ℕ)
@@ -160,7 +161,7 @@ line_stroke m at key =
       log = log_line key session;
       session = session;
       outcome = turn_outcome m at.state session (moment_at m at.state at.moments)
-          (turn_of (class_of key) session.ending);
+          (turn_of (class_at (met_line at.session) key) session.ending);
     }
 
 -- a raw key is taken as it is

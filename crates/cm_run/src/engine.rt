@@ -1,5 +1,5 @@
 // The run over the keys.
-ghost use Rattle.std.specs.Prelude.{◌≡◌, ◌≢◌, ◌++◌, List, ℕ, Err, false, length, IsTrue};
+ghost use Rattle.std.specs.Prelude.{◌≡◌, ◌≢◌, ◌≤◌, ◌+◌, ◌++◌, List, ℕ, Err, false, length, IsTrue};
 ghost use Rattle.cm_run.specs.Cause.{KeyCount, RunCause, counts};
 ghost use Rattle.cm_run.specs.Cut.{Traces};
 ghost use Rattle.cm_run.specs.Meaning.{IsSparing, setting_of};
@@ -49,6 +49,8 @@ pub fn run<A: Application, K: Source, S: Sink, W: Sink, C: Clock, L: Ledger>(
     ensures cause { RunCause
         (counts (S.faults screen.old) (W.faults log.old) (K.faults keys.old))
         (counts (S.faults screen.new) (W.faults log.new) (K.faults keys.new)) result }
+    // How many gets were asked, also of a source that tells nothing of its keys.
+    ensures asked { K.gets keys.new ≤ K.gets keys.old + limit }
     // How many keys were taken.
     ensures count { IsTrue K.tells → KeyCount limit (length (K.left keys.old)) (length (K.left keys.new))
         (is_ended (A.means.mode_of app.new)) result }

@@ -3,7 +3,7 @@ ghost use Rattle.std.specs.Prelude.{◌≡◌, ◌≢◌, Err, ◌≤◌, ◌+�
 ghost use Rattle.cm_io.specs.Fault.{PutCause};
 ghost use Rattle.cm_io.specs.Told.{Adds, Told};
 ghost use Rattle.cm_io.specs.Writer.{Writes};
-ghost use Rattle.cm_line.specs.Keys.{class_of};
+ghost use Rattle.cm_line.specs.Keys.{class_at};
 ghost use Rattle.cm_blocks.specs.Fault.{grammar_fault};
 ghost use Rattle.cm_blocks.specs.Kept.{cost};
 ghost use Rattle.cm_blocks.specs.Parse.{IsParse};
@@ -127,7 +127,7 @@ fn edit_line<A: Application, S: Sink, L: Ledger>(
         session.new.ending }
     ensures ready { IsReady (setting_of A.means app.now) session.new }
     ensures node { session.new.node ≡ session.old.node }
-    ensures turn { put_of result ≡ Put.Done → result ≡ turn_of (class_of key) session.new.ending }
+    ensures turn { put_of result ≡ Put.Done → result ≡ turn_of (class_at (met_line session.old) key) session.new.ending }
     ensures bytes { Adds (S.told screen.old) (S.told screen.new)
         (echo (setting_of A.means app.now) session.old key) (put_of result) }
     ensures later { S.faults screen.old ≤ S.faults screen.new }

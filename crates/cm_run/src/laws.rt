@@ -1,17 +1,19 @@
 // Laws of every run, whatever the application, and of what displays show of it.
-ghost use Rattle.std.specs.Prelude.{◌≡◌, ◌⊎◌, ◌+◌, ◌<◌, ◌^◌, ◌-◌, ℕ, Bool, false, List, [], ◌∷◌, ◌++◌, None, Result, Ok, Err, Option, IfSome};
+ghost use Rattle.std.specs.Prelude.{◌≡◌, ◌⊎◌, ◌+◌, ◌<◌, ◌^◌, ◌-◌, ℕ, Bool, false, List, [], ◌∷◌, ◌++◌, None, Result, Ok, Err, Option, IfSome, map};
+ghost use Rattle.cm_text.specs.Shown.{screen_byte};
 ghost use Rattle.cm_text.specs.Text.{IsLine};
+ghost use Rattle.cm_text.specs.declared.text.TheConstants.{JOIN};
 ghost use Rattle.cm_io.specs.Told.{AddsPart, IsPart};
 ghost use Rattle.cm_io.specs.Display.{ArePrinted};
-ghost use Rattle.cm_line.specs.Keys.{class_of};
+ghost use Rattle.cm_line.specs.Keys.{class_at};
 ghost use Rattle.cm_blocks.specs.declared.field.Fault.{Fault};
 ghost use Rattle.cm_blocks.specs.Setting.{Setting};
-ghost use Rattle.cm_state.specs.SessionState.{SessionState, at_start};
+ghost use Rattle.cm_state.specs.SessionState.{SessionState, at_start, met_line};
 ghost use Rattle.cm_state.specs.declared.turn.Turn.{Turn};
 ghost use Rattle.cm_state.specs.declared.turn.Turn.TheVariants as turn;
 ghost use Rattle.cm_state.specs.declared.prompt.Prompt.{Prompt};
 ghost use Rattle.cm_state.specs.declared.prompt.Prompt.TheVariants.{Main, Sub};
-ghost use Rattle.cm_state.specs.Echo.{echo, prompt_text};
+ghost use Rattle.cm_state.specs.Echo.{echo, has_join, prompt_text};
 ghost use Rattle.cm_state.specs.Edit.{edited};
 ghost use Rattle.cm_run.specs.Cause.{Counts, KeyCount, RunCause};
 ghost use Rattle.cm_run.specs.Cut.{Traces};
@@ -22,7 +24,7 @@ ghost use Rattle.cm_run.specs.Progress.{keys_cost, progress, stroke_cost, MeetSo
 ghost use Rattle.cm_run.specs.Trace.{RunState, events_if, key_trace, run_trace, starting, stroke, turn_outcome};
 ghost use Rattle.cm_run.specs.declared.engine.TheConstants.{FILE_LINES};
 ghost use Rattle.cm_run.specs.Keeping.{IsLineKeeping, KeepsLine};
-ghost use Rattle.cm_run.specs.Shows.{EndsLine, IsClear, Shows, ShowsBehind};
+ghost use Rattle.cm_run.specs.Shows.{EndsLine, IsClear, Shows, ShowsBehind, row_behind};
 ghost use Rattle.cm_run.specs.Sound.{IsSound};
 
 use crate::{Application, Display, Stop};
@@ -110,6 +112,18 @@ pub fn the_prompts_are_printed()
     ensures sub { ArePrinted (prompt_text Sub) }
 {}
 
+/// A line without a join byte stands behind its prompt in one row, each TAB as a space.
+pub fn a_line_without_a_join_is_one_row()
+    ensures { (prompt line : List ℕ) → has_join line ≡ false
+        → row_behind prompt line ≡ prompt ++ map screen_byte line }
+{}
+
+/// Of a line with join bytes the last row holds what follows the last of them, and nothing of the prompt.
+pub fn a_row_begins_behind_a_join()
+    ensures { (prompt before row : List ℕ) → has_join row ≡ false
+        → row_behind prompt (before ++ JOIN ∷ row) ≡ map screen_byte row }
+{}
+
 /// Where a display holds nothing, a prompt shows prompt and line of the session that begins with it.
 pub fn a_prompt_begins_a_line<D: Display>()
     ensures shows { (display : D.State) → D.holds display [] → (node : ℕ) → (prompt : Prompt)
@@ -120,13 +134,14 @@ pub fn a_prompt_begins_a_line<D: Display>()
 {}
 
 /// Where a display shows prompt and line, the echo of a key leaves it showing prompt and line as they then are, for
-/// lines and prompts of every length. Behind a key that finishes the line or gives it up the display holds nothing.
+/// lines and prompts of every length; of a line with join bytes that is what follows the last. Behind a key that finishes
+/// the line or gives it up the display holds nothing.
 pub fn a_key_keeps_the_screen<D: Display>()
     ensures clear { (s : Setting) → IsSound s → (held : SessionState) → (key : ℕ) → IsClear held
         → IsClear (edited s held key) }
     ensures shows { (s : Setting) → IsSound s → (held : SessionState) → (key : ℕ) → IsClear held
         → (display : D.State) → Shows D.holds display held
-        → ShowsBehind D.holds (class_of key) (D.feed display (echo s held key)) (edited s held key) }
+        → ShowsBehind D.holds (class_at (met_line held) key) (D.feed display (echo s held key)) (edited s held key) }
 {}
 
 /// Where a display holds nothing, a reply that is empty or ends with a line feed leaves it holding nothing.

@@ -29,7 +29,7 @@ use std::sync::ledger::{Blank, Ledger};
 use std::test::Fail;
 
 // Takes one key, which leaves the node.
-#[tactic(auto, unfolding(cm_state::specs::Edit::edited))]
+#[tactic(auto, unfolding(cm_state::specs::Edit::edited_as))]
 fn take_key<L: Ledger>(
     session: &mut Session<ExecRules>,
     key: u8,

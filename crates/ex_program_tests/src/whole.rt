@@ -320,3 +320,25 @@ acts 1";
 fn leaves_the_keys_behind_logout(rt: HostRuntime) -> Result<(), Fail> {
     try_cases(&rt, LEAVES_THE_KEYS_BEHIND_LOGOUT)
 }
+
+const CONTINUES_LINES: &str = "keys INF -{CR}VER{CR}
+screen @INF -{EOL}VER{EOL} EXEC20 1{EOL}@{EOL}
+log ..2d 5 O 0.1k9@0-3 26.0n0@4-4{LF}0d 5 O 0.1k9@0-3{LF}56 6 O 0.1k9@0-3 26.0n0@5-5{LF}
+log 45 7 O 0.1k9@0-3 26.0n0@5-5{LF}52 8 O 0.1k9@0-3 26.0n0@5-5{LF}
+log 0d 8 D 0.1k9@0-3 26.0n0@5-5 27.0k4@5-8{LF}
+acts 1
+
+keys INF -{CR}{DEL}V
+screen @INF -{EOL}{EOL}@INF V{EOL}
+log ..7f 4 O 0.1k9@0-3{LF}56 5 O 0.1k9@0-3 26.0n0@4-4{LF}
+
+# A REMARK that is continued acts once, and a hyphen alone makes an empty line.
+keys REMARK a -{CR}b{CR}-{CR}{CR}
+screen @REMARK a -{EOL}b{EOL}@-{EOL}{EOL}@{EOL}
+log ..0d 11 D 0.1k12@0-6 45.0x@7-11{LF}2d 1 O{LF}0d 1 O{LF}0d 1 D{LF}
+acts 2";
+
+#[test]
+fn continues_lines(rt: HostRuntime) -> Result<(), Fail> {
+    try_cases(&rt, CONTINUES_LINES)
+}

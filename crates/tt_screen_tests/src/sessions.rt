@@ -1,10 +1,12 @@
 // What stands on the screen behind the keys of a session.
-ghost use Rattle.std.specs.Prelude.{◌≡◌, ◌<◌, ◌≤◌, length};
+ghost use Rattle.std.specs.Prelude.{◌≡◌, ◌<◌, ◌≤◌, [], ◌∷◌, length};
+ghost use Rattle.cm_text.specs.declared.text.TheConstants.{JOIN};
 ghost use Rattle.cm_blocks.specs.Fault.{grammar_fault};
 ghost use Rattle.cm_blocks.specs.Grammar.{hook_count};
 ghost use Rattle.cm_blocks.specs.Setting.{Setting, setting};
 ghost use Rattle.cm_hooks.specs.Ties.{Ties, count};
 ghost use Rattle.cm_state.specs.SessionState.{IsReady};
+ghost use Rattle.cm_run.specs.Shows.{row_behind};
 
 use crate::commands::{NoRules, grammar_of};
 use crate::notation::push_said;
@@ -235,6 +237,27 @@ fn shows_prompt_and_line(rt: HostRuntime) -> Result<(), Fail> {
     tries(&rt, &rt, SHORT)
 }
 
+// Of a line that is continued the last row stands there, and the rows before it stay where they are.
+const CONTINUED: &str = "\
+@|DIR -{CR}AB|@DIR -{EOL}AB{EOL}
+@|DIR -{CR}{DEL}B|@DIR -{EOL}{EOL}@DIR B{EOL}
+@|DIR -{CR}AB{DEL}C|@DIR -{EOL}AC{EOL}
+@|DIR A-{CR}-{CR}B{^R}C|@DIR A-{EOL}-{EOL}B{EOL}@DIR A-{EOL}-{EOL}BC{EOL}
+@|DIR -{CR}A{^U}B|@DIR -{EOL}A{EOL}@B{EOL}
+@|DEL -{CR}A{CR}{^H}B|@DEL -{EOL}A{EOL}?Not confirmed{EOL}@DEL -{EOL}B{EOL}
+@|DEL -{CR}{LF}A|@DEL -{EOL}{EOL}@A{EOL}
+LAMPS>|{74*A}-{CR}{79*B}CD|LAMPS>{74*A}{EOL}{79*B}C{EOL}";
+
+#[test]
+fn shows_the_rows_of_continued_lines(rt: HostRuntime) -> Result<(), Fail> {
+    tries(&rt, &rt, CONTINUED)
+}
+
+// Of a line of three rows the last row of the screen holds the third, each TAB as a space, and nothing of the prompt.
+fn the_last_row_holds_the_third()
+    ensures { row_behind (64 ∷ []) (65 ∷ JOIN ∷ 66 ∷ JOIN ∷ 9 ∷ 67 ∷ []) ≡ 32 ∷ 67 ∷ [] }
+{}
+
 // The plain screen, as one of the displays.
 struct PlainScreen;
 
@@ -258,4 +281,7 @@ fn the_laws_hold() {
     cm_run::laws::a_prompt_begins_a_line::<PlainScreen>();
     cm_run::laws::a_key_keeps_the_screen::<PlainScreen>();
     cm_run::laws::a_reply_ends_its_line::<PlainScreen>();
+    cm_run::laws::a_line_without_a_join_is_one_row();
+    cm_run::laws::a_row_begins_behind_a_join();
+    the_last_row_holds_the_third();
 }

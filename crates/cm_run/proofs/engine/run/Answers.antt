@@ -2,7 +2,7 @@ use Rattle.std.proofs.Common.{refl, ap, sym, ◌∙◌, arith}
 use Rattle.cm_run.specs.Cause.{Counts, ObeyCause, StrokeCause}
 use Rattle.cm_run.specs.Trace.{run_state}
 use Rattle.cm_run.proofs.Beginning.{run_begins, run_unbegun}
-use Rattle.cm_run.proofs.Causes.{acts_cause, count_cut, count_end, count_limit, count_more, count_over, count_prompt, count_unread, counts_same, run_limit, run_quiet, run_unread, stroke_run}
+use Rattle.cm_run.proofs.Causes.{acts_cause, asked_last, asked_more, asked_within, count_cut, count_end, count_limit, count_more, count_over, count_prompt, count_unread, counts_same, run_limit, run_quiet, run_unread, stroke_run}
 use Rattle.cm_run.proofs.Progressing.{went_cut, went_first, went_on, went_sound}
 use Rattle.cm_run.proofs.Running.{run_ends, run_fails, run_goes_on, run_halts, run_over, run_stops}
 use Rattle.cm_run.proofs.engine.run.Goals as goal
@@ -26,6 +26,7 @@ loop-turn-init g c = record {
       run_begins g.A.Application.means c.args.logging _ _ _ _ _ _ _ _ (c.in-Ok.ensures.traces _ _ _ _ _) c.new-session.ensures.session c.in-Ok.ensures.session;
   ready = c.in-Ok.ensures.ready;
   count = λ keys_tell. omega arith;
+  asked = omega arith;
   screen = c.in-Ok.ensures.cause;
   log = refl;
   keys = refl;
@@ -103,6 +104,7 @@ loop-turn-preserved g c = record {
       (c.in-Ok-handle_key.ensures.next clock_tells refl);
   ready = c.in-Ok-handle_key.ensures.ready refl;
   count = λ keys_tell. count_more _ c.loop-turn._turn _ _ c.in-Byte.key (c.loop-turn.invariant.count keys_tell) (c.in-Byte.ensures.bytes keys_tell);
+  asked = asked_more _ _ _ c.loop-turn._turn c.loop-turn.invariant.asked c.in-Byte.ensures.asked;
   screen = ap (λ (n : Counts). n.screen) (c.in-Ok-handle_key.ensures.cause 0) ∙ c.loop-turn.invariant.screen;
   log = ap (λ (n : Counts). n.log) (c.in-Ok-handle_key.ensures.cause 0) ∙ c.loop-turn.invariant.log;
   keys = c.in-Byte.ensures.cause ∙ c.loop-turn.invariant.keys;
@@ -173,3 +175,31 @@ returns-then-has_ended-2-clause-sound g c = λ keys_tell clock_tells.
 pub returns-else-has_ended-2-clause-sound : goal.returns-else-has_ended-2-clause-sound
 returns-else-has_ended-2-clause-sound g c = λ keys_tell clock_tells.
     went_sound g.A.Application.means _ _ _ _ (c.loop-turn.invariant.went keys_tell clock_tells) _ refl
+
+-- how many gets were asked
+pub returns-in-Err-clause-asked : goal.returns-in-Err-clause-asked
+returns-in-Err-clause-asked g c = omega arith
+
+pub returns-then-has_ended-clause-asked : goal.returns-then-has_ended-clause-asked
+returns-then-has_ended-clause-asked g c =
+    asked_within c.args.limit _ _ c.loop-turn._turn c.loop-turn.invariant.asked c.loop-turn.auto._turn-end
+
+pub returns-in-End-clause-asked : goal.returns-in-End-clause-asked
+returns-in-End-clause-asked g c =
+    asked_last c.args.limit _ _ _ c.loop-turn._turn c.loop-turn.invariant.asked c.loop-turn-test.true c.in-End.ensures.asked
+
+pub returns-in-Failed-clause-asked : goal.returns-in-Failed-clause-asked
+returns-in-Failed-clause-asked g c =
+    asked_last c.args.limit _ _ _ c.loop-turn._turn c.loop-turn.invariant.asked c.loop-turn-test.true c.in-Failed.ensures.asked
+
+pub returns-in-Err-handle_key-clause-asked : goal.returns-in-Err-handle_key-clause-asked
+returns-in-Err-handle_key-clause-asked g c =
+    asked_last c.args.limit _ _ _ c.loop-turn._turn c.loop-turn.invariant.asked c.loop-turn-test.true c.in-Byte.ensures.asked
+
+pub returns-then-has_ended-2-clause-asked : goal.returns-then-has_ended-2-clause-asked
+returns-then-has_ended-2-clause-asked g c =
+    asked_within c.args.limit _ _ c.loop-turn._turn c.loop-turn.invariant.asked c.loop-turn.auto._turn-end
+
+pub returns-else-has_ended-2-clause-asked : goal.returns-else-has_ended-2-clause-asked
+returns-else-has_ended-2-clause-asked g c =
+    asked_within c.args.limit _ _ c.loop-turn._turn c.loop-turn.invariant.asked c.loop-turn.auto._turn-end

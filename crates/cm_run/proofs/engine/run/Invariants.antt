@@ -1,4 +1,4 @@
-use Rattle.std.proofs.Common.{◌≡◌, ◌+◌, false, length, IsTrue}
+use Rattle.std.proofs.Common.{◌≡◌, ◌+◌, ◌≤◌, false, length, IsTrue}
 use Rattle.cm_run.specs.Observed.{observed}
 use Rattle.cm_run.specs.Ready.{IsReadyIn}
 use Rattle.cm_run.specs.Trace.{is_ended, keys_trace, run_state, run_trace, starting, unless}
@@ -19,6 +19,7 @@ invariant-loop-turn g l = record {
       (run_trace g.A.Application.means l.logging l.fn.app (g.C.Clock.left l.fn.clock) (g.K.Source.left l.fn.keys));
   ready : IsReadyIn g.A.Application.means l.app l.session;
   count : IsTrue g.K.Source.tells → length (g.K.Source.left l.fn.keys) ≡ length (g.K.Source.left l.keys) + l._turn;
+  asked : g.K.Source.gets l.keys ≤ g.K.Source.gets l.fn.keys + l._turn;
   screen : g.S.Sink.faults l.screen ≡ g.S.Sink.faults l.fn.screen;
   log : g.W.Sink.faults l.log ≡ g.W.Sink.faults l.fn.log;
   keys : g.K.Source.faults l.keys ≡ g.K.Source.faults l.fn.keys;
