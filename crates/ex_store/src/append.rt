@@ -183,14 +183,7 @@ fn appends(
         → IfErr result (IsRefused (appended retention moment to.now sources rows)) }
 {
     let retention = directories.retention_of(to.directory.as_str());
-    let opening = match opened(
-        alloc,
-        files,
-        to.own_key(),
-        to.generation,
-        moment,
-        retention,
-    ) {
+    let opening = match opened(alloc, files, to.own_key(), to.generation, moment, retention) {
         Ok(opening) => opening,
         Err(code) => return Err(Refusal::Code(code)),
     };

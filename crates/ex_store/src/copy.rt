@@ -63,7 +63,13 @@ impl Simulation {
             (rows_of self.old.names.items)) }
         ensures ascend { OnOk result (ascends by_name self.new.names.items ≡ true) }
     {
-        let row = Row::new(key, keep, generation, moment, source.file.bytes.copy(alloc)?);
+        let row = Row::new(
+            key,
+            keep,
+            generation,
+            moment,
+            source.file.bytes.copy(alloc)?,
+        );
         add(&mut self.names, alloc, row.blank(alloc))?;
         self.pairs.push(NamePair {
             source: source.full_name(),

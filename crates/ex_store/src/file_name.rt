@@ -214,11 +214,7 @@ fn place(names: &[Entry], key: &Key, probes: &mut u64) -> usize
     ensures later { probes.old ≤ probes.new }
     ensures few { 2 ^ (probes.new - probes.old) ≤ 2 * length names.now + 1 }
 {
-    seek(
-        names,
-        |entry| key_cmp(entry.key(), key).is_lt(),
-        probes,
-    )
+    seek(names, |entry| key_cmp(entry.key(), key).is_lt(), probes)
 }
 
 // Where a name stands. How often a name is asked is added to `probes`.
@@ -319,11 +315,7 @@ pub(crate) fn add(names: &mut Vec<Entry>, alloc: Global, row: Row) -> Result<(),
 }
 
 // The file of a full name, where there is one. How often a name is asked is added to `probes`.
-pub(crate) fn find<'a>(
-    names: &'a [Entry],
-    full: &FullName,
-    probes: &mut u64,
-) -> Option<&'a File>
+pub(crate) fn find<'a>(names: &'a [Entry], full: &FullName, probes: &mut u64) -> Option<&'a File>
     requires { ascends by_name names.now ≡ true }
     ensures file { option_map (row_under full.now.key) (option_copied result) ≡ row_at full.now (rows_of names.now) }
     ensures later { probes.old ≤ probes.new }

@@ -139,7 +139,9 @@ fn room_is_made(rt: HostRuntime) {
 #[test]
 fn a_generation_is_looked_for_by_halving(rt: HostRuntime) {
     let gens = even(&rt, 1_024);
-    for generation in [0, 1, 2, 3, 1_023, 1_024, 1_025, 2_047, 2_048, 2_049, 131_071] {
+    for generation in [
+        0, 1, 2, 3, 1_023, 1_024, 1_025, 2_047, 2_048, 2_049, 131_071,
+    ] {
         let mut probes = 0;
         let found = gens.position(generation, &mut probes);
         let is_there = generation > 0 && generation <= 2_048 && generation % 2 == 0;

@@ -167,7 +167,13 @@ fn made(rt: &(impl Abort + AllocGlobal), marks: &str) -> Gens {
 pub(super) fn even(rt: &(impl Abort + AllocGlobal), count: u32) -> Gens {
     let mut gens = Gens::new(rt.alloc());
     for number in 0..count {
-        add(rt, &mut gens, number.saturating_add(1).saturating_mul(2), 0, 0);
+        add(
+            rt,
+            &mut gens,
+            number.saturating_add(1).saturating_mul(2),
+            0,
+            0,
+        );
     }
     gens
 }

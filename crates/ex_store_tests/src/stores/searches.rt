@@ -59,7 +59,9 @@ fn a_file_of_4096_is_found_by_number_in_13_probes(rt: HostRuntime) {
 fn a_file_of_4096_is_found_by_name_in_13_probes(rt: HostRuntime) {
     let image = image_with(rt.alloc(), 4_096).expect(&rt, "memory");
     let store = store_of(&rt, image.as_str());
-    for name in ["N0000", "N0001", "N2047", "N2048", "N2049", "N4094", "N4095"] {
+    for name in [
+        "N0000", "N0001", "N2047", "N2048", "N2049", "N4094", "N4095",
+    ] {
         let probes = probes_by_name(&store, name).expect(&rt, "a file");
         assert!(rt; probes <= 13, "{name}");
     }

@@ -37,4 +37,4 @@ returns-clause-lean c =
     let rooms : length (rooms_of c.count.new.names.items) ≡ length (rooms_of names) =
     ap (λ (it : List NameRoom). length it) (ap rooms_of c.count.ensures ∙ rooms_counted 0 names) in
     let rows : length (rows_of c.self.inside.names.items) ≡ length c.args.self.now.rows = ap (λ (it : FilesWithRoom). length it.rows) c.self.view_is in
-    omega (arith, rooms, rows, length-map names (λ (name : FileName). record { key = name.key; room = name.gens.room }), c.in_ok-made.ensures.lean)
+    omega (arith, rooms, rows, length-map {B = NameRoom} names (λ (name : FileName). record { key = name.key; room = name.gens.room }), c.in_ok-made.ensures.lean)
