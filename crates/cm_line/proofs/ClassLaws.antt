@@ -20,16 +20,6 @@ class_at_none key = by (is_end (class_of key))
     by true = refl
     by false = refl
 
--- only a line that ends in a hyphen is continued
-pub joins : (line : List ℕ) (key : ℕ) → class_at line key ≡ Join → ends_in_hyphen line ≡ true
-unfolding class_at
-joins line key is = by (ends_in_hyphen line) (is_end (class_of key)) is
-  where
-    by : (hyphen end : Bool) → (if end && hyphen then Join else class_of key) ≡ Join → hyphen ≡ true
-    by true end is = refl
-    by false true is = absurd (none_joins key is)
-    by false false is = absurd (none_joins key is)
-
 -- and only text bytes are text
 text_key : (key : ℕ) → class_of key ≡ Text → is_text key ≡ true
 unfolding class_of
