@@ -1,6 +1,6 @@
 -- What one who reads an image may rest on.
-use Rattle.std.proofs.Common.{◌≡◌, ◌==◌, ◌&&◌, IfOk, IfErr, Result, ℕ, Bool, true, false, List, length, Ok, Err, refl}
-use Rattle.std.proofs.lemmas.Bool.{and_parts, false≢true}
+use Rattle.std.proofs.Common.{◌≡◌, IfOk, IfErr, Result, ℕ, Bool, true, false, List, [], Ok, Err, refl, subst, sym}
+use Rattle.std.proofs.lemmas.Bool.{false≢true}
 use Rattle.ex_store.specs.State.{StoreWithRoom, State, has_directory}
 use Rattle.ex_store.specs.WellFormed.{IsDraft}
 use Rattle.ex_image.specs.declared.fault.ImageFault.{ImageFault}
@@ -8,12 +8,14 @@ use Rattle.ex_image.specs.declared.fault.ImageFault.TheVariants.{Bad, NoMemory}
 use Rattle.ex_image.specs.declared.fault.Kind.{Kind}
 use Rattle.ex_image.specs.declared.tag.Tag.{Tag}
 use Rattle.ex_image.specs.declared.tag.Tag.TheVariants as tags
+use Rattle.ex_image.specs.declared.version.Version.{Version}
+use Rattle.ex_image.specs.declared.version.Version.TheVariants as versions
 use Rattle.ex_image.specs.Decoding.{IsBadAt, IsStore, Tells}
-use Rattle.ex_image.specs.Grammar.{FirstBad, IsImage, Makes, MayStand}
-use Rattle.ex_image.specs.Reading.{Reading, is_ended, record_at, with_entry}
+use Rattle.ex_image.specs.Grammar.{FirstBad, IsImage, IsImageIn, Makes, MayStand, state_in}
+use Rattle.ex_image.specs.Reading.{Reading, record_at, with_entry}
 use Rattle.ex_image.specs.Record.{Entry, Connected}
 use Rattle.ex_image.proofs.Drafting.{draft_more, makes_sound}
-use Rattle.ex_image.proofs.Endings.{never_bad, one_bad, one_state}
+use Rattle.ex_image.proofs.Endings.{image_here, never_bad, one_bad, one_state, whole}
 use Rattle.ex_image.proofs.RecordLaws.{record_takes}
 use Rattle.ex_image.proofs.Standing.{IsConnected, Stands, faultless_of}
 
@@ -55,17 +57,25 @@ pub connected_there : (bytes : List ℕ) (reading : Reading) (rest : List ℕ) �
 connected_there bytes reading rest made late =
     stands_connected reading.last reading.state (makes_sound bytes reading rest made).stands late
 
-ended_late : (last : Tag) → is_ended last ≡ true → is_connected last ≡ true
-ended_late tags.End ended = refl
-ended_late last ended = absurd (false≢true ended)
+-- so in the state of an image
+there_in : (version : Version) (said : State) → has_directory said.connected said.directories ≡ true
+    → has_directory (state_in version said).connected (state_in version said).directories ≡ true
+there_in versions.One said there = there
+there_in versions.Two said there = there
 
--- so where all is read
-pub whole_there : (bytes : List ℕ) (reading : Reading) (rest : List ℕ) → Makes bytes reading rest
-    → (is_ended reading.last && length rest == 0) ≡ true
-    → has_directory reading.state.connected reading.state.directories ≡ true
-whole_there bytes reading rest made whole =
-    let both = and_parts (is_ended reading.last) (length rest == 0) whole in
-    connected_there bytes reading rest made (ended_late reading.last both.0)
+pub whole_there : (bytes : List ℕ) (version : Version) (said state : State) → IsImageIn version bytes said
+    → state ≡ state_in version said → has_directory state.connected state.directories ≡ true
+unfolding IsImageIn
+whole_there bytes version said state image is =
+    let there = connected_there bytes (whole version said) [] image refl in
+    subst (λ (state : State). has_directory state.connected state.directories ≡ true) (sym is)
+    (there_in version said there)
+
+-- and the store has that state
+pub store_told : (bytes : List ℕ) (version : Version) (said state : State) → IsImageIn version bytes said
+    → state ≡ state_in version said → IsImage bytes state
+store_told bytes version said state image is =
+    subst (IsImage bytes) (sym is) (image_here bytes version said image)
 
 -- where an image was read, or the first wrong record is told, no other store comes of an image
 pub only_told : (bytes : List ℕ) (result : Result StoreWithRoom ImageFault) → IfOk result (λ store. IsImage bytes store.state)

@@ -27,12 +27,12 @@ use Rattle.ex_image.proofs.RequestLaws.{IsRequestShape, request_shape}
 use Rattle.ex_image.proofs.Standing.{IsFaultless, Stands, faultless_of, only_directories, stands_more}
 
 -- one more that passes
-all_more : {X : Type 0} (test : X → Bool) (xs : List X) (x : X) → list_all test xs ≡ true → test x ≡ true
+pub all_more : {X : Type 0} (test : X → Bool) (xs : List X) (x : X) → list_all test xs ≡ true → test x ≡ true
     → list_all test (xs ++ x ∷ []) ≡ true
 all_more test xs x all passes = list_all-append test xs (x ∷ []) ∙ and_from _ _ all (and_from _ _ passes refl)
 
 -- where there is none, each passes
-all_none : {X : Type 0} (test : X → Bool) (xs : List X) → xs ≡ [] → list_all test xs ≡ true
+pub all_none : {X : Type 0} (test : X → Bool) (xs : List X) → xs ≡ [] → list_all test xs ≡ true
 all_none test xs none = rw none refl
 
 -- one more where there is room

@@ -166,19 +166,19 @@ ended_is tags.End ended = refl
 ended_is last ended = absurd (false≢true ended)
 
 -- an image ends where all of it is read
-pub image_here : (bytes : List ℕ) (reading : Reading) (rest : List ℕ) → Makes bytes reading rest
-    → (is_ended reading.last && length rest == 0) ≡ true
-    → IsImage bytes (state_in reading.version reading.state)
-unfolding IsImage IsImageIn reading_at
-image_here bytes reading rest made ends =
+pub whole_here : (bytes : List ℕ) (reading : Reading) (rest : List ℕ) → Makes bytes reading rest
+    → (is_ended reading.last && length rest == 0) ≡ true → IsImageIn reading.version bytes reading.state
+unfolding IsImageIn reading_at
+whole_here bytes reading rest made ends =
     let both = and_parts (is_ended reading.last) (length rest == 0) ends in
-    let last = ended_is reading.last both.0 in (
-      reading.version,
-      reading.state,
-      subst (λ at. Makes bytes at []) (ap (reading_at reading.version reading.state) last)
-          (subst (λ left. Makes bytes reading left) (no_bytes rest both.1) made),
-      refl,
-    )
+    let last = ended_is reading.last both.0 in
+    subst (λ at. Makes bytes at []) (ap (reading_at reading.version reading.state) last)
+    (subst (λ left. Makes bytes reading left) (no_bytes rest both.1) made)
+
+pub image_here : (bytes : List ℕ) (version : Version) (said : State) → IsImageIn version bytes said
+    → IsImage bytes (state_in version said)
+unfolding IsImage
+image_here bytes version said image = (version, said, image, refl)
 
 behind_size : (bytes : List ℕ) (reading : Reading) (rest : List ℕ) → Makes bytes reading rest
     → length rest ≤ length bytes
@@ -211,7 +211,10 @@ judged_from (suc room) bytes reading rest less made =
     by : (ends : Bool) → (is_ended reading.last && length rest == 0) ≡ ends
         → (read : Result ((Entry × List ℕ) × List ℕ) Kind) → record_at reading rest ≡ read
         → ((next : Reading) (left : List ℕ) → length left < room → Makes bytes next left → Judged bytes) → Judged bytes
-    by true ends read is later = inl (state_in reading.version reading.state, image_here bytes reading rest made ends)
+    by true ends read is later = inl (
+      state_in reading.version reading.state,
+      image_here bytes reading.version reading.state (whole_here bytes reading rest made ends),
+    )
     by false ends (Ok part) is later =
         let shorter = record_shorter reading rest part is in
         later (with_record reading part.0) part.1 (omega arith) (makes_more bytes reading rest part made is)

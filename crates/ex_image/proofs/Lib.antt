@@ -9,6 +9,7 @@ pub mod FieldLaws
 pub mod FileLaws
 pub mod Imaging
 pub mod Joining
+pub mod KeptLaws
 pub mod Leading
 pub mod Leaving
 pub mod LineLaws

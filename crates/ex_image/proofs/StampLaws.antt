@@ -92,7 +92,7 @@ abbrev stamped : ℕ → ℕ → Option ℕ → Stamp
 stamped keep moment read = record { keep = keep; moment = moment; read = read }
 
 first_is : (keep moment : ℕ) (read : Option ℕ) (rest : List ℕ) → (keep == 0 && not (is_some read)) ≡ true
-    → done (stamped 0 moment None, rest) ≡ done (stamped keep moment read, rest)
+    → done {A = Stamp × List ℕ} (stamped 0 moment None, rest) ≡ done (stamped keep moment read, rest)
 first_is keep moment read rest told =
     let both = and_parts (keep == 0) (not (is_some read)) told in
     rw (eqb-true keep 0 both.0, no_read read both.1) refl

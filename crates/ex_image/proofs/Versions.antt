@@ -1,12 +1,9 @@
 -- What a version tells of the files that were read in it, and which images are of which state.
-use Rattle.std.proofs.Common.{◌≡◌, ◌<◌, ◌⊎◌, ◌↔◌, inl, inr, ℕ, zero, suc, true, List, [], ◌∷◌, length, get_or, map, Option, Some, refl, ap, subst, sym, ◌∙◌, arith}
+use Rattle.std.proofs.Common.{◌≡◌, ◌⊎◌, ◌↔◌, inl, inr, ℕ, true, List, [], ◌∷◌, Option, Some, refl, subst, sym}
 use Rattle.cm_io.specs.declared.sink.Put.TheVariants.{Done}
-use Rattle.ex_generations.specs.declared.file.Remark.TheVariants as remarks
-use Rattle.ex_store.specs.declared.directory.Directory.{Directory}
 use Rattle.ex_store.specs.declared.row.Row.{Row}
-use Rattle.ex_store.specs.Draft.{kept_by, kept_by_directories}
-use Rattle.ex_store.specs.Rows.{with_remark}
-use Rattle.ex_store.specs.State.{State, retention_of}
+use Rattle.ex_store.specs.Draft.{kept_by_directories}
+use Rattle.ex_store.specs.State.{State}
 use Rattle.ex_store.specs.WellFormed.{IsWellFormed}
 use Rattle.ex_store.proofs.RemarkedLaws.{rows_kept_by}
 use Rattle.ex_image.specs.declared.version.Version.{Version}
@@ -79,21 +76,6 @@ first_is bytes state = (there, back) where
   back : IsWellFormed state × (are_told_in versions.One state.rows ≡ true) × (bytes ≡ text_in versions.One state)
       → IsImageIn versions.One bytes state
   back told = image_told versions.One bytes state told.0 told.1 told.2
-
--- migrated files keep all else
-pub kept_rows : (directories : List Directory) (rows : List Row)
-    → map (with_remark (remarks.Keep 0)) (map (kept_by directories) rows) ≡ map (with_remark (remarks.Keep 0)) rows
-kept_rows directories [] = refl
-kept_rows directories (row ∷ rows) =
-    ap (λ more. with_remark (remarks.Keep 0) row ∷ more) (kept_rows directories rows)
-
--- and each keeps as many generations as its directory
-pub keeps_of : (directories : List Directory) (rows : List Row) (i : ℕ) (d : Row) → i < length rows
-    → (get_or (map (kept_by directories) rows) i d).file.keep
-    ≡ retention_of (get_or rows i d).key.directory directories
-keeps_of directories [] i d within = absurd (omega arith)
-keeps_of directories (row ∷ rows) zero d within = refl
-keeps_of directories (row ∷ rows) (suc i) d within = keeps_of directories rows i d (omega arith)
 
 -- a migrated state is well formed
 kept_formed : (said : State) → IsWellFormed said → IsWellFormed (kept_by_directories said)

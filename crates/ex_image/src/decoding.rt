@@ -2,7 +2,7 @@
 ghost use Rattle.std.specs.Prelude.{ℕ, List, IfErr, IfOk};
 ghost use Rattle.ex_image.specs.declared.fault.Kind.{Kind};
 ghost use Rattle.ex_image.specs.Decoding.{IsBadAt, IsStore, Tells};
-ghost use Rattle.ex_image.specs.Grammar.{FirstBad, IsImage};
+ghost use Rattle.ex_image.specs.Grammar.{FirstBad, IsImage, IsImageIn};
 ghost use Rattle.ex_store.specs.State.{State};
 
 use crate::ImageFault;
@@ -10,10 +10,10 @@ use crate::reading::Reading;
 use ex_store::Store;
 use std::alloc::Global;
 
-// The store of which the bytes are the image.
-#[tactic(auto, using(crate::proofs::DecodeLaws::whole_there, crate::proofs::Endings::bad_here, crate::proofs::Endings::image_here, crate::proofs::Sizes::read_size))]
-fn decoded(alloc: Global, bytes: &[u8]) -> Result<Store, ImageFault>
-    ensures image { IfOk result (λ store. IsImage bytes.now store.state) }
+// What the records of an image say.
+#[tactic(auto, using(crate::proofs::Endings::bad_here, crate::proofs::Endings::whole_here, crate::proofs::Sizes::read_size))]
+fn read(alloc: Global, bytes: &[u8]) -> Result<Reading, ImageFault>
+    ensures whole { IfOk result (λ reading. IsImageIn reading.version bytes.now reading.state) }
     ensures bad { IfErr result (λ fault. Tells bytes.now fault) }
 {
     let mut reading = Reading::new(alloc);
@@ -30,16 +30,23 @@ fn decoded(alloc: Global, bytes: &[u8]) -> Result<Store, ImageFault>
             }
         }
     }
-    Ok(reading.done())
+    Ok(reading)
 }
 
-/// The store of which the bytes are the image. Bad exactly where they are an image of none, with the place and the
-/// kind of the first record that is wrong after those before it.
+/// The store of which the bytes are the image, in either version. Bad exactly where they are an image of none, with the
+/// place and the kind of the first record that is wrong after those before it.
+#[tactic(auto, using(crate::proofs::DecodeLaws::whole_there))]
 pub fn decode(alloc: Global, bytes: &[u8]) -> Result<Store, ImageFault>
     ensures image { IfOk result (λ store. IsImage bytes.now store.state) }
     ensures bad { IfErr result (λ fault. Tells bytes.now fault) }
     ensures only { (wanted : State) → IsImage bytes.now wanted → IsStore result wanted }
     ensures first { (place : ℕ) → (kind : Kind) → FirstBad bytes.now place kind → IsBadAt result place kind }
 {
-    decoded(alloc, bytes)
+    match read(alloc, bytes) {
+        Ok(mut reading) => {
+            reading.migrate();
+            Ok(reading.done())
+        }
+        Err(fault) => Err(fault),
+    }
 }

@@ -84,16 +84,6 @@ fn version_behind(version: Version, entry: &Entry<'_>) -> Version
     }
 }
 
-// A draft as it was read in a version: in version 1 each file keeps as many generations as its directory.
-fn migrate(draft: &mut Draft, version: Version)
-    ensures { draft.new ≡ state_in version draft.old }
-{
-    match version {
-        Version::One => draft.keep_by_directories(),
-        Version::Two => {}
-    }
-}
-
 impl Reading {
     /// Nothing is read yet.
     pub(crate) fn new(alloc: Global) -> Reading
@@ -157,13 +147,23 @@ impl Reading {
         Ok(())
     }
 
-    /// The store, once a directory is connected. What was read in version 1 is migrated.
+    /// Makes of what the records say the state of the image: in version 1 each file keeps as many generations as its
+    /// directory.
+    #[tactic(auto, using(crate::proofs::KeptLaws::kept_total))]
+    pub(crate) fn migrate(&mut self)
+        ensures { self.new ≡ record self.old { state = state_in self.old.version self.old.state } }
+    {
+        match self.version {
+            Version::One => self.draft.keep_by_directories(),
+            Version::Two => {}
+        }
+    }
+
+    /// The store, once a directory is connected.
     pub(crate) fn done(self) -> Store
         requires { has_directory self.state.connected self.state.directories ≡ true }
-        ensures { result.state ≡ state_in self.version self.state }
+        ensures { result.state ≡ self.state }
     {
-        let mut draft = self.draft;
-        migrate(&mut draft, self.version);
-        draft.done()
+        self.draft.done()
     }
 }

@@ -34,31 +34,31 @@ fn push_logical_names(image: &mut String) -> Result<(), AllocError> {
     Ok(())
 }
 
-// Puts a file of this number with so many bytes behind an image.
+// Puts a file of this number with these bytes behind an image.
 fn push_file(
     alloc: Global,
     image: &mut Vec<u8>,
     number: u32,
-    size: usize,
+    held: &[u8],
 ) -> Result<(), AllocError> {
     let directory = REST_OF_FOUR;
     let name = REST_OF_FIVE;
     let kind = TYPE;
+    let size = held.len();
     let line = format!(in alloc;
         "F D163{directory} N{number}{name}.{kind}.131071 D 63 4102444799 4102444799 {size}\n"
     )?;
     image.extend_from_slice(line.as_bytes())?;
-    for _ in 0..size {
-        image.push(b'\n')?;
-    }
-    image.push(b'\n')
+    image.extend_from_slice(held)?;
+    image.extend_from_slice(b"\n")
 }
 
 // 4,096 files, of which 128 have 65,536 bytes and the others none.
 fn push_files(alloc: Global, image: &mut Vec<u8>) -> Result<(), AllocError> {
+    let most = vec![in alloc; b'\n'; 65_536]?;
     for number in 1_000..5_096 {
-        let size = if number < 1_128 { 65_536 } else { 0 };
-        push_file(alloc, image, number, size)?;
+        let held: &[u8] = if number < 1_128 { &most } else { &[] };
+        push_file(alloc, image, number, held)?;
     }
     Ok(())
 }

@@ -1,5 +1,5 @@
 use Rattle.std.proofs.Common.{refl}
-use Rattle.ex_image.proofs.Versions.{kept_rows, keeps_of}
+use Rattle.ex_image.proofs.KeptLaws.{kept_rows, keeps_of}
 use Rattle.ex_image.proofs.laws.a_migration_keeps_all_else.Goals as goal
 
 pub returns-clause-lists : goal.returns-clause-lists

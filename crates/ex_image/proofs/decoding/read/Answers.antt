@@ -3,7 +3,7 @@ use Rattle.ex_image.specs.Said.{next_said}
 use Rattle.ex_image.proofs.DecodeLaws.{drafted_read}
 use Rattle.ex_image.proofs.Leading.{makes_more, makes_start}
 use Rattle.ex_image.proofs.RecordLaws.{record_shorter, record_takes}
-use Rattle.ex_image.proofs.decoding.decoded.Goals as goal
+use Rattle.ex_image.proofs.decoding.read.Goals as goal
 
 pub loop-rest-init : goal.loop-rest-init
 loop-rest-init c = record { makes = rw c.new-reading.ensures (makes_start c.args.bytes.now); within = omega arith }

@@ -1,6 +1,6 @@
 use Rattle.std.proofs.Common.{◌≤◌, length}
 use Rattle.ex_image.specs.Grammar.{Makes}
-use Rattle.ex_image.proofs.decoding.decoded.Given as goal
+use Rattle.ex_image.proofs.decoding.read.Given as goal
 
 abbrev pub invariant-loop-rest : goal.invariant-loop-rest
 invariant-loop-rest l = record {
