@@ -12,10 +12,6 @@ use Rattle.ex_image.specs.Writing.{Appends, Outside}
 abbrev longer : Option (List ℕ) → List ℕ → Option (List ℕ)
 longer file bytes = option_map (λ content. content ++ bytes) file
 
-longer_none : (file : Option (List ℕ)) → file ≡ longer file []
-longer_none None = refl
-longer_none (Some content) = ap Some (sym (append-nil content))
-
 longer_both : (file : Option (List ℕ)) (first second : List ℕ) → longer (longer file first) second ≡ longer file (first ++ second)
 longer_both None first second = refl
 longer_both (Some content) first second = ap Some (append_assoc content first second)
@@ -37,19 +33,6 @@ writes_both before middle now first second Failed wrote writes = record {
 -- a count of faults that stayed, and then went on so
 cause_late : (before middle now : ℕ) (result : Put) → middle ≡ before → PutCause middle now result → PutCause before now result
 cause_late before middle now result stayed cause = subst (λ count. PutCause count now result) stayed cause
-
--- no bytes are appended
-pub appends_none : (tells : Bool) (at : Outside) → IsTrue at.is_open → Appends tells at at [] Done
-appends_none tells at opened = record {
-  stays_open = opened;
-  target = λ told. refl;
-  file = λ told. longer_none (at.files at.target);
-  others = λ told other differs. refl;
-  loads = refl;
-  creates = refl;
-  later = omega arith;
-  cause = refl;
-}
 
 -- a second piece is appended behind the first
 pub appends_both : (tells : Bool) (before middle now : Outside) (first second : List ℕ) (result : Put)

@@ -151,14 +151,6 @@ admitted_free key generation size files bytes rows number counted is =
     let room = limited_roomy files bytes size parts.0 number parts.2 in
     numbered_free generation (files_of key rows) number counted (parts.1 ∙ ap (λ n. Ok n) room.1)
 
--- the generations of the files of a store may be
-pub all_numbered : (directories : List Directory) (rows : List Row) → list_all (is_row_among directories) rows ≡ true
-    → list_all (λ (row : Row). is_numbered row.file.generation) rows ≡ true
-all_numbered directories [] all = refl
-all_numbered directories (row ∷ rows) all =
-    let parts = and_parts _ _ all in
-    and_from _ _ (formed directories row parts.0).generation (all_numbered directories rows parts.1)
-
 -- what the code asks of the rows that it simulates is what is asked of all rows
 pub simulated_admitted : (from to : List ℕ) (key : Key) (generation : Gen) (size files bytes : ℕ) (rows simulated : List Row)
     → is_either from to key.directory ≡ true → simulated ≡ map blank (rows_in_either from to rows) → files ≡ length rows → bytes ≡ total rows

@@ -59,10 +59,6 @@ full_stays Less less = refl
 full_stays Equal less = refl
 full_stays Greater less = absurd (cc)
 
--- where a row stands beside a key, and beside a full name
-abbrev pub key_place : Key → Row → Ordering
-key_place key row = by_key row.key key
-
 -- the first element at a place is the one behind those below it
 found_first : {X : Type 0} (place : X → Ordering) (xs : List X) (d : X)
     → prefix_len (λ x. is_lt (place x)) xs < length xs

@@ -47,17 +47,3 @@ kept_upper count key (row ∷ middle) upper none =
     rw (files_upper key middle upper none)
     (ap (λ rest. cond (is_of key row && nat_le count (live (files_of key middle))) (with_mark true row) row ∷ rest)
     (kept_upper count key middle upper none))
-
-files_own : (key : Key) (rows : List Row) → list_all (is_of key) rows ≡ true → files_of key rows ≡ files rows
-files_own key [] all = refl
-files_own key (row ∷ rows) all =
-    let parts : (is_of key row ≡ true) × (list_all (is_of key) rows ≡ true) = and_parts _ _ all in
-    rw parts.0 (ap (λ rest. row.file ∷ rest) (files_own key rows parts.1))
-
-kept_own : (count : ℕ) (key : Key) (rows : List Row) → list_all (is_of key) rows ≡ true
-    → kept_newest count key rows ≡ older_marked count rows
-kept_own count key [] all = refl
-kept_own count key (row ∷ rows) all =
-    let parts : (is_of key row ≡ true) × (list_all (is_of key) rows ≡ true) = and_parts _ _ all in
-    rw (parts.0, files_own key rows parts.1)
-    (ap (λ rest. cond (nat_le count (live (files rows))) (with_mark true row) row ∷ rest) (kept_own count key rows parts.1))

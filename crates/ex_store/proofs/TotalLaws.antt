@@ -7,9 +7,6 @@ use Rattle.ex_store.specs.declared.key.Key.{Key}
 use Rattle.ex_store.specs.declared.row.Row.{Row}
 use Rattle.ex_store.specs.Rows.{added, by_row, files_of, inserted, is_of, kept_newest, total, with_mark}
 
-abbrev size : Row → ℕ
-size row = length row.file.bytes
-
 pub total_cons : (row : Row) (rows : List Row) → total (row ∷ rows) ≡ length row.file.bytes + total rows
 total_cons row rows = sum_by-cons (λ (each : Row). length each.file.bytes) row rows
 
