@@ -1,5 +1,5 @@
 -- What comes of rows does not depend on who has read them.
-use Rattle.std.proofs.Common.{◌≡◌, ℕ, ◌+◌, Bool, cond, true, false, List, [], ◌∷◌, length, map, filter, Result, Ok, Err, Option, Some, None, refl, ap, arith, ◌∙◌, sym}
+use Rattle.std.proofs.Common.{◌≡◌, ℕ, Bool, cond, true, false, List, [], ◌∷◌, length, map, Result, Ok, Err, Option, Some, None, refl, ap, arith, ◌∙◌, sym}
 use Rattle.std.specs.Option.{option_map_or}
 use Rattle.std.proofs.lemmas.List.{length-map}
 use Rattle.cm_fields.specs.declared.code.Code.{Code}

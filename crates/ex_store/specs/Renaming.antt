@@ -1,5 +1,5 @@
 -- Files are given other names.
-use Rattle.std.specs.Prelude.{ℕ, ◌≡◌, true, not, List, [], ◌∷◌, length, Result, Ok}
+use Rattle.std.specs.Prelude.{◌≡◌, true, not, List, [], ◌∷◌, length, Result, Ok}
 use Rattle.std.specs.List.{list_all}
 use Rattle.cm_fields.specs.declared.code.Code.{Code}
 use Rattle.cm_fields.specs.declared.value.Gen.{Gen}

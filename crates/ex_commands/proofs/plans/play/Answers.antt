@@ -1,9 +1,12 @@
+use Rattle.std.proofs.Common.{ap}
+use Rattle.ex_store.specs.State.{StoreWithRoom}
 use Rattle.ex_commands.proofs.Playing.{play_done, play_refused}
 use Rattle.ex_commands.proofs.plans.play.Goals as goal
 
 pub returns-in-Ok : goal.returns-in-Ok
 returns-in-Ok g c =
-    play_done _ _ _ _ _ c.in-Ok.ready _ _ _ c.in-Ok.ensures.ready c.prepare.ensures.state c.put_pairs.ensures c.apply.ensures
+    play_done _ _ _ _ _ c.in-Ok.ready _ _ _ c.in-Ok.ensures.ready c.prepare.ensures.state c.put_pairs.ensures
+    (ap (λ (held : StoreWithRoom). held.state) c.apply.ensures)
 
 pub returns-in-Err-Code : goal.returns-in-Err-Code
 returns-in-Err-Code g c =

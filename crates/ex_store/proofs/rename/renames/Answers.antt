@@ -1,11 +1,10 @@
-use Rattle.std.proofs.Common.{◌≡◌, ℕ, ◌+◌, true, Err, List, [], length, length-append, ap, sym, subst, ◌∙◌}
+use Rattle.std.proofs.Common.{◌≡◌, ◌+◌, true, List, length, length-append, ap, sym, subst, ◌∙◌}
 use Rattle.cm_files.specs.Catalogue.{ascends}
 use Rattle.ex_store.specs.declared.file_name.FileName.{FileName}
 use Rattle.ex_store.specs.declared.row.Row.{Row}
-use Rattle.ex_store.specs.Adding.{each_in_turn}
 use Rattle.ex_store.specs.FileNames.{by_name, rows_of}
 use Rattle.ex_store.specs.Positions.{elements_at}
-use Rattle.ex_store.specs.Renaming.{pair_for, renamed}
+use Rattle.ex_store.specs.Renaming.{pair_for}
 use Rattle.ex_store.specs.WellFormed.{is_row_among}
 use Rattle.ex_store.proofs.RenamedLaws.{IsRenaming, refused_so, renames_more, renames_refused, renaming_start}
 use Rattle.ex_store.specs.Lent.{row_of_view}

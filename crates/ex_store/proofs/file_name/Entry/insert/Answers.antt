@@ -29,5 +29,5 @@ pub returns-clause-few : goal.returns-clause-few
 returns-clause-few c =
     let next : FileName = c.deref_mut-2.result.now in
     let more = ap (λ (it : List Row). length it) (returns-clause-rows c)
-    ∙ length_inserted (row_under c.args.self.now.key c.args.file) (rows_under c.args.self.now) in
+    ∙ length_added 0 (row_under c.args.self.now.key c.args.file) (rows_under c.args.self.now) in
     omega (arith, more, length_under c.args.self.now, length-map c.insert.new.self.files (row_under next.key))

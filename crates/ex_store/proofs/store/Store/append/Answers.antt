@@ -1,5 +1,5 @@
-use Rattle.std.proofs.Common.{◌≡◌, ℕ, true, List, Option, Result, Some, ap, refl, subst, sym}
-use Rattle.std.specs.Result.{IfErr, IfOk}
+use Rattle.std.proofs.Common.{◌≡◌, ℕ, List, Option, Result, Some, ap, refl, subst, sym}
+use Rattle.std.specs.Result.{IfOk}
 use Rattle.std.proofs.lemmas.Result.{IfErr-weaker, IfOk-weaker}
 use Rattle.cm_fields.specs.declared.code.Code.{Code}
 use Rattle.ex_generations.specs.declared.file.Remark.TheVariants as remarks
@@ -11,7 +11,7 @@ use Rattle.ex_store.specs.declared.row.Row.{Row}
 use Rattle.ex_store.specs.Adding.{Outcome}
 use Rattle.ex_store.specs.Appending.{appended}
 use Rattle.ex_store.specs.Copying.{moment_of}
-use Rattle.ex_store.specs.Plan.{IsRefused, planned}
+use Rattle.ex_store.specs.Plan.{planned}
 use Rattle.ex_store.specs.Positions.{elements_at}
 use Rattle.ex_store.specs.Ready.{Change, IsMade, rows_read}
 use Rattle.ex_store.specs.Rows.{AreAlike}
