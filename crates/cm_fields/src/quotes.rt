@@ -56,8 +56,8 @@ fn by_closing(at: usize, found: Closing) -> Try
 }
 
 /// A quoted text (.CMQST): from a quote to a quote that no quote follows; a quote inside stands twice. Refused
-/// with NotQuoted where no quote stands, with NoQuote where the line ends or is continued first, with FieldLong where it
-/// writes more than 39 bytes.
+/// with NotQuoted where no quote stands, with NoQuote where the line ends or is continued first, with FieldLong
+/// where it writes more than 39 bytes.
 pub fn quoted(text: &[u8], at: usize) -> Try
     requires short { length text.now ≤ TEXT_LIMIT }
     requires place { at ≤ length text.now }

@@ -162,8 +162,8 @@ impl Line {
     }
 }
 
-// A text byte may stand in a line, and so may the join byte: what the invariant of a line wants, said of one byte, where
-// the search has it of the whole list. Nothing of these is run.
+// A text byte may stand in a line, and so may the join byte: what the invariant of a line wants, said of one byte,
+// where the search has it of the whole list. Nothing of these is run.
 #[tactic(auto, using(cm_text::proofs::LineBytes::text_in_line))]
 fn text_stands(byte: u8)
     requires { is_text byte ≡ true }

@@ -70,7 +70,8 @@ line_start mode.Ended session = session
 -- a session that has read a line of a command file, and finished it whatever its last byte
 abbrev pub file_session : {S : Type 0} → Meaning S → S → List ℕ → SessionState
 file_session m state line =
-    edited_as (setting_of m state) (record (at_start (node_of (m.mode_of state)) Main None) { line = line }) classes.End 13
+    edited_as (setting_of m state) (record (at_start (node_of (m.mode_of state)) Main None) { line = line })
+    classes.End 13
 
 -- the line that is taken next, where the next key is for a line and one waits
 abbrev pub line_by : Mode → Option (List ℕ) → Option (List ℕ)

@@ -127,7 +127,8 @@ fn edit_line<A: Application, S: Sink, L: Ledger>(
         session.new.ending }
     ensures ready { IsReady (setting_of A.means app.now) session.new }
     ensures node { session.new.node ≡ session.old.node }
-    ensures turn { put_of result ≡ Put.Done → result ≡ turn_of (class_at (met_line session.old) key) session.new.ending }
+    ensures turn { put_of result ≡ Put.Done
+        → result ≡ turn_of (class_at (met_line session.old) key) session.new.ending }
     ensures bytes { Adds (S.told screen.old) (S.told screen.new)
         (echo (setting_of A.means app.now) session.old key) (put_of result) }
     ensures later { S.faults screen.old ≤ S.faults screen.new }

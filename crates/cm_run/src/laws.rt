@@ -134,8 +134,8 @@ pub fn a_prompt_begins_a_line<D: Display>()
 {}
 
 /// Where a display shows prompt and line, the echo of a key leaves it showing prompt and line as they then are, for
-/// lines and prompts of every length; of a line with join bytes that is what follows the last. Behind a key that finishes
-/// the line or gives it up the display holds nothing.
+/// lines and prompts of every length; of a line with join bytes that is what follows the last. Behind a key that
+/// finishes the line or gives it up the display holds nothing.
 pub fn a_key_keeps_the_screen<D: Display>()
     ensures clear { (s : Setting) → IsSound s → (held : SessionState) → (key : ℕ) → IsClear held
         → IsClear (edited s held key) }

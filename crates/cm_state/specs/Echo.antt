@@ -70,14 +70,16 @@ ring true = bell
 ring false = []
 
 -- the echo of a key on a line of this size, from which it took a join byte or not, which control-H had a line to bring
--- back to or not, that left the session so; a key that completes shows the bytes that came to the line, and rings or not
+-- back to or not, that left the session so; a key that completes shows the bytes that came to the line, and rings or
+-- not
 abbrev pub echo_of : Setting → KeyClass → ℕ → ℕ → Bool → Bool → Bool → SessionState → List ℕ
 echo_of s Text key size joins restores rings now = if nat_lt size LINE_LIMIT then screen_byte key ∷ [] else bell
 echo_of s Rub key size joins restores rings now = taken_away joins now.prompt size now.line
 echo_of s Word key size joins restores rings now = taken_away joins now.prompt size now.line
 echo_of s Erase key size joins restores rings now = taken_away joins now.prompt size now.line
 echo_of s Show key size joins restores rings now = again now.prompt now.line
-echo_of s Help key size joins restores rings now = question ++ help_text s now.ending now.line ++ again now.prompt now.line
+echo_of s Help key size joins restores rings now =
+    question ++ help_text s now.ending now.line ++ again now.prompt now.line
 echo_of s Back key size joins restores rings now = if restores then screen_line now.line else bell
 echo_of s Stop key size joins restores rings now = control_c ++ end_of_line
 echo_of s Escape key size joins restores rings now = drop size now.line ++ ring rings

@@ -40,7 +40,8 @@ plays origin (Err code) state = refuses code state
 -- files are marked as deleted, or no more, with a line for each
 abbrev pub marks : Bool → Place → State → Act
 marks deleted files state =
-    does (flat_map (line_of Marked) (sources files state)) (record state { rows = remarked (remarks.Deleted deleted) files state })
+    does (flat_map (line_of Marked) (sources files state))
+    (record state { rows = remarked (remarks.Deleted deleted) files state })
 
 -- the marked files of a directory are removed
 abbrev pub without_marked : List ℕ → State → State

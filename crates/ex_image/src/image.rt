@@ -34,7 +34,8 @@ fn put_behind<S: Series, T: Target>(line: &[u8], parts: &S, target: &mut T) -> P
 fn put_names<T: Target>(parts: &Parts<'_>, target: &mut T) -> Put
     requires { IsTrue (T.outside target.old).is_open }
     ensures { Appends T.tells (T.outside target.old) (T.outside target.new)
-        ((record_text (records.Head versions.Two, []) ++ flat_map record_text (map directory_record parts.now.directories))
+        ((record_text (records.Head versions.Two, [])
+        ++ flat_map record_text (map directory_record parts.now.directories))
         ++ (record_text (records.Connected parts.now.connected, [])
         ++ flat_map record_text (map logical_record parts.now.logical))) result }
 {
@@ -77,10 +78,10 @@ pub(crate) fn put_all<T: Target>(parts: &Parts<'_>, target: &mut T) -> Put
     put_files(parts, target)
 }
 
-/// Writes the image of a store, in version 2, to a file of a host: a head, a line for each directory, for the connected one, for each
-/// logical name, for each file, with its bytes behind it, and for each entry of the print queue, and an end. It takes
-/// no memory. The file is created once. Where the host fails, the file is absent, as before, or holds a prefix of the
-/// image. No file is open afterwards.
+/// Writes the image of a store, in version 2, to a file of a host: a head, a line for each directory, for the connected
+/// one, for each logical name, for each file, with its bytes behind it, and for each entry of the print queue, and an
+/// end. It takes no memory. The file is created once. Where the host fails, the file is absent, as before, or holds a
+/// prefix of the image. No file is open afterwards.
 #[tactic(auto, using(cm_io::proofs::Adding::rose_early, cm_io::proofs::Adding::rose_late, crate::proofs::Sounding::forms_of_state,))]
 pub fn encode<H: Host>(store: &Store, host: &mut H, name: &str) -> Put
     ensures saved { IsTrue H.tells

@@ -14,7 +14,8 @@ out {HEAD}F OPERATOR L.CMD.1 U 1 0 - 19{LF}INF VER{LF}TAKE L.CMD{LF}{LF}E{LF}
 
 # Behind the end of a file the one around it goes on.
 words IN,OUT
-in {HEAD}F OPERATOR A.CMD.1 U 1 0 - 19{LF}TAKE B.CMD{LF}INF DIR{LF}{LF}F OPERATOR B.CMD.1 U 1 0 - 8{LF}INF VER{LF}{LF}E{LF}
+in {HEAD}F OPERATOR A.CMD.1 U 1 0 - 19{LF}TAKE B.CMD{LF}INF DIR{LF}{LF}
+in F OPERATOR B.CMD.1 U 1 0 - 8{LF}INF VER{LF}{LF}E{LF}
 clock 0
 keys TAKE A.CMD{CR}INF VER{CR}
 screen @TAKE A.CMD{EOL} EXEC20 1{EOL} PS:<OPERATOR>{EOL} Generations to keep: 1{EOL} Pages: 2{EOL}

@@ -51,7 +51,8 @@ retention_at to state = retention_of to.directory state.directories
 abbrev pub read_at : ℕ → Place → State → List Row
 read_at moment from state = touched (moment_of moment) from state
 
--- sources are those of the start, in ascending order, and each is taken in turn; a copy and an appending read them first
+-- sources are those of the start, in ascending order, and each is taken in turn; a copy and an appending read them
+-- first
 unfoldable pub planned : Plan → ℕ → State → Result Planned Code
 planned (plans.Build directory retention) moment state =
     and_then (λ made.

@@ -28,8 +28,8 @@ use Rattle.ex_store.specs.Selection.{touched}
 use Rattle.ex_store.specs.State.{StoreWithRoom, State}
 use Rattle.ex_store.specs.WellFormed.{AreRows, IsWellFormed, is_numbered}
 
--- a directory to be made or changed; a logical name to be defined; which files are read, and when; what is done with the
--- files, one after the other; what is put into the queue; and from which file to which one each goes
+-- a directory to be made or changed; a logical name to be defined; which files are read, and when; what is done with
+-- the files, one after the other; what is put into the queue; and from which file to which one each goes
 pub record Change : Type 0 where
   pub directory : Option Directory
   pub definition : Option Definition

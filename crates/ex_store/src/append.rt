@@ -176,7 +176,8 @@ fn appends(
     ensures made { let sources = elements_at files.now.rows positions.now in
         let retention = retention_of to.now.directory directories.now.list in
         (rows : List Filed) → AreAlike files.now.rows rows → AreRows directories.now.list rows
-        → IfOk result (IsMade directories.now.list rows (appended retention moment to.now sources rows) (Some reading)) }
+        → IfOk result
+        (IsMade directories.now.list rows (appended retention moment to.now sources rows) (Some reading)) }
     ensures refused { let sources = elements_at files.now.rows positions.now in
         let retention = retention_of to.now.directory directories.now.list in
         (rows : List Filed) → AreAlike files.now.rows rows → AreRows directories.now.list rows

@@ -100,7 +100,8 @@ fn copies(
     ensures made { let sources = elements_at files.now.rows positions.now in
         let retention = retention_of to.now.directory directories.now.list in
         (rows : List Filed) → AreAlike files.now.rows rows → AreRows directories.now.list rows
-        → IfOk result (IsMade directories.now.list rows (all_copied retention moment to.now sources rows) (Some reading)) }
+        → IfOk result
+        (IsMade directories.now.list rows (all_copied retention moment to.now sources rows) (Some reading)) }
     ensures refused { let sources = elements_at files.now.rows positions.now in
         let retention = retention_of to.now.directory directories.now.list in
         (rows : List Filed) → AreAlike files.now.rows rows → AreRows directories.now.list rows

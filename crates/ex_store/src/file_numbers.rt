@@ -123,8 +123,8 @@ pub(crate) fn end_of(names: &[Entry], directory: &[u8]) -> usize
     files_before(names, n)
 }
 
-// The name that the file with this number stands under, and which of its files it is. How often a name is asked is added
-// to `probes`.
+// The name that the file with this number stands under, and which of its files it is. How often a name is asked is
+// added to `probes`.
 fn place_of(names: &[Entry], i: usize, probes: &mut u64) -> (usize, usize)
     requires counted { IsCounted 0 names.now }
     requires within { i < length (rows_of names.now) }

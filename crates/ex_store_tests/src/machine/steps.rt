@@ -46,8 +46,8 @@ fn put_list(
 }
 
 // What a store tells: its catalogue, and what each directory keeps; a logical name, or all; a file, or the names, the
-// contents, the stamps or the sizes of all, or those that a place means; the print queue; what a directory keeps, and its pages;
-// its image; and the next file that a place means.
+// contents, the stamps or the sizes of all, or those that a place means; the print queue; what a directory keeps, and
+// its pages; its image; and the next file that a place means.
 fn put_answer(
     rt: &(impl Abort + AllocGlobal),
     store: &Store,
