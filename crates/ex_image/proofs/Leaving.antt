@@ -6,7 +6,7 @@ use Rattle.std.specs.List.{flat_map}
 use Rattle.cm_io.specs.declared.sink.Put.TheVariants.{Done, Failed}
 use Rattle.ex_image.specs.Record.{Entry, record_text}
 use Rattle.ex_image.specs.Writing.{Appends, Outside}
-use Rattle.ex_image.proofs.Appending.{appends_both, appends_early, appends_none}
+use Rattle.ex_image.proofs.Appending.{appends_both, appends_early}
 
 -- of the whole these bytes are appended, and the rest is left
 pub record Leaves (tells : Bool) (before now : Outside) (rest whole : List ℕ) : Type 0 where
