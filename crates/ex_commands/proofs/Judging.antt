@@ -18,7 +18,7 @@ use Rattle.cm_fields.specs.declared.trial.Try.{Try}
 use Rattle.cm_fields.specs.declared.trial.Try.TheVariants.{Accept, More, Refuse}
 use Rattle.cm_fields.specs.declared.value.Value.{Value}
 use Rattle.cm_fields.specs.declared.value.Value.TheVariants as values
-use Rattle.cm_fields.specs.Quoted.{by_closing, closing, quoted}
+use Rattle.cm_fields.specs.Quoted.{by_closing, closing, is_cut, quoted}
 use Rattle.cm_fields.specs.Run.{number_of, word_of}
 use Rattle.cm_fields.specs.Try.{by_run, said, span}
 use Rattle.cm_fields.proofs.Holding.{holds_of_choice, of_choice}
@@ -92,9 +92,9 @@ date_plain run = by (date_of run) (run_is_date run) (date_is run)
 -- what stands behind the opening quote
 closing_plain : (at size written : ℕ) (rest : List ℕ) → PlainIfAccept (by_closing at (closing size written rest))
 closing_plain at size written [] = tt
-closing_plain at size written (byte ∷ []) = of_choice (λ found. PlainIfAccept (by_closing at found)) (byte == 13) _ _ tt tt
+closing_plain at size written (byte ∷ []) = of_choice (λ found. PlainIfAccept (by_closing at found)) (is_cut byte) _ _ tt tt
 closing_plain at size written (byte ∷ next ∷ more) =
-    of_choice (λ found. PlainIfAccept (by_closing at found)) (byte == 13) _ _ tt
+    of_choice (λ found. PlainIfAccept (by_closing at found)) (is_cut byte) _ _ tt
     (of_choice (λ found. PlainIfAccept (by_closing at found)) (byte == 34) _ _
     (of_choice (λ found. PlainIfAccept (by_closing at found)) (next == 34) _ _
     (closing_plain at (size + 2) (written + 1) more)
