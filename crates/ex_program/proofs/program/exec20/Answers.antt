@@ -122,9 +122,9 @@ returns-clause-on_screen g c = λ keys clock form start asks taken rest all.
 -- what stands, by the way out
 pub returns-in_default-clause-stands : goal.returns-in_default-clause-stands
 returns-in_default-clause-stands g c =
-    stands_generated _ _ _ c.in-Some-lines.lines
+    stands_generated _ _ _ c.in-Some-read_lines.lines
     (scene g.S.Sink c.args.screen.now g.W.Sink c.args.log.now g.K.Source c.args.keys.now g.C.Clock c.args.clock.now c.args.steps.now)
-    _ _ _ (disk_of g.H.Host c.args.host.now) c.generate.result c.in_default.ensures c.in-Some-lines.ensures.lines c.generate.ensures.screen c.generate.ensures.counter
+    _ _ _ (disk_of g.H.Host c.args.host.now) c.generate.result c.in_default.ensures c.in-Some-read_lines.ensures.lines c.generate.ensures.screen c.generate.ensures.counter
 
 pub returns-in-Err-clause-stands : goal.returns-in-Err-clause-stands
 returns-in-Err-clause-stands g c =
