@@ -1,12 +1,14 @@
 -- Where a field that a chain takes ends and leads.
-use Rattle.std.proofs.Common.{◌≡◌, ℕ, zero, suc, ◌+◌, ◌<◌, ◌≤◌, max, true, nat_lt, List, [], ◌∷◌, length, drop, Option, Some, None, slice_get, refl, arith, length-drop}
+use Rattle.std.proofs.Common.{◌≡◌, ℕ, zero, suc, ◌+◌, ◌<◌, ◌≤◌, max, Bool, true, false, ◌&&◌, if◌then◌else◌, is_some, unwrap_or, nat_lt, List, [], ◌∷◌, length, drop, Option, Some, None, IfSome, slice_get, refl, arith, length-drop}
 use Rattle.std.proofs.lemmas.Bool.{and_parts}
 use Rattle.std.specs.List.{All, list_all}
 use Rattle.std.proofs.lemmas.Bool.Decides.{nat_tests}
 use Rattle.cm_text.specs.Bytes.{is_name, is_word}
+use Rattle.cm_text.specs.Text.{finished}
 use Rattle.cm_tables.specs.declared.entry.Entry.{Entry}
 use Rattle.cm_dates.specs.Date.{date_of}
 use Rattle.cm_fields.specs.declared.code.Code.{Code}
+use Rattle.cm_fields.specs.declared.code.Code.TheVariants.{NotConfirmed}
 use Rattle.cm_fields.specs.declared.trial.Try.{Try}
 use Rattle.cm_fields.specs.declared.trial.Try.TheVariants.{Accept, Refuse, More}
 use Rattle.cm_fields.specs.declared.value.FileKind.TheVariants.{In, Out, Any}
@@ -30,7 +32,7 @@ use Rattle.cm_blocks.specs.declared.function.Function.{Function}
 use Rattle.cm_blocks.specs.declared.function.Function.TheVariants.{Key, Switch, Noise, Number, Word, Quoted, Token, Date, User, Directory, InFile, OutFile, AnyFile, Text, Comma, Confirm, Hook}
 use Rattle.cm_blocks.specs.declared.node.Block.{Block}
 use Rattle.cm_blocks.specs.declared.node.Node.{Node}
-use Rattle.cm_blocks.specs.Chain.{ChainLeads, Counted, at_node, by_default, chain_at, default_place, default_rest, defaulted, is_confirm, is_line_end, or_later, past_skip, typed, walk}
+use Rattle.cm_blocks.specs.Chain.{ChainLeads, Counted, answered, at_node, by_default, chain_at, default_place, default_rest, defaulted, is_confirm, is_line_end, on_default, on_text, or_later, past_skip, spent, typed, walk}
 use Rattle.cm_blocks.specs.Fault.{entries_of, grammar_fault, has_phrase, leads_within}
 use Rattle.cm_blocks.specs.Grammar.{Graph}
 use Rattle.cm_blocks.specs.Keyword.{entry_position, key_value}
@@ -40,7 +42,6 @@ use Rattle.cm_blocks.specs.Well.{IsWell, IsWellBlock}
 use Rattle.cm_blocks.proofs.Switches.{switch_reaches}
 use Rattle.cm_blocks.proofs.Wells.{well_node}
 
--- what is true of both ways of a choice is true of it
 -- where an accepted field of any function ends
 pub trial_reaches : (s : Setting) (function : Function) (flags : Flags) (rest : List ℕ) (at : ℕ) (value : Value) (looked end : ℕ)
     → has_phrase function ≡ true → trial s function flags rest at ≡ Accept value looked end
@@ -219,3 +220,35 @@ chain_leads s number text at none within = by (slice_get s.graph.nodes number) r
     by None is = tt
     by (Some node) is =
         node_leads s number node text at (well_node s.graph number node none is) (some_node s.graph number node is) within
+
+-- the blocks are tried on the default where the node has one and the line ends there, and else on the text
+pub blocks_by_default : (s : Setting) (number : ℕ) (node : Node) (text line tried : List ℕ) (start place : ℕ) (chosen : Bool)
+    → chosen ≡ (is_some node.default && is_line_end (drop start text))
+    → (chosen ≡ true → IfSome node.default (λ default. line ≡ finished default))
+    → tried ≡ (if chosen then line else text)
+    → place ≡ (if chosen then unwrap_or (skip node.raw line 0) 0 else start)
+    → record {
+      chain = answered chosen number start (walk s (drop place tried) place 0 0 NotConfirmed node.chain);
+      spent = spent s (drop place tried) place node.chain;
+    } ≡ by_default s number node (drop start text) start node.default
+blocks_by_default s number node text line tried start place chosen is line_is tried_is place_is = by node.default is line_is
+  where
+    tries : Counted
+    tries = record {
+      chain = answered chosen number start (walk s (drop place tried) place 0 0 NotConfirmed node.chain);
+      spent = spent s (drop place tried) place node.chain;
+    }
+
+    plain : chosen ≡ false → tries ≡ on_text s number node (drop start text) start
+    plain none = rw (tried_is, place_is, none) refl
+
+    ends : (default : List ℕ) (end : Bool) → chosen ≡ end → (chosen ≡ true → line ≡ finished default)
+        → tries ≡ (if end then on_default s number node start default else on_text s number node (drop start text) start)
+    ends default true is line_is = rw (tried_is, place_is, line_is is, is) refl
+    ends default false is line_is = plain is
+
+    by : (default : Option (List ℕ)) → chosen ≡ (is_some default && is_line_end (drop start text))
+        → (chosen ≡ true → IfSome default (λ default. line ≡ finished default))
+        → tries ≡ by_default s number node (drop start text) start default
+    by None is line_is = plain is
+    by (Some default) is line_is = ends default (is_line_end (drop start text)) is line_is

@@ -1,9 +1,10 @@
 // The chain of a node, tried on a text.
-ghost use Rattle.std.specs.Prelude.{◌≡◌, ◌+◌, ◌≤◌, ◌<◌, All, drop, if◌then◌else◌, length};
+ghost use Rattle.std.specs.Prelude.{◌≡◌, ◌+◌, ◌≤◌, ◌<◌, ◌&&◌, true, All, IfSome, drop, if◌then◌else◌, is_some, length, unwrap_or};
 ghost use Rattle.cm_text.specs.Text.{finished};
+ghost use Rattle.cm_fields.specs.Skip.{skip};
 ghost use Rattle.cm_fields.specs.declared.code.Code.TheVariants.{NotConfirmed};
 ghost use Rattle.cm_hooks.specs.Ties.{Ties, count};
-ghost use Rattle.cm_blocks.specs.Chain.{ChainLeads, IsNear, answered, by_default, chain_at, default_place, default_rest, spent, walk};
+ghost use Rattle.cm_blocks.specs.Chain.{ChainLeads, IsNear, answered, chain_at, is_line_end, spent, walk};
 ghost use Rattle.cm_blocks.specs.Grammar.{hook_count};
 ghost use Rattle.cm_blocks.specs.Setting.{setting};
 ghost use Rattle.cm_blocks.specs.Well.{IsWell, IsWellBlock};
@@ -95,14 +96,6 @@ fn walk_blocks<N: Names, R: Rules, L: Ledger>(
     Walk::Fails { code }
 }
 
-// What the blocks of a node answer at a place: on the text, or where the line ends there on the node's default.
-struct Walked {
-    node: u16,
-    start: u16,
-    on_default: bool,
-    walk: Walk,
-}
-
 // The place behind a field: that of a default has no bytes.
 fn end_of(on_default: bool, start: u16, end: u16) -> u16
     ensures { result ≡ (if on_default then start else end) }
@@ -124,23 +117,17 @@ fn need_of(on_default: bool, start: u16, looked: u16) -> u16
 }
 
 // What a chain answers whose blocks answer so.
-fn answered(walked: Walked) -> Chain
-    requires near { IsNear walked.walk }
-    requires place { walked.start ≤ TEXT_LIMIT }
-    ensures { result ≡ answered walked.on_default walked.node walked.start walked.walk }
+fn answered(on_default: bool, node: u16, start: u16, walk: &Walk) -> Chain
+    requires near { IsNear walk.now }
+    requires place { start ≤ TEXT_LIMIT }
+    ensures { result ≡ answered on_default node start walk.now }
 {
-    let Walked {
-        node,
-        start,
-        on_default,
-        walk,
-    } = walked;
     match walk {
         Walk::Takes {
             value: Value::Confirm,
             end,
             ..
-        } => Chain::Done(end_of(on_default, start, end)),
+        } => Chain::Done(end_of(on_default, start, *end)),
         Walk::Takes {
             block,
             role,
@@ -150,25 +137,46 @@ fn answered(walked: Walked) -> Chain
             end,
         } => Chain::Field(Field {
             node,
-            block,
-            value,
+            block: *block,
+            value: *value,
             start,
-            end: end_of(on_default, start, end),
-            need: need_of(on_default, start, looked),
+            end: end_of(on_default, start, *end),
+            need: need_of(on_default, start, *looked),
             defaulted: on_default,
-            role,
-            next,
+            role: *role,
+            next: *next,
         }),
         Walk::Wants { block } => Chain::Open(Open {
             node,
-            block: Some(block),
+            block: Some(*block),
             at: start,
         }),
         Walk::Fails { code } => Chain::Fault(Fault {
-            code,
+            code: *code,
             node,
             at: start,
         }),
+    }
+}
+
+// Whether the blocks of a node are tried on its default: it has one, and the line ends here.
+fn is_defaulted(node: &Node, text: &[u8], start: usize) -> bool
+    requires { start ≤ length text.now }
+    ensures { result ≡ (is_some node.now.default && is_line_end (drop start text.now)) }
+{
+    node.default.is_some() && text.get(start) == Some(&b'\r')
+}
+
+// The default of a node, finished as a line, where the blocks are tried on it.
+fn default_line(node: &Node, on_default: bool) -> ArrayVec<u8, DEFAULT_LIMIT>
+    ensures { on_default ≡ true → IfSome node.now.default (λ text. result.items ≡ finished text) }
+{
+    if !on_default {
+        return ArrayVec::new();
+    }
+    match &node.default {
+        Some(text) => finished(text),
+        None => ArrayVec::new(),
     }
 }
 
@@ -182,85 +190,27 @@ fn finished(text: &Name) -> ArrayVec<u8, DEFAULT_LIMIT>
     line
 }
 
-// Tries the blocks of a node on its default.
-fn walk_default<N: Names, R: Rules, L: Ledger>(
-    grammar: &Grammar,
+// What the blocks of a node are tried on, and from which place: the text, or past its blanks and comments the line of
+// the default.
+fn tried_on<'a>(
     node: &Node,
-    text: &Name,
-    names: &N,
-    hooks: &Hooks<R>,
-    steps: &mut Steps<L>,
-) -> Walk
-    requires well { IsWell grammar.now node.now }
-    requires ties { Ties R.meanings hooks.now }
-    requires hooks { hook_count grammar.now ≤ count hooks.now }
-    ensures value { result ≡ walk (setting grammar.now (N.catalogue names.now) R.meanings)
-        (default_rest node.now.raw text.now) (default_place node.now.raw text.now) 0 0 NotConfirmed
-        node.now.chain }
-    ensures steps { steps.new ≡ steps.old + spent (setting grammar.now (N.catalogue names.now) R.meanings)
-        (default_rest node.now.raw text.now) (default_place node.now.raw text.now) node.now.chain }
-    ensures near { IsNear result }
-{
-    let line = finished(text);
-    let line = line.as_slice();
-    let place = skip(node.raw, line, 0).unwrap_or(0);
-    walk_blocks(
-        grammar,
-        node.chain.as_slice(),
-        line,
-        place,
-        names,
-        hooks,
-        steps,
-    )
-}
-
-// Tries the blocks of a node at a place, on the text, or where the line ends there on the node's default.
-fn walk_node<N: Names, R: Rules, L: Ledger>(
-    grammar: &Grammar,
-    number: u16,
-    node: &Node,
-    text: &[u8],
+    on_default: bool,
+    line: &'a [u8],
+    text: &'a [u8],
     start: usize,
-    names: &N,
-    hooks: &Hooks<R>,
-    steps: &mut Steps<L>,
-) -> Walked
-    requires well { IsWell grammar.now node.now }
-    requires ties { Ties R.meanings hooks.now }
-    requires hooks { hook_count grammar.now ≤ count hooks.now }
+) -> (&'a [u8], usize)
+    requires line { length line.now ≤ TEXT_LIMIT }
     requires short { length text.now ≤ TEXT_LIMIT }
     requires place { start ≤ length text.now }
-    ensures value { answered result.on_default result.node result.start result.walk
-        ≡ (by_default (setting grammar.now (N.catalogue names.now) R.meanings)
-        number node.now (drop start text.now) start node.now.default).chain }
-    ensures steps { steps.new ≡ steps.old + (by_default (setting grammar.now (N.catalogue names.now) R.meanings)
-        number node.now (drop start text.now) start node.now.default).spent }
-    ensures near { IsNear result.walk }
-    ensures place { result.start ≡ start }
+    ensures text { result.0.now ≡ (if on_default then line.now else text.now) }
+    ensures place { result.1 ≡ (if on_default then unwrap_or (skip node.now.raw line.now 0) 0 else start) }
+    ensures short { length result.0.now ≤ TEXT_LIMIT }
+    ensures within { result.1 ≤ length result.0.now }
 {
-    match &node.default {
-        Some(default) if text.get(start) == Some(&b'\r') => Walked {
-            node: number,
-            start: start as u16,
-            on_default: true,
-            walk: walk_default(grammar, node, default, names, hooks, steps),
-        },
-        _ => Walked {
-            node: number,
-            start: start as u16,
-            on_default: false,
-            walk: walk_blocks(
-                grammar,
-                node.chain.as_slice(),
-                text,
-                start,
-                names,
-                hooks,
-                steps,
-            ),
-        },
+    if on_default {
+        return (line, skip(node.raw, line, 0).unwrap_or(0));
     }
+    (text, start)
 }
 
 /// What the chain of a node makes of a text from a place on (COMND).
@@ -302,6 +252,17 @@ pub fn try_chain<N: Names, R: Rules, L: Ledger>(
             });
         }
     };
-    let walked = walk_node(grammar, node, found, text, start, names, hooks, steps);
-    answered(walked)
+    let on_default = is_defaulted(found, text, start);
+    let line = default_line(found, on_default);
+    let (tried, place) = tried_on(found, on_default, line.as_slice(), text, start);
+    let walk = walk_blocks(
+        grammar,
+        found.chain.as_slice(),
+        tried,
+        place,
+        names,
+        hooks,
+        steps,
+    );
+    answered(on_default, node, start as u16, &walk)
 }

@@ -1,6 +1,6 @@
 // Keywords and switches.
 ghost use Rattle.std.specs.Prelude.{◌≡◌, ◌≤◌, ◌<◌, ◌+◌, ◌^◌, IfOk, drop, length};
-ghost use Rattle.cm_blocks.specs.Keyword.{behind_slash, entry_position, key, key_value, named_switch, switch};
+ghost use Rattle.cm_blocks.specs.Keyword.{behind_slash, entry_position, key, named_switch, switch};
 
 use cm_fields::{Code, Try, Value, said, word_run};
 use cm_tables::{Entry, Look, Table};
@@ -23,20 +23,6 @@ fn entry_position(table: &Table, run: &[u8]) -> Result<u16, Code>
     }
 }
 
-// The value of the entry that a run means, as a keyword.
-fn key_value(table: &Table, found: Result<u16, Code>) -> Result<Value, Code>
-    requires { IfOk found (λ position. position < length table.now) }
-    ensures { result ≡ key_value table.now found }
-{
-    match found {
-        Ok(entry) => Ok(Value::Key {
-            entry,
-            code: table.entry(entry).code,
-        }),
-        Err(code) => Err(code),
-    }
-}
-
 /// A keyword of the table (.CMKEY): a run of word bytes that is an entry's text, or abbreviates one. Refused
 /// with NotKeyword where the run is empty or abbreviates none, with Ambiguous where it abbreviates several.
 pub fn key(table: &Table, text: &[u8], at: usize) -> Try
@@ -49,8 +35,12 @@ pub fn key(table: &Table, text: &[u8], at: usize) -> Try
     if size == rest.len() {
         return Try::More;
     }
-    let found = entry_position(table, &rest[..size]);
-    said(at, size, size + 1, key_value(table, found))
+    let entry = match entry_position(table, &rest[..size]) {
+        Ok(entry) => entry,
+        Err(code) => return said(at, size, size + 1, Err(code)),
+    };
+    let code = table.entry(entry).code;
+    said(at, size, size + 1, Ok(Value::Key { entry, code }))
 }
 
 // What the name of a switch, a run of this size, says with the byte behind it, which may be a colon.

@@ -1,6 +1,7 @@
 // What the function of one block makes of a text, and which node follows its field.
 ghost use Rattle.std.specs.Prelude.{◌≡◌, ◌-◌, ◌≤◌, ◌<◌, true, drop, length};
 ghost use Rattle.cm_fields.specs.Local.{IsSeen};
+ghost use Rattle.cm_files.specs.Fields.{file};
 ghost use Rattle.cm_hooks.specs.Ties.{Ties, count};
 ghost use Rattle.cm_blocks.specs.Fault.{has_table};
 ghost use Rattle.cm_blocks.specs.Grammar.{hook_limit};
@@ -36,25 +37,35 @@ pub fn try_function<N: Names, R: Rules>(
         block.now.function block.now.flags (drop at text.now) at }
     ensures seen { IsSeen (length text.now - at) result }
 {
+    // Each arm returns: a value in which the arms join would be copied once more.
     match &block.function {
-        Function::Key(table) => key(grammar.table(*table), text, at),
-        Function::Switch(table) => switch(grammar.table(*table), text, at),
-        Function::Noise(phrase) => noise(phrase.as_str(), text, at),
-        Function::Number => number(text, at),
-        Function::Word => word(text, at),
-        Function::Quoted => quoted(text, at),
-        Function::Token(phrase) => token(phrase.as_str(), text, at),
-        Function::Date => date(text, at),
-        Function::User => user(names, text, at),
-        Function::Directory => directory(block.flags.new, names, text, at),
-        Function::InFile => file(FileKind::In, block.flags, names, text, at),
-        Function::OutFile => file(FileKind::Out, block.flags, names, text, at),
-        Function::AnyFile => file(FileKind::Any, block.flags, names, text, at),
-        Function::Text => text_field(text, at),
-        Function::Comma => comma(text, at),
-        Function::Confirm => confirm(text, at),
-        Function::Hook(id) => hook_field(hooks, *id, text, at),
+        Function::Key(table) => return key(grammar.table(*table), text, at),
+        Function::Switch(table) => return switch(grammar.table(*table), text, at),
+        Function::Noise(phrase) => return noise(phrase.as_str(), text, at),
+        Function::Number => return number(text, at),
+        Function::Word => return word(text, at),
+        Function::Quoted => return quoted(text, at),
+        Function::Token(phrase) => return token(phrase.as_str(), text, at),
+        Function::Date => return date(text, at),
+        Function::User => return user(names, text, at),
+        Function::Directory => return directory(block.flags.new, names, text, at),
+        Function::InFile => return file_of(FileKind::In, block, names, text, at),
+        Function::OutFile => return file_of(FileKind::Out, block, names, text, at),
+        Function::AnyFile => return file_of(FileKind::Any, block, names, text, at),
+        Function::Text => return text_field(text, at),
+        Function::Comma => return comma(text, at),
+        Function::Confirm => return confirm(text, at),
+        Function::Hook(id) => return hook_field(hooks, *id, text, at),
     }
+}
+
+// What the block makes of a file specification. The flags are copied for it alone.
+fn file_of<N: Names>(kind: FileKind, block: &Block, names: &N, text: &[u8], at: usize) -> Try
+    requires short { length text.now ≤ TEXT_LIMIT }
+    requires place { at ≤ length text.now }
+    ensures { result ≡ file (N.catalogue names.now) kind block.now.flags (drop at text.now) at }
+{
+    file(kind, block.flags, names, text, at)
 }
 
 // How many bytes an answer looked at, of so many.

@@ -1,6 +1,7 @@
 pub mod Told
 pub mod Fault
 pub mod Source
+pub mod Status
 pub mod Clock
 pub mod Host
 pub mod Loading

@@ -1,5 +1,5 @@
 // A page: bytes that are gathered, and then put at once.
-ghost use Rattle.std.specs.Prelude.{◌≡◌, ◌+◌, ◌≤◌, ◌++◌, [], length};
+ghost use Rattle.std.specs.Prelude.{◌≡◌, ◌+◌, ◌<◌, ◌≤◌, ◌++◌, ◌∷◌, [], length};
 ghost use Rattle.std.specs.Fmt.{decimal};
 ghost use Rattle.cm_io.specs.Pieces.{hex};
 
@@ -87,16 +87,30 @@ impl Page {
     }
 }
 
-// Puts the digits of a number behind other bytes, where there is room for just these.
-#[tactic(auto, using(std::proofs::lemmas::Fmt::decimal_digit, std::proofs::lemmas::Fmt::decimal_step, crate::proofs::Decimal::length_decimal_step))]
+// Puts the digits of a number behind other bytes, where there is room for just these. Of two digits, as most numbers
+// of a log have, none is put by a call of its own.
+#[tactic(auto, using(std::proofs::lemmas::Fmt::decimal_digit))]
 fn push_digits(number: u64, bytes: &mut ArrayVec<u8, PAGE_LIMIT>)
     requires { length bytes.old.items + length (decimal number) ≤ PAGE_LIMIT }
     ensures { bytes.new.items ≡ bytes.old.items ++ decimal number }
 {
     if number < 10 {
-        bytes.push(b'0' + number as u8);
-    } else {
-        push_digits(number / 10, bytes);
-        bytes.push(b'0' + (number % 10) as u8);
+        return push_digit(number, bytes);
     }
+    if number < 100 {
+        push_digit(number / 10, bytes);
+        return push_digit(number % 10, bytes);
+    }
+    push_digits(number / 10, bytes);
+    push_digit(number % 10, bytes);
+}
+
+// Puts one digit behind other bytes.
+fn push_digit(digit: u64, bytes: &mut ArrayVec<u8, PAGE_LIMIT>)
+    requires digit { digit < 10 }
+    requires room { length bytes.old.items < PAGE_LIMIT }
+    ensures digit { bytes.new.items ≡ bytes.old.items ++ (48 + digit) ∷ [] }
+    ensures size { length bytes.new.items ≡ length bytes.old.items + 1 }
+{
+    bytes.push(b'0' + digit as u8);
 }

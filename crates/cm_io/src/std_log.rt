@@ -49,7 +49,7 @@ impl StdLog {
     fn take(&mut self, bytes: &[u8]) -> bool
         ensures { self.new ≡ self.old }
     {
-        if self.held.is_empty() && bytes.contains(&b'\n') {
+        if self.held.is_empty() && has_line_feed(bytes) {
             return write_whole(&mut self.output, bytes);
         }
         self.make_room(bytes.len()) && self.hold(bytes)
@@ -77,7 +77,7 @@ impl StdLog {
         ensures { self.new ≡ self.old }
     {
         match self.held.try_extend_from_slice(bytes) {
-            Ok(()) => !bytes.contains(&b'\n') || self.write_held(),
+            Ok(()) => !has_line_feed(bytes) || self.write_held(),
             Err(_) => write_whole(&mut self.output, bytes),
         }
     }
@@ -99,4 +99,9 @@ impl Sink for StdLog {
         self.faults = raised(self.faults);
         Put::Failed
     }
+}
+
+// Whether a line feed is among the bytes; nearly always it is the last.
+fn has_line_feed(bytes: &[u8]) -> bool {
+    bytes.last() == Some(&b'\n') || bytes.contains(&b'\n')
 }

@@ -8,12 +8,13 @@ pub(crate) const TRIES: u32 = 1000;
 
 // Writes all the bytes, and tells whether all were taken.
 pub(crate) fn write_whole<W: Write>(output: &mut W, bytes: &[u8]) -> bool {
+    if bytes.is_empty() {
+        return true;
+    }
     let mut rest = bytes;
     for _ in 0..u64::MAX {
-        if rest.is_empty() {
-            return true;
-        }
         match write_prefix(output, rest) {
+            Some(taken) if taken == rest.len() => return true,
             Some(taken) if taken > 0 => rest = &rest[taken..],
             _ => return false,
         }

@@ -10,6 +10,7 @@ pub mod Keeping
 mod Keys
 mod LawLemmas
 pub mod LineEnds
+pub mod LineTurns
 mod Lines
 mod Modes
 pub mod Obeying

@@ -8,6 +8,7 @@ mod engine;
 mod key;
 pub mod laws;
 mod line;
+pub mod line_laws;
 mod mode;
 mod no_clock;
 mod stop;

@@ -1,7 +1,7 @@
 -- The lines of bytes, one after the other.
 use Rattle.std.proofs.Common.{◌≡◌, ℕ, suc, ◌+◌, ◌<◌, ◌≤◌, List, [], ◌∷◌, length, take, drop, get_or, refl, sym, ap, ◌∙◌, subst, arith}
 use Rattle.std.proofs.Math.Seq.{drop-cons, drop-length}
-use Rattle.std.proofs.lemmas.List.{drop-drop, length-drop, length-take-le, take-take, take_all}
+use Rattle.std.proofs.lemmas.List.{length-take-le, take-take, take_all}
 use Rattle.cm_text.specs.Lines.{BeginsLine, last_line, lines, lines_behind, without_return}
 use Rattle.cm_text.specs.declared.lines.LineEnd.{LineEnd}
 
@@ -58,17 +58,3 @@ one_left bytes at begun is some =
       some = some_byte bytes some;
       next = omega arith;
     }
-
--- the first line is passed
-pub passes : (bytes : List ℕ) (at : ℕ) (first : LineEnd) → BeginsLine (drop at bytes) first
-    → lines (drop (at + first.next) bytes) ≡ drop 1 (lines (drop at bytes))
-passes bytes at first begins =
-    ap lines (sym (drop-drop first.next at bytes))
-    ∙ sym (ap (λ it. drop 1 it) begins.line)
-
-pub passes_within : (bytes : List ℕ) (at : ℕ) (first : LineEnd) → BeginsLine (drop at bytes) first → at ≤ length bytes
-    → at + first.next ≤ length bytes
-passes_within bytes at first begins within = omega (arith, begins.next, length-drop at bytes, within)
-
-pub passes_none : (bytes : List ℕ) → lines bytes ≡ [] → lines bytes ≡ drop 1 (lines bytes)
-passes_none bytes none = rw none refl

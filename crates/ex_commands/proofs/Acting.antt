@@ -49,11 +49,11 @@ refused_to_undefine s before now name state left result code answer is by_test l
         (subst (λ left. Outcome s before now (refuses code state) false state left answer) (sym stays) refused)
 
 -- a listing of no file
-pub refused_to_list : {T : Type 0} (s : Ghosts T) (before now : Writer T) (directory : List ℕ) (rows : List Row) (state : State)
-    (answer : Acted) → 0 ≡ length rows → Outcome s before now (refuses NoMatch state) false state state answer
-    → Outcome s before now (lists_rows directory rows state) false state state answer
-refused_to_list s before now directory [] state answer none refused = refused
-refused_to_list s before now directory (row ∷ rows) state answer none refused = absurd (cc)
+pub refused_to_list : {T : Type 0} (s : Ghosts T) (before now : Writer T) (read : Bool) (directory : List ℕ) (rows : List Row)
+    (state : State) (answer : Acted) → 0 ≡ length rows → Outcome s before now (refuses NoMatch state) false state state answer
+    → Outcome s before now (lists_rows read directory rows state) false state state answer
+refused_to_list s before now read directory [] state answer none refused = refused
+refused_to_list s before now read directory (row ∷ rows) state answer none refused = absurd (cc)
 
 -- copies that may not be asked for
 pub refused_to_print : {T : Type 0} (s : Ghosts T) (before now : Writer T) (test : Bool) (one : Act) (state : State) (answer : Acted)

@@ -1,5 +1,5 @@
 -- A command that may act may act with a subcommand more.
-use Rattle.std.proofs.Common.{ℕ, ◌≤◌, ◌==◌, IfSome, List, length, Option, Some, None, option_and_then}
+use Rattle.std.proofs.Common.{ℕ, ◌≤◌, ◌==◌, IfSome, List, length, Option, Some, None}
 use Rattle.std.specs.Option.{option_map_or}
 use Rattle.cm_fields.specs.declared.value.Value.{Value}
 use Rattle.cm_fields.specs.declared.value.Value.TheVariants as values
@@ -20,34 +20,33 @@ use Rattle.ex_commands.specs.declared.command.Command.{Command}
 use Rattle.ex_commands.specs.declared.command.Command.TheVariants as commands
 use Rattle.ex_commands.specs.Answer.{MayAct}
 use Rattle.ex_commands.specs.Command.{added, complete, extended, subcommand_node, with_sub}
-use Rattle.ex_commands.specs.Commands.Build.{count_by}
-use Rattle.ex_commands.specs.Line.{keyword_code}
+use Rattle.ex_commands.specs.Line.{count_by, count_in, keyword_code}
 use Rattle.ex_commands.specs.Said.{IsSaid, IsSaidIn}
 use Rattle.ex_commands.proofs.Fitting.{names_are_short}
 
-abbrev IsKept : Option ℕ → Type 0
+abbrev pub IsKept : Option ℕ → Type 0
 IsKept retention = IfSome retention (λ count. count ≤ RETENTION_LIMIT)
 
 count_kept : (value : Value) → IsSaid value → IsKept (count_by value)
 count_kept (values.Hook id count) said = said.few
 count_kept value said = tt
 
-field_kept : (said : Option FieldView) → IsSaidIn said → IsKept (option_and_then (λ field. count_by field.value) said)
+pub field_kept : (said : Option FieldView) → IsSaidIn said → IsKept (count_in said)
 field_kept None said = tt
 field_kept (Some field) said = count_kept field.value said
 
 complete_may : (command : Command) (state : State) → MayAct command state → MayAct (complete command) state
 complete_may (commands.Build directory retention sub) state may = may
-complete_may (commands.Directory files since before deleted sub) state may = may
+complete_may (commands.Directory files since before deleted read sub) state may = may
 complete_may command state may = may
 
 with_sub_may : (code : ℕ) (said : Option FieldView) (command : Command) (state : State) → IsSaidIn said → MayAct command state
     → MayAct (with_sub code said command) state
 with_sub_may code said (commands.Build directory retention sub) state is may = (
   may.0,
-  of_choice IsKept (code == GENERATIONS) (option_and_then (λ field. count_by field.value) said) retention (field_kept said is) may.1,
+  of_choice IsKept (code == GENERATIONS) (count_in said) retention (field_kept said is) may.1,
 )
-with_sub_may code said (commands.Directory files since before deleted sub) state is may = may
+with_sub_may code said (commands.Directory files since before deleted read sub) state is may = may
 with_sub_may code said command state is may = may
 
 extended_may : (fields : List FieldView) (command : Command) (state : State) → IsSaidIn (field_of roles.Value fields)

@@ -34,10 +34,10 @@ plan_comes : (command : Command) (origin : Origin) (made : Result Planned Code) 
 plan_comes command origin (Ok made) state = done refl
 plan_comes command origin (Err code) state = refused code refl
 
-list_comes : (command : Command) (directory : List ℕ) (rows : List Row) (state : State)
-    → Comes command state (lists_rows directory rows state)
-list_comes command directory [] state = refused NoMatch refl
-list_comes command directory (row ∷ rows) state = done refl
+list_comes : (command : Command) (read : Bool) (directory : List ℕ) (rows : List Row) (state : State)
+    → Comes command state (lists_rows read directory rows state)
+list_comes command read directory [] state = refused NoMatch refl
+list_comes command read directory (row ∷ rows) state = done refl
 
 choice_comes : (command : Command) (state : State) (test : Bool) (one other : Act) → Comes command state one
     → Comes command state other → Comes command state (cond test one other)
@@ -68,9 +68,9 @@ comes (commands.Define name None) moment state =
 comes (commands.Define name (Some directory)) moment state =
     plan_comes (commands.Define name (Some directory)) Files (planned (plans.Define name directory) moment state) state
 comes (commands.Delete files) moment state = done refl
-comes (commands.Directory files since before deleted sub) moment state =
-    pend_comes (commands.Directory files since before deleted sub) state sub _ refl
-    (list_comes (commands.Directory files since before deleted sub) files.directory _ state)
+comes (commands.Directory files since before deleted read sub) moment state =
+    pend_comes (commands.Directory files since before deleted read sub) state sub _ refl
+    (list_comes (commands.Directory files since before deleted read sub) read files.directory _ state)
 comes (commands.Expunge directory) moment state = done refl
 comes (commands.Information what) moment state = done refl
 comes commands.Logout moment state = ended refl refl
@@ -82,6 +82,7 @@ comes (commands.Print files copies form after job note) moment state =
 comes commands.Remark moment state = done refl
 comes (commands.Rename from to) moment state =
     plan_comes (commands.Rename from to) Files (planned (plans.Rename from to) moment state) state
+comes (commands.Set files keep) moment state = done refl
 comes (commands.Take file) moment state = taken file refl refl
 comes (commands.TypeOut files) moment state = done refl
 comes (commands.Undelete files) moment state = done refl
@@ -185,8 +186,8 @@ pending_waits : (command : Command) (moment : ℕ) (state : State) → is_pendin
 unfolding act_of
 pending_waits (commands.Build directory retention true) moment state pending = refl
 pending_waits (commands.Build directory retention false) moment state pending = absurd (cc)
-pending_waits (commands.Directory files since before deleted true) moment state pending = refl
-pending_waits (commands.Directory files since before deleted false) moment state pending = absurd (cc)
+pending_waits (commands.Directory files since before deleted read true) moment state pending = refl
+pending_waits (commands.Directory files since before deleted read false) moment state pending = absurd (cc)
 pending_waits command moment state pending = absurd (cc)
 
 pub waits_for_subcommands : (command : Command) (moment : ℕ) (state : State)

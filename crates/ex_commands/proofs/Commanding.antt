@@ -5,13 +5,9 @@ use Rattle.std.specs.Option.{option_map_or}
 use Rattle.std.proofs.lemmas.Bool.Decides.{nat_tests}
 use Rattle.std.proofs.lemmas.Option.{slice_get_cases}
 use Rattle.cm_tables.specs.declared.entry.Entry.{Entry}
-use Rattle.cm_tables.specs.declared.table.Look.{Look}
-use Rattle.cm_tables.specs.declared.table.Look.TheVariants as looks
-use Rattle.cm_tables.specs.Look.{IsWithin, found_at, is_recognised, look}
+use Rattle.cm_tables.specs.Look.{found_at, is_recognised, look}
 use Rattle.cm_tables.specs.Order.{table_fault}
 use Rattle.cm_tables.proofs.FoundLemmas.{found_is_recognised}
-use Rattle.cm_tables.proofs.WithinLemmas.{look-within}
-use Rattle.cm_fields.specs.declared.code.Code.TheVariants.{NotKeyword}
 use Rattle.cm_fields.specs.declared.trial.Try.TheVariants.{Accept}
 use Rattle.cm_fields.specs.declared.value.Span.{Span}
 use Rattle.cm_fields.specs.declared.value.Value.{Value}
@@ -24,16 +20,16 @@ use Rattle.cm_blocks.specs.declared.function.Function.{Function}
 use Rattle.cm_blocks.specs.declared.function.Function.TheVariants as functions
 use Rattle.cm_blocks.specs.declared.function.Role.TheVariants as roles
 use Rattle.cm_blocks.specs.declared.node.Block.{Block}
-use Rattle.cm_blocks.specs.Keyword.{code_at, entry_position, position_of}
+use Rattle.cm_blocks.specs.Keyword.{code_at, entry_position}
 use Rattle.cm_blocks.specs.Parse.{IsParse}
 use Rattle.cm_blocks.specs.Setting.{setting}
 use Rattle.cm_blocks.specs.FieldView.{FieldView}
 use Rattle.cm_blocks.specs.Trial.{table_of, trial}
 use Rattle.cm_state.specs.Roles.{field_of}
 use Rattle.ex_grammar.specs.ExecRules.{exec_meanings}
-use Rattle.ex_grammar.specs.Graph.{append_blocks, build_blocks, define_blocks, delete_blocks, directory_nodes, exec_graph, exec_nodes, first_nodes, last_nodes, listing_nodes, print_blocks, retention_nodes, source_nodes, switch_blocks, target_blocks, type_blocks}
-use Rattle.ex_grammar.specs.Tables.{command_entries, exec_tables}
-use Rattle.ex_grammar.specs.declared.code.TheConstants.{APPEND, BUILD, CONNECT, COPY, DEFINE, DELETE, DIRECTORY, EXPUNGE, INFORMATION, LOGOUT, PRINT, REMARK, RENAME, TAKE, TYPE, UNDELETE}
+use Rattle.ex_grammar.specs.Graph.{append_blocks, build_blocks, define_blocks, delete_blocks, directory_nodes, exec_graph, exec_nodes, first_nodes, last_nodes, listing_nodes, print_blocks, retention_nodes, set_blocks, source_nodes, switch_blocks, target_blocks, type_blocks}
+use Rattle.ex_grammar.specs.Tables.{command_entries, exec_tables, file_entries, set_entries}
+use Rattle.ex_grammar.specs.declared.code.TheConstants.{APPEND, BUILD, CONNECT, COPY, DEFINE, DELETE, DIRECTORY, EXPUNGE, INFORMATION, LOGOUT, PRINT, REMARK, RENAME, SET, TAKE, TYPE, UNDELETE}
 use Rattle.ex_grammar.specs.declared.node.TheConstants.{COMMANDS}
 use Rattle.ex_grammar.proofs.Faultless.{commands_have_no_fault}
 use Rattle.ex_store.specs.declared.place.Place.{Place}
@@ -44,18 +40,19 @@ use Rattle.ex_commands.specs.Command.{command_of, named}
 use Rattle.ex_commands.specs.Commands.Copy.{copies, is_token}
 use Rattle.ex_commands.specs.Commands.Define.{logical_by, logical_in}
 use Rattle.ex_commands.specs.Commands.Print.{after_in, copies_in, form_in, job_in, note_in}
-use Rattle.ex_commands.specs.Line.{Line, between, directory_by, directory_in, flags_of, has_subs, keyword_code, on, place_by, place_in, said_of, upper}
+use Rattle.ex_commands.specs.Commands.Set.{set_of}
+use Rattle.ex_commands.specs.Line.{Line, between, count_by, count_in, directory_by, directory_in, flags_of, has_subs, keyword_code, on, place_by, place_in, said_of, upper}
 use Rattle.ex_commands.proofs.Fitting.{all_pass_at}
 use Rattle.ex_commands.proofs.Verbs.{Branch, IsOf, command_table, or_right}
-use Rattle.ex_commands.proofs.Ways.{IsThere, IsWay, is_directory, is_files, is_ruled, there_behind, trial_says, verb_keyword}
+use Rattle.ex_commands.proofs.Ways.{IsThere, IsWay, is_directory, is_files, is_ruled, meant_found, meant_within, there_behind, trial_says, verb_keyword}
 
 -- the codes of the commands
 abbrev is_command : ℕ → Bool
 is_command code =
     code == APPEND || (code == BUILD || (code == CONNECT || (code == COPY || (code == DEFINE || (code == DELETE
     || (code == DIRECTORY || (code == EXPUNGE || (code == INFORMATION || (code == LOGOUT || (code == PRINT
-    || (code == REMARK || (code == RENAME || (code == TAKE || (code == TYPE || (code == UNDELETE
-    || false)))))))))))))))
+    || (code == REMARK || (code == RENAME || (code == SET || (code == TAKE || (code == TYPE || (code == UNDELETE
+    || false))))))))))))))))
 
 -- an entry that can be meant is that of a command
 abbrev is_commanding : Entry → Bool
@@ -68,30 +65,6 @@ entries_command = refl
 no_fault : table_fault (table_of exec_graph command_table) ≡ None
 unfolding exec_graph exec_tables
 no_fault = commands_have_no_fault
-
-position_found : (found : Look) (place : ℕ) → position_of found ≡ Ok place → found_at found ≡ Some place
-position_found looks.None place is = cc
-position_found looks.Ambiguous place is = cc
-position_found (looks.Abbrev position) place is = let same : position ≡ place = cc in ap Some same
-position_found (looks.Exact position) place is = let same : position ≡ place = cc in ap Some same
-
-meant_found : (table : List Entry) (run : List ℕ) (place : ℕ) → entry_position table run ≡ Ok place
-    → found_at (look table run) ≡ Some place
-unfolding entry_position
-meant_found table run place is = by (length run == 0) is
-  where
-    by : (none : Bool) → (if none then Err NotKeyword else position_of (look table run)) ≡ Ok place
-        → found_at (look table run) ≡ Some place
-    by true is = cc
-    by false is = position_found (look table run) place is
-
-place_within : (found : Look) (count place : ℕ) → IsWithin found count → found_at found ≡ Some place → place < count
-place_within looks.None count place within is = cc
-place_within looks.Ambiguous count place within is = cc
-place_within (looks.Abbrev position) count place within is =
-    let same : position ≡ place = cc in subst (λ (n : ℕ). n < count) same within
-place_within (looks.Exact position) count place within is =
-    let same : position ≡ place = cc in subst (λ (n : ℕ). n < count) same within
 
 -- what a run of bytes means in a table without fault, where each entry that can be meant is that of a command
 meant_commands : (table : List Entry) (run : List ℕ) (place : ℕ) → table_fault table ≡ None
@@ -112,7 +85,7 @@ meant_commands table run place none all is = by (slice_get_cases table place).1
         ap (λ (it : Option Entry). is_command (option_map_or (λ (entry : Entry). entry.code) it 0)) there.2
         ∙ or_right (not (is_recognised entry.flag)) (is_command entry.code) (ap not recognised) commanding
     by (inr past) =
-        let within = place_within (look table run) (length table) place (look-within table run none) found in
+        let within = meant_within table run place none is in
         let most = past.0 in
         absurd (omega (arith, within, most))
 
@@ -148,6 +121,19 @@ reads_directory function = false
 abbrev reads_name : Function → Bool
 reads_name (functions.Hook rule) = rule == NAME_RULE
 reads_name function = false
+
+-- what reads a number of generations
+abbrev reads_count : Function → Bool
+reads_count (functions.Hook rule) = true
+reads_count function = false
+
+abbrev is_judged : Value → Bool
+is_judged (values.Hook id number) = true
+is_judged value = false
+
+judged_by : (rule : ℕ) (value : Value) → is_ruled rule value ≡ true → is_judged value ≡ true
+judged_by rule (values.Hook id number) is = refl
+judged_by rule value is = cc
 
 -- what they read
 files_value : (c : Catalogue) (function : Function) (flags : Flags) (rest : List ℕ) (at : ℕ) (value : Value)
@@ -199,6 +185,14 @@ name_value c (functions.Hook rule) flags rest at value looked end reads is =
     ∙ trial_says c (functions.Hook rule) flags rest at value looked end refl is
 name_value c function flags rest at value looked end reads is = cc
 
+count_value : (c : Catalogue) (function : Function) (flags : Flags) (rest : List ℕ) (at : ℕ) (value : Value)
+    (looked end : ℕ) → reads_count function ≡ true
+    → trial (setting exec_graph c exec_meanings) function flags rest at ≡ Accept value looked end
+    → is_judged value ≡ true
+count_value c (functions.Hook rule) flags rest at value looked end reads is =
+    judged_by rule value (trial_says c (functions.Hook rule) flags rest at value looked end refl is)
+count_value c function flags rest at value looked end reads is = cc
+
 -- what they mean
 place_meant : (c : Catalogue) (flags : Flags) (text : List ℕ) (value : Value) → is_files value ≡ true
     → (place : Place) × (place_by c flags text value ≡ Some place)
@@ -217,6 +211,10 @@ name_meant : (text : List ℕ) (field : FieldView) (value : Value) → is_ruled 
 name_meant text field (values.Hook id size) is =
     let place : Span = record { start = field.start; end = field.end } in (upper text place, rw is refl)
 name_meant text field value is = cc
+
+count_meant : (value : Value) → is_judged value ≡ true → (count : ℕ) × (count_by value ≡ Some count)
+count_meant (values.Hook id count) is = (count, refl)
+count_meant value is = cc
 
 -- the ways to the fields that commands want: what COPY reads, what others read, what they write, ..
 abbrev copied_way : Branch
@@ -245,13 +243,13 @@ target_way = record {
   reads = λ (block : Block). reads_files block.function;
 }
 
--- .. the files, the directory and the logical name that they work on
+-- .. the files, the directory, the logical name and the number that they work on
 abbrev files_way : Branch
 files_way = record {
-  names = λ (code : ℕ). code == DELETE || code == PRINT || code == TAKE || code == TYPE || code == UNDELETE;
+  names = λ (code : ℕ). code == DELETE || code == PRINT || code == SET || code == TAKE || code == TYPE || code == UNDELETE;
   inside = λ (node : ℕ).
       node == 13 || node == 14 || node == 15 || node == 16 || node == 19 || node == 20 || node == 21
-      || node == 22 || node == 37 || node == 38;
+      || node == 22 || node == 37 || node == 38 || node == 51 || node == 52 || node == 53 || node == 54;
   role = roles.Files;
   reads = λ (block : Block). reads_files block.function;
 }
@@ -272,28 +270,40 @@ name_way = record {
   reads = λ (block : Block). reads_name block.function;
 }
 
+abbrev count_way : Branch
+count_way = record {
+  names = λ (code : ℕ). code == SET;
+  inside = λ (node : ℕ). node == 51 || node == 52 || node == 53 || node == 54 || node == 55 || node == 56;
+  role = roles.Value;
+  reads = λ (block : Block). reads_count block.function;
+}
+
 copied_is_way : IsWay copied_way
-unfolding exec_graph exec_nodes first_nodes source_nodes target_blocks append_blocks delete_blocks type_blocks listing_nodes define_blocks build_blocks last_nodes print_blocks switch_blocks directory_nodes retention_nodes exec_tables command_entries
+unfolding exec_graph exec_nodes first_nodes source_nodes target_blocks append_blocks delete_blocks type_blocks listing_nodes define_blocks build_blocks last_nodes print_blocks switch_blocks directory_nodes retention_nodes set_blocks exec_tables command_entries
 copied_is_way = record { none = refl; nodes = refl; commands = refl; other = refl }
 
 source_is_way : IsWay source_way
-unfolding exec_graph exec_nodes first_nodes source_nodes target_blocks append_blocks delete_blocks type_blocks listing_nodes define_blocks build_blocks last_nodes print_blocks switch_blocks directory_nodes retention_nodes exec_tables command_entries
+unfolding exec_graph exec_nodes first_nodes source_nodes target_blocks append_blocks delete_blocks type_blocks listing_nodes define_blocks build_blocks last_nodes print_blocks switch_blocks directory_nodes retention_nodes set_blocks exec_tables command_entries
 source_is_way = record { none = refl; nodes = refl; commands = refl; other = refl }
 
 target_is_way : IsWay target_way
-unfolding exec_graph exec_nodes first_nodes source_nodes target_blocks append_blocks delete_blocks type_blocks listing_nodes define_blocks build_blocks last_nodes print_blocks switch_blocks directory_nodes retention_nodes exec_tables command_entries
+unfolding exec_graph exec_nodes first_nodes source_nodes target_blocks append_blocks delete_blocks type_blocks listing_nodes define_blocks build_blocks last_nodes print_blocks switch_blocks directory_nodes retention_nodes set_blocks exec_tables command_entries
 target_is_way = record { none = refl; nodes = refl; commands = refl; other = refl }
 
 files_is_way : IsWay files_way
-unfolding exec_graph exec_nodes first_nodes source_nodes target_blocks append_blocks delete_blocks type_blocks listing_nodes define_blocks build_blocks last_nodes print_blocks switch_blocks directory_nodes retention_nodes exec_tables command_entries
+unfolding exec_graph exec_nodes first_nodes source_nodes target_blocks append_blocks delete_blocks type_blocks listing_nodes define_blocks build_blocks last_nodes print_blocks switch_blocks directory_nodes retention_nodes set_blocks exec_tables command_entries set_entries file_entries table_fault
 files_is_way = record { none = refl; nodes = refl; commands = refl; other = refl }
 
+count_is_way : IsWay count_way
+unfolding exec_graph exec_nodes first_nodes source_nodes target_blocks append_blocks delete_blocks type_blocks listing_nodes define_blocks build_blocks last_nodes print_blocks switch_blocks directory_nodes retention_nodes set_blocks exec_tables command_entries set_entries file_entries table_fault
+count_is_way = record { none = refl; nodes = refl; commands = refl; other = refl }
+
 directory_is_way : IsWay directory_way
-unfolding exec_graph exec_nodes first_nodes source_nodes target_blocks append_blocks delete_blocks type_blocks listing_nodes define_blocks build_blocks last_nodes print_blocks switch_blocks directory_nodes retention_nodes exec_tables command_entries
+unfolding exec_graph exec_nodes first_nodes source_nodes target_blocks append_blocks delete_blocks type_blocks listing_nodes define_blocks build_blocks last_nodes print_blocks switch_blocks directory_nodes retention_nodes set_blocks exec_tables command_entries
 directory_is_way = record { none = refl; nodes = refl; commands = refl; other = refl }
 
 name_is_way : IsWay name_way
-unfolding exec_graph exec_nodes first_nodes source_nodes target_blocks append_blocks delete_blocks type_blocks listing_nodes define_blocks build_blocks last_nodes print_blocks switch_blocks directory_nodes retention_nodes exec_tables command_entries
+unfolding exec_graph exec_nodes first_nodes source_nodes target_blocks append_blocks delete_blocks type_blocks listing_nodes define_blocks build_blocks last_nodes print_blocks switch_blocks directory_nodes retention_nodes set_blocks exec_tables command_entries
 name_is_way = record { none = refl; nodes = refl; commands = refl; other = refl }
 
 -- a line of the grammar
@@ -390,7 +400,7 @@ module _ (c : Catalogue) (text : List ℕ) (fields : List FieldView) (verb : Fie
       between_said commands.Copy (place_in (line_in c text fields) (Some from.field)) _ meant.0 to.0 meant.1 to.1 refl
       ))
 
-  -- DELETE, PRINT, TAKE, TYPE and UNDELETE
+  -- DELETE, PRINT, SET, TAKE, TYPE and UNDELETE
   works : (command : Place → Command) (wanted : ℕ) → files_way.names wanted ≡ true
       → ((files : Place) → is_empty (command files) ≡ false) → (keyword_code verb.value == wanted) ≡ true
       → is_empty (on command (place_in (line_in c text fields) (field_of roles.Files fields))) ≡ false
@@ -398,6 +408,14 @@ module _ (c : Catalogue) (text : List ℕ) (fields : List FieldView) (verb : Fie
       let files = files_there c text fields files_way (value_of c text reads_files is_files (files_value c))
       (there files_way files_is_way wanted names is) in
       on_said command _ files.0 files.1 (some files.0)
+
+  sets : (keyword_code verb.value == SET) ≡ true → is_empty (set_of (line_in c text fields)) ≡ false
+  sets is =
+      let it = there count_way count_is_way SET refl is in
+      let count = count_meant it.field.value
+      (value_of c text reads_count is_judged (count_value c) it.field it.of) in
+      works (λ files. on (commands.Set files) (count_in (field_of roles.Value fields))) SET refl
+      (λ files. on_said (commands.Set files) _ count.0 (ap count_in it.found ∙ count.1) refl) is
 
   -- BUILD and CONNECT
   enters : (command : List ℕ → Command) (wanted : ℕ) → directory_way.names wanted ≡ true
@@ -438,10 +456,11 @@ module _ (c : Catalogue) (text : List ℕ) (fields : List FieldView) (verb : Fie
       (job_in (line_in c text fields)) (note_in (line_in c text fields))) PRINT refl (λ files. refl))
       (choose REMARK _ _ _ (λ is. refl)
       (choose RENAME _ _ _ (moves commands.Rename RENAME refl refl (λ from to. refl))
+      (choose SET _ _ _ sets
       (choose TAKE _ _ _ (works commands.Take TAKE refl (λ file. refl))
       (choose TYPE _ _ _ (works commands.TypeOut TYPE refl (λ files. refl))
       (choose UNDELETE _ _ _ (works commands.Undelete UNDELETE refl (λ files. refl))
-      (λ (none : false ≡ true). cc))))))))))))))))
+      (λ (none : false ≡ true). cc)))))))))))))))))
       (verb_commands c text fields verb typed)
     where
       choose : (wanted : ℕ) (rest : Bool) (first later : Command)

@@ -1,5 +1,5 @@
 -- What a line commands can be done.
-use Rattle.std.proofs.Common.{◌≡◌, ℕ, ◌||◌, ◌==◌, Bool, true, false, if◌then◌else◌, List, drop, Option, Some, None, option_and_then, unwrap_or, slice_get, refl, ap, sym, ◌∙◌}
+use Rattle.std.proofs.Common.{◌≡◌, ℕ, ◌||◌, ◌==◌, Bool, true, false, if◌then◌else◌, List, drop, Option, Some, None, option_and_then, unwrap_or, slice_get, refl, ap, sym, subst, ◌∙◌}
 use Rattle.std.specs.Option.{option_map_or}
 use Rattle.cm_fields.proofs.Holding.{holds_of_choice}
 use Rattle.std.specs.List.{list_all}
@@ -14,7 +14,7 @@ use Rattle.cm_blocks.specs.FieldView.{FieldView}
 use Rattle.cm_state.specs.Roles.{field_of}
 use Rattle.ex_grammar.specs.ExecRules.{exec_meanings}
 use Rattle.ex_grammar.specs.Graph.{exec_graph}
-use Rattle.ex_grammar.specs.declared.code.TheConstants.{APPEND, BUILD, CONNECT, COPY, DEFINE, DELETE, DIRECTORY, EXPUNGE, INFORMATION, LOGOUT, PRINT, REMARK, RENAME, TAKE, TYPE, UNDELETE}
+use Rattle.ex_grammar.specs.declared.code.TheConstants.{APPEND, BUILD, CONNECT, COPY, DEFINE, DELETE, DIRECTORY, EXPUNGE, INFORMATION, LOGOUT, PRINT, REMARK, RENAME, SET, TAKE, TYPE, UNDELETE}
 use Rattle.ex_grammar.specs.declared.node.TheConstants.{COMMANDS}
 use Rattle.ex_store.specs.declared.place.Place.{Place}
 use Rattle.ex_store.specs.Plan.{IsOneFile, IsSource, IsTarget}
@@ -27,8 +27,10 @@ use Rattle.ex_commands.specs.Commands.Copy.{copies, is_token}
 use Rattle.ex_commands.specs.Commands.Define.{define_of, logical_in}
 use Rattle.ex_commands.specs.Commands.Print.{after_in, copies_in, form_in, job_in, note_in, print_of}
 use Rattle.ex_commands.specs.Commands.Directory.{everything}
-use Rattle.ex_commands.specs.Line.{Line, between, directory_in, flags_of, has_subs, keyword_code, on, place_in}
-use Rattle.ex_commands.proofs.Fitting.{files_names, files_read, reads_files, reads_source, source_names, source_read, value_read}
+use Rattle.ex_commands.specs.Commands.Set.{set_of}
+use Rattle.ex_commands.specs.Line.{Line, between, count_in, directory_in, flags_of, has_subs, keyword_code, on, place_in}
+use Rattle.ex_commands.proofs.Adding.{IsKept, field_kept}
+use Rattle.ex_commands.proofs.Fitting.{files_names, files_read, names_are_short, reads_files, reads_source, source_names, source_read, value_read}
 use Rattle.ex_commands.proofs.Asking.{is_finished}
 use Rattle.ex_commands.proofs.Printable.{logical_named, may_ask}
 use Rattle.ex_commands.proofs.Resolving.{state_has}
@@ -236,6 +238,18 @@ prints_may state text fields typed =
     (note_in (line_over state text fields))) _
     (λ files is. (files_there state text fields typed files is, typed.asks))
 
+-- SET
+sets_may : (state : State) (text : List ℕ) (fields : List FieldView) → IsTyped state text fields
+    → MayAct (set_of (line_over state text fields)) state
+sets_may state text fields typed =
+    on_may state (λ files. on (commands.Set files) (count_in (field_of roles.Value fields))) _
+    (λ files files_is. on_may state (commands.Set files) (count_in (field_of roles.Value fields))
+    (λ keep keep_is. (files_there state text fields typed files files_is, subst IsKept keep_is kept)))
+  where
+    kept : IsKept (count_in (field_of roles.Value fields))
+    kept =
+        field_kept (field_of roles.Value fields) (names_are_short (catalogue_of state) text fields typed.ends typed.parse).value
+
 -- the command of a keyword
 named_may : (state : State) (text : List ℕ) (fields : List FieldView) → IsTyped state text fields → (verb : FieldView)
     → field_of roles.Verb fields ≡ Some verb → MayAct (named (line_over state text fields) (keyword_code verb.value)) state
@@ -255,9 +269,10 @@ named_may state text fields typed verb verb_is =
     (choose PRINT _ _ (λ is. prints_may state text fields typed)
     (choose REMARK _ _ (λ is. tt)
     (choose RENAME _ _ (λ is. renames_may state text fields typed verb verb_is (second_named _ _ is))
+    (choose SET _ _ (λ is. sets_may state text fields typed)
     (choose TAKE _ _ (λ is. on_may state commands.Take _ (files_there state text fields typed))
     (choose TYPE _ _ (λ is. on_may state commands.TypeOut _ (files_there state text fields typed))
-    (choose UNDELETE _ _ (λ is. on_may state commands.Undelete _ (files_there state text fields typed)) tt)))))))))))))))
+    (choose UNDELETE _ _ (λ is. on_may state commands.Undelete _ (files_there state text fields typed)) tt))))))))))))))))
   where
     choose : (wanted : ℕ) (first later : Command) → ((keyword_code verb.value == wanted) ≡ true → MayAct first state) → MayAct later state
         → MayAct (if keyword_code verb.value == wanted then first else later) state

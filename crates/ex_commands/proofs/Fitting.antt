@@ -34,7 +34,7 @@ use Rattle.cm_blocks.specs.FieldView.{FieldView}
 use Rattle.cm_blocks.specs.Trial.{table_of, trial}
 use Rattle.cm_state.specs.Roles.{field_of, is_role}
 use Rattle.ex_grammar.specs.ExecRules.{exec_meanings, logical_verdict, rule_verdict}
-use Rattle.ex_grammar.specs.Graph.{append_blocks, build_blocks, define_blocks, delete_blocks, directory_nodes, exec_graph, exec_nodes, first_nodes, last_nodes, listing_nodes, print_blocks, retention_nodes, source_nodes, switch_blocks, target_blocks, type_blocks}
+use Rattle.ex_grammar.specs.Graph.{append_blocks, build_blocks, define_blocks, delete_blocks, directory_nodes, exec_graph, exec_nodes, first_nodes, last_nodes, listing_nodes, print_blocks, retention_nodes, set_blocks, source_nodes, switch_blocks, target_blocks, type_blocks}
 use Rattle.ex_grammar.specs.Words.{hook, only, value}
 use Rattle.ex_commands.specs.declared.commands.define.TheConstants.{NAME_RULE}
 use Rattle.ex_commands.specs.declared.commands.print.TheConstants.{AFTER_NODE, FORMS_NODE, FORM_RULE, JOBNAME_NODE, NOTE_NODE}
@@ -109,7 +109,7 @@ abbrev pub node_fits : Node → Bool
 node_fits node = list_all fits node.chain
 
 pub nodes_fit : list_all node_fits exec_graph.nodes ≡ true
-unfolding exec_graph exec_nodes first_nodes source_nodes target_blocks append_blocks delete_blocks type_blocks listing_nodes define_blocks build_blocks last_nodes print_blocks switch_blocks directory_nodes retention_nodes
+unfolding exec_graph exec_nodes first_nodes source_nodes target_blocks append_blocks delete_blocks type_blocks listing_nodes define_blocks build_blocks last_nodes print_blocks switch_blocks directory_nodes retention_nodes set_blocks
 nodes_fit = refl
 
 -- what all elements pass each passes
@@ -380,19 +380,19 @@ at_node {node} c text fields ends number it node_is parse field is =
     }
 
 pub after_node : slice_get exec_graph.nodes AFTER_NODE ≡ Some (only (value Date switches))
-unfolding exec_graph exec_nodes first_nodes source_nodes target_blocks append_blocks delete_blocks type_blocks listing_nodes define_blocks build_blocks last_nodes print_blocks switch_blocks directory_nodes retention_nodes
+unfolding exec_graph exec_nodes first_nodes source_nodes target_blocks append_blocks delete_blocks type_blocks listing_nodes define_blocks build_blocks last_nodes print_blocks switch_blocks directory_nodes retention_nodes set_blocks
 after_node = refl
 
 pub forms_node : slice_get exec_graph.nodes FORMS_NODE ≡ Some (only (hook FORM_RULE switches))
-unfolding exec_graph exec_nodes first_nodes source_nodes target_blocks append_blocks delete_blocks type_blocks listing_nodes define_blocks build_blocks last_nodes print_blocks switch_blocks directory_nodes retention_nodes
+unfolding exec_graph exec_nodes first_nodes source_nodes target_blocks append_blocks delete_blocks type_blocks listing_nodes define_blocks build_blocks last_nodes print_blocks switch_blocks directory_nodes retention_nodes set_blocks
 forms_node = refl
 
 pub job_node : slice_get exec_graph.nodes JOBNAME_NODE ≡ Some (only (value Word switches))
-unfolding exec_graph exec_nodes first_nodes source_nodes target_blocks append_blocks delete_blocks type_blocks listing_nodes define_blocks build_blocks last_nodes print_blocks switch_blocks directory_nodes retention_nodes
+unfolding exec_graph exec_nodes first_nodes source_nodes target_blocks append_blocks delete_blocks type_blocks listing_nodes define_blocks build_blocks last_nodes print_blocks switch_blocks directory_nodes retention_nodes set_blocks
 job_node = refl
 
 pub note_node : slice_get exec_graph.nodes NOTE_NODE ≡ Some (only (value Quoted switches))
-unfolding exec_graph exec_nodes first_nodes source_nodes target_blocks append_blocks delete_blocks type_blocks listing_nodes define_blocks build_blocks last_nodes print_blocks switch_blocks directory_nodes retention_nodes
+unfolding exec_graph exec_nodes first_nodes source_nodes target_blocks append_blocks delete_blocks type_blocks listing_nodes define_blocks build_blocks last_nodes print_blocks switch_blocks directory_nodes retention_nodes set_blocks
 note_node = refl
 
 -- what it says, where it is of such a function

@@ -23,7 +23,7 @@ use Rattle.ex_store.specs.Rows.{pages_in, full_of, pages_marked}
 use Rattle.ex_store.specs.State.{State, defined, retention_of}
 use Rattle.ex_commands.specs.declared.command.Command.{Command}
 use Rattle.ex_commands.specs.declared.command.Command.TheVariants as commands
-use Rattle.ex_commands.specs.declared.lines.Lines.TheVariants.{Marked, Held}
+use Rattle.ex_commands.specs.declared.lines.Lines.TheVariants.{Changed, Held}
 use Rattle.ex_commands.specs.declared.pairs.Origin.{Origin}
 use Rattle.ex_commands.specs.declared.pairs.Origin.TheVariants.{Files, Queue, Terminal}
 use Rattle.ex_commands.specs.Act.{Act, act_of, plays}
@@ -34,7 +34,7 @@ use Rattle.ex_commands.specs.Commands.Information.{definition_line, directory_li
 use Rattle.ex_commands.specs.Commands.Logout.{farewell_line}
 use Rattle.ex_commands.specs.Commands.Print.{request_of}
 use Rattle.ex_store.specs.declared.limits.TheConstants.{COPIES_LIMIT}
-use Rattle.ex_commands.specs.Replies.{directory_text, done_text, ends_line, full_text, heading, held_text, line_of, listed_line, marked_line, origin_line, pair_line, queued_line, total_line, typed_line}
+use Rattle.ex_commands.specs.Replies.{changed_line, directory_text, done_text, ends_line, full_text, heading, held_text, line_of, listed_line, origin_line, pair_line, queued_line, total_line, typed_line}
 use Rattle.ex_commands.specs.Texts.{arrow, done_mark, farewell, files_counted, from_terminal, pages_freed, pages_had, queued, right_bracket, space, stands_for, total_of, version}
 
 -- some bytes, and a line feed
@@ -127,14 +127,14 @@ held_ends row = by (ends_line row.file.bytes) refl
     by true is = subst Ends (sym (append-nil row.file.bytes)) (ends_test row.file.bytes is)
     by false is = inr (behind row.file.bytes end_of_line eol_ends)
 
-marked_ends : (row : Row) → Ends (line_of Marked row)
-unfolding marked_line
-marked_ends row = inr (behind (space ++ full_text (full_of row)) done_text done_ends)
+changed_ends : (row : Row) → Ends (line_of Changed row)
+unfolding changed_line
+changed_ends row = inr (behind (space ++ full_text (full_of row)) done_text done_ends)
 
-listing_ends : (directory : List ℕ) (rows : List Row) → Ended (listing directory rows)
+listing_ends : (read : Bool) (directory : List ℕ) (rows : List Row) → Ended (listing read directory rows)
 unfolding listing total_line
-listing_ends directory rows =
-    behind (heading directory ++ flat_map listed_line rows) (total_line (length rows))
+listing_ends read directory rows =
+    behind (heading directory ++ flat_map (listed_line read) rows) (total_line (length rows))
     (behind (total_of ++ decimal (length rows) ++ files_counted) end_of_line eol_ends)
 
 freed_ends : (directory : List ℕ) (pages : ℕ) → Ended (freed_line directory pages)
@@ -185,9 +185,10 @@ plays_end : (origin : Origin) (made : Result Planned Code) (state : State) → E
 plays_end origin (Ok made) state = each (origin_line origin) (pair_ends origin) made.pairs
 plays_end origin (Err code) state = inr (refusal_ends code)
 
-lists_end : (directory : List ℕ) (rows : List Row) (state : State) → Ends (lists_rows directory rows state).reply
-lists_end directory [] state = inr (refusal_ends NoMatch)
-lists_end directory (row ∷ rows) state = inr (listing_ends directory (row ∷ rows))
+lists_end : (read : Bool) (directory : List ℕ) (rows : List Row) (state : State)
+    → Ends (lists_rows read directory rows state).reply
+lists_end read directory [] state = inr (refusal_ends NoMatch)
+lists_end read directory (row ∷ rows) state = inr (listing_ends read directory (row ∷ rows))
 
 choice_ends : (test : Bool) (one other : Act) → Ends one.reply → Ends other.reply → Ends (cond test one other).reply
 choice_ends true one other here there = here
@@ -208,9 +209,9 @@ act_ends (commands.Define name None) moment state =
     choice_ends (defined name state) _ _ (inl refl) (inr (refusal_ends NoDefinition))
 act_ends (commands.Define name (Some directory)) moment state =
     plays_end Files (planned (plans.Define name directory) moment state) state
-act_ends (commands.Delete files) moment state = each (line_of Marked) marked_ends (sources files state)
-act_ends (commands.Directory files since before deleted sub) moment state =
-    choice_ends sub _ _ (inl refl) (lists_end files.directory
+act_ends (commands.Delete files) moment state = each (line_of Changed) changed_ends (sources files state)
+act_ends (commands.Directory files since before deleted read sub) moment state =
+    choice_ends sub _ _ (inl refl) (lists_end read files.directory
     (listed deleted (record { since = since; before = before }) files state) state)
 act_ends (commands.Expunge directory) moment state =
     inr (freed_ends (unwrap_or directory state.connected)
@@ -223,9 +224,10 @@ act_ends (commands.Print files copies form after job note) moment state =
     (inr (refusal_ends CopyRange))
 act_ends commands.Remark moment state = inl refl
 act_ends (commands.Rename from to) moment state = plays_end Files (planned (plans.Rename from to) moment state) state
+act_ends (commands.Set files keep) moment state = each (line_of Changed) changed_ends (sources files state)
 act_ends (commands.Take file) moment state = inl refl
 act_ends (commands.TypeOut files) moment state = each (line_of Held) held_ends (sources files state)
-act_ends (commands.Undelete files) moment state = each (line_of Marked) marked_ends (sources files state)
+act_ends (commands.Undelete files) moment state = each (line_of Changed) changed_ends (sources files state)
 
 -- and of the writing of what was typed in
 pub write_ends : (to : Place) (bytes : List ℕ) (moment : ℕ) (state : State) → Ends (writes to bytes moment state).reply

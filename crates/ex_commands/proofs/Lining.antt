@@ -8,7 +8,7 @@ use Rattle.ex_generations.specs.declared.file.TheConstants.{FILE_LIMIT}
 use Rattle.ex_store.specs.declared.limits.TheConstants.{MOMENT_LIMIT}
 use Rattle.ex_store.specs.declared.directory.Directory.{Directory}
 use Rattle.ex_store.specs.declared.row.Row.{Row}
-use Rattle.ex_store.specs.WellFormed.{is_row_among}
+use Rattle.ex_store.specs.WellFormed.{is_reading, is_row_among}
 use Rattle.ex_store.proofs.AllCopiedLaws.{formed}
 
 -- where one more element is there its line comes next
@@ -21,6 +21,7 @@ lines_more line xs i x there =
 -- the first of some files, and those behind it
 pub record IsFirst (directories : List Directory) (row : Row) (rest : List Row) : Type 0 where
   pub moment : row.file.moment ≤ MOMENT_LIMIT
+  pub reading : is_reading row.file.read ≡ true
   pub short : length row.file.bytes ≤ FILE_LIMIT
   pub lawful : list_all (is_row_among directories) rest ≡ true
 
@@ -31,6 +32,7 @@ is_first directories rows rest row is lawful =
     let form = formed directories row parts.0 in
     record {
       moment = leb-true row.file.moment MOMENT_LIMIT (and_parts _ _ (and_parts _ _ form.stamped).0).1;
+      reading = (and_parts _ _ form.stamped).1;
       short = leb-true (length row.file.bytes) FILE_LIMIT form.short;
       lawful = parts.1;
     }

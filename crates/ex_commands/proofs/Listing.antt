@@ -7,15 +7,16 @@ use Rattle.ex_commands.specs.declared.lines.Lines.TheVariants.{Listed}
 use Rattle.ex_commands.specs.Replies.{is_within, line_of, listed_line}
 
 -- the files of other days have no line
-pub lines_within : (days : Days) (rows : List Row)
-    → flat_map (line_of (Listed days)) rows ≡ flat_map listed_line (filter (is_within days) rows)
-lines_within days [] = refl
-lines_within days (row ∷ rows) = by (is_within days row) (lines_within days rows)
+pub lines_within : (days : Days) (read : Bool) (rows : List Row)
+    → flat_map (line_of (Listed days read)) rows ≡ flat_map (listed_line read) (filter (is_within days) rows)
+lines_within days read [] = refl
+lines_within days read (row ∷ rows) = by (is_within days row) (lines_within days read rows)
   where
-    by : (test : Bool) → flat_map (line_of (Listed days)) rows ≡ flat_map listed_line (filter (is_within days) rows)
-        → (if test then listed_line row else []) ++ flat_map (line_of (Listed days)) rows
-        ≡ flat_map listed_line (if test then row ∷ filter (is_within days) rows else filter (is_within days) rows)
-    by true rest = ap (λ more. listed_line row ++ more) rest
+    by : (test : Bool)
+        → flat_map (line_of (Listed days read)) rows ≡ flat_map (listed_line read) (filter (is_within days) rows)
+        → (if test then listed_line read row else []) ++ flat_map (line_of (Listed days read)) rows
+        ≡ flat_map (listed_line read) (if test then row ∷ filter (is_within days) rows else filter (is_within days) rows)
+    by true rest = ap (λ more. listed_line read row ++ more) rest
     by false rest = rest
 
 -- one element more is counted alone

@@ -35,7 +35,7 @@ use Rattle.cm_blocks.specs.Words.{no_flags}
 use Rattle.cm_state.specs.Roles.{field_of}
 use Rattle.ex_grammar.specs.ExecRules.{exec_meanings}
 use Rattle.ex_grammar.specs.Graph.{exec_graph}
-use Rattle.ex_grammar.specs.declared.code.TheConstants.{APPEND, BUILD, CONNECT, COPY, DEFINE, DELETE, DIRECTORY, EXPUNGE, INFORMATION, LOGOUT, PRINT, REMARK, RENAME, TAKE, TYPE, UNDELETE}
+use Rattle.ex_grammar.specs.declared.code.TheConstants.{APPEND, BUILD, CONNECT, COPY, DEFINE, DELETE, DIRECTORY, EXPUNGE, INFORMATION, LOGOUT, PRINT, REMARK, RENAME, SET, TAKE, TYPE, UNDELETE}
 use Rattle.ex_grammar.specs.declared.node.TheConstants.{COMMANDS}
 use Rattle.ex_store.specs.declared.directory.Directory.{Directory}
 use Rattle.ex_store.specs.declared.place.Place.{Place}
@@ -53,7 +53,7 @@ use Rattle.ex_commands.specs.declared.command.Command.TheVariants as commands
 use Rattle.ex_commands.specs.Command.{command_of, named}
 use Rattle.ex_commands.specs.Commands.Copy.{copies, is_token}
 use Rattle.ex_commands.specs.Commands.Print.{after_in, copies_in, form_in, job_in, note_in}
-use Rattle.ex_commands.specs.Line.{Line, between, directory_in, directory_name, flags_of, has_subs, keyword_code, on, place_by, place_in, said_of, upper}
+use Rattle.ex_commands.specs.Line.{Line, between, count_in, directory_in, directory_name, flags_of, has_subs, keyword_code, on, place_by, place_in, said_of, upper}
 use Rattle.ex_store.proofs.SelectionLaws.{meant_all}
 use Rattle.ex_commands.proofs.Capitals.{up}
 use Rattle.ex_commands.proofs.Fitting.{reads_single}
@@ -308,9 +308,11 @@ named_means state well text fields ends verb parse verb_is =
     (note_in (line_over state text fields))) _ (λ files is. tt))
     (choose REMARK _ _ (λ is. tt)
     (choose RENAME _ _ (λ is. between_means state commands.Rename _ _ (λ source target. tt))
+    (choose SET _ _ (λ is. on_means state (λ files. on (commands.Set files) (count_in (field_of roles.Value fields))) _
+    (λ files is. on_means state (commands.Set files) _ (λ keep is. tt)))
     (choose TAKE _ _ (λ is. takes_means state well text fields ends verb parse verb_is is)
     (choose TYPE _ _ (λ is. on_means state commands.TypeOut _ (λ files is. tt))
-    (choose UNDELETE _ _ (λ is. on_means state commands.Undelete _ (λ files is. tt)) tt)))))))))))))))
+    (choose UNDELETE _ _ (λ is. on_means state commands.Undelete _ (λ files is. tt)) tt))))))))))))))))
   where
     choose : (wanted : ℕ) (first later : Command) → ((keyword_code verb.value == wanted) ≡ true → MeansOne state first)
         → MeansOne state later → MeansOne state (if keyword_code verb.value == wanted then first else later)

@@ -25,7 +25,7 @@ use Rattle.cm_blocks.specs.Setting.{setting}
 use Rattle.cm_blocks.specs.FieldView.{FieldView}
 use Rattle.cm_blocks.specs.Trial.{table_of, trial}
 use Rattle.ex_grammar.specs.ExecRules.{exec_meanings, logical_verdict, rule_verdict}
-use Rattle.ex_grammar.specs.Graph.{append_blocks, build_blocks, define_blocks, delete_blocks, directory_nodes, exec_graph, exec_nodes, first_nodes, last_nodes, listing_nodes, print_blocks, retention_nodes, source_nodes, switch_blocks, target_blocks, type_blocks}
+use Rattle.ex_grammar.specs.Graph.{append_blocks, build_blocks, define_blocks, delete_blocks, directory_nodes, exec_graph, exec_nodes, first_nodes, last_nodes, listing_nodes, print_blocks, retention_nodes, set_blocks, source_nodes, switch_blocks, target_blocks, type_blocks}
 use Rattle.ex_grammar.specs.Words.{value}
 use Rattle.ex_store.specs.declared.limits.TheConstants.{FORMS}
 use Rattle.ex_store.specs.Plan.{may_be_job}
@@ -162,7 +162,7 @@ abbrev asks_plainly : Node → Bool
 asks_plainly node = is_none node.default || list_all (λ (block : Block). is_plain_function block.function) node.chain
 
 nodes_ask_plainly : list_all asks_plainly exec_graph.nodes ≡ true
-unfolding is_plain_function exec_graph exec_nodes first_nodes source_nodes target_blocks append_blocks delete_blocks type_blocks listing_nodes define_blocks build_blocks last_nodes print_blocks switch_blocks directory_nodes retention_nodes
+unfolding is_plain_function exec_graph exec_nodes first_nodes source_nodes target_blocks append_blocks delete_blocks type_blocks listing_nodes define_blocks build_blocks last_nodes print_blocks switch_blocks directory_nodes retention_nodes set_blocks
 nodes_ask_plainly = refl
 
 -- the function of a field that a rule judged

@@ -1,24 +1,25 @@
 -- What a command leaves of a state that is well formed is well formed.
-use Rattle.std.proofs.Common.{◌≡◌, ℕ, Bool, ◌&&◌, not, true, false, List, [], ◌∷◌, nat_le, nat_lt, Some, None, Result, Ok, Err, refl, arith}
+use Rattle.std.proofs.Common.{◌≡◌, ℕ, ◌≤◌, Bool, ◌&&◌, not, true, false, List, [], ◌∷◌, nat_le, nat_lt, Some, None, Result, Ok, Err, refl, arith}
 use Rattle.std.proofs.lemmas.Bool.{and_parts}
 use Rattle.std.proofs.lemmas.Bool.Decides.{nat_tests}
 use Rattle.cm_text.specs.Case.{equals}
 use Rattle.cm_fields.specs.declared.code.Code.{Code}
 use Rattle.cm_fields.specs.declared.code.Code.TheVariants.{CopyRange, NoDefinition}
 use Rattle.cm_fields.proofs.Holding.{holds_of_choice, of_choice}
+use Rattle.ex_generations.specs.declared.file.Remark.{Remark}
 use Rattle.ex_generations.specs.declared.file.Remark.TheVariants as remarks
 use Rattle.ex_store.specs.declared.directory.Definition.{Definition}
-use Rattle.ex_store.specs.declared.limits.TheConstants.{COPIES_LIMIT}
+use Rattle.ex_store.specs.declared.limits.TheConstants.{COPIES_LIMIT, MOMENT_LIMIT, RETENTION_LIMIT}
 use Rattle.ex_store.specs.declared.place.Place.{Place}
 use Rattle.ex_store.specs.declared.plan.Plan.{Plan}
 use Rattle.ex_store.specs.declared.plan.Plan.TheVariants as plans
 use Rattle.ex_store.specs.declared.row.Row.{Row}
-use Rattle.ex_store.specs.Copying.{lacks_name}
+use Rattle.ex_store.specs.Copying.{lacks_name, moment_of}
 use Rattle.ex_store.specs.Plan.{IsRequest, MayPlan, Planned, planned}
 use Rattle.ex_store.specs.Rows.{is_in}
-use Rattle.ex_store.specs.Selection.{is_meant}
+use Rattle.ex_store.specs.Selection.{is_meant, remarked}
 use Rattle.ex_store.specs.State.{State, defined, undefined}
-use Rattle.ex_store.specs.WellFormed.{IsWellFormed}
+use Rattle.ex_store.specs.WellFormed.{IsWellFormed, is_remark}
 use Rattle.ex_store.proofs.RemarkedLaws.{rows_left, rows_remarked, well_formed_with_rows}
 use Rattle.ex_store.proofs.SoundLaws.{plan_sound}
 use Rattle.ex_store.proofs.StateLaws.{fewer_well_formed}
@@ -30,7 +31,7 @@ use Rattle.ex_commands.specs.Act.{act_of}
 use Rattle.ex_commands.specs.Answer.{MayAct}
 use Rattle.ex_commands.specs.Commands.Directory.{lists_rows}
 use Rattle.ex_commands.specs.Commands.Print.{request_of}
-use Rattle.ex_commands.specs.Effect.{Act, does, marks, pends, plays, refuses, without_marked}
+use Rattle.ex_commands.specs.Effect.{Act, does, pends, plays, refuses, without_marked}
 
 -- a plan
 plays_sound : (origin : Origin) (plan : Plan) (moment : ℕ) (state : State) → IsWellFormed state → MayPlan plan state
@@ -38,20 +39,28 @@ plays_sound : (origin : Origin) (plan : Plan) (moment : ℕ) (state : State) →
 plays_sound origin plan moment state well may (Ok made) is = plan_sound plan moment state made well may is
 plays_sound origin plan moment state well may (Err code) is = well
 
--- files that are marked, and those that are removed
-marks_sound : (deleted : Bool) (files : Place) (state : State) → IsWellFormed state → IsWellFormed (marks deleted files state).state
-marks_sound deleted files state well =
+-- files of which something is changed, and those that are removed
+changes_sound : (remark : Remark) (files : Place) (state : State) → is_remark remark ≡ true → IsWellFormed state
+    → IsWellFormed (record state { rows = remarked remark files state })
+changes_sound remark files state fits well =
     well_formed_with_rows state _ well
-    (rows_remarked state.directories state.rows (is_meant files.flags.deleted files state) (remarks.Deleted deleted) refl well.draft.rows)
+    (rows_remarked state.directories state.rows (is_meant files.flags.deleted files state) remark fits well.draft.rows)
+
+moment_within : (moment : ℕ) → nat_le (moment_of moment) MOMENT_LIMIT ≡ true
+moment_within moment = grind (arith, nat_tests)
+
+kept_within : (keep : ℕ) → keep ≤ RETENTION_LIMIT → nat_le keep RETENTION_LIMIT ≡ true
+kept_within keep few = grind (arith, nat_tests)
 
 removed_sound : (directory : List ℕ) (state : State) → IsWellFormed state → IsWellFormed (without_marked directory state)
 removed_sound directory state well =
     well_formed_with_rows state _ well
     (rows_left state.directories state.rows (λ row. not (is_in directory row && row.file.deleted)) well.draft.rows)
 
-listed_sound : (directory : List ℕ) (rows : List Row) (state : State) → IsWellFormed state → IsWellFormed (lists_rows directory rows state).state
-listed_sound directory [] state well = well
-listed_sound directory (row ∷ rows) state well = well
+listed_sound : (read : Bool) (directory : List ℕ) (rows : List Row) (state : State) → IsWellFormed state
+    → IsWellFormed (lists_rows read directory rows state).state
+listed_sound read directory [] state well = well
+listed_sound read directory (row ∷ rows) state well = well
 
 pub act_sound : (command : Command) (moment : ℕ) (state : State) → IsWellFormed state → MayAct command state
     → IsWellFormed (act_of command moment state).state
@@ -83,9 +92,9 @@ act_sound (commands.Define name None) moment state well may =
     (fewer_well_formed state (λ (entry : Definition). not (equals entry.name name)) well) well
 act_sound (commands.Define name (Some directory)) moment state well may =
     plays_sound Files (plans.Define name directory) moment state well may _ refl
-act_sound (commands.Delete files) moment state well may = marks_sound true files state well
-act_sound (commands.Directory files since before deleted sub) moment state well may =
-    of_choice (λ (act : Act). IsWellFormed act.state) sub (pends state) _ well (listed_sound files.directory _ state well)
+act_sound (commands.Delete files) moment state well may = changes_sound (remarks.Deleted true) files state refl well
+act_sound (commands.Directory files since before deleted read sub) moment state well may =
+    of_choice (λ (act : Act). IsWellFormed act.state) sub (pends state) _ well (listed_sound read files.directory _ state well)
 act_sound (commands.Expunge directory) moment state well may = removed_sound _ state well
 act_sound (commands.Information what) moment state well may = well
 act_sound commands.Logout moment state well may = removed_sound state.connected state well
@@ -109,6 +118,9 @@ act_sound (commands.Print files copies form after job note) moment state well ma
         }
 act_sound commands.Remark moment state well may = well
 act_sound (commands.Rename from to) moment state well may = plays_sound Files (plans.Rename from to) moment state well may _ refl
+act_sound (commands.Set files keep) moment state well may =
+    changes_sound (remarks.Keep keep) files state (kept_within keep may.1) well
 act_sound (commands.Take file) moment state well may = well
-act_sound (commands.TypeOut files) moment state well may = well
-act_sound (commands.Undelete files) moment state well may = marks_sound false files state well
+act_sound (commands.TypeOut files) moment state well may =
+    changes_sound (remarks.Read (moment_of moment)) files state (moment_within moment) well
+act_sound (commands.Undelete files) moment state well may = changes_sound (remarks.Deleted false) files state refl well

@@ -27,7 +27,7 @@ use Rattle.cm_blocks.specs.FieldView.{FieldView}
 use Rattle.cm_blocks.specs.Trial.{entry_next, keyword_next, next_of, table_of, trial}
 use Rattle.cm_state.specs.Roles.{field_of, is_role}
 use Rattle.ex_grammar.specs.ExecRules.{exec_meanings}
-use Rattle.ex_grammar.specs.Graph.{append_blocks, build_blocks, define_blocks, delete_blocks, directory_nodes, exec_graph, exec_nodes, first_nodes, last_nodes, listing_nodes, print_blocks, retention_nodes, source_nodes, switch_blocks, target_blocks, type_blocks}
+use Rattle.ex_grammar.specs.Graph.{append_blocks, build_blocks, define_blocks, delete_blocks, directory_nodes, exec_graph, exec_nodes, first_nodes, last_nodes, listing_nodes, print_blocks, retention_nodes, set_blocks, source_nodes, switch_blocks, target_blocks, type_blocks}
 use Rattle.ex_grammar.specs.Tables.{build_entries, command_entries, directory_entries, exec_tables, switch_entries, topic_entries}
 use Rattle.ex_grammar.specs.Words.{confirm, either, keyword}
 use Rattle.ex_grammar.specs.declared.code.TheConstants.{APPEND, CONNECT, COPY, DEFINE, EXPUNGE, RENAME, TAKE}
@@ -194,7 +194,7 @@ pub record IsKeyword (table : ℕ) (value : Value) : Type 0 where
   pub meant : entry_position (table_of exec_graph table) run ≡ Ok place
 
 -- what a keyword's value says
-key_says : (c : Catalogue) (flags : Flags) (table : ℕ) (rest : List ℕ) (at : ℕ) (value : Value) (looked end : ℕ)
+pub key_says : (c : Catalogue) (flags : Flags) (table : ℕ) (rest : List ℕ) (at : ℕ) (value : Value) (looked end : ℕ)
     → trial (setting exec_graph c exec_meanings) (functions.Key table) flags rest at ≡ Accept value looked end
     → IsKeyword table value
 unfolding trial
@@ -300,7 +300,7 @@ old_branch = record {
 }
 
 old_is : IsBranch old_branch
-unfolding exec_graph exec_nodes first_nodes source_nodes target_blocks append_blocks delete_blocks type_blocks listing_nodes define_blocks build_blocks last_nodes print_blocks switch_blocks directory_nodes retention_nodes exec_tables command_entries topic_entries directory_entries build_entries switch_entries
+unfolding exec_graph exec_nodes first_nodes source_nodes target_blocks append_blocks delete_blocks type_blocks listing_nodes define_blocks build_blocks last_nodes print_blocks switch_blocks directory_nodes retention_nodes set_blocks exec_tables command_entries topic_entries directory_entries build_entries switch_entries
 old_is = record { none = refl; ends = refl; nodes = refl; commands = refl; some = refl; other = refl }
 
 pub old_directory : (c : Catalogue) (text : List ℕ) (fields : List FieldView) (ends : Ending) (verb field : FieldView)
@@ -325,7 +325,7 @@ made_branch = record {
 }
 
 made_is : IsBranch made_branch
-unfolding exec_graph exec_nodes first_nodes source_nodes target_blocks append_blocks delete_blocks type_blocks listing_nodes define_blocks build_blocks last_nodes print_blocks switch_blocks directory_nodes retention_nodes exec_tables command_entries topic_entries directory_entries build_entries switch_entries
+unfolding exec_graph exec_nodes first_nodes source_nodes target_blocks append_blocks delete_blocks type_blocks listing_nodes define_blocks build_blocks last_nodes print_blocks switch_blocks directory_nodes retention_nodes set_blocks exec_tables command_entries topic_entries directory_entries build_entries switch_entries
 made_is = record { none = refl; ends = refl; nodes = refl; commands = refl; some = refl; other = refl }
 
 pub made_target : (c : Catalogue) (text : List ℕ) (fields : List FieldView) (ends : Ending) (verb field : FieldView)
@@ -350,7 +350,7 @@ grown_branch = record {
 }
 
 grown_is : IsBranch grown_branch
-unfolding exec_graph exec_nodes first_nodes source_nodes target_blocks append_blocks delete_blocks type_blocks listing_nodes define_blocks build_blocks last_nodes print_blocks switch_blocks directory_nodes retention_nodes exec_tables command_entries topic_entries directory_entries build_entries switch_entries
+unfolding exec_graph exec_nodes first_nodes source_nodes target_blocks append_blocks delete_blocks type_blocks listing_nodes define_blocks build_blocks last_nodes print_blocks switch_blocks directory_nodes retention_nodes set_blocks exec_tables command_entries topic_entries directory_entries build_entries switch_entries
 grown_is = record { none = refl; ends = refl; nodes = refl; commands = refl; some = refl; other = refl }
 
 pub grown_target : (c : Catalogue) (text : List ℕ) (fields : List FieldView) (ends : Ending) (verb field : FieldView)
@@ -375,7 +375,7 @@ take_branch = record {
 }
 
 take_is : IsBranch take_branch
-unfolding exec_graph exec_nodes first_nodes source_nodes target_blocks append_blocks delete_blocks type_blocks listing_nodes define_blocks build_blocks last_nodes print_blocks switch_blocks directory_nodes retention_nodes exec_tables command_entries topic_entries directory_entries build_entries switch_entries
+unfolding exec_graph exec_nodes first_nodes source_nodes target_blocks append_blocks delete_blocks type_blocks listing_nodes define_blocks build_blocks last_nodes print_blocks switch_blocks directory_nodes retention_nodes set_blocks exec_tables command_entries topic_entries directory_entries build_entries switch_entries
 take_is = record { none = refl; ends = refl; nodes = refl; commands = refl; some = refl; other = refl }
 
 pub take_file : (c : Catalogue) (text : List ℕ) (fields : List FieldView) (ends : Ending) (verb field : FieldView)

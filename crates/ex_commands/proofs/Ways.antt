@@ -1,12 +1,18 @@
 -- What stands behind the keywords of some commands: the way to a field of a role, which a line takes before its end.
-use Rattle.std.proofs.Common.{◌≡◌, ◌⊎◌, inl, inr, ℕ, ◌+◌, ◌||◌, ◌&&◌, ◌==◌, Bool, true, false, not, if◌then◌else◌, List, [], ◌∷◌, length, take, Option, Some, slice_get, refl, ap, sym, subst, ◌∙◌, arith}
+use Rattle.std.proofs.Common.{◌≡◌, ◌⊎◌, inl, inr, ℕ, zero, suc, ◌<◌, ◌+◌, ◌||◌, ◌&&◌, ◌==◌, Bool, true, false, not, if◌then◌else◌, List, [], ◌∷◌, length, drop, take, Option, Some, None, is_some, slice_get, Ok, Err, refl, ap, sym, subst, ◌∙◌, arith}
 use Rattle.std.specs.List.{find, list_all, prefix_len}
 use Rattle.std.specs.Option.{option_map_or}
 use Rattle.std.proofs.lemmas.Bool.{and_parts}
 use Rattle.std.proofs.lemmas.Bool.Decides.{nat_tests}
 use Rattle.cm_text.specs.Bytes.{is_name}
 use Rattle.cm_text.specs.Case.{begins_with}
-use Rattle.cm_fields.specs.declared.code.Code.TheVariants.{BadNoise}
+use Rattle.cm_tables.specs.declared.entry.Entry.{Entry}
+use Rattle.cm_tables.specs.declared.table.Look.{Look}
+use Rattle.cm_tables.specs.declared.table.Look.TheVariants as looks
+use Rattle.cm_tables.specs.Look.{IsWithin, found_at, look}
+use Rattle.cm_tables.specs.Order.{table_fault}
+use Rattle.cm_tables.proofs.WithinLemmas.{look-within}
+use Rattle.cm_fields.specs.declared.code.Code.TheVariants.{BadNoise, NotKeyword}
 use Rattle.cm_fields.specs.declared.trial.Try.{Try}
 use Rattle.cm_fields.specs.declared.trial.Try.TheVariants.{Accept, More, Refuse}
 use Rattle.cm_fields.specs.declared.value.FileKind.TheVariants.{In, Out, Any}
@@ -31,11 +37,11 @@ use Rattle.cm_blocks.specs.Chain.{chain_at, is_confirm}
 use Rattle.cm_blocks.specs.Parse.{Follow, IsParse, ending_of, node_behind, place_behind}
 use Rattle.cm_blocks.specs.Setting.{setting}
 use Rattle.cm_blocks.specs.FieldView.{FieldView}
-use Rattle.cm_blocks.specs.Keyword.{code_at}
-use Rattle.cm_blocks.specs.Trial.{entry_next, next_of, table_of, trial}
+use Rattle.cm_blocks.specs.Keyword.{code_at, entry_position, position_of}
+use Rattle.cm_blocks.specs.Trial.{entry_next, keyword_next, next_of, table_of, trial}
 use Rattle.cm_state.specs.Roles.{field_of, is_role}
 use Rattle.ex_grammar.specs.ExecRules.{exec_meanings, rule_verdict}
-use Rattle.ex_grammar.specs.Graph.{append_blocks, build_blocks, define_blocks, delete_blocks, directory_nodes, exec_graph, exec_nodes, first_nodes, last_nodes, listing_nodes, print_blocks, retention_nodes, source_nodes, switch_blocks, target_blocks, type_blocks}
+use Rattle.ex_grammar.specs.Graph.{append_blocks, build_blocks, define_blocks, delete_blocks, directory_nodes, exec_graph, exec_nodes, first_nodes, last_nodes, listing_nodes, print_blocks, retention_nodes, set_blocks, source_nodes, switch_blocks, target_blocks, type_blocks}
 use Rattle.ex_grammar.specs.Words.{confirm, keyword}
 use Rattle.ex_grammar.specs.declared.node.TheConstants.{COMMANDS}
 use Rattle.ex_commands.specs.Commands.Copy.{is_token}
@@ -43,7 +49,7 @@ use Rattle.ex_commands.specs.Line.{keyword_code}
 use Rattle.ex_commands.proofs.Fitting.{all_pass_at, hook_id}
 use Rattle.ex_commands.proofs.Saying.{SaysDirectory, directory_says, file_says, run_of, token_says, user_says}
 use Rattle.ex_commands.proofs.Trying.{IsEnded, IsTried, chain_ended, chain_number, chain_tried}
-use Rattle.ex_commands.proofs.Verbs.{Branch, IsKeyword, IsOf, all_from, all_from_at, behind_first, command_table, entry_leads, first_field, found_inside, is_plain, leads, node_stays, or_right, plain_next}
+use Rattle.ex_commands.proofs.Verbs.{Branch, IsKeyword, IsOf, all_from, all_from_at, behind_first, command_table, entry_leads, first_field, found_inside, is_plain, key_says, leads, node_stays, or_right, plain_next}
 
 -- a guide word
 abbrev is_guide : Value → Bool
@@ -67,8 +73,14 @@ abbrev pub is_ruled : ℕ → Value → Bool
 is_ruled rule (values.Hook id number) = id == rule
 is_ruled rule value = false
 
+-- a keyword
+abbrev is_keyword : Value → Bool
+is_keyword (values.Key place code) = true
+is_keyword value = false
+
 -- the functions of blocks that stand on the ways, and what they take
 abbrev pub is_on_way : Function → Bool
+is_on_way (functions.Key table) = true
 is_on_way (functions.Noise phrase) = true
 is_on_way (functions.Token phrase) = true
 is_on_way functions.User = true
@@ -80,6 +92,7 @@ is_on_way (functions.Hook rule) = true
 is_on_way function = false
 
 abbrev pub says : Function → Value → Bool
+says (functions.Key table) value = is_keyword value
 says (functions.Noise phrase) value = is_guide value
 says (functions.Token phrase) value = is_token value
 says functions.User value = is_directory value
@@ -136,6 +149,8 @@ pub trial_says : (c : Catalogue) (function : Function) (flags : Flags) (rest : L
     → trial (setting exec_graph c exec_meanings) function flags rest at ≡ Accept value looked end
     → says function value ≡ true
 unfolding trial
+trial_says c (functions.Key table) flags rest at value looked end on is =
+    ap is_keyword (key_says c flags table rest at value looked end is).value_is
 trial_says c (functions.Noise phrase) flags rest at value looked end on is =
     subst GuideIfAccept is (guide_said phrase rest at)
 trial_says c (functions.Token phrase) flags rest at value looked end on is =
@@ -161,11 +176,67 @@ trial_says c (functions.Hook rule) flags rest at value looked end on is =
     ap (is_ruled rule) (hook_id rule (take (prefix_len is_name rest) rest) value run.decided).1 ∙ itself rule
 trial_says c function flags rest at value looked end on is = cc
 
+-- what a run of bytes means in a table
+position_found : (found : Look) (place : ℕ) → position_of found ≡ Ok place → found_at found ≡ Some place
+position_found looks.None place is = cc
+position_found looks.Ambiguous place is = cc
+position_found (looks.Abbrev position) place is = let same : position ≡ place = cc in ap Some same
+position_found (looks.Exact position) place is = let same : position ≡ place = cc in ap Some same
+
+pub meant_found : (table : List Entry) (run : List ℕ) (place : ℕ) → entry_position table run ≡ Ok place
+    → found_at (look table run) ≡ Some place
+unfolding entry_position
+meant_found table run place is = by (length run == 0) is
+  where
+    by : (none : Bool) → (if none then Err NotKeyword else position_of (look table run)) ≡ Ok place
+        → found_at (look table run) ≡ Some place
+    by true is = cc
+    by false is = position_found (look table run) place is
+
+place_within : (found : Look) (count place : ℕ) → IsWithin found count → found_at found ≡ Some place → place < count
+place_within looks.None count place within is = cc
+place_within looks.Ambiguous count place within is = cc
+place_within (looks.Abbrev position) count place within is =
+    let same : position ≡ place = cc in subst (λ (n : ℕ). n < count) same within
+place_within (looks.Exact position) count place within is =
+    let same : position ≡ place = cc in subst (λ (n : ℕ). n < count) same within
+
+-- where the table has no fault it is one of its entries
+pub meant_within : (table : List Entry) (run : List ℕ) (place : ℕ) → table_fault table ≡ None
+    → entry_position table run ≡ Ok place → place < length table
+meant_within table run place none is =
+    place_within (look table run) (length table) place (look-within table run none) (meant_found table run place is)
+
+-- a table without fault, of which each entry leads to such a node
+abbrev all_lead : Branch → List Entry → Bool
+all_lead branch table =
+    not (is_some (table_fault table)) && list_all (λ (entry : Entry). branch.inside entry.next) table
+
+-- where a block leads: a keyword to the node of its entry, and anything else to the next of the block
+abbrev leads_to : Branch → Function → ℕ → Bool
+leads_to branch (functions.Key table) next = all_lead branch (table_of exec_graph table)
+leads_to branch function next = branch.inside next
+
+entry_inside : (branch : Branch) (table : List Entry) (place : ℕ)
+    → list_all (λ (entry : Entry). branch.inside entry.next) table ≡ true → place < length table
+    → branch.inside (entry_next table place) ≡ true
+entry_inside branch [] place all within = absurd (omega arith)
+entry_inside branch (entry ∷ more) zero all within =
+    (and_parts (branch.inside entry.next) (list_all (λ (entry : Entry). branch.inside entry.next) more) all).0
+entry_inside branch (entry ∷ more) (suc place) all within =
+    entry_inside branch more place
+    (and_parts (branch.inside entry.next) (list_all (λ (entry : Entry). branch.inside entry.next) more) all).1
+    (omega arith)
+
+none_of : {A : Type 0} (it : Option A) → not (is_some it) ≡ true → it ≡ None
+none_of None is = refl
+none_of (Some it) is = cc
+
 -- a block of a way reads the field, or leads on
 abbrev leads_on : Branch → Block → Bool
 leads_on branch block =
     is_on_way block.function
-    && (if is_role branch.role block.role then branch.reads block else branch.inside block.next)
+    && (if is_role branch.role block.role then branch.reads block else leads_to branch block.function block.next)
 
 abbrev node_leads_on : Branch → ℕ → Node → Bool
 node_leads_on branch number node = not (branch.inside number) || list_all (leads_on branch) node.chain
@@ -197,17 +268,33 @@ no_end_inside branch way c number inside it =
     let never = no_end it.block.function it.value said in
     let ends = it.ends in cc
 
-plain_on_way : (function : Function) → is_on_way function ≡ true → is_plain function ≡ true
-plain_on_way (functions.Key table) on = cc
-plain_on_way (functions.Switch table) on = cc
-plain_on_way function on = refl
+-- so what it takes leads to such a node
+next_inside : (branch : Branch) (c : Catalogue) (block : Block) (flags : Flags) (rest : List ℕ) (at : ℕ) (value : Value)
+    (looked end : ℕ) → is_on_way block.function ≡ true
+    → trial (setting exec_graph c exec_meanings) block.function flags rest at ≡ Accept value looked end
+    → leads_to branch block.function block.next ≡ true → branch.inside (next_of exec_graph block value) ≡ true
+next_inside branch c block flags rest at value looked end = by block.function refl
+  where
+    by : (function : Function) → block.function ≡ function → is_on_way function ≡ true
+        → trial (setting exec_graph c exec_meanings) function flags rest at ≡ Accept value looked end
+        → leads_to branch function block.next ≡ true → branch.inside (next_of exec_graph block value) ≡ true
+    by (functions.Key table) same on accepts leads =
+        let key = key_says c flags table rest at value looked end accepts in
+        let both = and_parts (not (is_some (table_fault (table_of exec_graph table)))) _ leads in
+        let within = meant_within (table_of exec_graph table) key.run key.place (none_of _ both.0) key.meant in
+        ap (λ (value : Value). branch.inside (next_of exec_graph block value)) key.value_is
+        ∙ ap (λ (function : Function). branch.inside (keyword_next exec_graph function block.next key.place)) same
+        ∙ entry_inside branch (table_of exec_graph table) key.place both.1 within
+    by (functions.Switch table) same on accepts leads = cc
+    by function same on accepts leads =
+        ap branch.inside (plain_next exec_graph block value (ap is_plain same)) ∙ leads
 
 -- a field on the way
 record IsStep (branch : Branch) (c : Catalogue) (text : List ℕ) (field : FieldView) : Type 0 where
   tried : IsTried (setting exec_graph c exec_meanings) text field
   goes : (if is_role branch.role tried.block.role then branch.reads tried.block
-      else branch.inside tried.block.next) ≡ true
-  next : field.next ≡ tried.block.next
+      else leads_to branch tried.block.function tried.block.next) ≡ true
+  next : leads_to branch tried.block.function tried.block.next ≡ true → branch.inside field.next ≡ true
 
 step_of : (branch : Branch) → IsWay branch → (c : Catalogue) (text : List ℕ) (node at : ℕ) (field : FieldView)
     → branch.inside node ≡ true → (chain_at (setting exec_graph c exec_meanings) node text at).chain ≡ chain.Field field
@@ -221,7 +308,9 @@ step_of branch way c text node at field inside is =
     record {
       tried = tried;
       goes = parts.1;
-      next = tried.next ∙ plain_next exec_graph tried.block field.value (plain_on_way tried.block.function parts.0);
+      next = λ leads. ap branch.inside tried.next
+          ∙ next_inside branch c tried.block tried.block.flags (drop tried.at tried.said) tried.at field.value
+          tried.looked tried.end parts.0 tried.accepts leads;
     }
 
 -- the field of the role is there, read by such a block
@@ -273,9 +362,9 @@ there_ahead branch way c text node at (first ∷ fields) inside follow ends =
         record { field = first; found = rw passes refl; of = record { tried = step.tried; read = read } }
     by false passes step later =
         let test = sym (ap (is_role branch.role) step.tried.role) ∙ passes in
-        let inside = left (is_role branch.role step.tried.block.role) _ (branch.inside step.tried.block.next) test
-        step.goes in
-        let it = later (ap branch.inside step.next ∙ inside) in
+        let leads = left (is_role branch.role step.tried.block.role) _
+        (leads_to branch step.tried.block.function step.tried.block.next) test step.goes in
+        let it = later (step.next leads) in
         record {
           field = it.field;
           found = found_behind (is_role branch.role first.role) first (field_of branch.role fields) it.field passes
@@ -297,7 +386,7 @@ ended_branch = record {
 }
 
 ended_nodes : all_from (node_stays ended_branch) 0 exec_graph.nodes ≡ true
-unfolding exec_graph exec_nodes first_nodes source_nodes target_blocks append_blocks delete_blocks type_blocks listing_nodes define_blocks build_blocks last_nodes print_blocks switch_blocks directory_nodes retention_nodes
+unfolding exec_graph exec_nodes first_nodes source_nodes target_blocks append_blocks delete_blocks type_blocks listing_nodes define_blocks build_blocks last_nodes print_blocks switch_blocks directory_nodes retention_nodes set_blocks
 ended_nodes = refl
 
 no_verb_behind : (c : Catalogue) (text : List ℕ) (node at : ℕ) (fields : List FieldView) (verb : FieldView)

@@ -11,6 +11,7 @@ pub mod Information
 pub mod Logout
 pub mod Print
 pub mod Rename
+pub mod Set
 pub mod Take
 pub mod TypeOut
 pub mod Undelete

@@ -1,9 +1,10 @@
 -- What a command comes to: what it shows, the state that it leaves, and what it answers.
-use Rattle.std.specs.Prelude.{ℕ, Bool, List, [], Result, Ok, Err}
+use Rattle.std.specs.Prelude.{ℕ, List, [], Result, Ok, Err}
 use Rattle.std.specs.List.{flat_map}
 use Rattle.cm_fields.specs.declared.code.Code.{Code}
 use Rattle.cm_state.specs.Echo.{refusal}
-use Rattle.ex_generations.specs.declared.file.Remark.TheVariants as remarks
+use Rattle.ex_generations.specs.declared.file.Remark.{Remark}
+use Rattle.ex_store.specs.declared.key.NamePair.{NamePair}
 use Rattle.ex_store.specs.declared.place.Place.{Place}
 use Rattle.ex_store.specs.Plan.{Planned, sources}
 use Rattle.ex_store.specs.Rows.{expunged}
@@ -11,7 +12,7 @@ use Rattle.ex_store.specs.Selection.{remarked}
 use Rattle.ex_store.specs.State.{State}
 use Rattle.ex_commands.specs.declared.acted.Acted.{Acted}
 use Rattle.ex_commands.specs.declared.acted.Acted.TheVariants as answers
-use Rattle.ex_commands.specs.declared.lines.Lines.TheVariants.{Marked}
+use Rattle.ex_commands.specs.declared.lines.Lines.TheVariants.{Changed}
 use Rattle.ex_commands.specs.declared.pairs.Origin.{Origin}
 use Rattle.ex_commands.specs.Replies.{line_of, origin_line}
 
@@ -32,16 +33,22 @@ refuses code state = record { answer = answers.Refused code; reply = refusal cod
 abbrev pub pends : State → Act
 pends state = record { answer = answers.Pending; reply = []; state = state }
 
--- all of a plan is done, with a line for each pair of files; or none of it
-abbrev pub plays : Origin → Result Planned Code → State → Act
-plays origin (Ok made) state = does (flat_map (origin_line origin) made.pairs) made.state
-plays origin (Err code) state = refuses code state
+-- all of a plan is done, with what is replied to its pairs of files; or none of it
+abbrev pub plays_by : (List NamePair → List ℕ) → Result Planned Code → State → Act
+plays_by reply (Ok made) state = does (reply made.pairs) made.state
+plays_by reply (Err code) state = refuses code state
 
--- files are marked as deleted, or no more, with a line for each
-abbrev pub marks : Bool → Place → State → Act
-marks deleted files state =
-    does (flat_map (line_of Marked) (sources files state))
-    (record state { rows = remarked (remarks.Deleted deleted) files state })
+-- a line for each pair of files
+abbrev pub pair_lines : Origin → List NamePair → List ℕ
+pair_lines origin pairs = flat_map (origin_line origin) pairs
+
+abbrev pub plays : Origin → Result Planned Code → State → Act
+plays origin made state = plays_by (pair_lines origin) made state
+
+-- one thing is changed of files, with a line for each
+abbrev pub changes : Remark → Place → State → Act
+changes remark files state =
+    does (flat_map (line_of Changed) (sources files state)) (record state { rows = remarked remark files state })
 
 -- the marked files of a directory are removed
 abbrev pub without_marked : List ℕ → State → State

@@ -81,6 +81,14 @@ abbrev pub day_by : Value → Option ℤ
 day_by (values.Date day) = Some day
 day_by value = None
 
+-- how many generations, as a rule judged it
+abbrev pub count_by : Value → Option ℕ
+count_by (values.Hook id count) = Some count
+count_by value = None
+
+abbrev pub count_in : Option FieldView → Option ℕ
+count_in field = option_and_then (λ field. count_by field.value) field
+
 -- the last field that a node took: of several the last counts
 abbrev pub last_at : ℕ → List FieldView → Option FieldView
 last_at node [] = None

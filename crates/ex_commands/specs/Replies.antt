@@ -1,5 +1,5 @@
 -- What commands show, line by line.
-use Rattle.std.specs.Prelude.{ℕ, ◌/◌, ◌==◌, ℤ, pos, int_le, int_lt, ◌&&◌, Bool, true, if◌then◌else◌, List, [], ◌++◌, length, None}
+use Rattle.std.specs.Prelude.{ℕ, ◌/◌, ◌==◌, ℤ, pos, int_le, int_lt, ◌&&◌, Bool, true, if◌then◌else◌, List, [], ◌++◌, length, Option, None, Some}
 use Rattle.std.specs.Fmt.{decimal}
 use Rattle.std.specs.List.{last_or}
 use Rattle.std.specs.Option.{option_map_or}
@@ -14,10 +14,10 @@ use Rattle.ex_store.specs.Rows.{full_of}
 use Rattle.ex_commands.specs.declared.lines.Days.{Days}
 use Rattle.ex_commands.specs.declared.lines.Lines.{Lines}
 use Rattle.ex_commands.specs.declared.lines.TheConstants.{DAY_SECONDS}
-use Rattle.ex_commands.specs.declared.lines.Lines.TheVariants.{Marked, Listed, Held}
+use Rattle.ex_commands.specs.declared.lines.Lines.TheVariants.{Changed, Listed, Held}
 use Rattle.ex_commands.specs.declared.pairs.Origin.{Origin}
 use Rattle.ex_commands.specs.declared.pairs.Origin.TheVariants.{Files, Queue, Terminal}
-use Rattle.ex_commands.specs.Texts.{arrow, dot, done_mark, files_counted, from_terminal, left_angle, queued, right_angle, space, structure, total_of}
+use Rattle.ex_commands.specs.Texts.{arrow, dot, done_mark, files_counted, from_terminal, left_angle, never, queued, right_angle, space, structure, total_of}
 
 -- NAME.TYPE.GENERATION
 unfoldable pub file_text : FullName → List ℕ
@@ -52,9 +52,9 @@ origin_line Files pair = pair_line pair
 origin_line Terminal pair = typed_line pair
 origin_line Queue pair = queued_line pair
 
--- a file that is marked, or whose mark is taken away, ` FILE [OK]`
-unfoldable pub marked_line : Row → List ℕ
-marked_line row = space ++ full_text (full_of row) ++ done_text
+-- a file of which something is changed, ` FILE [OK]`
+unfoldable pub changed_line : Row → List ℕ
+changed_line row = space ++ full_text (full_of row) ++ done_text
 
 -- the day of a moment
 abbrev pub day_number : ℕ → ℤ
@@ -63,14 +63,23 @@ day_number moment = pos (moment / DAY_SECONDS)
 abbrev pub day_of : ℕ → List ℕ
 day_of moment = day_text (day_number moment)
 
--- how many pages and bytes a file has, and the day of its moment
-unfoldable pub measures_text : File → List ℕ
-measures_text file =
-    decimal (page_count (length file.bytes)) ++ space ++ decimal (length file.bytes) ++ space ++ day_of file.moment
+-- the day when a file was last read, or `Never`
+abbrev pub read_day : Option ℕ → List ℕ
+read_day None = never
+read_day (Some moment) = day_of moment
+
+-- the day when it was last read, or else when it was written
+abbrev pub shown_day : Bool → File → List ℕ
+shown_day read file = if read then read_day file.read else day_of file.moment
+
+-- how many pages and bytes a file has, and the day that is shown of it
+unfoldable pub measures_text : Bool → File → List ℕ
+measures_text read file =
+    decimal (page_count (length file.bytes)) ++ space ++ decimal (length file.bytes) ++ space ++ shown_day read file
 
 -- a file in a listing, ` NAME.TYPE.GENERATION PAGES BYTES DAY`
-unfoldable pub listed_line : Row → List ℕ
-listed_line row = space ++ file_text (full_of row) ++ space ++ measures_text row.file ++ end_of_line
+unfoldable pub listed_line : Bool → Row → List ℕ
+listed_line read row = space ++ file_text (full_of row) ++ space ++ measures_text read row.file ++ end_of_line
 
 -- a text ends with a line feed, or is empty
 abbrev pub ends_line : List ℕ → Bool
@@ -80,7 +89,7 @@ ends_line bytes = option_map_or (λ byte. byte == 10) (last_or None bytes) true
 unfoldable pub held_text : Row → List ℕ
 held_text row = row.file.bytes ++ (if ends_line row.file.bytes then [] else end_of_line)
 
--- it is of these days: of the one or later, and earlier than the other
+-- it was written on these days: on the one or later, and earlier than on the other
 abbrev pub is_within : Days → Row → Bool
 is_within days row =
     option_map_or (λ day. int_le day (day_number row.file.moment)) days.since true
@@ -88,8 +97,8 @@ is_within days row =
 
 -- what is put for a file, by what it tells
 abbrev pub line_of : Lines → Row → List ℕ
-line_of Marked row = marked_line row
-line_of (Listed days) row = if is_within days row then listed_line row else []
+line_of Changed row = changed_line row
+line_of (Listed days read) row = if is_within days row then listed_line read row else []
 line_of Held row = held_text row
 
 -- the head of a listing, `   PS:<DIRECTORY>`, and how many files stand in it, ` Total of COUNT files`

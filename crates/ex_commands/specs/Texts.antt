@@ -42,6 +42,10 @@ total_of = codes " Total of "
 unfoldable pub files_counted : List ℕ
 files_counted = codes " files"
 
+-- in the place of the day when a file was last read
+unfoldable pub never : List ℕ
+never = codes "Never"
+
 -- around the number of pages that were freed
 unfoldable pub pages_freed : List ℕ
 pages_freed = codes " [Pages freed: "

@@ -27,7 +27,7 @@ pub enum Acted {
 }
 
 /// The answer to a command whose reply was put so.
-pub(crate) fn answer_by(done: Acted, put: Put) -> Acted
+pub fn answer_by(done: Acted, put: Put) -> Acted
     ensures { result ≡ answer_by done put }
 {
     match put {

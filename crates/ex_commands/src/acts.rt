@@ -11,7 +11,7 @@ ghost use Rattle.ex_commands.specs.Outcome.{Outcome};
 use crate::acted::answer_by;
 use crate::commands::{
     append, build, connect, copy, define, delete, directory, expunge, information, logout, print,
-    rename, type_out, undelete,
+    rename, set, type_out, undelete,
 };
 use crate::lines::Days;
 use crate::replies::put_refusal;
@@ -76,13 +76,14 @@ fn do_command<S: Sink>(
             since,
             before,
             deleted,
+            read,
             sub,
         } => {
             let days = Days {
                 since: *since,
                 before: *before,
             };
-            directory::act(store, files, days, *deleted, *sub, out)
+            directory::act(store, files, days, *deleted, *read, *sub, out)
         }
         Command::Expunge { directory } => expunge::act(store, directory.as_ref(), out),
         Command::Information { what } => information::act(store, *what, out),
@@ -100,14 +101,16 @@ fn do_command<S: Sink>(
         }
         Command::Remark => Acted::Ok,
         Command::Rename { from, to } => rename::act(store, from, to, moment, out),
+        Command::Set { files, keep } => set::act(store, files, *keep, out),
         Command::Take { .. } => Acted::Take,
-        Command::TypeOut { files } => type_out::act(store, files, out),
+        Command::TypeOut { files } => type_out::act(store, files, moment, out),
         Command::Undelete { files } => undelete::act(store, files, out),
     }
 }
 
-/// Refuses a command.
-pub(crate) fn refuse<S: Sink>(code: Code, out: &mut Writer<'_, S>) -> Acted
+/// Refuses a command with this code: puts why, and answers so. In every state that is what an act comes to that
+/// refuses.
+pub fn refuse<S: Sink>(code: Code, out: &mut Writer<'_, S>) -> Acted
     ensures { (state : State) → (lacks : Bool) → Outcome S.Sink out.old out.new
         (refuses code state) lacks state state result }
 {

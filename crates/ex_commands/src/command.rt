@@ -42,12 +42,14 @@ pub enum Command {
         files: Place,
     },
     /// DIRECTORY: to list files, those that are marked deleted or those that are not, and only those that were written
-    /// on the day `since` or later, and earlier than on the day `before`. A day is its number, 0 for 1-JAN-1970.
+    /// on the day `since` or later, and earlier than on the day `before`; with the day when each was last read where
+    /// `read` says so, and else with that when it was written. A day is its number, 0 for 1-JAN-1970.
     Directory {
         files: Place,
         since: Option<i32>,
         before: Option<i32>,
         deleted: bool,
+        read: bool,
         sub: bool,
     },
     /// EXPUNGE: to remove the files of a directory that are marked as deleted; of the connected one where none is said.
@@ -77,11 +79,16 @@ pub enum Command {
         from: Place,
         to: Place,
     },
+    /// SET FILE GENERATION-RETENTION-COUNT: to tell how many generations files keep: all with 0, and at most 63.
+    Set {
+        files: Place,
+        keep: u8,
+    },
     /// TAKE: to take the lines of a file as commands.
     Take {
         file: Place,
     },
-    /// TYPE: to show what files hold.
+    /// TYPE: to show what files hold, which are read by that.
     TypeOut {
         files: Place,
     },

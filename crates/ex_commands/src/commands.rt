@@ -11,6 +11,7 @@ pub(crate) mod information;
 pub(crate) mod logout;
 pub(crate) mod print;
 pub(crate) mod rename;
+pub(crate) mod set;
 pub(crate) mod take;
 pub(crate) mod type_out;
 pub(crate) mod undelete;

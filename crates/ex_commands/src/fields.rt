@@ -2,8 +2,8 @@
 ghost use Rattle.std.specs.Prelude.{◌≡◌, option_copied, is_some};
 ghost use Rattle.cm_blocks.specs.declared.function.Role.TheVariants as roles;
 ghost use Rattle.cm_state.specs.Roles.{field_of};
-ghost use Rattle.ex_commands.specs.Line.{both, code_in, day_by, directory_in, keyword_code, last_at, place_in};
-ghost use Rattle.ex_commands.specs.Said.{IsReadable, IsSaidIn, line_of};
+ghost use Rattle.ex_commands.specs.Line.{both, code_in, count_by, count_in, day_by, directory_in, keyword_code, last_at, place_in};
+ghost use Rattle.ex_commands.specs.Said.{IsReadable, IsSaid, IsSaidIn, line_of};
 
 use crate::place::{directory_by, flags_of, place_by, said_in};
 use cm_blocks::{Field, Grammar, Role};
@@ -31,6 +31,28 @@ pub(crate) fn day_by(value: &Value) -> Option<i32>
     match value {
         Value::Date(day) => Some(*day),
         _ => None,
+    }
+}
+
+// How many generations, as a rule judged it.
+fn count_by(value: &Value) -> Option<u8>
+    requires { IsSaid value.now }
+    ensures { result ≡ count_by value.now }
+{
+    match value {
+        Value::Hook { value, .. } => Some(*value as u8),
+        _ => None,
+    }
+}
+
+/// How many generations a field says.
+pub(crate) fn count_in(field: Option<&Field>) -> Option<u8>
+    requires { IsSaidIn (option_copied field) }
+    ensures { result ≡ count_in (option_copied field.entry) }
+{
+    match field {
+        Some(field) => count_by(field.value()),
+        None => None,
     }
 }
 

@@ -19,10 +19,13 @@ mod plans;
 mod replies;
 mod texts;
 
-pub use acted::Acted;
-pub use acts::act;
+pub use acted::{Acted, answer_by};
+pub use acts::{act, refuse};
 pub use command::Command;
 pub use commands::take::file_bytes;
 pub use data::{Data, DataTurn};
+pub use lines::{put_day, put_held};
+pub use names::{full_of, put_directory, put_file, put_full};
+pub use place::directory_name;
 pub use plans::write_data;
-pub use replies::put_refusal;
+pub use replies::{put_done, put_refusal};

@@ -16,7 +16,7 @@ use crate::commands::build::retention_with;
 use crate::commands::directory::day_with;
 use crate::commands::{
     append, build, connect, copy, define, delete, directory, expunge, information, print, rename,
-    take, type_out, undelete,
+    set, take, type_out, undelete,
 };
 use crate::fields::keyword_code;
 use cm_blocks::{Field, Grammar, Role};
@@ -24,7 +24,7 @@ use cm_files::Names;
 use cm_state::Session;
 use ex_grammar::{
     APPEND, BEFORE, BUILD, CONNECT, COPY, DEFINE, DELETE, DELETED, DIRECTORY, EXPUNGE, ExecRules,
-    INFORMATION, LOGOUT, PRINT, REMARK, RENAME, SINCE, TAKE, TYPE, UNDELETE,
+    INFORMATION, LOGOUT, PRINT, READ, REMARK, RENAME, SET, SINCE, TAKE, TYPE, UNDELETE,
 };
 
 impl Command {
@@ -98,11 +98,13 @@ impl Command {
                 since,
                 before,
                 deleted,
+                read,
                 ..
             } => {
                 *since = day_with(code == SINCE, said, *since);
                 *before = day_with(code == BEFORE, said, *before);
                 *deleted = code == DELETED || *deleted;
+                *read = code == READ || *read;
             }
             _ => {}
         }
@@ -128,6 +130,7 @@ fn named<N: Names>(verb: u16, session: &Session<ExecRules>, grammar: &Grammar, n
         PRINT => print::read(session, grammar, names),
         REMARK => Command::Remark,
         RENAME => rename::read(session, grammar, names),
+        SET => set::read(session, grammar, names),
         TAKE => take::read(session, grammar, names),
         TYPE => type_out::read(session, grammar, names),
         UNDELETE => undelete::read(session, grammar, names),

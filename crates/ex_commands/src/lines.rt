@@ -8,12 +8,12 @@ ghost use Rattle.ex_generations.specs.declared.file.TheConstants.{FILE_LIMIT};
 ghost use Rattle.ex_store.specs.declared.limits.TheConstants.{MOMENT_LIMIT, ROW_LIMIT};
 ghost use Rattle.ex_store.specs.Lent.{row_of_view};
 ghost use Rattle.ex_store.specs.Plan.{sources};
-ghost use Rattle.ex_store.specs.WellFormed.{is_row_among};
-ghost use Rattle.ex_commands.specs.Replies.{day_number, day_of, ends_line, heading, held_text, is_within, line_of, listed_line, marked_line, measures_text, total_line};
+ghost use Rattle.ex_store.specs.WellFormed.{is_reading, is_row_among};
+ghost use Rattle.ex_commands.specs.Replies.{changed_line, day_number, day_of, ends_line, heading, held_text, is_within, line_of, listed_line, measures_text, read_day, shown_day, total_line};
 
 use crate::names::{full_of, put_directory, put_file, put_full};
 use crate::replies::put_done;
-use crate::texts::{files_counted, space, structure, total_of};
+use crate::texts::{files_counted, never, space, structure, total_of};
 use cm_dates::day_text;
 use cm_io::{Sink, Writer};
 use cm_text::end_of_line;
@@ -23,7 +23,8 @@ use ex_store::{Place, RowView, Selection, Store, page_count};
 // The seconds of a day.
 pub(crate) const DAY_SECONDS: u64 = 86_400;
 
-/// The days that files are of: of the day `since` or later, and earlier than the day `before`, where they are said.
+/// The days on which files were written: the day `since` or later, and earlier than the day `before`, where they are
+/// said.
 #[derive(Clone, Copy)]
 pub struct Days {
     pub since: Option<i32>,
@@ -33,10 +34,10 @@ pub struct Days {
 /// What the line of a file tells.
 #[derive(Clone, Copy)]
 pub enum Lines {
-    /// That it is marked, or no more.
-    Marked,
-    /// How large it is, and of which day, where it is of these days.
-    Listed(Days),
+    /// That something of it is changed.
+    Changed,
+    /// How large it is, and the day when it was last read, or else written, where it was written on these days.
+    Listed { days: Days, read: bool },
     /// What it holds.
     Held,
 }
@@ -88,46 +89,74 @@ pub(crate) fn count_files(store: &Store, files: &Place, days: Days) -> u32
     count
 }
 
-// Puts the day of a moment.
-fn put_day<S: Sink>(moment: u64, out: &mut Writer<'_, S>)
+/// Puts the day of a moment, in seconds since 1-JAN-1970.
+pub fn put_day<S: Sink>(moment: u64, out: &mut Writer<'_, S>)
     requires { moment ≤ MOMENT_LIMIT }
     ensures { Writes S.Sink out.old out.new (day_of moment) }
 {
     out.put(day_text(day_number(moment)).as_str().as_bytes());
 }
 
-// Puts how many pages and bytes a file has, and the day of its moment.
-#[tactic(auto, using(cm_io::proofs::Texts::texts), unfolding(crate::specs::Replies::measures_text))]
-fn put_measures<S: Sink>(file: &File, out: &mut Writer<'_, S>)
+// Puts the day when a file was last read, or that it never was.
+#[tactic(auto, using(cm_io::proofs::Texts::each))]
+fn put_read_day<S: Sink>(read: Option<u64>, out: &mut Writer<'_, S>)
+    requires { is_reading read ≡ true }
+    ensures { Writes S.Sink out.old out.new (read_day read) }
+{
+    match read {
+        Some(moment) => put_day(moment, out),
+        None => out.put(never()),
+    }
+}
+
+// Puts the day when a file was last read, or else when it was written.
+#[tactic(auto, using(cm_io::proofs::Texts::each))]
+fn put_shown_day<S: Sink>(read: bool, file: &File, out: &mut Writer<'_, S>)
     requires moment { file.now.moment ≤ MOMENT_LIMIT }
+    requires reading { is_reading file.now.read ≡ true }
+    ensures { Writes S.Sink out.old out.new (shown_day read file.now) }
+{
+    if read {
+        put_read_day(file.read, out);
+    } else {
+        put_day(file.moment, out);
+    }
+}
+
+// Puts how many pages and bytes a file has, and the day that is shown of it.
+#[tactic(auto, using(cm_io::proofs::Texts::texts), unfolding(crate::specs::Replies::measures_text))]
+fn put_measures<S: Sink>(read: bool, file: &File, out: &mut Writer<'_, S>)
+    requires moment { file.now.moment ≤ MOMENT_LIMIT }
+    requires reading { is_reading file.now.read ≡ true }
     requires short { length file.now.bytes ≤ FILE_LIMIT }
-    ensures { Writes S.Sink out.old out.new (measures_text file.now) }
+    ensures { Writes S.Sink out.old out.new (measures_text read file.now) }
 {
     out.put_decimal(u64::from(page_count(&file.bytes)));
     out.put(space());
     out.put_decimal(file.bytes.len() as u64);
     out.put(space());
-    put_day(file.moment, out);
+    put_shown_day(read, file, out);
 }
 
 // Puts the line of a file in a listing.
 #[tactic(auto, using(cm_io::proofs::Texts::texts), unfolding(crate::specs::Replies::listed_line))]
-fn put_listed<S: Sink>(row: RowView<'_>, out: &mut Writer<'_, S>)
+fn put_listed<S: Sink>(read: bool, row: RowView<'_>, out: &mut Writer<'_, S>)
     requires moment { (row_of_view row).file.moment ≤ MOMENT_LIMIT }
+    requires reading { is_reading (row_of_view row).file.read ≡ true }
     requires short { length (row_of_view row).file.bytes ≤ FILE_LIMIT }
-    ensures { Writes S.Sink out.old out.new (listed_line (row_of_view row.entry)) }
+    ensures { Writes S.Sink out.old out.new (listed_line read (row_of_view row.entry)) }
 {
     out.put(space());
     put_file(full_of(row), out);
     out.put(space());
-    put_measures(row.file, out);
+    put_measures(read, row.file, out);
     out.put(end_of_line());
 }
 
-// Puts the line of a file that is marked, or no more.
-#[tactic(auto, using(cm_io::proofs::Texts::texts), unfolding(crate::specs::Replies::marked_line))]
-fn put_marked<S: Sink>(row: RowView<'_>, out: &mut Writer<'_, S>)
-    ensures { Writes S.Sink out.old out.new (marked_line (row_of_view row.entry)) }
+// Puts the line of a file of which something is changed.
+#[tactic(auto, using(cm_io::proofs::Texts::texts), unfolding(crate::specs::Replies::changed_line))]
+fn put_changed<S: Sink>(row: RowView<'_>, out: &mut Writer<'_, S>)
+    ensures { Writes S.Sink out.old out.new (changed_line (row_of_view row.entry)) }
 {
     out.put(space());
     put_full(full_of(row), out);
@@ -144,9 +173,9 @@ fn ends_line(bytes: &[u8]) -> bool
     }
 }
 
-// Puts what a file holds, and the end of its last line where that is begun.
+/// Puts what a file holds, and the end of its last line where that is begun.
 #[tactic(auto, using(cm_io::proofs::Texts::texts), unfolding(crate::specs::Replies::held_text))]
-fn put_held<S: Sink>(row: RowView<'_>, out: &mut Writer<'_, S>)
+pub fn put_held<S: Sink>(row: RowView<'_>, out: &mut Writer<'_, S>)
     ensures { Writes S.Sink out.old out.new (held_text (row_of_view row.entry)) }
 {
     let bytes = row.file.bytes.as_slice();
@@ -156,25 +185,27 @@ fn put_held<S: Sink>(row: RowView<'_>, out: &mut Writer<'_, S>)
 
 // Puts the line of a file in a listing, where it is of these days.
 #[tactic(auto, using(cm_io::proofs::Texts::each))]
-fn put_listed_within<S: Sink>(days: Days, row: RowView<'_>, out: &mut Writer<'_, S>)
+fn put_listed_within<S: Sink>(days: Days, read: bool, row: RowView<'_>, out: &mut Writer<'_, S>)
     requires moment { (row_of_view row).file.moment ≤ MOMENT_LIMIT }
+    requires reading { is_reading (row_of_view row).file.read ≡ true }
     requires short { length (row_of_view row).file.bytes ≤ FILE_LIMIT }
-    ensures { Writes S.Sink out.old out.new (line_of (Lines.Listed days) (row_of_view row.entry)) }
+    ensures { Writes S.Sink out.old out.new (line_of (Lines.Listed days read) (row_of_view row.entry)) }
 {
     if is_within(days, row) {
-        put_listed(row, out);
+        put_listed(read, row, out);
     }
 }
 
 // Puts what is to be put for a file.
 fn put_row<S: Sink>(lines: Lines, row: RowView<'_>, out: &mut Writer<'_, S>)
     requires moment { (row_of_view row).file.moment ≤ MOMENT_LIMIT }
+    requires reading { is_reading (row_of_view row).file.read ≡ true }
     requires short { length (row_of_view row).file.bytes ≤ FILE_LIMIT }
     ensures { Writes S.Sink out.old out.new (line_of lines (row_of_view row.entry)) }
 {
     match lines {
-        Lines::Marked => put_marked(row, out),
-        Lines::Listed(days) => put_listed_within(days, row, out),
+        Lines::Changed => put_changed(row, out),
+        Lines::Listed { days, read } => put_listed_within(days, read, row, out),
         Lines::Held => put_held(row, out),
     }
 }

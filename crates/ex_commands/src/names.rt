@@ -12,7 +12,7 @@ use cm_io::{Sink, Writer};
 use ex_store::{Full, RowView};
 
 /// The full name of a file that a store has.
-pub(crate) fn full_of(row: RowView<'_>) -> Full<'_>
+pub fn full_of(row: RowView<'_>) -> Full<'_>
     ensures { full_name result ≡ full_of (row_of_view row.entry) }
 {
     Full {
@@ -23,9 +23,9 @@ pub(crate) fn full_of(row: RowView<'_>) -> Full<'_>
     }
 }
 
-/// Puts NAME.TYPE.GENERATION.
+/// Puts NAME.TYPE.GENERATION of a file.
 #[tactic(auto, using(cm_io::proofs::Texts::texts), unfolding(crate::specs::Replies::file_text))]
-pub(crate) fn put_file<S: Sink>(full: Full<'_>, out: &mut Writer<'_, S>)
+pub fn put_file<S: Sink>(full: Full<'_>, out: &mut Writer<'_, S>)
     ensures { Writes S.Sink out.old out.new (file_text (full_name full.entry)) }
 {
     out.put(full.name.as_bytes());
@@ -37,7 +37,7 @@ pub(crate) fn put_file<S: Sink>(full: Full<'_>, out: &mut Writer<'_, S>)
 
 /// Puts <DIRECTORY>.
 #[tactic(auto, using(cm_io::proofs::Texts::texts), unfolding(crate::specs::Replies::directory_text))]
-pub(crate) fn put_directory<S: Sink>(directory: &str, out: &mut Writer<'_, S>)
+pub fn put_directory<S: Sink>(directory: &str, out: &mut Writer<'_, S>)
     ensures { Writes S.Sink out.old out.new (directory_text directory.now) }
 {
     out.put(left_angle());
@@ -45,9 +45,9 @@ pub(crate) fn put_directory<S: Sink>(directory: &str, out: &mut Writer<'_, S>)
     out.put(right_angle());
 }
 
-/// Puts <DIRECTORY>NAME.TYPE.GENERATION.
+/// Puts <DIRECTORY>NAME.TYPE.GENERATION of a file.
 #[tactic(auto, using(cm_io::proofs::Texts::texts), unfolding(crate::specs::Replies::full_text))]
-pub(crate) fn put_full<S: Sink>(full: Full<'_>, out: &mut Writer<'_, S>)
+pub fn put_full<S: Sink>(full: Full<'_>, out: &mut Writer<'_, S>)
     ensures { Writes S.Sink out.old out.new (full_text (full_name full.entry)) }
 {
     put_directory(full.directory, out);

@@ -115,7 +115,7 @@ fn upper_or_none(text: &[u8], place: Option<Span>) -> Option<Name>
 }
 
 /// The name of the directory with this number.
-pub(crate) fn directory_name<N: Names>(names: &N, number: u16) -> Name
+pub fn directory_name<N: Names>(names: &N, number: u16) -> Name
     ensures { result ≡ directory_name (N.catalogue names.now) number }
 {
     if number < names.directories() {

@@ -21,7 +21,7 @@ pub fn put_refusal<S: Sink>(code: Code, out: &mut Writer<'_, S>)
 
 /// Puts ` [OK]`, and the end of the line.
 #[tactic(auto, unfolding(crate::specs::Replies::done_text))]
-pub(crate) fn put_done<S: Sink>(out: &mut Writer<'_, S>)
+pub fn put_done<S: Sink>(out: &mut Writer<'_, S>)
     ensures { Writes S.Sink out.old out.new done_text }
 {
     out.put_line(done_mark());

@@ -1,6 +1,6 @@
 // The fixed texts of what commands show.
 ghost use Rattle.std.specs.Prelude.{◌≡◌};
-ghost use Rattle.ex_commands.specs.Texts.{after_mark, arrow, copies_mark, done_mark, dot, farewell, files_counted, forms_mark, from_terminal, job_mark, kept, left_angle, note_mark, of_structure, pages_freed, pages_had, queued, quote, right_angle, right_bracket, space, stands_for, structure, total_of, version};
+ghost use Rattle.ex_commands.specs.Texts.{after_mark, arrow, copies_mark, done_mark, dot, farewell, files_counted, forms_mark, from_terminal, job_mark, kept, left_angle, never, note_mark, of_structure, pages_freed, pages_had, queued, quote, right_angle, right_bracket, space, stands_for, structure, total_of, version};
 
 /// Between two parts of a line.
 #[tactic(auto, unfolding(crate::specs::Texts::space))]
@@ -80,6 +80,14 @@ pub(crate) fn files_counted() -> &'static [u8]
     ensures { result.now ≡ files_counted }
 {
     b" files"
+}
+
+/// In the place of the day when a file was last read.
+#[tactic(auto, unfolding(crate::specs::Texts::never))]
+pub(crate) fn never() -> &'static [u8]
+    ensures { result.now ≡ never }
+{
+    b"Never"
 }
 
 /// Before the number of pages that were freed.

@@ -116,7 +116,13 @@ fn each_node_has_its_blocks(rt: HostRuntime) -> Result<(), Fail> {
 47 Date Value 5;
 48 Confirm None 5; Key(3) Verb 5;
 49 Noise(TO KEEP) None 50;
-50 Hook(2) Value 5;"
+50 Hook(2) Value 5;
+51 Key(5) None 5;
+52 Key(6) None 5;
+53 Noise(OF FILES) None 54;
+54 InFile wa Files 55;
+55 Noise(TO) None 56;
+56 Hook(2) Value 5;"
     );
     Ok(())
 }
@@ -158,7 +164,8 @@ LOGOUT Plain 10 5
 PRINT Plain 11 37
 REMARK Plain 12 45
 RENAME Plain 13 10
-T Short(18) 0 5
+SET Plain 17 51
+T Short(19) 0 5
 TAKE Plain 14 21
 TYPE Plain 15 19
 UNDELETE Plain 16 15"
@@ -183,6 +190,7 @@ VERSION Plain 4 5"
         "
 BEFORE Plain 1 47
 DELETED Plain 2 5
+READ Plain 4 5
 SINCE Plain 3 47"
     );
     assert_eq!(rt;
@@ -197,6 +205,14 @@ COPIES: Plain 2 41
 FORMS: Plain 3 42
 JOBNAME: Plain 4 43
 NOTE: Plain 5 44"
+    );
+    assert_eq!(rt;
+        entries(rt.alloc(), grammar.table(5))?.as_str(),
+        "\nFILE Plain 1 52"
+    );
+    assert_eq!(rt;
+        entries(rt.alloc(), grammar.table(6))?.as_str(),
+        "\nGENERATION-RETENTION-COUNT Plain 1 53"
     );
     Ok(())
 }

@@ -16,4 +16,6 @@ mod rules;
 #[cfg(test)]
 mod script;
 #[cfg(test)]
+mod stamps;
+#[cfg(test)]
 mod typed;

@@ -15,7 +15,7 @@ use cm_files::is_logical_name;
 use cm_text::{NAME_LIMIT, Name, is_name, is_text};
 use ex_commands::Command;
 use ex_generations::GENERATION_LIMIT;
-use ex_store::{AFTER_LIMIT, FORMS, Parts, Place, Store};
+use ex_store::{AFTER_LIMIT, FORMS, Parts, Place, RETENTION_LIMIT, Store};
 
 fn is_upper_name(text: &[u8]) -> bool
     ensures { result ≡ is_upper_name text.now }
@@ -187,6 +187,7 @@ pub(crate) fn may_act(store: &Store, command: &Command) -> bool
         } => has(store, &files.directory) && may_ask(*form, *after, job, note),
         Command::Remark => true,
         Command::Rename { from, to } => has(store, &from.directory) && takes(store, to),
+        Command::Set { files, keep } => has(store, &files.directory) && *keep <= RETENTION_LIMIT,
         Command::Take { file } => has(store, &file.directory),
         Command::TypeOut { files } => has(store, &files.directory),
         Command::Undelete { files } => has(store, &files.directory),

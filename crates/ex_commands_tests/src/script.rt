@@ -94,7 +94,7 @@ fn print(files: &str, text: &str) -> Command {
 }
 
 // A command: its verb, and the files or the name that it is for. Behind the files of DIRECTORY stand the days, as
-// SINCE=1 BEFORE=2, and DELETED and a comma.
+// SINCE=1 BEFORE=2, and DELETED, READ and a comma; behind those of SET how many generations are kept.
 fn command(text: &str) -> Command {
     let (verb, rest) = word(text);
     let (first, second) = word(rest);
@@ -123,6 +123,7 @@ fn command(text: &str) -> Command {
             since: day(second, "SINCE="),
             before: day(second, "BEFORE="),
             deleted: second.contains("DELETED"),
+            read: second.contains("READ"),
             sub: second.contains(','),
         },
         "EXPUNGE" => Command::Expunge {
@@ -137,6 +138,10 @@ fn command(text: &str) -> Command {
         "RENAME" => Command::Rename {
             from: place(first),
             to: place(second),
+        },
+        "SET" => Command::Set {
+            files: place(first),
+            keep: u8::try_from(number(second)).unwrap_or(0),
         },
         "TAKE" => Command::Take { file: place(first) },
         "TYPE" => Command::TypeOut {
@@ -255,6 +260,30 @@ fn has_files(rt: &(impl Abort + AllocGlobal), store: &Store, wanted: &str) {
     assert_eq!(rt; found.as_str(), wanted);
 }
 
+// A file's name, how many generations it keeps, and when it was last read, or a minus.
+fn put_stamps(list: &mut String, row: RowView<'_>) -> Result<(), AllocError> {
+    put_row(list, row)?;
+    write!(list, " {} ", row.file.keep)?;
+    match row.file.read {
+        Some(moment) => write!(list, "{moment}"),
+        None => list.push('-'),
+    }
+}
+
+fn stamps(alloc: Global, parts: &Parts<'_>) -> Result<String, AllocError> {
+    let mut list = String::new(alloc);
+    for i in 0..parts.rows() {
+        put_stamps(&mut list, parts.row(i))?;
+    }
+    Ok(list)
+}
+
+// The files of a store keep so many generations, and were read then.
+fn has_stamps(rt: &(impl Abort + AllocGlobal), store: &Store, wanted: &str) {
+    let found = stamps(rt.alloc(), &store.parts()).expect(rt, "memory");
+    assert_eq!(rt; found.as_str(), wanted);
+}
+
 // The first file of a store: its moment and its bytes.
 fn holds(rt: &(impl Abort + AllocGlobal), store: &Store, wanted: &str) {
     let (moment, bytes) = word(wanted);
@@ -301,6 +330,7 @@ fn do_line(rt: &(impl Abort + AllocGlobal), store: &mut Store, line: &str) {
         "BUILD" => build(rt, store, rest, wanted),
         "TYPE-IN" => type_in(rt, store, rest, moment, wanted),
         "FILES" => has_files(rt, store, wanted),
+        "STAMPS" => has_stamps(rt, store, wanted),
         "HOLDS" => holds(rt, store, wanted),
         "READS" => reads(rt, store, rest, wanted),
         "CONNECTED" => is_connected(rt, store, wanted),

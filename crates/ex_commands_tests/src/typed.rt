@@ -181,6 +181,7 @@ fn places(command: &Command) -> (Option<&Place>, Option<&Place>) {
         Command::Delete { files } => (Some(files), None),
         Command::Directory { files, .. } => (Some(files), None),
         Command::Print { files, .. } => (Some(files), None),
+        Command::Set { files, .. } => (Some(files), None),
         Command::Take { file } => (Some(file), None),
         Command::TypeOut { files } => (Some(files), None),
         Command::Undelete { files } => (Some(files), None),
@@ -210,6 +211,7 @@ fn kind(command: &Command) -> (&'static str, &str) {
         Command::Print { .. } => ("Print", ""),
         Command::Remark => ("Remark", ""),
         Command::Rename { .. } => ("Rename", ""),
+        Command::Set { .. } => ("Set", ""),
         Command::Take { .. } => ("Take", ""),
         Command::TypeOut { .. } => ("TypeOut", ""),
         Command::Undelete { .. } => ("Undelete", ""),
@@ -248,14 +250,17 @@ fn put_parts(text: &mut String, command: &Command) -> Result<(), AllocError> {
             since,
             before,
             deleted,
+            read,
             sub,
             ..
         } => {
             put_number(text, "since ", *since)?;
             put_number(text, "before ", *before)?;
             put_word(text, "deleted", *deleted)?;
+            put_word(text, "read", *read)?;
             put_word(text, "sub", *sub)
         }
+        Command::Set { keep, .. } => put_number(text, "keep ", Some(i32::from(*keep))),
         Command::Define { directory, .. } => put_name(text, "as ", directory.as_ref()),
         Command::Print {
             copies,
@@ -369,6 +374,16 @@ fn a_line_means_files_and_names(rt: HostRuntime) -> Result<(), Fail> {
         append a.txt.2 <operator>b.0|Append <OPERATOR>A.TXT Number(2) w <OPERATOR>B.0 Missing
         RENAME A.TXT B.FOR|Rename <OPERATOR>A.TXT Missing w <OPERATOR>B.FOR Missing ws
         rename a.* *.bak.-1|Rename <OPERATOR>A.* Missing w <OPERATOR>*.BAK Next ws
+        SET FILE GENERATION-RETENTION-COUNT A.TXT 0|Set <OPERATOR>A.TXT Missing wa keep 0
+        set file g (of files) a.txt.2 (to) 63|Set <OPERATOR>A.TXT Number(2) wa keep 63
+        S F G *.* 007|Set <OPERATOR>*.* Missing wa keep 7
+        SET FILE GEN A.TXT 64|?
+        SET FILE GEN A.TXT X|?
+        SET FILE GEN A.TXT|?
+        SET FILE GEN B.TXT 1|?
+        SET FILE GEN|?
+        SET FILE 1|?
+        SET|?
         TAKE A.TXT|Take <OPERATOR>A.TXT Missing
         ta (commands from) a.txt.2|Take <OPERATOR>A.TXT Number(2)
         TAKE ps:<operator>a.txt.0|Take <OPERATOR>A.TXT Highest
@@ -444,6 +459,8 @@ fn subcommands_are_added(rt: HostRuntime) -> Result<(), Fail> {
         DIRECTORY ,~S 1-JAN-70~B 2-JAN-70~D~|Directory <OPERATOR>-.- Missing wae since 0 before 1 deleted
         DIRECTORY ,~S 1-JAN-70~S 2-JAN-70~|Directory <OPERATOR>-.- Missing wae since 1
         DIRECTORY ,~D~B 9-JAN-70~D~B 3-JAN-70~|Directory <OPERATOR>-.- Missing wae before 2 deleted
+        DIRECTORY ,~READ~|Directory <OPERATOR>-.- Missing wae read
+        DIRECTORY ,~R~S 1-JAN-70~R~D|Directory <OPERATOR>-.- Missing wae since 0 deleted read sub
         BUILD <X>,|Build X sub
         BUILD <X> ,~|Build X
         BUILD <X>,~GENERATIONS 3|Build X keep 3 sub

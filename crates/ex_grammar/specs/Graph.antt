@@ -1,13 +1,14 @@
--- The grammar of the EXEC: 51 nodes, each on a line of its own, and five keyword tables.
+-- The grammar of the EXEC: 57 nodes, each on a line of its own, and seven keyword tables.
 use Rattle.std.specs.Prelude.{List, [], ◌∷◌, ◌++◌, codes, map}
 use Rattle.cm_blocks.specs.declared.function.Function.TheVariants.{Date, Number, Word, Quoted}
 use Rattle.cm_blocks.specs.declared.function.Role.TheVariants.{Verb, What, Source, Target, Files}
+use Rattle.cm_blocks.specs.declared.function.Role.TheVariants as roles
 use Rattle.cm_blocks.specs.declared.node.Block.{Block}
 use Rattle.cm_blocks.specs.declared.node.Node.{Node}
 use Rattle.cm_blocks.specs.Grammar.{Graph}
 use Rattle.cm_blocks.specs.Words.{no_flags}
 use Rattle.ex_grammar.specs.declared.node.TheConstants.{LINE_END, SWITCHES}
-use Rattle.ex_grammar.specs.declared.tables.TheConstants.{BUILD_TABLE, COMMAND_TABLE, DIRECTORY_TABLE, SWITCH_TABLE, TOPIC_TABLE}
+use Rattle.ex_grammar.specs.declared.tables.TheConstants.{BUILD_TABLE, COMMAND_TABLE, DIRECTORY_TABLE, FILE_TABLE, SET_TABLE, SWITCH_TABLE, TOPIC_TABLE}
 use Rattle.ex_grammar.specs.Tables.{exec_tables}
 use Rattle.ex_grammar.specs.Words.{any_file, comma, confirm, directory, either, either_or, guide, hook, in_file, keyword, new_directory, only, out_file, remark, source_token, switch, token, user, value, wild, wild_all, wild_deleted, wild_from_source, wild_generations}
 
@@ -117,6 +118,17 @@ retention_nodes =
     ∷ only (hook 2 LINE_END)
     ∷ []
 
+-- 51 to 56: SET, what it sets of files, the files, and their number
+unfoldable pub set_blocks : List Block
+set_blocks =
+    keyword SET_TABLE roles.None
+    ∷ keyword FILE_TABLE roles.None
+    ∷ guide (codes "OF FILES") 54
+    ∷ in_file wild_generations Files 55
+    ∷ guide (codes "TO") 56
+    ∷ hook 2 LINE_END
+    ∷ []
+
 -- nodes 0 to 18: up to the directory to connect to
 unfoldable pub first_nodes : List Node
 first_nodes =
@@ -126,7 +138,7 @@ first_nodes =
     ++ map only delete_blocks
     ++ either_or user directory (codes "<OPERATOR>") ∷ []
 
--- nodes 37 to 50: PRINT, the text of a remark at 45, and the subcommands
+-- nodes 37 to 56: PRINT, the text of a remark at 45, the subcommands, and SET
 unfoldable pub last_nodes : List Node
 last_nodes =
     map only print_blocks
@@ -135,6 +147,7 @@ last_nodes =
     ++ remark ∷ []
     ++ directory_nodes
     ++ retention_nodes
+    ++ map only set_blocks
 
 -- the nodes, from 0: the directory of a logical name at 32, the one to expunge at 36
 unfoldable pub exec_nodes : List Node

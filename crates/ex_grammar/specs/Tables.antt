@@ -1,5 +1,5 @@
--- The keyword tables of the EXEC: the commands, what INFORMATION tells about, and the subcommands and switches of
--- commands.
+-- The keyword tables of the EXEC: the commands, what INFORMATION tells about, the subcommands and switches of
+-- commands, and what SET sets.
 use Rattle.std.specs.Prelude.{List, [], ◌∷◌, codes}
 use Rattle.cm_tables.specs.declared.entry.Entry.{Entry}
 use Rattle.cm_tables.specs.declared.entry.Flag.{Flag}
@@ -7,7 +7,7 @@ use Rattle.cm_tables.specs.declared.entry.Flag.TheVariants.{Invisible, NoRecogni
 use Rattle.cm_tables.specs.Words.{entry, value_entry}
 use Rattle.ex_grammar.specs.declared.node.TheConstants.{LINE_END}
 use Rattle.ex_grammar.specs.declared.tables.TheConstants.{TYPE_POSITION}
-use Rattle.ex_grammar.specs.declared.code.TheConstants.{AFTER, APPEND, BEFORE, BUILD, CONNECT, COPIES, COPY, DEFINE, DELETE, DELETED, DIRECTORY, DIRECTORY_TOPIC, EXPUNGE, FORMS, GENERATIONS, INFORMATION, JOBNAME, LOGICAL_NAMES, LOGOUT, NO_KEYWORD, NOTE, OUTPUT_REQUESTS, PRINT, REMARK, RENAME, SINCE, TAKE, TYPE, UNDELETE, VERSION}
+use Rattle.ex_grammar.specs.declared.code.TheConstants.{AFTER, APPEND, BEFORE, BUILD, CONNECT, COPIES, COPY, DEFINE, DELETE, DELETED, DIRECTORY, DIRECTORY_TOPIC, EXPUNGE, FILE, FORMS, GENERATION_RETENTION_COUNT, GENERATIONS, INFORMATION, JOBNAME, LOGICAL_NAMES, LOGOUT, NO_KEYWORD, NOTE, OUTPUT_REQUESTS, PRINT, READ, REMARK, RENAME, SET, SINCE, TAKE, TYPE, UNDELETE, VERSION}
 
 -- the same keyword, which takes part in the look-up in this way
 abbrev pub flagged : Entry → Flag → Entry
@@ -31,6 +31,7 @@ command_entries =
     ∷ entry (codes "PRINT") PRINT 37
     ∷ entry (codes "REMARK") REMARK 45
     ∷ entry (codes "RENAME") RENAME 10
+    ∷ entry (codes "SET") SET 51
     ∷ flagged (entry (codes "T") NO_KEYWORD LINE_END) (Short TYPE_POSITION)
     ∷ entry (codes "TAKE") TAKE 21
     ∷ entry (codes "TYPE") TYPE 19
@@ -51,6 +52,7 @@ unfoldable pub directory_entries : List Entry
 directory_entries =
     entry (codes "BEFORE") BEFORE 47
     ∷ entry (codes "DELETED") DELETED LINE_END
+    ∷ entry (codes "READ") READ LINE_END
     ∷ entry (codes "SINCE") SINCE 47
     ∷ []
 
@@ -68,6 +70,16 @@ switch_entries =
     ∷ value_entry (codes "NOTE") NOTE 44
     ∷ []
 
+-- what SET sets something of
+unfoldable pub set_entries : List Entry
+set_entries = entry (codes "FILE") FILE 52 ∷ []
+
+-- what SET FILE sets
+unfoldable pub file_entries : List Entry
+file_entries = entry (codes "GENERATION-RETENTION-COUNT") GENERATION_RETENTION_COUNT 53 ∷ []
+
 -- the tables, each at its number
 unfoldable pub exec_tables : List (List Entry)
-exec_tables = command_entries ∷ topic_entries ∷ directory_entries ∷ build_entries ∷ switch_entries ∷ []
+exec_tables =
+    command_entries ∷ topic_entries ∷ directory_entries ∷ build_entries ∷ switch_entries ∷ set_entries ∷ file_entries
+    ∷ []

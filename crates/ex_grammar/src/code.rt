@@ -39,6 +39,9 @@ pub const REMARK: u16 = 12;
 /// The code of RENAME.
 pub const RENAME: u16 = 13;
 
+/// The code of SET.
+pub const SET: u16 = 17;
+
 /// The code of TAKE.
 pub const TAKE: u16 = 14;
 
@@ -66,11 +69,20 @@ pub const BEFORE: u16 = 1;
 /// The code of DELETED, a subcommand of DIRECTORY.
 pub const DELETED: u16 = 2;
 
+/// The code of READ, a subcommand of DIRECTORY.
+pub const READ: u16 = 4;
+
 /// The code of SINCE, a subcommand of DIRECTORY.
 pub const SINCE: u16 = 3;
 
 /// The code of GENERATIONS, the subcommand of BUILD.
 pub const GENERATIONS: u16 = 1;
+
+/// The code of FILE, what SET sets something of.
+pub const FILE: u16 = 1;
+
+/// The code of GENERATION-RETENTION-COUNT, what SET FILE sets.
+pub const GENERATION_RETENTION_COUNT: u16 = 1;
 
 /// The code of the switch AFTER of PRINT.
 pub const AFTER: u16 = 1;

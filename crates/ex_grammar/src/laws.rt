@@ -2,10 +2,10 @@
 ghost use Rattle.std.specs.Prelude.{◌≡◌, ◌<◌, None, length};
 ghost use Rattle.cm_blocks.specs.Fault.{grammar_fault};
 ghost use Rattle.cm_blocks.specs.Grammar.{hook_count};
-ghost use Rattle.ex_grammar.specs.declared.code.TheConstants.{AFTER, APPEND, BEFORE, BUILD, CONNECT, COPIES, COPY, DEFINE, DELETE, DELETED, DIRECTORY, DIRECTORY_TOPIC, EXPUNGE, FORMS, GENERATIONS, INFORMATION, JOBNAME, LOGICAL_NAMES, LOGOUT, NO_KEYWORD, NOTE, OUTPUT_REQUESTS, PRINT, REMARK, RENAME, SINCE, TAKE, TYPE, UNDELETE, VERSION};
+ghost use Rattle.ex_grammar.specs.declared.code.TheConstants.{AFTER, APPEND, BEFORE, BUILD, CONNECT, COPIES, COPY, DEFINE, DELETE, DELETED, DIRECTORY, DIRECTORY_TOPIC, EXPUNGE, FILE, FORMS, GENERATION_RETENTION_COUNT, GENERATIONS, INFORMATION, JOBNAME, LOGICAL_NAMES, LOGOUT, NO_KEYWORD, NOTE, OUTPUT_REQUESTS, PRINT, READ, REMARK, RENAME, SET, SINCE, TAKE, TYPE, UNDELETE, VERSION};
 ghost use Rattle.ex_grammar.specs.declared.node.TheConstants.{BUILD_SUBCOMMANDS, COMMANDS, DIRECTORY_SUBCOMMANDS, LINE_END, SWITCHES};
 ghost use Rattle.ex_grammar.specs.declared.retention.TheConstants.{MOST_KEPT};
-ghost use Rattle.ex_grammar.specs.declared.tables.TheConstants.{BUILD_TABLE, COMMAND_TABLE, DIRECTORY_TABLE, SWITCH_TABLE, TOPIC_TABLE, TYPE_POSITION};
+ghost use Rattle.ex_grammar.specs.declared.tables.TheConstants.{BUILD_TABLE, COMMAND_TABLE, DIRECTORY_TABLE, FILE_TABLE, SET_TABLE, SWITCH_TABLE, TOPIC_TABLE, TYPE_POSITION};
 ghost use Rattle.ex_grammar.specs.Graph.{exec_graph};
 
 /// The grammar has no fault.
@@ -20,10 +20,10 @@ pub fn the_grammar_wants_three_hooks()
     ensures { hook_count exec_graph ≡ 3 }
 {}
 
-/// The nodes where a command, and a subcommand of DIRECTORY and of BUILD, begin are of the 51 nodes.
+/// The nodes where a command, and a subcommand of DIRECTORY and of BUILD, begin are of the 57 nodes.
 #[tactic(auto, using(crate::proofs::Faultless::graph_nodes))]
 pub fn a_command_begins_at_a_node()
-    ensures nodes { length exec_graph.nodes ≡ 51 }
+    ensures nodes { length exec_graph.nodes ≡ 57 }
     ensures begins { COMMANDS < length exec_graph.nodes }
     ensures directory { DIRECTORY_SUBCOMMANDS < length exec_graph.nodes }
     ensures build { BUILD_SUBCOMMANDS < length exec_graph.nodes }
@@ -47,10 +47,12 @@ pub fn these_are_the_codes_of_commands()
     ensures take { TAKE ≡ 14 }
     ensures type_out { TYPE ≡ 15 }
     ensures undelete { UNDELETE ≡ 16 }
+    ensures set { SET ≡ 17 }
     ensures no_keyword { NO_KEYWORD ≡ 0 }
 {}
 
-/// The codes of what INFORMATION tells about, of the subcommands of DIRECTORY and BUILD, and of the switches of PRINT.
+/// The codes of what INFORMATION tells about, of the subcommands of DIRECTORY and BUILD, of the switches of PRINT, and
+/// of what SET sets.
 pub fn these_are_the_codes_of_parts()
     ensures directory_topic { DIRECTORY_TOPIC ≡ 1 }
     ensures logical_names { LOGICAL_NAMES ≡ 2 }
@@ -59,12 +61,15 @@ pub fn these_are_the_codes_of_parts()
     ensures before { BEFORE ≡ 1 }
     ensures deleted { DELETED ≡ 2 }
     ensures since { SINCE ≡ 3 }
+    ensures read { READ ≡ 4 }
     ensures generations { GENERATIONS ≡ 1 }
     ensures after { AFTER ≡ 1 }
     ensures copies { COPIES ≡ 2 }
     ensures forms { FORMS ≡ 3 }
     ensures job_name { JOBNAME ≡ 4 }
     ensures note { NOTE ≡ 5 }
+    ensures file { FILE ≡ 1 }
+    ensures count { GENERATION_RETENTION_COUNT ≡ 1 }
 {}
 
 /// The numbers of the grammar: the nodes and tables that have a name, where TYPE stands in its table, and how many
@@ -80,6 +85,8 @@ pub fn these_are_the_numbers()
     ensures directory_table { DIRECTORY_TABLE ≡ 2 }
     ensures build_table { BUILD_TABLE ≡ 3 }
     ensures switch_table { SWITCH_TABLE ≡ 4 }
-    ensures type_position { TYPE_POSITION ≡ 18 }
+    ensures set_table { SET_TABLE ≡ 5 }
+    ensures file_table { FILE_TABLE ≡ 6 }
+    ensures type_position { TYPE_POSITION ≡ 19 }
     ensures most_kept { MOST_KEPT ≡ 63 }
 {}

@@ -1,6 +1,6 @@
 // The nodes of the EXEC's grammar, by the numbers that the log gives.
 ghost use Rattle.std.specs.Prelude.{◌≡◌, ◌++◌, IfOk, map};
-ghost use Rattle.ex_grammar.specs.Graph.{append_blocks, build_blocks, define_blocks, delete_blocks, directory_nodes, exec_nodes, first_nodes, last_nodes, listing_nodes, print_blocks, retention_nodes, source_nodes, switch_blocks, target_blocks, type_blocks};
+ghost use Rattle.ex_grammar.specs.Graph.{append_blocks, build_blocks, define_blocks, delete_blocks, directory_nodes, exec_nodes, first_nodes, last_nodes, listing_nodes, print_blocks, retention_nodes, set_blocks, source_nodes, switch_blocks, target_blocks, type_blocks};
 ghost use Rattle.ex_grammar.specs.Words.{only};
 
 use crate::node::{
@@ -8,7 +8,9 @@ use crate::node::{
     in_file, keyword, new_directory, only, out_file, remark, source_token, switch, token, user,
     value, wild, wild_all, wild_deleted, wild_from_source, wild_generations,
 };
-use crate::tables::{BUILD_TABLE, COMMAND_TABLE, DIRECTORY_TABLE, SWITCH_TABLE, TOPIC_TABLE};
+use crate::tables::{
+    BUILD_TABLE, COMMAND_TABLE, DIRECTORY_TABLE, FILE_TABLE, SET_TABLE, SWITCH_TABLE, TOPIC_TABLE,
+};
 use cm_blocks::{Block, Function, Node, Role};
 use cm_files::Flags;
 use cm_io::NoMemory;
@@ -29,7 +31,7 @@ pub(crate) fn nodes(alloc: Global) -> Result<Vec<Node>, NoMemory>
     Ok(nodes)
 }
 
-// Nodes 37 to 50: PRINT, the text of a remark, and the subcommands.
+// Nodes 37 to 56: PRINT, the text of a remark, the subcommands, and SET.
 #[tactic(auto, unfolding(crate::specs::Graph::last_nodes))]
 fn last_nodes(alloc: Global) -> Result<Vec<Node>, NoMemory>
     ensures { IfOk result (λ nodes. nodes.items ≡ last_nodes) }
@@ -41,6 +43,7 @@ fn last_nodes(alloc: Global) -> Result<Vec<Node>, NoMemory>
     nodes.push(remark(alloc)?)?;
     push_all(&mut nodes, directory_nodes(alloc)?)?;
     push_all(&mut nodes, retention_nodes(alloc)?)?;
+    push_each(&mut nodes, alloc, set_blocks(alloc)?)?;
     Ok(nodes)
 }
 
@@ -229,4 +232,19 @@ fn retention_nodes(alloc: Global) -> Result<Vec<Node>, NoMemory>
     nodes.push(only(alloc, guide("TO KEEP", 50))?)?;
     nodes.push(only(alloc, hook(2, LINE_END))?)?;
     Ok(nodes)
+}
+
+// 51 to 56: SET, what it sets of files, the files, and their number.
+#[tactic(auto, unfolding(crate::specs::Graph::set_blocks))]
+fn set_blocks(alloc: Global) -> Result<Vec<Block>, NoMemory>
+    ensures { IfOk result (λ blocks. blocks.items ≡ set_blocks) }
+{
+    Ok(vec![in alloc;
+        keyword(SET_TABLE, Role::None),
+        keyword(FILE_TABLE, Role::None),
+        guide("OF FILES", 54),
+        in_file(wild_generations(), Role::Files, 55),
+        guide("TO", 56),
+        hook(2, LINE_END),
+    ]?)
 }

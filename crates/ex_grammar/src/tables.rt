@@ -1,11 +1,12 @@
 // The keyword tables of the EXEC.
 ghost use Rattle.std.specs.Prelude.{◌≡◌, IfOk};
-ghost use Rattle.ex_grammar.specs.Tables.{build_entries, command_entries, directory_entries, exec_tables, flagged, switch_entries, topic_entries};
+ghost use Rattle.ex_grammar.specs.Tables.{build_entries, command_entries, directory_entries, exec_tables, file_entries, flagged, set_entries, switch_entries, topic_entries};
 
 use crate::code::{
     AFTER, APPEND, BEFORE, BUILD, CONNECT, COPIES, COPY, DEFINE, DELETE, DELETED, DIRECTORY,
-    DIRECTORY_TOPIC, EXPUNGE, FORMS, GENERATIONS, INFORMATION, JOBNAME, LOGICAL_NAMES, LOGOUT,
-    NO_KEYWORD, NOTE, OUTPUT_REQUESTS, PRINT, REMARK, RENAME, SINCE, TAKE, TYPE, UNDELETE, VERSION,
+    DIRECTORY_TOPIC, EXPUNGE, FILE, FORMS, GENERATION_RETENTION_COUNT, GENERATIONS, INFORMATION,
+    JOBNAME, LOGICAL_NAMES, LOGOUT, NO_KEYWORD, NOTE, OUTPUT_REQUESTS, PRINT, READ, REMARK, RENAME,
+    SET, SINCE, TAKE, TYPE, UNDELETE, VERSION,
 };
 use crate::node::LINE_END;
 use cm_io::NoMemory;
@@ -16,7 +17,7 @@ use std::alloc::Global;
 pub(crate) const COMMAND_TABLE: u16 = 0;
 
 // Where TYPE stands in the table of the commands.
-pub(crate) const TYPE_POSITION: u16 = 18;
+pub(crate) const TYPE_POSITION: u16 = 19;
 
 // The table of what INFORMATION tells about.
 pub(crate) const TOPIC_TABLE: u16 = 1;
@@ -30,6 +31,12 @@ pub(crate) const BUILD_TABLE: u16 = 3;
 // The table of the switches of PRINT.
 pub(crate) const SWITCH_TABLE: u16 = 4;
 
+// The table of what SET sets something of.
+pub(crate) const SET_TABLE: u16 = 5;
+
+// The table of what SET FILE sets.
+pub(crate) const FILE_TABLE: u16 = 6;
+
 #[tactic(auto, unfolding(crate::specs::Tables::exec_tables))]
 pub(crate) fn tables(alloc: Global) -> Result<Vec<Table>, NoMemory>
     ensures { IfOk result (λ tables. tables.items ≡ exec_tables) }
@@ -39,6 +46,8 @@ pub(crate) fn tables(alloc: Global) -> Result<Vec<Table>, NoMemory>
     tables.push(directory_subcommands(alloc)?)?;
     tables.push(build_subcommands(alloc)?)?;
     tables.push(switches(alloc)?)?;
+    tables.push(set_words(alloc)?)?;
+    tables.push(file_words(alloc)?)?;
     Ok(tables)
 }
 
@@ -77,6 +86,20 @@ fn switches(alloc: Global) -> Result<Table, NoMemory>
     Ok(Table::of(switch_entries(alloc)?))
 }
 
+#[tactic(auto, using(crate::proofs::Faultless::set_words_have_no_fault))]
+fn set_words(alloc: Global) -> Result<Table, NoMemory>
+    ensures { IfOk result (λ table. table ≡ set_entries) }
+{
+    Ok(Table::of(set_entries(alloc)?))
+}
+
+#[tactic(auto, using(crate::proofs::Faultless::file_words_have_no_fault))]
+fn file_words(alloc: Global) -> Result<Table, NoMemory>
+    ensures { IfOk result (λ table. table ≡ file_entries) }
+{
+    Ok(Table::of(file_entries(alloc)?))
+}
+
 #[tactic(auto, unfolding(crate::specs::Tables::command_entries))]
 fn command_entries(alloc: Global) -> Result<Vec<Entry>, NoMemory>
     ensures { IfOk result (λ entries. entries.items ≡ command_entries) }
@@ -98,6 +121,7 @@ fn command_entries(alloc: Global) -> Result<Vec<Entry>, NoMemory>
         Entry::new("PRINT", PRINT, 37),
         Entry::new("REMARK", REMARK, 45),
         Entry::new("RENAME", RENAME, 10),
+        Entry::new("SET", SET, 51),
         flagged(
             Entry::new("T", NO_KEYWORD, LINE_END),
             Flag::Short(TYPE_POSITION)
@@ -127,6 +151,7 @@ fn directory_entries(alloc: Global) -> Result<Vec<Entry>, NoMemory>
     Ok(vec![in alloc;
         Entry::new("BEFORE", BEFORE, 47),
         Entry::new("DELETED", DELETED, LINE_END),
+        Entry::new("READ", READ, LINE_END),
         Entry::new("SINCE", SINCE, 47),
     ]?)
 }
@@ -149,6 +174,20 @@ fn switch_entries(alloc: Global) -> Result<Vec<Entry>, NoMemory>
         Entry::with_value("JOBNAME", JOBNAME, 43),
         Entry::with_value("NOTE", NOTE, 44),
     ]?)
+}
+
+#[tactic(auto, unfolding(crate::specs::Tables::set_entries))]
+fn set_entries(alloc: Global) -> Result<Vec<Entry>, NoMemory>
+    ensures { IfOk result (λ entries. entries.items ≡ set_entries) }
+{
+    Ok(vec![in alloc; Entry::new("FILE", FILE, 52)]?)
+}
+
+#[tactic(auto, unfolding(crate::specs::Tables::file_entries))]
+fn file_entries(alloc: Global) -> Result<Vec<Entry>, NoMemory>
+    ensures { IfOk result (λ entries. entries.items ≡ file_entries) }
+{
+    Ok(vec![in alloc; Entry::new("GENERATION-RETENTION-COUNT", GENERATION_RETENTION_COUNT, 53)]?)
 }
 
 // The same keyword, which takes part in the look-up in this way.

@@ -5,7 +5,7 @@ use Rattle.ex_store.specs.State.{StoreWithRoom, State, has_directory}
 use Rattle.ex_store.specs.WellFormed.{IsDraft}
 use Rattle.ex_image.specs.declared.fault.ImageFault.{ImageFault}
 use Rattle.ex_image.specs.declared.fault.ImageFault.TheVariants.{Bad, NoMemory}
-use Rattle.ex_image.specs.declared.fault.Kind.{Kind}
+use Rattle.cm_io.specs.declared.status.Kind.{Kind}
 use Rattle.ex_image.specs.declared.tag.Tag.{Tag}
 use Rattle.ex_image.specs.declared.tag.Tag.TheVariants as tags
 use Rattle.ex_image.specs.declared.version.Version.{Version}

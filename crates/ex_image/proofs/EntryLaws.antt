@@ -7,7 +7,7 @@ use Rattle.cm_files.specs.Catalogue.{is_directory_name}
 use Rattle.ex_store.specs.declared.row.Row.{Row}
 use Rattle.ex_store.specs.Forms.{form_text}
 use Rattle.ex_store.specs.Rows.{full_of}
-use Rattle.ex_image.specs.declared.fault.Kind.TheVariants.{Form}
+use Rattle.cm_io.specs.declared.status.Kind.TheVariants.{Form}
 use Rattle.ex_image.specs.declared.version.Version.{Version}
 use Rattle.ex_image.specs.declared.version.Version.TheVariants as versions
 use Rattle.ex_image.specs.Fields.{is_logical}

@@ -12,8 +12,8 @@ use Rattle.std.proofs.lemmas.Str.Parse.{IsNumeralModel, digits_value_short, nume
 use Rattle.cm_text.specs.Bytes.{is_name, is_text, is_word}
 use Rattle.cm_files.specs.Catalogue.{is_directory_name, is_upper_name}
 use Rattle.ex_store.specs.WellFormed.{is_file_name, is_file_type}
-use Rattle.ex_image.specs.declared.fault.Kind.{Kind}
-use Rattle.ex_image.specs.declared.fault.Kind.TheVariants.{Form}
+use Rattle.cm_io.specs.declared.status.Kind.{Kind}
+use Rattle.cm_io.specs.declared.status.Kind.TheVariants.{Form}
 use Rattle.ex_image.specs.Fields.{directory_of, formed, is_logical, is_note, is_numeral, job_of, logical_of, note_of, number_of}
 use Rattle.ex_image.specs.Grammar.{is_short}
 use Rattle.ex_image.proofs.Spelling.{IsSpelling, all_joined, all_weaker, done, tested}

@@ -12,8 +12,8 @@ use Rattle.ex_store.specs.declared.key.FullName.{FullName}
 use Rattle.ex_store.specs.declared.limits.TheConstants.{FORMS}
 use Rattle.ex_store.specs.Forms.{form_text}
 use Rattle.ex_store.specs.WellFormed.{is_file_name, is_file_type}
-use Rattle.ex_image.specs.declared.fault.Kind.{Kind}
-use Rattle.ex_image.specs.declared.fault.Kind.TheVariants.{Form}
+use Rattle.cm_io.specs.declared.status.Kind.{Kind}
+use Rattle.cm_io.specs.declared.status.Kind.TheVariants.{Form}
 use Rattle.ex_image.specs.Fields.{◌>>=◌, after_of, file_of, form_of, mark_of, optional_of}
 use Rattle.ex_image.specs.Grammar.{is_short, is_short_day, is_short_optional}
 use Rattle.ex_image.specs.Record.{after_text, file_text, mark_text, optional_text}

@@ -6,7 +6,7 @@ use Rattle.cm_files.specs.Catalogue.{is_directory_name}
 use Rattle.ex_store.specs.declared.key.FullName.{FullName}
 use Rattle.ex_store.specs.declared.row.Row.{Row}
 use Rattle.ex_store.specs.Rows.{full_of}
-use Rattle.ex_image.specs.declared.fault.Kind.TheVariants.{Form}
+use Rattle.cm_io.specs.declared.status.Kind.TheVariants.{Form}
 use Rattle.ex_image.specs.declared.version.Version.{Version}
 use Rattle.ex_image.specs.Fields.{is_logical}
 use Rattle.ex_image.specs.Grammar.{IsWrittenIn, is_shaped, is_short, is_stamp}

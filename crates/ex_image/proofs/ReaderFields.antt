@@ -10,7 +10,7 @@ use Rattle.std.proofs.lemmas.List.Folds.{list_any_at}
 use Rattle.std.proofs.lemmas.List.Sums.{passes_at_first}
 use Rattle.std.proofs.lemmas.Str.Parse.{IsNumeralModel, digits_value_short, numerals_by_value}
 use Rattle.cm_fields.specs.declared.digits.TheConstants.{NUMBER_LIMIT}
-use Rattle.ex_image.specs.declared.fault.Kind.{Kind}
+use Rattle.cm_io.specs.declared.status.Kind.{Kind}
 use Rattle.ex_image.specs.Fields.{cut, is_numeral}
 
 -- where no place comes before the end, no element passes

@@ -2,8 +2,8 @@
 use Rattle.std.proofs.Common.{◌≡◌, ℕ, suc, ◌+◌, ◌<◌, ◌==◌, Bool, true, false, nat_le, cond, List, [], ◌∷◌, ◌++◌, length, take, drop, get_or, Option, Some, None, Result, Ok, Err, refl, ap, subst, sym, ◌∙◌, arith, add-one, append_assoc, length-append}
 use Rattle.std.proofs.Math.Seq.{drop-append-add, get_or-append_seam, length-take-le, split_at, take-append_seam}
 use Rattle.std.proofs.lemmas.Bool.{eqb-true, false≢true, leb-false, lt-leb}
-use Rattle.ex_image.specs.declared.fault.Kind.{Kind}
-use Rattle.ex_image.specs.declared.fault.Kind.TheVariants.{Cut, Form}
+use Rattle.cm_io.specs.declared.status.Kind.{Kind}
+use Rattle.cm_io.specs.declared.status.Kind.TheVariants.{Cut, Form}
 use Rattle.ex_image.specs.declared.tag.Tag.{Tag}
 use Rattle.ex_image.specs.declared.tag.Tag.TheVariants as tags
 use Rattle.ex_image.specs.declared.version.Version.{Version}

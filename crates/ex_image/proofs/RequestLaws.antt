@@ -7,7 +7,7 @@ use Rattle.ex_store.specs.declared.key.FullName.{FullName}
 use Rattle.ex_store.specs.declared.queue.QueueEntry.{QueueEntry}
 use Rattle.ex_store.specs.Forms.{form_text}
 use Rattle.ex_store.specs.WellFormed.{is_file_name}
-use Rattle.ex_image.specs.declared.fault.Kind.TheVariants.{Form}
+use Rattle.cm_io.specs.declared.status.Kind.TheVariants.{Form}
 use Rattle.ex_image.specs.declared.version.Version.{Version}
 use Rattle.ex_image.specs.Fields.{is_note}
 use Rattle.ex_image.specs.Grammar.{is_shaped, is_short, is_short_day}

@@ -5,8 +5,8 @@ use Rattle.std.specs.Fmt.{decimal}
 use Rattle.std.specs.List.{list_all}
 use Rattle.std.specs.Option.{is_some}
 use Rattle.std.proofs.lemmas.Bool.{and_from, and_parts, eqb-true, lt-ltb}
-use Rattle.ex_image.specs.declared.fault.Kind.{Kind}
-use Rattle.ex_image.specs.declared.fault.Kind.TheVariants.{Form}
+use Rattle.cm_io.specs.declared.status.Kind.{Kind}
+use Rattle.cm_io.specs.declared.status.Kind.TheVariants.{Form}
 use Rattle.ex_image.specs.declared.version.Version.{Version}
 use Rattle.ex_image.specs.declared.version.Version.TheVariants as versions
 use Rattle.ex_image.specs.Fields.{◌>>=◌}

@@ -2,7 +2,7 @@
 use Rattle.std.proofs.Common.{◌≡◌, ℕ, Bool, true, false, not, cond, List, [], Some, None, refl}
 use Rattle.std.proofs.lemmas.Bool.{false≢true}
 use Rattle.ex_store.specs.State.{State, has_directory}
-use Rattle.ex_image.specs.declared.fault.Kind.TheVariants.{Range, Name, Order, Limit}
+use Rattle.cm_io.specs.declared.status.Kind.TheVariants.{Range, Name, Order, Limit}
 use Rattle.ex_image.specs.declared.tag.Tag.{Tag}
 use Rattle.ex_image.specs.declared.tag.Tag.TheVariants as tags
 use Rattle.ex_image.specs.Reading.{fault_of, has_room, is_above, is_in_range, is_there, may_follow, tag_of, with_entry}

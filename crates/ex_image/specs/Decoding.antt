@@ -2,7 +2,7 @@
 use Rattle.std.specs.Prelude.{◌≡◌, ℕ, List, Result, Ok, Err}
 use Rattle.ex_image.specs.declared.fault.ImageFault.{ImageFault}
 use Rattle.ex_image.specs.declared.fault.ImageFault.TheVariants.{Bad, NoMemory}
-use Rattle.ex_image.specs.declared.fault.Kind.{Kind}
+use Rattle.cm_io.specs.declared.status.Kind.{Kind}
 use Rattle.ex_image.specs.Grammar.{FirstBad}
 use Rattle.ex_store.specs.State.{StoreWithRoom, State}
 

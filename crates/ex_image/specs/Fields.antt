@@ -12,8 +12,8 @@ use Rattle.cm_files.specs.LogicalName.{is_logical_name}
 use Rattle.ex_store.specs.declared.key.FullName.{FullName}
 use Rattle.ex_store.specs.Forms.{form_text}
 use Rattle.ex_store.specs.WellFormed.{is_file_name, is_file_type}
-use Rattle.ex_image.specs.declared.fault.Kind.{Kind}
-use Rattle.ex_image.specs.declared.fault.Kind.TheVariants.{Cut, Form}
+use Rattle.cm_io.specs.declared.status.Kind.{Kind}
+use Rattle.cm_io.specs.declared.status.Kind.TheVariants.{Cut, Form}
 
 infixl 10 ◌>>=◌
 -- what comes of a value that was read; a fault stays

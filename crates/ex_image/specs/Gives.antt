@@ -1,6 +1,6 @@
 -- What reading gives, in the code and by a definition.
 use Rattle.std.specs.Prelude.{◌≡◌, Result, Ok, Err}
-use Rattle.ex_image.specs.declared.fault.Kind.{Kind}
+use Rattle.cm_io.specs.declared.status.Kind.{Kind}
 
 -- the same value, as it is seen, or the same fault
 abbrev pub Gives : {A B : Type 0} → (A → B) → Result A Kind → Result B Kind → Type 0

@@ -8,7 +8,7 @@ use Rattle.ex_store.specs.declared.row.Row.{Row}
 use Rattle.ex_store.specs.Draft.{kept_by_directories}
 use Rattle.ex_store.specs.State.{State}
 use Rattle.ex_store.specs.WellFormed.{is_file_name, is_file_type}
-use Rattle.ex_image.specs.declared.fault.Kind.{Kind}
+use Rattle.cm_io.specs.declared.status.Kind.{Kind}
 use Rattle.ex_image.specs.declared.tag.Tag.TheVariants as tags
 use Rattle.ex_image.specs.declared.version.Version.{Version}
 use Rattle.ex_image.specs.declared.version.Version.TheVariants as versions

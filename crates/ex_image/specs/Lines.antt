@@ -3,8 +3,8 @@ use Rattle.std.specs.Prelude.{ℕ, Bool, if◌then◌else◌, List, [], codes, N
 use Rattle.std.specs.Str.{bytes_eq}
 use Rattle.ex_store.specs.declared.key.FullName.{FullName}
 use Rattle.ex_store.specs.declared.row.Row.{Row}
-use Rattle.ex_image.specs.declared.fault.Kind.{Kind}
-use Rattle.ex_image.specs.declared.fault.Kind.TheVariants.{Form}
+use Rattle.cm_io.specs.declared.status.Kind.{Kind}
+use Rattle.cm_io.specs.declared.status.Kind.TheVariants.{Form}
 use Rattle.ex_image.specs.declared.version.Version.{Version}
 use Rattle.ex_image.specs.declared.version.Version.TheVariants as versions
 use Rattle.ex_image.specs.Fields.{◌>>=◌, after_of, cut, directory_of, field_at, file_of, form_of, job_of, logical_of, mark_of, note_of, number_of, optional_of}

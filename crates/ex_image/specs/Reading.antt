@@ -9,8 +9,8 @@ use Rattle.ex_store.specs.Draft.{and_directory, and_logical, and_request, and_ro
 use Rattle.ex_store.specs.Rows.{by_row, total}
 use Rattle.ex_store.specs.State.{State, has_directory}
 use Rattle.ex_store.specs.WellFormed.{is_day, is_numbered, is_stamped}
-use Rattle.ex_image.specs.declared.fault.Kind.{Kind}
-use Rattle.ex_image.specs.declared.fault.Kind.TheVariants.{Cut, Form, Range, Name, Order, Limit}
+use Rattle.cm_io.specs.declared.status.Kind.{Kind}
+use Rattle.cm_io.specs.declared.status.Kind.TheVariants.{Cut, Form, Range, Name, Order, Limit}
 use Rattle.ex_image.specs.declared.tag.Tag.{Tag}
 use Rattle.ex_image.specs.declared.tag.Tag.TheVariants as tags
 use Rattle.ex_image.specs.declared.version.Version.{Version}

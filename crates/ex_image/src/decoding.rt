@@ -1,6 +1,6 @@
 // Bytes are read as an image.
 ghost use Rattle.std.specs.Prelude.{ℕ, List, IfErr, IfOk};
-ghost use Rattle.ex_image.specs.declared.fault.Kind.{Kind};
+ghost use Rattle.cm_io.specs.declared.status.Kind.{Kind};
 ghost use Rattle.ex_image.specs.Decoding.{IsBadAt, IsStore, Tells};
 ghost use Rattle.ex_image.specs.Grammar.{FirstBad, IsImage, IsImageIn};
 ghost use Rattle.ex_store.specs.State.{State};

@@ -1,5 +1,5 @@
 // The lines of an image, as they are read.
-ghost use Rattle.ex_image.specs.declared.fault.Kind.TheVariants.{Form};
+ghost use Rattle.cm_io.specs.declared.status.Kind.TheVariants.{Form};
 ghost use Rattle.ex_image.specs.Fields.{cut, file_of};
 ghost use Rattle.ex_image.specs.Gives.{Gives};
 ghost use Rattle.ex_image.specs.Lines.{connected_line, directory_line, entry_of, file_line, first_stamp, lettered, logical_line, request_line, second_stamp, stamp_at};

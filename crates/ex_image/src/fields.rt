@@ -2,7 +2,7 @@
 ghost use Rattle.std.specs.Prelude.{◌≡◌, ◌==◌, ◌≤◌, true, if◌then◌else◌, length, pos, option_map};
 ghost use Rattle.std.specs.List.{position_or_len};
 ghost use Rattle.std.specs.Str.{IsAscii};
-ghost use Rattle.ex_image.specs.declared.fault.Kind.TheVariants.{Form};
+ghost use Rattle.cm_io.specs.declared.status.Kind.TheVariants.{Form};
 ghost use Rattle.ex_image.specs.Fields.{after_of, content_at, cut, directory_of, form_of, formed, is_numeral, logical_of, mark_of, note_of, number_of, optional_of};
 ghost use Rattle.ex_image.specs.Gives.{Gives};
 ghost use Rattle.ex_store.specs.WellFormed.{is_file_name, is_file_type};

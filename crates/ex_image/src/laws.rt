@@ -1,6 +1,6 @@
 //! Laws of the image.
 ghost use Rattle.std.specs.Prelude.{◌≡◌, ◌<◌, ◌↔◌, ◌⊎◌, ◌++◌, ℕ, List, [], Option, Some, codes, get_or, length, map, true};
-ghost use Rattle.ex_image.specs.declared.fault.Kind.{Kind};
+ghost use Rattle.cm_io.specs.declared.status.Kind.{Kind};
 ghost use Rattle.ex_image.specs.declared.version.Version.TheVariants as versions;
 ghost use Rattle.ex_image.specs.Grammar.{FirstBad, IsImage, IsImageIn, are_told_in};
 ghost use Rattle.ex_image.specs.Image.{Saves, image_text, text_in};

@@ -20,6 +20,7 @@ mod tag;
 mod target;
 mod version;
 
+pub use cm_io::Kind;
 pub use decoding::decode;
-pub use fault::{ImageFault, Kind};
+pub use fault::ImageFault;
 pub use image::encode;

@@ -1,12 +1,12 @@
--- What stands behind a generated run.
+-- What stands behind a generated run, and behind one over keys.
 use Rattle.std.proofs.Common.{◌≡◌, ℕ, Option, None, Some, refl, subst}
 use Rattle.cm_io.specs.Told.{Told}
-use Rattle.ex_program.specs.Disk.{Disk}
-use Rattle.ex_program.specs.declared.status.Status.{Status}
-use Rattle.ex_program.specs.Form.{Form}
+use Rattle.cm_io.specs.declared.status.Status.{Status}
+use Rattle.ex_system.specs.Disk.{Disk}
+use Rattle.ex_system.specs.Form.{Form}
+use Rattle.ex_run.specs.Scene.{Scene}
 use Rattle.ex_program.specs.Generates.{Rises, Sums}
-use Rattle.ex_program.specs.Scene.{Scene, with_count}
-use Rattle.ex_program.specs.Stands.{Stands, StandsBy}
+use Rattle.ex_program.specs.Stands.{Stands, StandsApart, with_count}
 
 pub stands_generated : (told : Type 0) (asked : Option Form) (lines : Option ℕ) (count : ℕ) (a : Scene) (screen : Told) (faults trials : ℕ)
     (disk : Disk) (result : Status) → None ≡ asked → Some count ≡ lines → Sums count a.screen screen a.faults.screen faults result
@@ -14,4 +14,4 @@ pub stands_generated : (told : Type 0) (asked : Option Form) (lines : Option ℕ
 stands_generated told asked lines count a screen faults trials disk result is some sums rises =
     let b = with_count a screen faults trials in
     subst (λ (it : Option Form). Stands told it lines a b disk disk result) is
-    (subst (λ (it : Option ℕ). StandsBy it a b result) some (record { screen = sums; counter = rises; rest = refl }), refl)
+    (subst (λ (it : Option ℕ). StandsApart it a b result) some (record { screen = sums; counter = rises; rest = refl }), refl)

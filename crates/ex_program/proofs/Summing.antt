@@ -11,11 +11,11 @@ use Rattle.cm_run.specs.declared.stop.Stop.{Stop}
 use Rattle.cm_run.specs.declared.stop.Stop.TheVariants as stop
 use Rattle.cm_run.specs.Trace.{run_trace}
 use Rattle.ex_store.specs.State.{State, first_state}
-use Rattle.ex_take.specs.Taker.{taker_meaning}
-use Rattle.ex_take.specs.TakerState.{TakerState, taker_start}
+use Rattle.ex_take.specs.Exec.{exec_meaning}
+use Rattle.ex_take.specs.ExecState.{ExecState, exec_start}
 use Rattle.ex_program.specs.GeneratedKeys.{generated_keys}
 use Rattle.ex_program.specs.Waiting.{Waiting}
-use Rattle.ex_program.specs.ExecRun.{closing}
+use Rattle.ex_run.specs.Over.{closing}
 use Rattle.ex_program.specs.Summary.{LacksMemory, generated_trace, summary_of}
 use Rattle.ex_program.specs.declared.summary.Summary.{Summary}
 
@@ -45,7 +45,7 @@ module _ {S : Type 0} where
   performed before now events traces = traces
 
 -- one that was cut short for memory
-pub cut_for_memory : (lines : ℕ) (before now : Observed TakerState) (events : List (Event TakerState)) (why : Stop)
+pub cut_for_memory : (lines : ℕ) (before now : Observed ExecState) (events : List (Event ExecState)) (why : Stop)
     → why ≡ stop.Memory → Traces before now events (Err why) → events ≡ generated_trace lines
     → LacksMemory lines before.trials now.trials
 unfolding Traces Performs
@@ -57,7 +57,7 @@ cut_for_memory lines before now events why is traces whole =
       split = ap (λ (cut : Cut). traces.done ++ event_of cut ∷ traces.rest) (sym at) ∙ traces.split ∙ whole;
       trials = traces.stands.trials
           ∙ ap (λ (cut : Cut). before.trials + trials_of (traces.done ++ part_of cut)) at
-          ∙ ap (λ (events : List (Event TakerState)). before.trials + trials_of events) (append-nil traces.done);
+          ∙ ap (λ (events : List (Event ExecState)). before.trials + trials_of events) (append-nil traces.done);
     })
 
 -- of the keys that were left those were taken that are left no more
@@ -90,11 +90,11 @@ same_summary : (lines a b c d e f g h : ℕ) → a ≡ e → b ≡ f → c ≡ g
 same_summary lines a b c d e f g h one two three four = cc
 
 -- the figures of the run that begins so
-module _ (start : TakerState) (keys : List ℕ) where
-  abbrev trace : List (Event TakerState)
-  trace = run_trace taker_meaning false start [] keys
+module _ (start : ExecState) (keys : List ℕ) where
+  abbrev trace : List (Event ExecState)
+  trace = run_trace exec_meaning false start [] keys
 
-  abbrev left : TakerState
+  abbrev left : ExecState
   left = state_behind start trace
 
   abbrev pub figures : ℕ → Summary
@@ -102,29 +102,29 @@ module _ (start : TakerState) (keys : List ℕ) where
     lines = lines;
     refused = left.refused;
     keys = length (keys_of trace);
-    shown = min (length (screen_bytes trace ++ closing left.exec.ended)) last_count;
-    generations = length left.exec.state.rows;
+    shown = min (length (screen_bytes trace ++ closing left.interpreter.ended)) last_count;
+    generations = length left.interpreter.state.rows;
   }
 
-  pub sums_up : (lines refused count put generations : ℕ) (ended : Bool) (at : TakerState) → at ≡ left → refused ≡ at.refused
-      → count ≡ length (keys_of trace) → ended ≡ at.exec.ended → put ≡ min (length (screen_bytes trace ++ closing ended)) last_count
-      → generations ≡ length at.exec.state.rows
+  pub sums_up : (lines refused count put generations : ℕ) (ended : Bool) (at : ExecState) → at ≡ left → refused ≡ at.refused
+      → count ≡ length (keys_of trace) → ended ≡ at.interpreter.ended → put ≡ min (length (screen_bytes trace ++ closing ended)) last_count
+      → generations ≡ length at.interpreter.state.rows
       → summary_with lines refused count put generations ≡ figures lines
   sums_up lines refused count put generations ended at leads of_refused of_keys of_ended of_put of_generations =
-      let closed : put ≡ min (length (screen_bytes trace ++ closing left.exec.ended)) last_count =
-      of_put ∙ ap (λ it. min (length (screen_bytes trace ++ closing it)) last_count) (of_ended ∙ ap (λ (it : TakerState). it.exec.ended) leads) in
-      same_summary lines refused count put generations _ _ _ _ (of_refused ∙ ap (λ (it : TakerState). it.refused) leads) of_keys closed
-      (of_generations ∙ ap (λ (it : TakerState). length it.exec.state.rows) leads)
+      let closed : put ≡ min (length (screen_bytes trace ++ closing left.interpreter.ended)) last_count =
+      of_put ∙ ap (λ it. min (length (screen_bytes trace ++ closing it)) last_count) (of_ended ∙ ap (λ (it : ExecState). it.interpreter.ended) leads) in
+      same_summary lines refused count put generations _ _ _ _ (of_refused ∙ ap (λ (it : ExecState). it.refused) leads) of_keys closed
+      (of_generations ∙ ap (λ (it : ExecState). length it.interpreter.state.rows) leads)
 
 -- it begins from the first state, over the keys of so many lines
-pub from_first : (lines : ℕ) (start : TakerState) (store : State) (keys : Waiting) → start ≡ taker_start store → store ≡ first_state
+pub from_first : (lines : ℕ) (start : ExecState) (store : State) (keys : Waiting) → start ≡ exec_start store → store ≡ first_state
     → keys ≡ record { left = generated_keys lines; gets = 0 } → figures start keys.left lines ≡ summary_of lines
 from_first lines start store keys is first generated =
-    ap (λ (it : TakerState). figures it keys.left lines) (is ∙ ap taker_start first)
-    ∙ ap (λ (it : Waiting). figures (taker_start first_state) it.left lines) generated
+    ap (λ (it : ExecState). figures it keys.left lines) (is ∙ ap exec_start first)
+    ∙ ap (λ (it : Waiting). figures (exec_start first_state) it.left lines) generated
 
-pub trace_from_first : (lines : ℕ) (start : TakerState) (store : State) (keys : Waiting) → start ≡ taker_start store → store ≡ first_state
+pub trace_from_first : (lines : ℕ) (start : ExecState) (store : State) (keys : Waiting) → start ≡ exec_start store → store ≡ first_state
     → keys ≡ record { left = generated_keys lines; gets = 0 } → trace start keys.left ≡ generated_trace lines
 trace_from_first lines start store keys is first generated =
-    ap (λ (it : TakerState). trace it keys.left) (is ∙ ap taker_start first)
-    ∙ ap (λ (it : Waiting). trace (taker_start first_state) it.left) generated
+    ap (λ (it : ExecState). trace it keys.left) (is ∙ ap exec_start first)
+    ∙ ap (λ (it : Waiting). trace (exec_start first_state) it.left) generated

@@ -1,25 +1,26 @@
 -- The run of the EXEC over keys.
-use Rattle.std.specs.Prelude.{ℕ, Bool, List, [], ◌++◌, if◌then◌else◌}
-use Rattle.cm_text.specs.Shown.{end_of_line}
+use Rattle.std.specs.Prelude.{ℕ, Bool, List, ◌++◌}
 use Rattle.cm_run.specs.Event.{Event, screen_bytes, state_behind}
 use Rattle.cm_run.specs.Trace.{run_trace}
-use Rattle.ex_take.specs.Taker.{taker_meaning}
-use Rattle.ex_take.specs.TakerState.{TakerState, taker_start}
+use Rattle.ex_run.specs.Over.{Over, closing, over}
+use Rattle.ex_take.specs.Exec.{exec_meaning}
+use Rattle.ex_take.specs.ExecState.{ExecState, exec_start}
 use Rattle.ex_store.specs.State.{State}
 
+-- the EXEC over a store
+abbrev pub exec_over : Over ExecState
+exec_over = over exec_meaning exec_start (λ at. at.interpreter.state)
+
 -- what happens in the run that begins in this state, at these moments and keys
-abbrev pub exec_trace : Bool → State → List ℕ → List ℕ → List (Event TakerState)
-exec_trace logging start moments keys = run_trace taker_meaning logging (taker_start start) moments keys
+abbrev pub exec_trace : Bool → State → List ℕ → List ℕ → List (Event ExecState)
+exec_trace logging start moments keys = run_trace exec_meaning logging (exec_start start) moments keys
 
 -- where it leads
-abbrev pub exec_left : Bool → State → List ℕ → List ℕ → TakerState
-exec_left logging start moments keys = state_behind (taker_start start) (exec_trace logging start moments keys)
+abbrev pub exec_left : Bool → State → List ℕ → List ℕ → ExecState
+exec_left logging start moments keys = state_behind (exec_start start) (exec_trace logging start moments keys)
 
--- the line that is open is ended where LOGOUT has not ended the run
-abbrev pub closing : Bool → List ℕ
-closing ended = if ended then [] else end_of_line
-
--- all that a whole run shows
+-- all that a whole run shows: the line that is open is ended where LOGOUT has not ended the run
 abbrev pub run_shown : Bool → State → List ℕ → List ℕ → List ℕ
 run_shown logging start moments keys =
-    screen_bytes (exec_trace logging start moments keys) ++ closing (exec_left logging start moments keys).exec.ended
+    screen_bytes (exec_trace logging start moments keys)
+    ++ closing (exec_left logging start moments keys).interpreter.ended

@@ -1,44 +1,35 @@
 -- What the words of the program ask for.
-use Rattle.std.specs.Prelude.{ℕ, Bool, true, false, not, ◌&&◌, ◌==◌, List, [], ◌∷◌, length, Option, Some, None, nat_lt, nat_le, codes, if◌then◌else◌}
+use Rattle.std.specs.Prelude.{ℕ, Bool, true, false, ◌&&◌, List, length, Option, Some, None, nat_lt, nat_le, codes, if◌then◌else◌}
 use Rattle.std.specs.Char.{is_ascii_digit}
 use Rattle.std.specs.List.{list_all}
 use Rattle.std.specs.Str.{bytes_eq}
 use Rattle.std.specs.Str.Parse.{digits_value}
-use Rattle.ex_program.specs.declared.progress.TheConstants.{GENERATED_LINES}
 use Rattle.cm_io.specs.Words.{Given}
+use Rattle.ex_system.specs.Form.{Form, Three, Two, in_out, is_name, pair_of, triple_of}
+use Rattle.ex_program.specs.declared.progress.TheConstants.{GENERATED_LINES}
 use Rattle.ex_program.specs.declared.words.TheConstants.{MOST_DIGITS}
 
--- whether there is a log; the file whose image the run begins from, or none where it begins anew; and the file that
--- the image is written to
-pub record Form : Type 0 where
-  pub logs : Bool
-  pub input : Option (List ℕ)
-  pub out : List ℕ
+-- what is shown where they ask for nothing that it does
+unfoldable pub usage : List ℕ
+usage = codes "Usage: exec20 [-w] IN OUT | exec20 [-w] -n OUT | exec20 -g N"
 
--- a file's name is not empty, and begins with no hyphen
-abbrev pub is_name : List ℕ → Bool
-is_name [] = false
-is_name (byte ∷ bytes) = not (byte == 45)
-
--- `-n OUT`, or `IN OUT`, which are two files
+-- two words ask for a run by `-n OUT`, or `IN OUT`, which are two files
 abbrev pub files_of : Bool → List ℕ → List ℕ → Option Form
 files_of logs first out =
     if bytes_eq first (codes "-n") && is_name out then Some (record { logs = logs; input = None; out = out })
-    else (if is_name first && is_name out && not (bytes_eq first out)
-    then Some (record { logs = logs; input = Some first; out = out }) else None)
+    else in_out logs first out
 
--- with `-w` before them for a log
+-- three by `-w` before them, for a log
 abbrev pub with_log : List ℕ → List ℕ → List ℕ → Option Form
 with_log log first out = if bytes_eq log (codes "-w") then files_of true first out else None
 
-abbrev pub form_of_words : List (List ℕ) → Option Form
-form_of_words (first ∷ out ∷ []) = files_of false first out
-form_of_words (log ∷ first ∷ out ∷ []) = with_log log first out
-form_of_words words = None
+abbrev pub form_by : Option Two → Option Three → Option Form
+form_by (Some two) three = files_of false two.first two.second
+form_by None (Some three) = with_log three.first three.second three.third
+form_by None None = None
 
 unfoldable pub form_of : Given → Option Form
-form_of None = None
-form_of (Some words) = form_of_words words
+form_of words = form_by (pair_of words) (triple_of words)
 
 -- one to six digits
 abbrev pub is_number : List ℕ → Bool
@@ -55,10 +46,9 @@ lines_in word = if is_number word then lines_by (digits_value 10 word) else None
 abbrev pub lines_behind : List ℕ → List ℕ → Option ℕ
 lines_behind flag count = if bytes_eq flag (codes "-g") then lines_in count else None
 
-abbrev pub lines_of_words : List (List ℕ) → Option ℕ
-lines_of_words (flag ∷ count ∷ []) = lines_behind flag count
-lines_of_words words = None
+abbrev pub lines_of_pair : Option Two → Option ℕ
+lines_of_pair None = None
+lines_of_pair (Some two) = lines_behind two.first two.second
 
 unfoldable pub lines_of : Given → Option ℕ
-lines_of None = None
-lines_of (Some words) = lines_of_words words
+lines_of words = lines_of_pair (pair_of words)

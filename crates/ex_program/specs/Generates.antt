@@ -4,10 +4,10 @@ use Rattle.cm_io.specs.Fault.{Rose}
 use Rattle.cm_io.specs.Told.{Told, AddsPart, add}
 use Rattle.cm_run.specs.Event.{trials_of}
 use Rattle.ex_program.specs.Summary.{LacksMemory, generated_trace, summary_of, summary_text}
-use Rattle.ex_program.specs.Messages.{message}
-use Rattle.ex_program.specs.Trying.{Tried}
-use Rattle.ex_program.specs.declared.status.Status.{Status}
-use Rattle.ex_program.specs.declared.status.Status.TheVariants as status
+use Rattle.ex_system.specs.Messages.{message}
+use Rattle.ex_system.specs.Trying.{Tried}
+use Rattle.cm_io.specs.declared.status.Status.{Status}
+use Rattle.cm_io.specs.declared.status.Status.TheVariants as status
 
 -- a text is shown whole, and the count of faults stays; or a prefix of it, and the count rose
 abbrev pub Shows : List ℕ → Told → Told → ℕ → ℕ → Status → Type 0

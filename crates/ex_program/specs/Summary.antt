@@ -5,16 +5,16 @@ use Rattle.cm_text.specs.Shown.{end_of_line}
 use Rattle.cm_io.specs.Fault.{last_count}
 use Rattle.cm_run.specs.Event.{Event, Memory, keys_of, trials_of}
 use Rattle.ex_store.specs.State.{first_state}
-use Rattle.ex_take.specs.TakerState.{TakerState}
+use Rattle.ex_take.specs.ExecState.{ExecState}
 use Rattle.ex_program.specs.GeneratedKeys.{generated_keys}
 use Rattle.ex_program.specs.ExecRun.{exec_left, exec_trace, run_shown}
 use Rattle.ex_program.specs.declared.summary.Summary.{Summary}
 
 -- the run over the keys of so many lines begins from the first state, and each of its moments is 0
-abbrev pub generated_trace : ℕ → List (Event TakerState)
+abbrev pub generated_trace : ℕ → List (Event ExecState)
 generated_trace lines = exec_trace false first_state [] (generated_keys lines)
 
-abbrev pub generated_left : ℕ → TakerState
+abbrev pub generated_left : ℕ → ExecState
 generated_left lines = exec_left false first_state [] (generated_keys lines)
 
 abbrev pub generated_shown : ℕ → List ℕ
@@ -28,14 +28,14 @@ summary_of lines = record {
   refused = (generated_left lines).refused;
   keys = length (keys_of (generated_trace lines));
   shown = min (length (generated_shown lines)) last_count;
-  generations = length (generated_left lines).exec.state.rows;
+  generations = length (generated_left lines).interpreter.state.rows;
 }
 
 -- a run over the keys of so many lines was cut short where an act of it asked for memory: the counter rose by the
 -- trials before
 pub record IsCutForMemory (lines before now : ℕ) : Type 0 where
-  pub done : List (Event TakerState)
-  pub rest : List (Event TakerState)
+  pub done : List (Event ExecState)
+  pub rest : List (Event ExecState)
   pub split : done ++ Memory ∷ rest ≡ generated_trace lines
   pub trials : now ≡ before + trials_of done
 

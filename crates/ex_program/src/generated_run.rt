@@ -5,7 +5,7 @@ ghost use Rattle.cm_hooks.specs.Ties.{Ties, count};
 ghost use Rattle.cm_run.specs.Event.{trials_of};
 ghost use Rattle.ex_grammar.specs.ExecRules.{exec_meanings};
 ghost use Rattle.ex_program.specs.declared.progress.TheConstants.{GENERATED_LINES};
-ghost use Rattle.ex_program.specs.ExecRun.{closing};
+ghost use Rattle.ex_run.specs.Over.{closing};
 ghost use Rattle.ex_program.specs.Summary.{LacksMemory, generated_trace, summary_of};
 
 use crate::generator::Generator;
@@ -18,7 +18,7 @@ use cm_run::{NoClock, Stop, run};
 use cm_text::end_of_line;
 use ex_grammar::{ExecRules, grammar};
 use ex_store::Store;
-use ex_take::Taker;
+use ex_take::Exec;
 use std::alloc::Global;
 use std::sync::ledger::Ledger;
 
@@ -59,14 +59,14 @@ pub fn summarize<L: Ledger>(
     ensures wanting { OnErr result (LacksMemory lines steps.old steps.new) }
 {
     let grammar = grammar(alloc)?;
-    let mut taker = Taker::new(alloc, Store::new(alloc)?);
+    let mut exec = Exec::new(alloc, Store::new(alloc)?);
     let mut keys = Generator::new(lines);
     let all = keys.count_left();
     let mut screen = CountSink::new();
     let stop = run(
         GENERATED_KEYS,
         false,
-        &mut taker,
+        &mut exec,
         &grammar,
         hooks,
         &mut keys,
@@ -76,14 +76,14 @@ pub fn summarize<L: Ledger>(
         steps,
     );
     match stop {
-        Ok(()) => end_line(taker.has_ended(), &mut screen),
+        Ok(()) => end_line(exec.has_ended(), &mut screen),
         Err(why) => return Err(error_of(why)),
     }
     Ok(Summary {
         lines,
-        refused: taker.refused(),
+        refused: exec.refused(),
         keys: all - keys.count_left(),
         shown: screen.count(),
-        generations: taker.store().parts().rows() as u64,
+        generations: exec.store().parts().rows() as u64,
     })
 }

@@ -5,111 +5,91 @@ ghost use Rattle.cm_hooks.specs.Ties.{Ties, count};
 ghost use Rattle.cm_run.specs.Cause.{counts};
 ghost use Rattle.cm_run.specs.Event.{log_bytes, trials_of};
 ghost use Rattle.cm_run.specs.Keeping.{KeepsLine};
-ghost use Rattle.cm_run.specs.Ready.{Serves};
 ghost use Rattle.tt_screen.specs.Grid.{feed};
 ghost use Rattle.tt_screen.specs.Holds.{Holds};
 ghost use Rattle.ex_grammar.specs.ExecRules.{exec_meanings};
 ghost use Rattle.ex_image.specs.Image.{image_text};
 ghost use Rattle.ex_store.specs.State.{State};
-ghost use Rattle.ex_take.specs.Taker.{taker_meaning};
-ghost use Rattle.ex_take.specs.TakerState.{taker_start};
-ghost use Rattle.ex_program.specs.Cause.{IsQuiet, StatusCause};
-ghost use Rattle.ex_program.specs.Disk.{disk_of};
-ghost use Rattle.ex_program.specs.Saving.{HostCause, Saves};
-ghost use Rattle.ex_program.specs.Start.{IsRun};
-ghost use Rattle.ex_program.specs.Asked.{form_view};
+ghost use Rattle.ex_take.specs.Exec.{exec_meaning};
+ghost use Rattle.ex_take.specs.ExecState.{exec_start};
+ghost use Rattle.ex_system.specs.Asked.{form_view};
+ghost use Rattle.ex_system.specs.Disk.{disk_of};
+ghost use Rattle.ex_system.specs.Form.{Form};
+ghost use Rattle.ex_system.specs.Quiet.{IsQuiet};
+ghost use Rattle.ex_system.specs.Saving.{HostCause};
+ghost use Rattle.ex_run.specs.Cause.{StatusCause};
+ghost use Rattle.ex_run.specs.Course.{Asks, Course, StartCause, logs};
+ghost use Rattle.ex_run.specs.Scene.{scene};
+ghost use Rattle.ex_run.specs.declared.program.TheConstants.{KEY_LIMIT};
 ghost use Rattle.ex_program.specs.declared.progress.TheConstants.{GENERATED_LINES};
-ghost use Rattle.ex_program.specs.Form.{Form, form_of, lines_of};
+ghost use Rattle.ex_program.specs.ExecRun.{exec_left, exec_over, exec_trace, run_shown};
+ghost use Rattle.ex_program.specs.Form.{form_of, lines_of};
 ghost use Rattle.ex_program.specs.Generates.{Rises, Shows, Sums};
-ghost use Rattle.ex_program.specs.Runs.{Runs};
-ghost use Rattle.ex_program.specs.ExecRun.{exec_left, exec_trace, run_shown};
+ghost use Rattle.ex_program.specs.Stands.{Stands};
 ghost use Rattle.ex_program.specs.Summary.{summary_text};
-ghost use Rattle.ex_program.specs.Scene.{scene};
-ghost use Rattle.ex_program.specs.Stands.{Asks, Ran, Stands, StartCause, logs};
 
-use crate::closing::close;
 use crate::generated_run::summarize;
-use crate::input::start;
-use crate::message::refuse;
 use crate::summary::Summary;
-use crate::words::{self, read_form, read_lines};
-use crate::{Status, Words};
+use crate::words::{read_form, read_lines, usage};
 use cm_blocks::{Grammar, Steps};
 use cm_hooks::Hooks;
 use cm_io::{Clock, Host, NoMemory, Put, Sink, Source, Writer};
-use cm_run::{Application, Stop, run};
 use ex_grammar::{ExecRules, grammar};
-use ex_take::Taker;
+use ex_run::{Program, run_program};
+use ex_store::Store;
+use ex_system::{Status, Words, refuse, refuse_usage};
+use ex_take::Exec;
 use std::alloc::Global;
 use std::sync::ledger::Ledger;
 
-/// The most keys that a run takes.
-pub const KEY_LIMIT: u64 = 16_777_216;
+/// The EXEC as a program over a store.
+pub struct ExecProgram;
 
-// Runs an application over the keys to the end. What is known of the run is one fact, so that a caller that names the
-// application has one clause of it.
-fn run_application<A: Application, K: Source, S: Sink, W: Sink, C: Clock, L: Ledger>(
-    logging: bool,
-    app: &mut A,
-    grammar: &Grammar,
-    hooks: &Hooks<A::Rules>,
-    keys: &mut K,
-    screen: &mut S,
-    log: &mut W,
-    clock: &mut C,
-    steps: &mut Steps<L>,
-) -> Result<(), Stop>
-    requires { Serves A.means grammar.now A.Rules.meanings hooks.now }
-    ensures { Runs A.means logging (IsTrue K.tells × IsTrue C.tells) app.old app.new
-        (scene S.Sink screen.old W.Sink log.old K.Source keys.old C.Clock clock.old steps.old)
-        (scene S.Sink screen.new W.Sink log.new K.Source keys.new C.Clock clock.new steps.new)
-        result }
-{
-    run(
-        KEY_LIMIT, logging, app, grammar, hooks, keys, screen, log, clock, steps,
-    )
+impl Program<Exec> for ExecProgram {
+    ghost use Rattle.ex_take.specs.ExecState.{exec_start};
+    ghost use Rattle.ex_take.proofs.LineKeeping.{exec_keeps_lines};
+
+    ghost begins = { exec_start };
+
+    ghost store_of = { λ at. at.interpreter.state };
+
+    fn grammar(alloc: Global) -> Result<Grammar, NoMemory> {
+        grammar(alloc)
+    }
+
+    fn begin(alloc: Global, store: Store) -> Exec {
+        Exec::new(alloc, store)
+    }
+
+    fn store(app: &Exec) -> &Store {
+        app.store()
+    }
+
+    ghost keeps_lines = { exec_keeps_lines };
 }
 
-// Runs over the keys to the end, writes the image, and shows the message of the status.
-fn run_exec<H: Host, K: Source, S: Sink, W: Sink, C: Clock, L: Ledger>(
-    form: &words::Form<'_>,
-    taker: &mut Taker,
-    grammar: &Grammar,
-    hooks: &Hooks<ExecRules>,
+// Runs the EXEC over the keys, as a form asks.
+#[tactic(auto, using(crate::proofs::Hooking::served_exec))]
+fn run_form<H: Host, K: Source, S: Sink, W: Sink, C: Clock, L: Ledger>(
+    alloc: Global,
+    form: &ex_system::Form<'_>,
     host: &mut H,
     keys: &mut K,
     screen: &mut S,
     log: &mut W,
     clock: &mut C,
+    hooks: &Hooks<ExecRules>,
     steps: &mut Steps<L>,
 ) -> Status
-    requires serves { Serves taker_meaning grammar.now exec_meanings hooks.now }
-    requires start { taker.old ≡ taker_start taker.old.exec.state }
-    ensures ran { Ran (IsTrue K.tells × IsTrue C.tells) (form_view form.now) taker.old.exec.state taker.new
+    requires hooks { Ties exec_meanings hooks.now }
+    requires three { 3 ≤ count hooks.now }
+    ensures { Course (IsTrue K.tells × IsTrue C.tells) exec_over (form_view form.now)
         (scene S.Sink screen.old W.Sink log.old K.Source keys.old C.Clock clock.old steps.old)
         (scene S.Sink screen.new W.Sink log.new K.Source keys.new C.Clock clock.new steps.new)
-        result }
-    ensures counts { StatusCause (counts (S.faults screen.old) (W.faults log.old) (K.faults keys.old))
-        (counts (S.faults screen.new) (W.faults log.new) (K.faults keys.new)) result }
-    ensures saves { Saves (disk_of H.Host host.old) (disk_of H.Host host.new) form.now.out.now taker.new.exec.state
-        result }
-    ensures unlogged { form.now.logs ≡ false
-        → (W.told log.new ≡ W.told log.old) × (W.faults log.new ≡ W.faults log.old) }
-    ensures past_the_prompt { IsRun result }
-    ensures on_screen { IsTrue K.tells → IsTrue C.tells → (taken rest : List ℕ)
-        → (taken ++ rest) ++ K.left keys.new ≡ K.left keys.old
-        → KeepsLine feed Holds taker_meaning (taker_start taker.old.exec.state) (C.left clock.old) taken }
+        (disk_of H.Host host.old) (disk_of H.Host host.new) result }
 {
-    let stop = run_application(
-        form.logs, taker, grammar, hooks, keys, screen, log, clock, steps,
-    );
-    close(
-        stop,
-        taker.has_ended(),
-        taker.store(),
-        form.out,
-        host,
-        screen,
+    run_program::<Exec, ExecProgram, H, K, S, W, C, L>(
+        alloc, form, host, keys, screen, log, clock, hooks, steps,
     )
 }
 
@@ -159,7 +139,6 @@ fn generate<S: Sink, L: Ledger>(
 ///
 /// `hooks` answer the EXEC's rules. `steps` counts the trials: a key costs those of its line behind the
 /// fields that the unchanged front of the line decides.
-#[tactic(auto, using(crate::proofs::Hooking::serves_exec))]
 pub fn exec20<H: Host, K: Source, S: Sink, W: Sink, C: Clock, L: Ledger>(
     alloc: Global,
     words: &Words,
@@ -193,14 +172,14 @@ pub fn exec20<H: Host, K: Source, S: Sink, W: Sink, C: Clock, L: Ledger>(
     ensures done_saved { IsTrue K.tells → IsTrue C.tells → IsTrue H.tells → result ≡ Status.Done
         → (form : Form) → (start : State) → Asks (form_of words.now) (disk_of H.Host host.old) form start
         → H.files host.new form.out
-        ≡ Some (image_text (exec_left form.logs start (C.left clock.old) (K.left keys.old)).exec.state) }
+        ≡ Some (image_text (exec_left form.logs start (C.left clock.old) (K.left keys.old)).interpreter.state) }
 
     // Behind each beginning of the keys taken the screen shows the prompt and the line as they then are, where the next
     // key is for a line: all that the run over them shows leaves both on any screen whose last row was blank.
     ensures on_screen { IsTrue K.tells → IsTrue C.tells → (form : Form) → (start : State)
         → Asks (form_of words.now) (disk_of H.Host host.old) form start
         → (taken rest : List ℕ) → (taken ++ rest) ++ K.left keys.new ≡ K.left keys.old
-        → KeepsLine feed Holds taker_meaning (taker_start start) (C.left clock.old) taken }
+        → KeepsLine feed Holds exec_meaning (exec_start start) (C.left clock.old) taken }
 
     // What stands, whatever the status. With `-g N` nothing but the screen and the counter is touched: the summary of
     // the run over the keys of so many lines is shown, and the counter has risen by what they cost; or memory is
@@ -239,26 +218,16 @@ pub fn exec20<H: Host, K: Source, S: Sink, W: Sink, C: Clock, L: Ledger>(
     ensures limit { IsTrue K.tells → IsTrue C.tells → (form : Form) → (start : State)
         → Asks (form_of words.now) (disk_of H.Host host.old) form start
         → (taken rest : List ℕ) → taken ++ rest ≡ K.left keys.old → length taken ≡ KEY_LIMIT
-        → (exec_left form.logs start (C.left clock.old) taken).exec.ended ≡ false
+        → (exec_left form.logs start (C.left clock.old) taken).interpreter.ended ≡ false
         → IsQuiet (S.faults screen.old) (S.faults screen.new) → IsQuiet (W.faults log.old) (W.faults log.new)
         → IsQuiet (K.faults keys.old) (K.faults keys.new) → IsQuiet (H.faults host.old) (H.faults host.new)
         → (result ≡ Status.KeyLimit) ⊎ (result ≡ Status.NoMemory) }
 {
     let Some(form) = read_form(words) else {
         let Some(lines) = read_lines(words) else {
-            return refuse(Status::Usage, screen);
+            return refuse_usage(usage(), screen);
         };
         return generate(alloc, lines, screen, hooks, steps);
     };
-    let store = match start(alloc, form.input, host) {
-        Ok(store) => store,
-        Err(status) => return refuse(status, screen),
-    };
-    let Ok(grammar) = grammar(alloc) else {
-        return refuse(Status::NoMemory, screen);
-    };
-    let mut taker = Taker::new(alloc, store);
-    run_exec(
-        &form, &mut taker, &grammar, hooks, host, keys, screen, log, clock, steps,
-    )
+    run_form(alloc, &form, host, keys, screen, log, clock, hooks, steps)
 }

@@ -2,37 +2,36 @@
 ghost use Rattle.std.specs.Prelude.{◌≡◌, ◌≤◌, IfSome};
 ghost use Rattle.std.specs.Str.{bytes_eq};
 ghost use Rattle.std.specs.Option.{option_map};
-ghost use Rattle.ex_program.specs.Asked.{form_view};
+ghost use Rattle.ex_system.specs.Asked.{form_view};
 ghost use Rattle.ex_program.specs.declared.progress.TheConstants.{GENERATED_LINES};
-ghost use Rattle.ex_program.specs.Form.{files_of, form_of, is_name, is_number, lines_behind, lines_in, lines_of, with_log};
+ghost use Rattle.ex_program.specs.Form.{files_of, form_of, is_number, lines_behind, lines_in, lines_of, usage, with_log};
 
 use crate::GENERATED_LINES;
 use cm_fields::{are_digits, value_of};
-use cm_io::Words;
+use ex_system::{Form, Words, as_pair, as_triple, in_out, is_name};
 
 // How many digits a number of lines may have.
 const MOST_DIGITS: usize = 6;
 
-/// What words ask for.
-#[derive(Drop)]
-pub struct Form<'a> {
-    /// Whether the log is written.
-    pub logs: bool,
-    /// The name of the file whose image the run begins from; none where it begins anew.
-    pub input: Option<&'a str>,
-    /// The name of the file that the image is written to.
-    pub out: &'a str,
+/// What is shown where the words ask for nothing that the program does.
+#[tactic(auto, unfolding(crate::specs::Form::usage))]
+pub(crate) fn usage() -> &'static str
+    ensures { result.now ≡ usage }
+{
+    "Usage: exec20 [-w] IN OUT | exec20 [-w] -n OUT | exec20 -g N"
 }
 
-/// What the words ask for. None where they ask for nothing that the program does.
+/// What the words ask for. None where they ask for no run over keys.
 #[tactic(auto, using(crate::proofs::WordLaws::of_two, crate::proofs::WordLaws::of_three, crate::proofs::WordLaws::of_others))]
 pub(crate) fn read_form(words: &Words) -> Option<Form<'_>>
     ensures { option_map form_view result ≡ form_of words.now }
 {
-    match words.len() {
-        2 => files_of(false, words.word(0), words.word(1)),
-        3 => with_log(words.word(0), words.word(1), words.word(2)),
-        _ => None,
+    if let Some(two) = as_pair(words) {
+        return files_of(false, two.first, two.second);
+    }
+    match as_triple(words) {
+        Some(three) => with_log(three.first, three.second, three.third),
+        None => None,
     }
 }
 
@@ -42,9 +41,9 @@ pub(crate) fn read_lines(words: &Words) -> Option<u32>
     ensures lines { result ≡ lines_of words.now }
     ensures few { IfSome result (λ lines. lines ≤ GENERATED_LINES) }
 {
-    match words.len() {
-        2 => lines_behind(words.word(0), words.word(1)),
-        _ => None,
+    match as_pair(words) {
+        Some(two) => lines_behind(two.first, two.second),
+        None => None,
     }
 }
 
@@ -59,14 +58,7 @@ fn files_of<'a>(logs: bool, first: &'a str, out: &'a str) -> Option<Form<'a>>
             out,
         });
     }
-    if is_name(first) && is_name(out) && !is(first, out) {
-        return Some(Form {
-            logs,
-            input: Some(first),
-            out,
-        });
-    }
-    None
+    in_out(logs, first, out)
 }
 
 // What three words ask for: two, and `-w` before them.
@@ -118,11 +110,4 @@ fn is(word: &str, text: &str) -> bool
     ensures { result ≡ bytes_eq word.now text.now }
 {
     word == text
-}
-
-// Whether a word can name a file: it is not empty, and begins with no hyphen.
-fn is_name(word: &str) -> bool
-    ensures { result ≡ is_name word.now }
-{
-    !matches!(word.as_bytes(), [] | [b'-', ..])
 }

@@ -5,8 +5,8 @@ ghost use Rattle.ex_grammar.specs.declared.node.TheConstants.{COMMANDS};
 ghost use Rattle.ex_store.specs.State.{State};
 ghost use Rattle.cm_run.specs.Event.{trials_of};
 ghost use Rattle.cm_run.specs.Meaning.{setting_of};
-ghost use Rattle.ex_take.specs.Taker.{taker_meaning};
-ghost use Rattle.ex_take.specs.TakerState.{taker_start};
+ghost use Rattle.ex_take.specs.Exec.{exec_meaning};
+ghost use Rattle.ex_take.specs.ExecState.{exec_start};
 ghost use Rattle.ex_program.specs.ExecRun.{exec_trace};
 
 // The counter takes no bytes, so that no run can show it. Whatever the files are:
@@ -18,8 +18,8 @@ ghost use Rattle.ex_program.specs.ExecRun.{exec_trace};
 //   opens it again.
 fn lines_cost_their_trials()
     ensures { (state : State)
-        → (cost (setting_of taker_meaning (taker_start state)) COMMANDS (codes "DIR A") (codes "DIR AB") ≡ 5)
-        × (cost (setting_of taker_meaning (taker_start state)) COMMANDS [] (codes "DIR AB") ≡ 14)
+        → (cost (setting_of exec_meaning (exec_start state)) COMMANDS (codes "DIR A") (codes "DIR AB") ≡ 5)
+        × (cost (setting_of exec_meaning (exec_start state)) COMMANDS [] (codes "DIR AB") ≡ 14)
         × (trials_of (exec_trace false state [] (codes "DIR " ++ 127 ∷ [])) ≡ 29) }
 {}
 

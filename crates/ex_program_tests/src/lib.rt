@@ -20,6 +20,10 @@ mod given;
 #[cfg(test)]
 mod images;
 #[cfg(test)]
+mod joins;
+#[cfg(test)]
+mod keeping;
+#[cfg(test)]
 mod limit;
 #[cfg(test)]
 mod notation;

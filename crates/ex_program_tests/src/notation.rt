@@ -2,7 +2,7 @@
 // `{5*LF}` what a name stands for, and `{5*~}` a rubout, and all else is itself.
 use std::alloc::AllocError;
 
-const NAMES: [(&str, &str); 17] = [
+const NAMES: [(&str, &str); 18] = [
     ("", ""),
     ("BEL", "\x07"),
     ("CR", "\r"),
@@ -11,6 +11,8 @@ const NAMES: [(&str, &str); 17] = [
     ("ESC", "\x1b"),
     // the records of an image with one directory, up to its files
     ("HEAD", "EXEC20 2\nD OPERATOR 1\nC OPERATOR\n"),
+    // two lines of a command file that are joined
+    ("JOINED", "-\n\n"),
     ("LF", "\n"),
     ("RUB", "\x08 \x08"),
     ("SP", " "),

@@ -37,6 +37,7 @@ mod selection;
 mod simulation;
 mod store;
 mod sweep;
+mod unqueue;
 mod write;
 
 pub use directory::{Definition, DefinitionView, Directory, DirectoryView, Logical};

@@ -12,8 +12,8 @@ use Rattle.ex_commands.specs.Command.{is_pending}
 use Rattle.ex_commands.specs.declared.acted.Acted.{Acted}
 use Rattle.ex_commands.specs.declared.acted.Acted.TheVariants as answers
 use Rattle.ex_commands.specs.declared.command.Command.{Command}
-use Rattle.ex_take.specs.Exec.{allocates, becomes, deed_of}
-use Rattle.ex_take.specs.ExecState.{ExecState}
+use Rattle.ex_take.specs.Interpreter.{allocates, becomes, deed_of}
+use Rattle.ex_take.specs.InterpreterState.{InterpreterState}
 use Rattle.ex_take.specs.Outcome.{outcome_of}
 use Rattle.ex_take.specs.declared.pending.Pending.{Pending}
 use Rattle.ex_take.specs.declared.typing.Typing.{Typing}
@@ -32,11 +32,11 @@ left_by told then act lacks start left answers.Take done = inl done.state
 left_by told then act lacks start left answers.Failed cut = inl cut.state
 left_by told then act lacks start left answers.NoMemory lacking = inr lacking.state
 
-module _ (state : State) (held : Option Typing) (ended : Bool) (waits : Option Pending) (now : ExecState) (moment : ℕ) (command : Command)
+module _ (state : State) (held : Option Typing) (ended : Bool) (waits : Option Pending) (now : InterpreterState) (moment : ℕ) (command : Command)
     (is : record { state = state; typing = held; ended = ended; pending = waits } ≡ becomes now moment command (act_of command moment now.state).answer) where
   -- the state of the file machine is the one that was met
   state_is : state ≡ now.state
-  state_is = ap (λ (it : ExecState). it.state) is ∙ state_kept now moment command (act_of command moment now.state).answer
+  state_is = ap (λ (it : InterpreterState). it.state) is ∙ state_kept now moment command (act_of command moment now.state).answer
 
   pub may_act : MayAct command now.state → MayAct command state
   may_act may = subst (λ (it : State). MayAct command it) (sym state_is) may
@@ -49,7 +49,7 @@ module _ (state : State) (held : Option Typing) (ended : Bool) (waits : Option P
       (sym came)
       (answer_obeys now (becomes now moment command (act_of command moment now.state).answer) (record { state = left; typing = held; ended = ended; pending = waits })
       (allocates command) (act_of command moment now.state) (may_allocate command) told then left
-      (ap (λ (it : ExecState). record it { state = left }) is) (may_want command) (allocating_same now moment command) answer
+      (ap (λ (it : InterpreterState). record it { state = left }) is) (may_want command) (allocating_same now moment command) answer
       (subst (λ (it : State). Answers told then (act_of command moment it) (may_allocate command) it left answer) state_is acts))
 
   -- the answer is that of the act, wherever it went to its end
@@ -69,11 +69,11 @@ module _ (state : State) (held : Option Typing) (ended : Bool) (waits : Option P
       by (left_by told then (act_of command moment state) (may_allocate command) state left answer acts) where
         behind : ForSome held (λ (it : Typing). IsTarget it.to (act_of command moment now.state).state.directories)
         behind = subst (λ (it : Option Typing). ForSome it (λ (typing : Typing). IsTarget typing.to (act_of command moment now.state).state.directories))
-            (sym (ap (λ (it : ExecState). it.typing) is))
+            (sym (ap (λ (it : InterpreterState). it.typing) is))
             (target_kept now moment command line
             (subst (λ (it : State). ForSome (becomes now moment command (act_of command moment now.state).answer).typing (λ (typing : Typing). IsTarget typing.to it.directories))
             (state_kept now moment command (act_of command moment now.state).answer)
-            (subst (λ (it : ExecState). ForSome it.typing (λ (typing : Typing). IsTarget typing.to it.state.directories)) is target)))
+            (subst (λ (it : InterpreterState). ForSome it.typing (λ (typing : Typing). IsTarget typing.to it.state.directories)) is target)))
 
         by : (left ≡ (act_of command moment state).state) ⊎ (left ≡ state) → ForSome held (λ (it : Typing). IsTarget it.to left.directories)
         by (inl acted) = subst (λ (it : State). ForSome held (λ (typing : Typing). IsTarget typing.to it.directories))
@@ -82,4 +82,4 @@ module _ (state : State) (held : Option Typing) (ended : Bool) (waits : Option P
 
   -- and none waits behind it where none did
   pub act_free : now.pending ≡ None → is_pending command ≡ false → waits ≡ None
-  act_free free acts = ap (λ (it : ExecState). it.pending) is ∙ free_kept now moment command acts ∙ free
+  act_free free acts = ap (λ (it : InterpreterState). it.pending) is ∙ free_kept now moment command acts ∙ free

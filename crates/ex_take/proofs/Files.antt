@@ -3,7 +3,7 @@ use Rattle.std.proofs.Common.{◌≡◌, ℕ, zero, suc, get_or, ◌+◌, ◌-�
 use Rattle.std.proofs.lemmas.Bool.Decides.{nat_tests}
 use Rattle.std.proofs.lemmas.List.{length-take-le}
 use Rattle.std.proofs.lemmas.Option.{slice_get-get_or, slice_get_within}
-use Rattle.ex_take.specs.Taker.{innermost, is_over, open_files}
+use Rattle.ex_take.specs.Exec.{innermost, is_over, open_files}
 
 -- one at the end that is over is none of those that go on
 open_over : (files : List (List (List ℕ))) (file : List (List ℕ)) → (length file == 0) ≡ true
@@ -12,7 +12,7 @@ open_over [] file over = rw over refl
 open_over (one ∷ files) file over =
     ap (λ others. cond (length others == 0 && length one == 0) [] (one ∷ others)) (open_over files file over)
 
-some_left : (files : List (List (List ℕ))) (file : List (List ℕ)) → (length (files ++ file ∷ []) == 0) ≡ false
+pub some_left : (files : List (List (List ℕ))) (file : List (List ℕ)) → (length (files ++ file ∷ []) == 0) ≡ false
 some_left files file =
     let size : length (file ∷ []) ≡ 1 = refl in grind (arith, nat_tests, length-append files (file ∷ []), size)
 
@@ -53,7 +53,7 @@ pub open_less : (files others : List (List (List ℕ))) → is_over (innermost f
 open_less files others over less = ap open_files less ∙ by_last files (innermost files) refl over
 
 -- else all go on
-some_last : (file : List (List ℕ)) (files : List (List (List ℕ))) → innermost (file ∷ files) ≡ None → ⊥
+pub some_last : (file : List (List ℕ)) (files : List (List (List ℕ))) → innermost (file ∷ files) ≡ None → ⊥
 some_last file files is =
     let size : length (file ∷ files) ≡ suc (length files) = refl in
     let there : slice_get (file ∷ files) (length (file ∷ files) - 1) ≡ Some (get_or (file ∷ files) (length (file ∷ files) - 1) file)

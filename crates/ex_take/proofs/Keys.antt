@@ -12,60 +12,60 @@ use Rattle.ex_commands.specs.declared.data.DataTurn.{DataTurn}
 use Rattle.ex_commands.specs.declared.data.DataTurn.TheVariants as turns
 use Rattle.ex_commands.proofs.Coming.{ends_by_logout}
 use Rattle.ex_commands.proofs.TypedEnds.{others_keep}
-use Rattle.ex_take.specs.Exec.{becomes, deed_of, raw_by, typed_deeds}
-use Rattle.ex_take.specs.ExecState.{ExecState}
+use Rattle.ex_take.specs.Interpreter.{becomes, deed_of, raw_by, typed_deeds}
+use Rattle.ex_take.specs.InterpreterState.{InterpreterState}
 use Rattle.ex_take.specs.declared.pending.Pending.{Pending}
 use Rattle.ex_take.specs.declared.typing.Typing.{Typing}
 
 -- a file is written by control-Z alone
-kept_by : (exec : ExecState) (to : Typing) (turn : DataTurn) → turn ≢ turns.Write → (left_by exec (typed_deeds exec to turn)).state ≡ exec.state
+kept_by : (interpreter : InterpreterState) (to : Typing) (turn : DataTurn) → turn ≢ turns.Write → (left_by interpreter (typed_deeds interpreter to turn)).state ≡ interpreter.state
 unfolding typed_deeds
-kept_by exec to turns.More other = refl
-kept_by exec to turns.Write other = absurd (other refl)
-kept_by exec to turns.Dropped other = refl
+kept_by interpreter to turns.More other = refl
+kept_by interpreter to turns.Write other = absurd (other refl)
+kept_by interpreter to turns.Dropped other = refl
 
-raw_keeps : (exec : ExecState) (key : ℕ) (typing : Option Typing) → key ≢ 26 → (left_by exec (raw_by exec key typing)).state ≡ exec.state
-raw_keeps exec key None other = refl
-raw_keeps exec key (Some typing) other =
-    kept_by exec (record typing { typed = bytes_behind typing.typed key }) (typed.turn_of (echo_of typing.typed key)) (others_keep typing.typed key other)
+raw_keeps : (interpreter : InterpreterState) (key : ℕ) (typing : Option Typing) → key ≢ 26 → (left_by interpreter (raw_by interpreter key typing)).state ≡ interpreter.state
+raw_keeps interpreter key None other = refl
+raw_keeps interpreter key (Some typing) other =
+    kept_by interpreter (record typing { typed = bytes_behind typing.typed key }) (typed.turn_of (echo_of typing.typed key)) (others_keep typing.typed key other)
 
-pub only_control_z : (exec : ExecState) (key : ℕ) → key ≢ 26 → (left_by exec (raw_by exec key exec.typing)).state ≡ exec.state
-only_control_z exec key other = raw_keeps exec key exec.typing other
+pub only_control_z : (interpreter : InterpreterState) (key : ℕ) → key ≢ 26 → (left_by interpreter (raw_by interpreter key interpreter.typing)).state ≡ interpreter.state
+only_control_z interpreter key other = raw_keeps interpreter key interpreter.typing other
 
 -- the run is ended by LOGOUT alone
-raw_goes_on : (exec : ExecState) (to : Typing) (turn : DataTurn) → (left_by exec (typed_deeds exec to turn)).ended ≡ exec.ended
+raw_goes_on : (interpreter : InterpreterState) (to : Typing) (turn : DataTurn) → (left_by interpreter (typed_deeds interpreter to turn)).ended ≡ interpreter.ended
 unfolding typed_deeds
-raw_goes_on exec to turns.More = refl
-raw_goes_on exec to turns.Write = refl
-raw_goes_on exec to turns.Dropped = refl
+raw_goes_on interpreter to turns.More = refl
+raw_goes_on interpreter to turns.Write = refl
+raw_goes_on interpreter to turns.Dropped = refl
 
-pub keys_go_on : (exec : ExecState) (key : ℕ) (typing : Option Typing) → (left_by exec (raw_by exec key typing)).ended ≡ exec.ended
-keys_go_on exec key None = refl
-keys_go_on exec key (Some typing) =
-    raw_goes_on exec (record typing { typed = bytes_behind typing.typed key }) (typed.turn_of (echo_of typing.typed key))
+pub keys_go_on : (interpreter : InterpreterState) (key : ℕ) (typing : Option Typing) → (left_by interpreter (raw_by interpreter key typing)).ended ≡ interpreter.ended
+keys_go_on interpreter key None = refl
+keys_go_on interpreter key (Some typing) =
+    raw_goes_on interpreter (record typing { typed = bytes_behind typing.typed key }) (typed.turn_of (echo_of typing.typed key))
 
-ends_by : (exec : ExecState) (moment : ℕ) (command : Command) (answer : Acted) → exec.ended ≡ false
-    → (becomes exec moment command answer).ended ≡ true → answer ≡ answers.Logout
+ends_by : (interpreter : InterpreterState) (moment : ℕ) (command : Command) (answer : Acted) → interpreter.ended ≡ false
+    → (becomes interpreter moment command answer).ended ≡ true → answer ≡ answers.Logout
 unfolding becomes
-ends_by exec moment command answers.Take on over = let wrong : true ≡ false = sym over ∙ on in absurd (cc)
-ends_by exec moment command answers.Data on over = let wrong : true ≡ false = sym over ∙ on in absurd (cc)
-ends_by exec moment command answers.Pending on over = let wrong : true ≡ false = sym over ∙ on in absurd (cc)
-ends_by exec moment command answers.Logout on over = refl
-ends_by exec moment command answers.Ok on over = let wrong : true ≡ false = sym over ∙ on in absurd (cc)
-ends_by exec moment command (answers.Refused code) on over = let wrong : true ≡ false = sym over ∙ on in absurd (cc)
-ends_by exec moment command answers.NoMemory on over = let wrong : true ≡ false = sym over ∙ on in absurd (cc)
-ends_by exec moment command answers.Failed on over = let wrong : true ≡ false = sym over ∙ on in absurd (cc)
+ends_by interpreter moment command answers.Take on over = let wrong : true ≡ false = sym over ∙ on in absurd (cc)
+ends_by interpreter moment command answers.Data on over = let wrong : true ≡ false = sym over ∙ on in absurd (cc)
+ends_by interpreter moment command answers.Pending on over = let wrong : true ≡ false = sym over ∙ on in absurd (cc)
+ends_by interpreter moment command answers.Logout on over = refl
+ends_by interpreter moment command answers.Ok on over = let wrong : true ≡ false = sym over ∙ on in absurd (cc)
+ends_by interpreter moment command (answers.Refused code) on over = let wrong : true ≡ false = sym over ∙ on in absurd (cc)
+ends_by interpreter moment command answers.NoMemory on over = let wrong : true ≡ false = sym over ∙ on in absurd (cc)
+ends_by interpreter moment command answers.Failed on over = let wrong : true ≡ false = sym over ∙ on in absurd (cc)
 
 -- a command that acts ends the run where it is LOGOUT
-pub act_ends : (exec : ExecState) (moment : ℕ) (command : Command) → exec.ended ≡ false
-    → (deed_of exec moment command).state.ended ≡ true → command ≡ commands.Logout
-act_ends exec moment command on over =
-    (ends_by_logout command moment exec.state).0 (ends_by exec moment command (act_of command moment exec.state).answer on over)
+pub act_ends : (interpreter : InterpreterState) (moment : ℕ) (command : Command) → interpreter.ended ≡ false
+    → (deed_of interpreter moment command).state.ended ≡ true → command ≡ commands.Logout
+act_ends interpreter moment command on over =
+    (ends_by_logout command moment interpreter.state).0 (ends_by interpreter moment command (act_of command moment interpreter.state).answer on over)
 
 -- and behind the subcommands of one that waited
-pub completion_ends : (exec : ExecState) (pending : Pending) (test : Bool) → exec.ended ≡ false
-    → (left_by (record exec { pending = Some pending })
-    (cond test [] (deed_of (record exec { pending = None }) pending.moment pending.command ∷ []))).ended ≡ true
+pub completion_ends : (interpreter : InterpreterState) (pending : Pending) (test : Bool) → interpreter.ended ≡ false
+    → (left_by (record interpreter { pending = Some pending })
+    (cond test [] (deed_of (record interpreter { pending = None }) pending.moment pending.command ∷ []))).ended ≡ true
     → pending.command ≡ commands.Logout
-completion_ends exec pending true on over = let wrong : true ≡ false = sym over ∙ on in absurd (cc)
-completion_ends exec pending false on over = act_ends (record exec { pending = None }) pending.moment pending.command on over
+completion_ends interpreter pending true on over = let wrong : true ≡ false = sym over ∙ on in absurd (cc)
+completion_ends interpreter pending false on over = act_ends (record interpreter { pending = None }) pending.moment pending.command on over

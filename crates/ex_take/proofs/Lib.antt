@@ -1,5 +1,6 @@
 mod Acting
 mod Becoming
+mod Changes
 mod Files
 mod Following
 mod Keys
@@ -7,5 +8,8 @@ pub mod LineKeeping
 mod LineLaws
 mod Obeying
 mod Outcomes
+mod Quiet
+mod QuietKeys
+mod QuietLines
 mod TypedKeys
 mod Waiting

@@ -1,30 +1,47 @@
--- The lines that are left of a command file.
-use Rattle.std.proofs.Common.{◌≡◌, ℕ, zero, suc, ◌≤◌, nat_le, Bool, true, false, List, [], ◌∷◌, ◌&&◌, length, drop, Option, None, Some, refl, sym, ap, ◌∙◌, arith}
+-- The lines of a command file.
+use Rattle.std.proofs.Common.{◌≡◌, ℕ, ◌≤◌, nat_le, Bool, true, false, List, [], ◌∷◌, ◌&&◌, ◌+◌, length, take, drop, Option, None, Some, refl, sym, ap, subst, ◌∙◌, arith}
 use Rattle.std.specs.List.{AllByRecursion, list_all}
-use Rattle.std.specs.Option.{option_map_or}
 use Rattle.std.proofs.lemmas.Bool.Decides.{nat_tests}
-use Rattle.cm_text.specs.Bytes.{is_text}
-use Rattle.cm_text.specs.Lines.{lines, lines_behind}
-use Rattle.cm_text.specs.Text.{IsLine}
+use Rattle.cm_text.specs.Bytes.{is_line_byte}
+use Rattle.std.proofs.lemmas.List.{drop-drop}
+use Rattle.cm_text.specs.Lines.{BeginsLine, BeginsLines, lines}
+use Rattle.cm_text.specs.declared.lines.LineEnd.{LineEnd}
+use Rattle.cm_text.specs.Text.{IsLine, ends_in_hyphen}
 use Rattle.cm_text.specs.declared.text.TheConstants.{LINE_LIMIT}
-use Rattle.cm_text.proofs.LineBytes.{texts_in_line}
-use Rattle.ex_take.specs.Lines.{is_line}
+use Rattle.ex_take.specs.Lines.{file_lines, is_line, joined_behind, joined_lines}
 
--- where nothing is left, nothing is passed
-dropped_none : (n : ℕ) (none : List ℕ) → none ≡ [] → drop n none ≡ []
-dropped_none zero [] is = refl
-dropped_none (suc n) [] is = refl
-dropped_none n (byte ∷ none) is = absurd (cc)
+-- a line that ends in no hyphen is whole
+pub whole_line : (line : List ℕ) (others : List (List ℕ)) → ends_in_hyphen line ≡ false
+    → joined_behind line others ≡ line ∷ joined_lines others
+whole_line line [] whole = refl
+whole_line line (next ∷ others) whole = rw whole refl
 
-pub nothing_passes : {V : Type 0} (f : V → List ℕ) (bytes : Option V) (at : ℕ) (left : List (List ℕ)) → ((v : V) → bytes ≡ Some v → ⊥)
-    → lines (drop at (option_map_or f bytes [])) ≡ left → left ≡ drop 1 left
-unfolding lines
-nothing_passes f (Some v) at left none is = absurd (none v refl)
-nothing_passes f None at left none is =
-    let empty : left ≡ [] = sym is ∙ ap (λ (it : List ℕ). lines_behind [] it) (dropped_none at [] refl) in
-    empty ∙ sym (ap (λ (it : List (List ℕ)). drop 1 it) empty)
+-- no line is left
+pub no_line : (bytes rest : List ℕ) (at : ℕ) (found : Option LineEnd) → rest ≡ drop at bytes → BeginsLines rest found → found ≡ None
+    → [] ≡ file_lines (drop at bytes)
+unfolding file_lines
+no_line bytes rest at found is begins none =
+    let empty : lines rest ≡ [] = subst (λ (it : Option LineEnd). BeginsLines rest it) none begins in
+    sym (ap (λ (it : List ℕ). joined_lines (lines it)) (sym is) ∙ ap joined_lines empty)
 
--- text bytes alone
+-- the first line is read, and continued by those that follow it
+pub reads_line : (bytes rest more : List ℕ) (at : ℕ) (found : Option LineEnd) (first : LineEnd) (line new : List ℕ) (result : ℕ)
+    → rest ≡ drop at bytes → BeginsLines rest found → found ≡ Some first → line ≡ take first.end rest → more ≡ drop first.next rest
+    → joined_behind line (lines more) ≡ new ∷ file_lines (drop result more)
+    → new ∷ file_lines (drop (at + first.next + result) bytes) ≡ file_lines (drop at bytes)
+unfolding file_lines
+reads_line bytes rest more at found first line new result is begins some read behind joins =
+    let begin : BeginsLine rest first = subst (λ (it : Option LineEnd). BeginsLines rest it) some begins in
+    let place : drop result more ≡ drop (at + first.next + result) bytes
+    = ap (λ (it : List ℕ). drop result it) behind ∙ drop-drop result first.next rest ∙ ap (λ (it : List ℕ). drop (first.next + result) it) is
+    ∙ drop-drop (first.next + result) at bytes ∙ ap (λ (n : ℕ). drop n bytes) (omega arith) in
+    sym (ap (λ (it : List ℕ). joined_lines (lines it)) (sym is)
+    ∙ ap (λ (it : List (List ℕ)). joined_lines it) begin.line
+    ∙ ap (λ (it : List ℕ). joined_behind it (lines (drop first.next rest))) (sym read)
+    ∙ ap (λ (it : List ℕ). joined_behind line (lines it)) (sym behind)
+    ∙ joins ∙ ap (λ (it : List ℕ). new ∷ file_lines it) place)
+
+-- text bytes and join bytes alone
 and_left : (a b : Bool) → (a && b) ≡ true → a ≡ true
 and_left true b both = refl
 and_left false b both = both
@@ -33,14 +50,15 @@ and_right : (a b : Bool) → (a && b) ≡ true → b ≡ true
 and_right true b both = both
 and_right false b both = absurd (cc)
 
-all_text : (bytes : List ℕ) → list_all is_text bytes ≡ true → AllByRecursion (λ byte. is_text byte ≡ true) bytes
-all_text [] all = tt
-all_text (byte ∷ bytes) all = (and_left (is_text byte) (list_all is_text bytes) all, all_text bytes (and_right (is_text byte) (list_all is_text bytes) all))
+all_plain : (bytes : List ℕ) → list_all is_line_byte bytes ≡ true → AllByRecursion (λ byte. is_line_byte byte ≡ true) bytes
+all_plain [] all = tt
+all_plain (byte ∷ bytes) all =
+    (and_left (is_line_byte byte) (list_all is_line_byte bytes) all, all_plain bytes (and_right (is_line_byte byte) (list_all is_line_byte bytes) all))
 
 pub line_holds : (line : List ℕ) → is_line line ≡ true → IsLine line
 line_holds line is = record {
-  short = nat_le_true (length line) LINE_LIMIT (and_left (nat_le (length line) LINE_LIMIT) (list_all is_text line) is);
-  plain = texts_in_line line (all_text line (and_right (nat_le (length line) LINE_LIMIT) (list_all is_text line) is));
+  short = nat_le_true (length line) LINE_LIMIT (and_left (nat_le (length line) LINE_LIMIT) (list_all is_line_byte line) is);
+  plain = all_plain line (and_right (nat_le (length line) LINE_LIMIT) (list_all is_line_byte line) is);
 }
   where
     nat_le_true : (n m : ℕ) → nat_le n m ≡ true → n ≤ m

@@ -14,27 +14,28 @@ use Rattle.cm_run.proofs.Causes.{obey_cause_on}
 use Rattle.cm_run.proofs.Deeds.{deeds_traces}
 use Rattle.cm_run.proofs.Joining.{traces_cut, traces_on}
 use Rattle.ex_store.specs.declared.place.Place.{Place}
-use Rattle.ex_take.specs.Taker.{take_deeds, taker_meaning}
-use Rattle.ex_take.specs.TakerState.{TakerState}
-use Rattle.ex_take.specs.Taking.{outcome_of, take_trace, took_at, took_by, took_of}
+use Rattle.ex_take.specs.Exec.{take_deeds, exec_meaning}
+use Rattle.ex_take.specs.ExecState.{ExecState}
+use Rattle.ex_take.specs.Taking.{Rests, is_at_rest, outcome_of, rested, take_trace, took_at, took_by, took_of}
 use Rattle.ex_take.specs.declared.taking.Took.{Took}
+use Rattle.ex_take.specs.declared.taking.Took.TheVariants as took
 
-module _ (log : Told) (keys : List ℕ) (gets : ℕ) (moments : List ℕ) (trials : ℕ) (told middle : Told) (at on : TakerState) (file : Place) (moment : ℕ) where
+module _ (log : Told) (keys : List ℕ) (gets : ℕ) (moments : List ℕ) (trials : ℕ) (told middle : Told) (at on : ExecState) (file : Place) (moment : ℕ) where
   leaves : Obeys (stage told at) (stage middle on) (take_deeds at file) (Ok tt) → on ≡ left_by at (take_deeds at file)
   unfolding Obeys
-  leaves obeys = ap (λ (it : Stage TakerState). it.state) obeys
+  leaves obeys = ap (λ (it : Stage ExecState). it.state) obeys
 
   -- the file is opened, and its lines are taken
-  pub take_on : (b : Observed TakerState) (result went : Result Unit Stop) → went ≡ Ok tt
+  pub take_on : (b : Observed ExecState) (result went : Result Unit Stop) → went ≡ Ok tt
       → Obeys (stage told at) (stage middle on) (take_deeds at file) went
-      → Traces (observed middle log keys gets moments trials on) b (file_trace taker_meaning FILE_LINES moment on) result
+      → Traces (observed middle log keys gets moments trials on) b (file_trace exec_meaning FILE_LINES moment on) result
       → Traces (observed told log keys gets moments trials at) b (take_trace at file moment) result
   take_on b result went is obeys more =
       let done : Obeys (stage told at) (stage middle on) (take_deeds at file) (Ok tt)
       = subst (λ (it : Result Unit Stop). Obeys (stage told at) (stage middle on) (take_deeds at file) it) is obeys in
       traces_on (observed told log keys gets moments trials at) (observed middle log keys gets moments trials on) b (deeds_trace (take_deeds at file))
-      (file_trace taker_meaning FILE_LINES moment (left_by at (take_deeds at file))) tt result
-      (subst (λ (it : TakerState). Traces (observed middle log keys gets moments trials on) b (file_trace taker_meaning FILE_LINES moment it) result) (leaves done) more)
+      (file_trace exec_meaning FILE_LINES moment (left_by at (take_deeds at file))) tt result
+      (subst (λ (it : ExecState). Traces (observed middle log keys gets moments trials on) b (file_trace exec_meaning FILE_LINES moment it) result) (leaves done) more)
       (deeds_traces log keys gets moments trials (take_deeds at file) told middle at on (Ok tt) done)
 
   -- or that is cut short
@@ -42,19 +43,19 @@ module _ (log : Told) (keys : List ℕ) (gets : ℕ) (moments : List ℕ) (trial
       → Traces (observed told log keys gets moments trials at) (observed middle log keys gets moments trials on) (take_trace at file moment) (Err why)
   take_cut why went is obeys =
       traces_cut (observed told log keys gets moments trials at) (observed middle log keys gets moments trials on) (deeds_trace (take_deeds at file))
-      (file_trace taker_meaning FILE_LINES moment (left_by at (take_deeds at file))) why
+      (file_trace exec_meaning FILE_LINES moment (left_by at (take_deeds at file))) why
       (deeds_traces log keys gets moments trials (take_deeds at file) told middle at on (Err why)
       (subst (λ (it : Result Unit Stop). Obeys (stage told at) (stage middle on) (take_deeds at file) it) is obeys))
 
 -- what came of it says how it went
-ok_of : (at : TakerState) → outcome_of (took_of at) ≡ Ok tt
-ok_of at = by at.exec.ended at.stop where
+ok_of : (at : ExecState) → outcome_of (took_of at) ≡ Ok tt
+ok_of at = by at.interpreter.ended at.stop where
   by : (ended : Bool) (why : Option Code) → outcome_of (took_at ended why) ≡ Ok tt
   by true why = refl
   by false (Some code) = refl
   by false None = refl
 
-pub went_so : (f g : ℕ) (at : TakerState) (went : Result Unit Stop) → ObeyCause f g went → went ≡ outcome_of (took_by at went)
+pub went_so : (f g : ℕ) (at : ExecState) (went : Result Unit Stop) → ObeyCause f g went → went ≡ outcome_of (took_by at went)
 unfolding ObeyCause
 went_so f g at (Ok value) cause = sym (ok_of at)
 went_so f g at (Err stop.Memory) cause = refl
@@ -64,7 +65,7 @@ went_so f g at (Err stop.Keys) cause = absurd cause
 went_so f g at (Err stop.Limit) cause = absurd cause
 
 -- where it was not cut, it is told by what it left
-pub told_by : (at : TakerState) (went : Result Unit Stop) → outcome_of (took_by at went) ≡ Ok tt → took_by at went ≡ took_of at
+pub told_by : (at : ExecState) (went : Result Unit Stop) → outcome_of (took_by at went) ≡ Ok tt → took_by at went ≡ took_of at
 told_by at (Ok value) whole = refl
 told_by at (Err stop.Memory) whole = absurd (cc)
 told_by at (Err stop.Screen) whole = absurd (cc)
@@ -73,15 +74,39 @@ told_by at (Err stop.Keys) whole = absurd (cc)
 told_by at (Err stop.Limit) whole = absurd (cc)
 
 -- by the counts
-pub opens_cause : (f g : ℕ) (at : TakerState) (went : Result Unit Stop) (why : Stop) (result : Took) → went ≡ Err why → result ≡ took_by at (Err why)
+pub opens_cause : (f g : ℕ) (at : ExecState) (went : Result Unit Stop) (why : Stop) (result : Took) → went ≡ Err why → result ≡ took_by at (Err why)
     → ObeyCause f g went → ObeyCause f g (outcome_of result)
 opens_cause f g at went why result is came cause =
     let cut : ObeyCause f g (Err why) = subst (λ (it : Result Unit Stop). ObeyCause f g it) is cause in
     subst (λ (it : Result Unit Stop). ObeyCause f g it) (went_so f g at (Err why) cut ∙ ap outcome_of (sym came)) cut
 
-pub lines_cause : (a b c : ℕ) (at : TakerState) (first went : Result Unit Stop) (result : Took) → first ≡ Ok tt → result ≡ took_by at went
+pub lines_cause : (a b c : ℕ) (at : ExecState) (first went : Result Unit Stop) (result : Took) → first ≡ Ok tt → result ≡ took_by at went
     → ObeyCause a b first → ObeyCause b c went → ObeyCause a c (outcome_of result)
 unfolding ObeyCause
 lines_cause a b c at first went result is came cause more =
     obey_cause_on a b c (outcome_of result) (subst (λ (it : Result Unit Stop). ObeyCause a b it) is cause)
     (subst (λ (it : Result Unit Stop). ObeyCause b c it) (went_so b c at went more ∙ ap outcome_of (sym came)) more)
+
+-- behind it nothing is left to be done
+rest_of : (left : ExecState) → left.interpreter.ended ≡ false → is_at_rest (rested left) ≡ true
+rest_of left on = rw on refl
+
+on_where_ok : (ended : Bool) (why : Option Code) → took.Ok ≡ took_at ended why → ended ≡ false
+on_where_ok true why is = absurd (cc)
+on_where_ok false why is = refl
+
+on_where_stopped : (ended : Bool) (why : Option Code) (code : Code) → took.Stopped code ≡ took_at ended why → ended ≡ false
+on_where_stopped true why code is = absurd (cc)
+on_where_stopped false why code is = refl
+
+over_where_logout : (ended : Bool) (why : Option Code) → took.Logout ≡ took_at ended why → ended ≡ true
+over_where_logout true why is = refl
+over_where_logout false (Some code) is = absurd (cc)
+over_where_logout false None is = absurd (cc)
+
+pub rests : (result : Took) (left : ExecState) → (outcome_of result ≡ Ok tt → result ≡ took_of left) → Rests result (rested left)
+rests took.Ok left told = rest_of left (on_where_ok left.interpreter.ended left.stop (told refl))
+rests (took.Stopped code) left told = rest_of left (on_where_stopped left.interpreter.ended left.stop code (told refl))
+rests took.Logout left told = over_where_logout left.interpreter.ended left.stop (told refl)
+rests took.NoMemory left told = λ on. rest_of left on
+rests took.Failed left told = λ on. rest_of left on

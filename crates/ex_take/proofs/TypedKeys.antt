@@ -8,22 +8,22 @@ use Rattle.ex_commands.specs.Typed.{bytes_behind, echo_of, turn_of}
 use Rattle.ex_commands.specs.declared.data.DataTurn.{DataTurn}
 use Rattle.ex_commands.specs.declared.data.DataTurn.TheVariants as turns
 use Rattle.ex_commands.specs.declared.acted.Acted.{Acted}
-use Rattle.ex_take.specs.Exec.{raw_answer, raw_by, typed_answer, typed_deeds, written}
-use Rattle.ex_take.specs.ExecState.{ExecState}
+use Rattle.ex_take.specs.Interpreter.{raw_answer, raw_by, typed_answer, typed_deeds, written}
+use Rattle.ex_take.specs.InterpreterState.{InterpreterState}
 use Rattle.ex_take.specs.declared.pending.Pending.{Pending}
 use Rattle.ex_take.specs.declared.typing.Typing.{Typing}
 use Rattle.ex_take.proofs.Obeying.{obeys_behind, obeys_silent}
 
-module _ (state : State) (held : Option Typing) (ended : Bool) (waits : Option Pending) (now : ExecState) (key : ℕ) (typing : Typing) (told : Told)
+module _ (state : State) (held : Option Typing) (ended : Bool) (waits : Option Pending) (now : InterpreterState) (key : ℕ) (typing : Typing) (told : Told)
     (view : record { state = state; typing = held; ended = ended; pending = waits } ≡ now) (some : held ≡ Some typing)
     (bytes : List ℕ) (puts : bytes ≡ bytes_behind typing.typed key) where
   -- what it does by what it comes to
-  by_turn : (then : Told) (next : ExecState) (result : Result Unit Stop) (turn : DataTurn) → turn_of (echo_of typing.typed key) ≡ turn
+  by_turn : (then : Told) (next : InterpreterState) (result : Result Unit Stop) (turn : DataTurn) → turn_of (echo_of typing.typed key) ≡ turn
       → Obeys (stage told now) (stage then next) (typed_deeds now (record typing { typed = bytes }) turn) result
       → Obeys (stage told now) (stage then next) (raw_by now key now.typing) result
   by_turn then next result turn is obeys =
       subst (λ (it : Option Typing). Obeys (stage told now) (stage then next) (raw_by now key it) result)
-      (sym some ∙ ap (λ (it : ExecState). it.typing) view)
+      (sym some ∙ ap (λ (it : InterpreterState). it.typing) view)
       (subst (λ (it : DataTurn). Obeys (stage told now) (stage then next) (typed_deeds now (record typing { typed = bytes_behind typing.typed key }) it) result)
       (sym is)
       (subst (λ (it : List ℕ). Obeys (stage told now) (stage then next) (typed_deeds now (record typing { typed = it }) turn) result) puts obeys))
@@ -33,7 +33,7 @@ module _ (state : State) (held : Option Typing) (ended : Bool) (waits : Option P
       (raw_by now key now.typing) (Ok tt)
   unfolding typed_deeds
   more is =
-      subst (λ (it : ExecState). Obeys (stage told now) (stage told (record it { typing = Some (record typing { typed = bytes }) })) (raw_by now key now.typing) (Ok tt))
+      subst (λ (it : InterpreterState). Obeys (stage told now) (stage told (record it { typing = Some (record typing { typed = bytes }) })) (raw_by now key now.typing) (Ok tt))
       (sym view)
       (by_turn told (record now { typing = Some (record typing { typed = bytes }) }) (Ok tt) turns.More is
       (obeys_silent told now (record now { typing = Some (record typing { typed = bytes }) })))
@@ -42,12 +42,12 @@ module _ (state : State) (held : Option Typing) (ended : Bool) (waits : Option P
       → Obeys (stage told now) (stage told (record { state = state; typing = rest; ended = ended; pending = waits })) (raw_by now key now.typing) (Ok tt)
   unfolding typed_deeds
   dropped is rest as_none =
-      subst (λ (it : ExecState). Obeys (stage told now) (stage told (record it { typing = rest })) (raw_by now key now.typing) (Ok tt)) (sym view)
+      subst (λ (it : InterpreterState). Obeys (stage told now) (stage told (record it { typing = rest })) (raw_by now key now.typing) (Ok tt)) (sym view)
       (subst (λ (it : Option Typing). Obeys (stage told now) (stage told (record now { typing = it })) (raw_by now key now.typing) (Ok tt)) (sym as_none)
       (by_turn told (record now { typing = None }) (Ok tt) turns.Dropped is (obeys_silent told now (record now { typing = None }))))
 
   pub written_out : turn_of (echo_of typing.typed key) ≡ turns.Write → (rest : Option Typing) → rest ≡ None
-      → (then : Told) (next : ExecState) (result : Result Unit Stop)
+      → (then : Told) (next : InterpreterState) (result : Result Unit Stop)
       → Obeys (stage told (record { state = state; typing = rest; ended = ended; pending = waits })) (stage then next)
       (written (record { state = state; typing = rest; ended = ended; pending = waits }) (record typing { typed = bytes }) ∷ []) result
       → Obeys (stage told now) (stage then next) (raw_by now key now.typing) result
@@ -55,7 +55,7 @@ module _ (state : State) (held : Option Typing) (ended : Bool) (waits : Option P
   written_out is rest as_none then next result obeys =
       by_turn then next result turns.Write is
       (obeys_behind told then now (record now { typing = None }) next (written (record now { typing = None }) (record typing { typed = bytes }) ∷ []) result
-      (subst (λ (it : ExecState). Obeys (stage told (record it { typing = None })) (stage then next)
+      (subst (λ (it : InterpreterState). Obeys (stage told (record it { typing = None })) (stage then next)
       (written (record it { typing = None }) (record typing { typed = bytes }) ∷ []) result) view
       (subst (λ (it : Option Typing). Obeys (stage told (record { state = state; typing = it; ended = ended; pending = waits })) (stage then next)
       (written (record { state = state; typing = it; ended = ended; pending = waits }) (record typing { typed = bytes }) ∷ []) result) as_none obeys)))
@@ -64,6 +64,6 @@ module _ (state : State) (held : Option Typing) (ended : Bool) (waits : Option P
   pub raw_answers : (turn : DataTurn) → turn_of (echo_of typing.typed key) ≡ turn → (answer : Acted)
       → answer ≡ typed_answer now (record typing { typed = bytes }) turn → answer ≡ raw_answer now key now.typing
   raw_answers turn is answer came =
-      subst (λ (it : Option Typing). answer ≡ raw_answer now key it) (sym some ∙ ap (λ (it : ExecState). it.typing) view)
+      subst (λ (it : Option Typing). answer ≡ raw_answer now key it) (sym some ∙ ap (λ (it : InterpreterState). it.typing) view)
       (subst (λ (it : DataTurn). answer ≡ typed_answer now (record typing { typed = bytes_behind typing.typed key }) it) (sym is)
       (subst (λ (it : List ℕ). answer ≡ typed_answer now (record typing { typed = it }) turn) puts came))

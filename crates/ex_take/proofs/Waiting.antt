@@ -19,9 +19,9 @@ use Rattle.ex_commands.specs.declared.acted.Acted.TheVariants as answers
 use Rattle.ex_commands.specs.declared.command.Command.{Command}
 use Rattle.ex_commands.specs.declared.command.Command.TheVariants as commands
 use Rattle.ex_commands.proofs.Coming.{waiting_changes_nothing, waits_for_subcommands}
-use Rattle.ex_take.specs.Exec.{becomes, completion_answer, deed_of, mode_by, subcommand_deeds}
+use Rattle.ex_take.specs.Interpreter.{becomes, completion_answer, deed_of, mode_by, subcommand_deeds}
 use Rattle.ex_take.specs.Outcome.{lacks_memory}
-use Rattle.ex_take.specs.ExecState.{ExecState}
+use Rattle.ex_take.specs.InterpreterState.{InterpreterState}
 use Rattle.ex_take.specs.declared.pending.Pending.{Pending}
 use Rattle.ex_take.specs.declared.typing.Typing.{Typing}
 use Rattle.ex_take.proofs.Obeying.{obeys_behind, obeys_silent}
@@ -31,7 +31,7 @@ abbrev pub pending_of : Command → ℕ → Pending
 pending_of command moment = record { command = command; moment = moment }
 
 -- a command with subcommands waits for them, and shows nothing
-pub waits_obeys : (now : ExecState) (moment : ℕ) (command : Command) (told : Told) → is_pending command ≡ true
+pub waits_obeys : (now : InterpreterState) (moment : ℕ) (command : Command) (told : Told) → is_pending command ≡ true
     → Obeys (stage told now) (stage told (record now { pending = Some (pending_of command moment) })) (deed_of now moment command ∷ []) (Ok tt)
 unfolding becomes
 waits_obeys now moment command told pending =
@@ -43,7 +43,7 @@ waits_obeys now moment command told pending =
     (ap (λ (it : State). record (record now { pending = Some (pending_of command moment) }) { state = it }) (sym rest.0)
     ∙ ap (λ (it : Acted). record (becomes now moment command it) { state = act.state }) (sym answer))
 
-module _ (told then : Told) (one other next : ExecState) (deed : Deed ExecState) where
+module _ (told then : Told) (one other next : InterpreterState) (deed : Deed InterpreterState) where
   -- one act leaves what it leaves, whatever was met, but where memory is wanting
   pub obeys_from : (result : Result Unit Stop) → lacks_memory result ≡ false
       → Obeys (stage told one) (stage then next) (deed ∷ []) result → Obeys (stage told other) (stage then next) (deed ∷ []) result
@@ -62,25 +62,25 @@ first_of (other ∷ []) rest it deed is = let none : it ∷ rest ≡ [] = ap (dr
 first_of (other ∷ more ∷ done) rest it deed is = let none : more ∷ done ++ it ∷ rest ≡ [] = ap (drop 1) is in absurd (cc)
 
 -- where memory is wanting for a single act, nothing is shown and all stays
-record IsLeft (told then : Told) (one next : ExecState) (deed : Deed ExecState) : Type 0 where
+record IsLeft (told then : Told) (one next : InterpreterState) (deed : Deed InterpreterState) : Type 0 where
   shown : then ≡ told
   same : next ≡ one
   may_allocate : deed.may_allocate ≡ true
 
-wanting_leaves : (told then : Told) (one next : ExecState) (deed : Deed ExecState)
+wanting_leaves : (told then : Told) (one next : InterpreterState) (deed : Deed InterpreterState)
     → Obeys (stage told one) (stage then next) (deed ∷ []) (Err stop.Memory) → IsLeft told then one next deed
 unfolding Obeys
 wanting_leaves told then one next deed obeys =
     let first = first_of obeys.at.done obeys.at.rest obeys.at.deed deed obeys.at.split in
     let stands : stage then next ≡ behind (stage told one) [] = obeys.stands ∙ ap (behind (stage told one)) first.0 in
     record {
-      shown = ap (λ (it : Stage ExecState). it.screen) stands ∙ add_none told;
-      same = ap (λ (it : Stage ExecState). it.state) stands;
-      may_allocate = ap (λ (it : Deed ExecState). it.may_allocate) (sym first.1) ∙ obeys.may_allocate;
+      shown = ap (λ (it : Stage InterpreterState). it.screen) stands ∙ add_none told;
+      same = ap (λ (it : Stage InterpreterState). it.state) stands;
+      may_allocate = ap (λ (it : Deed InterpreterState). it.may_allocate) (sym first.1) ∙ obeys.may_allocate;
     }
 
 -- that is what an answer says which lacks memory
-lacking_leaves : (told then : Told) (one next : ExecState) (deed : Deed ExecState) (result : Result Unit Stop)
+lacking_leaves : (told then : Told) (one next : InterpreterState) (deed : Deed InterpreterState) (result : Result Unit Stop)
     → lacks_memory result ≡ true → Obeys (stage told one) (stage then next) (deed ∷ []) result → IsLeft told then one next deed
 lacking_leaves told then one next deed (Err stop.Memory) lacks obeys = wanting_leaves told then one next deed obeys
 lacking_leaves told then one next deed (Ok value) lacks obeys = absurd (cc)
@@ -89,11 +89,11 @@ lacking_leaves told then one next deed (Err stop.Log) lacks obeys = absurd (cc)
 lacking_leaves told then one next deed (Err stop.Keys) lacks obeys = absurd (cc)
 lacking_leaves told then one next deed (Err stop.Limit) lacks obeys = absurd (cc)
 
-pub lacking_same : (told then : Told) (one next : ExecState) (deed : Deed ExecState) (result : Result Unit Stop)
+pub lacking_same : (told then : Told) (one next : InterpreterState) (deed : Deed InterpreterState) (result : Result Unit Stop)
     → lacks_memory result ≡ true → Obeys (stage told one) (stage then next) (deed ∷ []) result → next ≡ one
 lacking_same told then one next deed result lacks obeys = (lacking_leaves told then one next deed result lacks obeys).same
 
-lacking_obeys : (told then : Told) (one other : ExecState) (deed : Deed ExecState) (result : Result Unit Stop)
+lacking_obeys : (told then : Told) (one other : InterpreterState) (deed : Deed InterpreterState) (result : Result Unit Stop)
     → lacks_memory result ≡ true → deed.may_allocate ≡ true → then ≡ told → other ≡ one
     → Obeys (stage told one) (stage then other) (deed ∷ []) result
 lacking_obeys told then one other deed (Err stop.Memory) lacks may shown same =
@@ -105,8 +105,8 @@ lacking_obeys told then one other deed (Err stop.Keys) lacks may shown same = ab
 lacking_obeys told then one other deed (Err stop.Limit) lacks may shown same = absurd (cc)
 
 -- a command for which memory is wanting waits on
-pub waits_on : (state : State) (held : Option Typing) (ended : Bool) (waits : Option Pending) (told then : Told) (one next : ExecState)
-    (deed : Deed ExecState) (pending : Pending) (result : Result Unit Stop)
+pub waits_on : (state : State) (held : Option Typing) (ended : Bool) (waits : Option Pending) (told then : Told) (one next : InterpreterState)
+    (deed : Deed InterpreterState) (pending : Pending) (result : Result Unit Stop)
     → record { state = state; typing = held; ended = ended; pending = waits } ≡ next → lacks_memory result ≡ true
     → Obeys (stage told one) (stage then next) (deed ∷ []) result
     → Obeys (stage told (record one { pending = Some pending }))
@@ -115,18 +115,18 @@ waits_on state held ended waits told then one next deed pending result view lack
     let left = lacking_leaves told then one next deed result lacks obeys in
     lacking_obeys told then (record one { pending = Some pending })
     (record { state = state; typing = held; ended = ended; pending = Some pending }) deed result lacks left.may_allocate left.shown
-    (ap (λ (it : ExecState). record it { pending = Some pending }) (view ∙ left.same))
+    (ap (λ (it : InterpreterState). record it { pending = Some pending }) (view ∙ left.same))
 
 -- and so it is sound that it waits
-pub waits_sound : (state : State) (held : Option Typing) (ended : Bool) (waits : Option Pending) (now : ExecState) (pending : Pending)
+pub waits_sound : (state : State) (held : Option Typing) (ended : Bool) (waits : Option Pending) (now : InterpreterState) (pending : Pending)
     → record { state = state; typing = held; ended = ended; pending = waits } ≡ now → now.typing ≡ None
     → MayAct pending.command now.state
     → ForSome held (λ (it : Typing). IsTarget it.to state.directories)
     × (ForSome (Some pending) (λ (it : Pending). MayAct it.command state) × ForSome held (λ (it : Typing). Some pending ≡ None))
 waits_sound state held ended waits now pending view line may =
-    let none : held ≡ None = ap (λ (it : ExecState). it.typing) view ∙ line in
+    let none : held ≡ None = ap (λ (it : InterpreterState). it.typing) view ∙ line in
     let there : MayAct pending.command state =
-    subst (λ (it : State). MayAct pending.command it) (sym (ap (λ (it : ExecState). it.state) view)) may in (
+    subst (λ (it : State). MayAct pending.command it) (sym (ap (λ (it : InterpreterState). it.state) view)) may in (
       λ typing some. let wrong : None ≡ Some typing = sym none ∙ some in absurd (cc),
       (
         λ it some. let same : pending ≡ it = cc in subst (λ (it : Pending). MayAct it.command state) same there,
@@ -135,39 +135,39 @@ waits_sound state held ended waits now pending view line may =
     )
 
 -- behind a line that has fields it waits on
-pub more_obeys : (told : Told) (one exec : ExecState) (pending : Pending) → is_pending pending.command ≡ true
-    → Obeys (stage told one) (stage told (record exec { pending = Some pending })) (subcommand_deeds exec pending) (Ok tt)
-more_obeys told one exec pending waits =
-    rw waits (obeys_silent told one (record exec { pending = Some pending }))
+pub more_obeys : (told : Told) (one interpreter : InterpreterState) (pending : Pending) → is_pending pending.command ≡ true
+    → Obeys (stage told one) (stage told (record interpreter { pending = Some pending })) (subcommand_deeds interpreter pending) (Ok tt)
+more_obeys told one interpreter pending waits =
+    rw waits (obeys_silent told one (record interpreter { pending = Some pending }))
 
 -- and behind an empty one it acts
-pub last_obeys : (told then : Told) (one exec next : ExecState) (pending : Pending) (result : Result Unit Stop)
-    → is_pending pending.command ≡ false → exec.pending ≡ None
-    → Obeys (stage told (record exec { pending = Some pending })) (stage then next)
-    (deed_of exec pending.moment pending.command ∷ []) result
-    → Obeys (stage told one) (stage then next) (subcommand_deeds exec pending) result
-last_obeys told then one exec next pending result acts free obeys =
-    rw acts (obeys_behind told then one (record exec { pending = Some pending }) next
-    (deed_of (record exec { pending = None }) pending.moment pending.command ∷ []) result
-    (subst (λ (it : Option Pending). Obeys (stage told (record exec { pending = Some pending })) (stage then next)
-    (deed_of (record exec { pending = it }) pending.moment pending.command ∷ []) result) free obeys))
+pub last_obeys : (told then : Told) (one interpreter next : InterpreterState) (pending : Pending) (result : Result Unit Stop)
+    → is_pending pending.command ≡ false → interpreter.pending ≡ None
+    → Obeys (stage told (record interpreter { pending = Some pending })) (stage then next)
+    (deed_of interpreter pending.moment pending.command ∷ []) result
+    → Obeys (stage told one) (stage then next) (subcommand_deeds interpreter pending) result
+last_obeys told then one interpreter next pending result acts free obeys =
+    rw acts (obeys_behind told then one (record interpreter { pending = Some pending }) next
+    (deed_of (record interpreter { pending = None }) pending.moment pending.command ∷ []) result
+    (subst (λ (it : Option Pending). Obeys (stage told (record interpreter { pending = Some pending })) (stage then next)
+    (deed_of (record interpreter { pending = it }) pending.moment pending.command ∷ []) result) free obeys))
 
 -- both, as the EXEC holds it
-pub goes_on : (state : State) (held : Option Typing) (ended : Bool) (waits : Option Pending) (now one : ExecState) (pending : Pending) (told : Told)
+pub goes_on : (state : State) (held : Option Typing) (ended : Bool) (waits : Option Pending) (now one : InterpreterState) (pending : Pending) (told : Told)
     → record { state = state; typing = held; ended = ended; pending = waits } ≡ now → is_pending pending.command ≡ true
     → Obeys (stage told one) (stage told (record { state = state; typing = held; ended = ended; pending = Some pending }))
     (subcommand_deeds now pending) (Ok tt)
 goes_on state held ended waits now one pending told view more =
-    subst (λ (it : ExecState). Obeys (stage told one) (stage told (record it { pending = Some pending }))
+    subst (λ (it : InterpreterState). Obeys (stage told one) (stage told (record it { pending = Some pending }))
     (subcommand_deeds now pending) (Ok tt)) (sym view) (more_obeys told one now pending more)
 
 -- what is answered
-pub waits_answer : (exec : ExecState) (pending : Pending) → is_pending pending.command ≡ true → answers.Pending ≡ completion_answer exec pending
-waits_answer exec pending more = rw more refl
+pub waits_answer : (interpreter : InterpreterState) (pending : Pending) → is_pending pending.command ≡ true → answers.Pending ≡ completion_answer interpreter pending
+waits_answer interpreter pending more = rw more refl
 
-pub acts_answer : (exec : ExecState) (pending : Pending) (answer : Acted) → is_pending pending.command ≡ false
-    → answer ≡ (act_of pending.command pending.moment exec.state).answer → answer ≡ completion_answer exec pending
-acts_answer exec pending answer last is = rw last is
+pub acts_answer : (interpreter : InterpreterState) (pending : Pending) (answer : Acted) → is_pending pending.command ≡ false
+    → answer ≡ (act_of pending.command pending.moment interpreter.state).answer → answer ≡ completion_answer interpreter pending
+acts_answer interpreter pending answer last is = rw last is
 
 -- what may be done may be done without more subcommands
 pub may_act_complete : (command : Command) (state : State) → MayAct command state → MayAct (complete command) state
@@ -180,13 +180,14 @@ may_act_complete (commands.CopyTty to) state may = may
 may_act_complete (commands.Define name None) state may = may
 may_act_complete (commands.Define name (Some directory)) state may = may
 may_act_complete (commands.Delete files) state may = may
-may_act_complete (commands.Directory files since before deleted sub) state may = may
+may_act_complete (commands.Directory files since before deleted read sub) state may = may
 may_act_complete (commands.Expunge directory) state may = may
 may_act_complete (commands.Information what) state may = may
 may_act_complete commands.Logout state may = may
 may_act_complete (commands.Print files copies form after job note) state may = may
 may_act_complete commands.Remark state may = may
 may_act_complete (commands.Rename from to) state may = may
+may_act_complete (commands.Set files keep) state may = may
 may_act_complete (commands.Take file) state may = may
 may_act_complete (commands.TypeOut files) state may = may
 may_act_complete (commands.Undelete files) state may = may

@@ -1,7 +1,8 @@
 pub mod Exec
 pub mod ExecState
+pub mod Interpreter
+pub mod InterpreterState
 pub mod Lines
 pub mod Outcome
-pub mod Taker
-pub mod TakerState
+pub mod Quiet
 pub mod Taking

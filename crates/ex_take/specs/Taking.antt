@@ -1,23 +1,46 @@
 -- What comes of a command file that is taken without keys.
-use Rattle.std.specs.Prelude.{ℕ, List, ◌++◌, Bool, true, false, Option, None, Some, Result, Ok, Err}
+use Rattle.std.specs.Prelude.{◌≡◌, ◌==◌, ◌&&◌, not, ℕ, List, [], ◌++◌, length, Bool, true, false, Option, None, Some, Result, Ok, Err}
 use Rattle.cm_fields.specs.declared.code.Code.{Code}
+use Rattle.cm_run.specs.Cut.{Traces}
 use Rattle.cm_run.specs.Event.{Event}
 use Rattle.cm_run.specs.Obey.{left_by}
+use Rattle.cm_run.specs.Observed.{Observed}
 use Rattle.cm_run.specs.Trace.{deeds_trace, file_trace}
 use Rattle.cm_run.specs.declared.engine.TheConstants.{FILE_LINES}
 use Rattle.cm_run.specs.declared.stop.Stop.{Stop}
 use Rattle.cm_run.specs.declared.stop.Stop.TheVariants as stop
 use Rattle.ex_store.specs.declared.place.Place.{Place}
-use Rattle.ex_take.specs.Taker.{take_deeds, taker_meaning}
-use Rattle.ex_take.specs.TakerState.{TakerState}
+use Rattle.ex_take.specs.Exec.{take_deeds, exec_meaning}
+use Rattle.ex_take.specs.ExecState.{ExecState}
+use Rattle.ex_take.specs.Interpreter.{is_free}
 use Rattle.ex_take.specs.declared.taking.Took.{Took}
 use Rattle.ex_take.specs.declared.taking.Took.TheVariants as took
 
 -- the file is opened, and its lines are taken, as behind a typed line
-abbrev pub take_trace : TakerState → Place → ℕ → List (Event TakerState)
+abbrev pub take_trace : ExecState → Place → ℕ → List (Event ExecState)
 take_trace at file moment =
     deeds_trace (take_deeds at file)
-    ++ file_trace taker_meaning FILE_LINES moment (left_by at (take_deeds at file))
+    ++ file_trace exec_meaning FILE_LINES moment (left_by at (take_deeds at file))
+
+-- nothing is left to be done: no command waits, no file is typed in, and none is open
+abbrev pub rested : ExecState → ExecState
+rested at = record at {
+  interpreter = record at.interpreter { pending = None; typing = None };
+  files = [];
+  taken = 0;
+}
+
+-- so it is, and LOGOUT has not acted
+abbrev pub is_at_rest : ExecState → Bool
+is_at_rest at =
+    not at.interpreter.ended && (is_free at.interpreter && (length at.files == 0 && at.taken == 0))
+
+-- the trace of a file, or a cut of it, behind which nothing is left to be done
+pub record Takes (before now : Observed ExecState) (events : List (Event ExecState)) (went : Result Unit Stop)
+    : Type 0 where
+  pub left : ExecState
+  pub traces : Traces before (record now { state = left }) events went
+  pub rests : now.state ≡ rested left
 
 -- whether it was cut short
 abbrev pub outcome_of : Took → Result Unit Stop
@@ -33,14 +56,25 @@ took_at true why = took.Logout
 took_at false (Some code) = took.Stopped code
 took_at false None = took.Ok
 
-abbrev pub took_of : TakerState → Took
-took_of at = took_at at.exec.ended at.stop
+abbrev pub took_of : ExecState → Took
+took_of at = took_at at.interpreter.ended at.stop
 
 -- by how the lines went
-abbrev pub took_by : TakerState → Result Unit Stop → Took
+abbrev pub took_by : ExecState → Result Unit Stop → Took
 took_by at (Ok value) = took_of at
 took_by at (Err stop.Memory) = took.NoMemory
 took_by at (Err stop.Screen) = took.Failed
 took_by at (Err stop.Log) = took.Failed
 took_by at (Err stop.Keys) = took.Failed
 took_by at (Err stop.Limit) = took.Failed
+
+-- the EXEC is at rest again, unless LOGOUT has acted
+abbrev pub RestsUnlessEnded : ExecState → Type 0
+RestsUnlessEnded at = at.interpreter.ended ≡ false → is_at_rest at ≡ true
+
+abbrev pub Rests : Took → ExecState → Type 0
+Rests took.Ok at = is_at_rest at ≡ true
+Rests (took.Stopped code) at = is_at_rest at ≡ true
+Rests took.Logout at = at.interpreter.ended ≡ true
+Rests took.NoMemory at = RestsUnlessEnded at
+Rests took.Failed at = RestsUnlessEnded at

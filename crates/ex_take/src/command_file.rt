@@ -1,71 +1,135 @@
 // A command file that is open.
-ghost use Rattle.std.specs.Prelude.{◌≡◌, ◌==◌, None, Some, drop, if◌then◌else◌, length, slice_get, IfOk, IfSome};
+ghost use Rattle.std.specs.Prelude.{◌≡◌, ◌≤◌, ◌+◌, ◌==◌, ◌∷◌, ◌++◌, None, Some, true, drop, if◌then◌else◌, length, slice_get, vec_capacity, IfOk, IfSome};
 ghost use Rattle.std.specs.List.{list_all};
 ghost use Rattle.std.specs.Option.{option_copied};
-ghost use Rattle.cm_text.specs.Bytes.{is_text};
-ghost use Rattle.cm_text.specs.Text.{IsLine};
+ghost use Rattle.cm_text.specs.Bytes.{is_line_byte};
 ghost use Rattle.cm_text.specs.Lines.{lines};
-ghost use Rattle.ex_take.specs.Lines.{is_line};
+ghost use Rattle.cm_text.specs.Text.{IsLine, ends_in_hyphen, joined};
+ghost use Rattle.ex_take.specs.Lines.{file_lines, is_line, joined_behind, lines_from, first_is_line, first_line};
 
 use cm_io::NoMemory;
-use cm_text::{LINE_LIMIT, first_line, is_text};
+use cm_text::{JOIN, LINE_LIMIT, ends_in_hyphen, first_line, is_line_byte};
 use std::alloc::Global;
 use std::marker::Model;
 
-/// A command file that is open: its bytes, and how many of them were taken; none where nothing is left. Contracts see
-/// the lines that are left.
+/// A command file that is open; none where nothing is left. Contracts see the lines that are left.
 #[derive(Drop)]
 pub(crate) struct CommandFile {
-    bytes: Option<Vec<u8>>,
-    at: usize,
+    reading: Option<Reading>,
 }
 
 impl Model for CommandFile {
-    ghost use Rattle.std.specs.Prelude.{◌≤◌, ℕ, List, [], drop, length};
+    ghost use Rattle.std.specs.Prelude.{ℕ, List, []};
     ghost use Rattle.std.specs.Option.{option_map_or};
-    ghost use Rattle.cm_text.specs.Lines.{lines};
 
     ghost Value = { List (List ℕ) };
 
-    ghost view = { λ it. lines (drop it.at (option_map_or (λ bytes. bytes.items) it.bytes [])) };
-
-    ghost invariant = { λ it. it.at ≤ length (option_map_or (λ bytes. bytes.items) it.bytes []) };
+    ghost view = { λ it. option_map_or (λ (lines : List (List ℕ)). lines) it.reading [] };
 }
 
 impl Default for CommandFile {
     fn default() -> CommandFile {
-        CommandFile { bytes: None, at: 0 }
+        CommandFile { reading: None }
+    }
+}
+
+// The bytes of a file, of which each line is read once: the line that is next, whether it can be parsed, and where the
+// one behind it begins; none where no line is left.
+#[derive(Drop)]
+struct Reading {
+    bytes: Vec<u8>,
+    line: Vec<u8>,
+    is_parsable: bool,
+    next: Option<usize>,
+}
+
+impl Model for Reading {
+    ghost use Rattle.std.specs.Prelude.{◌≡◌, ◌≤◌, ℕ, List, length, vec_capacity, IfSome};
+    ghost use Rattle.ex_take.specs.Lines.{is_line, lines_from};
+
+    ghost Value = { List (List ℕ) };
+
+    ghost view = { λ it. lines_from it.bytes.items it.line.items it.next };
+
+    ghost invariant = { λ it. IfSome it.next (λ next. next ≤ length it.bytes.items)
+        × ((length it.bytes.items ≤ vec_capacity it.line) × (is_line it.line.items ≡ it.is_parsable)) };
+}
+
+impl Reading {
+    // A file with these bytes, of which none is taken.
+    fn open(alloc: Global, bytes: &[u8]) -> Result<Reading, NoMemory>
+        ensures { IfOk result (λ reading. reading ≡ file_lines bytes.now) }
+    {
+        let bytes = bytes.to_vec(alloc)?;
+        let mut line = Vec::with_capacity(alloc, bytes.len())?;
+        let next = read_line(&bytes, 0, &mut line);
+        Ok(Reading {
+            is_parsable: is_line(&line),
+            bytes,
+            line,
+            next,
+        })
+    }
+
+    // Whether the next line can be parsed, if one is left.
+    fn is_parsable(&self) -> Option<bool>
+        ensures { result ≡ first_is_line self.now }
+    {
+        match self.next {
+            Some(_) => Some(self.is_parsable),
+            None => None,
+        }
+    }
+
+    // The next line, if one is left and it can be parsed.
+    fn line(&self) -> Option<&[u8]>
+        ensures value { option_copied result ≡ first_line self.now }
+        ensures line { IfSome (option_copied result) IsLine }
+    {
+        match self.next {
+            Some(_) => line_if(self.is_parsable, &self.line),
+            None => None,
+        }
+    }
+
+    // Passes the next line, and reads the one behind it.
+    fn pass(&mut self)
+        ensures { self.new ≡ drop 1 self.old }
+    {
+        if let Some(at) = self.next {
+            self.next = read_line(&self.bytes, at, &mut self.line);
+            self.is_parsable = is_line(&self.line);
+        }
     }
 }
 
 impl CommandFile {
     /// A file with these bytes, of which none is taken.
     pub(crate) fn open(alloc: Global, bytes: &[u8]) -> Result<CommandFile, NoMemory>
-        ensures { IfOk result (λ file. file ≡ lines bytes.now) }
+        ensures { IfOk result (λ file. file ≡ file_lines bytes.now) }
     {
         Ok(CommandFile {
-            bytes: Some(bytes.to_vec(alloc)?),
-            at: 0,
+            reading: Some(Reading::open(alloc, bytes)?),
         })
     }
 
-    // What is left of the bytes.
-    fn rest(&self) -> &[u8]
-        ensures { lines result.now ≡ self.now }
+    /// Whether the next line can be parsed, if one is left.
+    pub(crate) fn is_parsable(&self) -> Option<bool>
+        ensures { result ≡ first_is_line self.now }
     {
-        match &self.bytes {
-            Some(bytes) => &bytes[self.at..],
-            None => b"",
+        match &self.reading {
+            Some(reading) => reading.is_parsable(),
+            None => None,
         }
     }
 
-    /// The next line, if one is left.
+    /// The next line, if one is left and it can be parsed.
     pub(crate) fn line(&self) -> Option<&[u8]>
-        ensures { option_copied result ≡ slice_get self.now 0 }
+        ensures value { option_copied result ≡ first_line self.now }
+        ensures line { IfSome (option_copied result) IsLine }
     {
-        let rest = self.rest();
-        match first_line(rest) {
-            Some(first) => Some(&rest[..first.end]),
+        match &self.reading {
+            Some(reading) => reading.line(),
             None => None,
         }
     }
@@ -74,41 +138,111 @@ impl CommandFile {
     pub(crate) fn is_over(&self) -> bool
         ensures { result ≡ length self.now == 0 }
     {
-        self.line().is_none()
+        self.is_parsable().is_none()
     }
 
     /// Passes the next line.
-    #[tactic(auto, using(cm_text::proofs::LinesLaws::passes, cm_text::proofs::LinesLaws::passes_within, cm_text::proofs::LinesLaws::passes_none))]
     pub(crate) fn pass(&mut self)
         ensures { self.new ≡ drop 1 self.old }
     {
-        if let Some(bytes) = &self.bytes {
-            if let Some(first) = first_line(&bytes[self.at..]) {
-                self.at += first.next;
-            }
+        if let Some(reading) = &mut self.reading {
+            reading.pass();
         }
     }
 }
 
-// A line has text bytes alone.
-fn is_plain(line: &[u8]) -> bool
-    ensures { result ≡ list_all is_text line.now }
+// Puts a line in the place of another.
+fn set(bytes: &[u8], line: &mut Vec<u8>)
+    requires room { length bytes.now ≤ vec_capacity line.old }
+    ensures line { line.new.items ≡ bytes.now }
+    ensures room { vec_capacity line.old ≤ vec_capacity line.new }
 {
-    line.iter().all(|byte| is_text(*byte))
+    line.clear();
+    let _ = line.extend_from_slice(bytes);
 }
 
-/// Whether a line can be parsed: it has text bytes alone, and not too many.
-pub(crate) fn is_line(line: &[u8]) -> bool
-    ensures { result ≡ is_line line.now }
+// Continues a line that ends in a hyphen by the next one.
+fn join(next: &[u8], line: &mut Vec<u8>)
+    requires hyphen { ends_in_hyphen line.old.items ≡ true }
+    requires room { length line.old.items + length next.now ≤ vec_capacity line.old }
+    ensures line { line.new.items ≡ joined line.old.items ++ next.now }
+    ensures room { vec_capacity line.old ≤ vec_capacity line.new }
 {
-    line.len() <= LINE_LIMIT && is_plain(line)
+    line.pop();
+    let _ = line.push(JOIN);
+    let _ = line.extend_from_slice(next);
 }
 
-/// A line, where it can be parsed.
+// Continues a line by those that follow it, as long as it ends in a hyphen, and says where the next line begins.
+#[tactic(auto, using(crate::proofs::LineLaws::whole_line), unfolding(crate::specs::Lines::file_lines))]
+fn join_lines(bytes: &[u8], line: &mut Vec<u8>) -> usize
+    requires room { length line.old.items + length bytes.now ≤ vec_capacity line.old }
+    ensures lines { joined_behind line.old.items (lines bytes.now)
+        ≡ line.new.items ∷ file_lines (drop result bytes.now) }
+    ensures within { result ≤ length bytes.now }
+    ensures room { vec_capacity line.old ≤ vec_capacity line.new }
+{
+    let mut at = 0;
+    while ends_in_hyphen(line) {
+        let rest = &bytes[at..];
+        match first_line(rest) {
+            None => return at,
+            Some(first) => {
+                join(&rest[..first.end], line);
+                at += first.next;
+            }
+        }
+    }
+    at
+}
+
+// The bytes from a place on.
+fn behind(bytes: &[u8], at: usize) -> &[u8]
+    requires { at ≤ length bytes.now }
+    ensures { result.now ≡ drop at bytes.now }
+{
+    &bytes[at..]
+}
+
+// Reads the line that begins at a place, in the place of the one that was read before, and says where the next one
+// begins; none where no line is left.
+fn read_line(bytes: &[u8], at: usize, line: &mut Vec<u8>) -> Option<usize>
+    requires within { at ≤ length bytes.now }
+    requires room { length bytes.now ≤ vec_capacity line.old }
+    ensures lines { lines_from bytes.now line.new.items result ≡ file_lines (drop at bytes.now) }
+    ensures within { IfSome result (λ next. next ≤ length bytes.now) }
+    ensures room { vec_capacity line.old ≤ vec_capacity line.new }
+{
+    let rest = behind(bytes, at);
+    match first_line(rest) {
+        Some(first) => {
+            set(&rest[..first.end], line);
+            Some(at + first.next + join_lines(behind(rest, first.next), line))
+        }
+        None => None,
+    }
+}
+
+// A line, where it can be parsed.
 #[tactic(auto, using(crate::proofs::LineLaws::line_holds))]
-pub(crate) fn parsable(line: &[u8]) -> Option<&[u8]>
+fn line_if(is_parsable: bool, line: &[u8]) -> Option<&[u8]>
+    requires { is_line line.now ≡ is_parsable }
     ensures value { option_copied result ≡ (if is_line line.now then Some line.now else None) }
     ensures line { IfSome (option_copied result) IsLine }
 {
-    if is_line(line) { Some(line) } else { None }
+    if is_parsable { Some(line) } else { None }
+}
+
+// Text bytes and join bytes alone.
+fn is_plain(line: &[u8]) -> bool
+    ensures { result ≡ list_all is_line_byte line.now }
+{
+    line.iter().all(|byte| is_line_byte(*byte))
+}
+
+// Whether a line can be parsed.
+fn is_line(line: &[u8]) -> bool
+    ensures { result ≡ is_line line.now }
+{
+    line.len() <= LINE_LIMIT && is_plain(line)
 }

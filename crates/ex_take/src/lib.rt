@@ -4,14 +4,14 @@
 
 mod command_file;
 mod exec;
+mod interpreter;
 pub mod laws;
 mod pending;
-mod taker;
 mod taking;
 mod typing;
 
-pub use exec::{Exec, outcome_of};
+pub use exec::{Exec, MOST_FILES};
+pub use interpreter::{Interpreter, outcome_of};
 pub use pending::Pending;
-pub use taker::{MOST_FILES, Taker};
 pub use taking::{Took, take};
 pub use typing::Typing;

@@ -1,5 +1,5 @@
 // A command file that is taken without keys.
-ghost use Rattle.std.specs.Prelude.{◌≡◌, ◌≤◌, ℕ, List, Ok};
+ghost use Rattle.std.specs.Prelude.{◌≡◌, ◌≤◌, ℕ, List, Ok, true};
 ghost use Rattle.cm_io.specs.Told.{Told};
 ghost use Rattle.cm_run.specs.Cause.{ObeyCause};
 ghost use Rattle.cm_run.specs.Cut.{Traces};
@@ -7,10 +7,10 @@ ghost use Rattle.cm_run.specs.Observed.{observed};
 ghost use Rattle.cm_run.specs.Ready.{Serves};
 ghost use Rattle.ex_grammar.specs.ExecRules.{exec_meanings};
 ghost use Rattle.ex_store.specs.Plan.{IsSource};
-ghost use Rattle.ex_take.specs.Taker.{taker_meaning};
-ghost use Rattle.ex_take.specs.Taking.{outcome_of, take_trace, took_by, took_of};
+ghost use Rattle.ex_take.specs.Exec.{exec_meaning};
+ghost use Rattle.ex_take.specs.Taking.{Rests, Takes, is_at_rest, outcome_of, take_trace, took_by, took_of};
 
-use crate::Taker;
+use crate::Exec;
 use cm_blocks::{Grammar, Steps};
 use cm_fields::Code;
 use cm_hooks::Hooks;
@@ -37,8 +37,9 @@ pub enum Took {
 
 /// Takes a file's lines as commands, one after the other, as a typed TAKE of it does at this moment: each is parsed
 /// under the state that it finds, and what its trials cost is counted. Nothing but replies and refusals is shown.
+/// However it ends, nothing is left to be done: a file that is cut short is closed.
 pub fn take<S: Sink, L: Ledger>(
-    taker: &mut Taker,
+    exec: &mut Exec,
     file: &Place,
     moment: u64,
     grammar: &Grammar,
@@ -46,46 +47,73 @@ pub fn take<S: Sink, L: Ledger>(
     screen: &mut S,
     steps: &mut Steps<L>,
 ) -> Took
-    requires source { IsSource file.now taker.old.exec.state }
-    requires serves { Serves taker_meaning grammar.now exec_meanings hooks.now }
+    requires rest { is_at_rest exec.old ≡ true }
+    requires source { IsSource file.now exec.old.interpreter.state }
+    requires serves { Serves exec_meaning grammar.now exec_meanings hooks.now }
     // What stands is the trace of the file, or a cut of it.
-    ensures traces { (log : Told) → (keys : List ℕ) → (gets : ℕ) → (moments : List ℕ) → Traces
-        (observed (S.told screen.old) log keys gets moments steps.old taker.old)
-        (observed (S.told screen.new) log keys gets moments steps.new taker.new)
-        (take_trace taker.old file.now moment) (outcome_of result) }
+    ensures takes { (log : Told) → (keys : List ℕ) → (gets : ℕ) → (moments : List ℕ) → Takes
+        (observed (S.told screen.old) log keys gets moments steps.old exec.old)
+        (observed (S.told screen.new) log keys gets moments steps.new exec.new)
+        (take_trace exec.old file.now moment) (outcome_of result) }
     // Where it was not cut, it is told by what it left.
-    ensures outcome { outcome_of result ≡ Ok tt → result ≡ took_of taker.new }
+    ensures outcome { outcome_of result ≡ Ok tt → result ≡ took_of exec.new }
+    ensures rest { Rests result exec.new }
     ensures later { S.faults screen.old ≤ S.faults screen.new }
     ensures cause { ObeyCause (S.faults screen.old) (S.faults screen.new) (outcome_of result) }
 {
-    match taker.take(file, screen) {
+    let took = take_lines(exec, file, moment, grammar, hooks, screen, steps);
+    exec.rest();
+    took
+}
+
+// Takes a file's lines, and leaves what a cut leaves.
+fn take_lines<S: Sink, L: Ledger>(
+    exec: &mut Exec,
+    file: &Place,
+    moment: u64,
+    grammar: &Grammar,
+    hooks: &Hooks<ExecRules>,
+    screen: &mut S,
+    steps: &mut Steps<L>,
+) -> Took
+    requires source { IsSource file.now exec.old.interpreter.state }
+    requires serves { Serves exec_meaning grammar.now exec_meanings hooks.now }
+    ensures traces { (log : Told) → (keys : List ℕ) → (gets : ℕ) → (moments : List ℕ) → Traces
+        (observed (S.told screen.old) log keys gets moments steps.old exec.old)
+        (observed (S.told screen.new) log keys gets moments steps.new exec.new)
+        (take_trace exec.old file.now moment) (outcome_of result) }
+    ensures outcome { outcome_of result ≡ Ok tt → result ≡ took_of exec.new }
+    ensures later { S.faults screen.old ≤ S.faults screen.new }
+    ensures cause { ObeyCause (S.faults screen.old) (S.faults screen.new) (outcome_of result) }
+{
+    match exec.take(file, screen) {
         Ok(()) => {
-            let stop = run_lines(taker, grammar, hooks, moment, screen, steps);
-            took_by(taker, stop)
+            let stop = run_lines(exec, grammar, hooks, moment, screen, steps);
+            took_by(exec, stop)
         }
-        Err(stop) => took_by(taker, Err(stop)),
+        Err(stop) => took_by(exec, Err(stop)),
     }
 }
 
 // What came of a file whose lines went so.
-fn took_by(taker: &Taker, went: Result<(), Stop>) -> Took
-    ensures { result ≡ took_by taker.now went }
+fn took_by(exec: &Exec, went: Result<(), Stop>) -> Took
+    ensures { result ≡ took_by exec.now went }
 {
     match went {
-        Ok(()) => took_of(taker),
+        Ok(()) => took_of(exec),
         Err(Stop::Memory) => Took::NoMemory,
         Err(_) => Took::Failed,
     }
 }
 
 // What came of one whose lines were not cut short.
-fn took_of(taker: &Taker) -> Took
-    ensures { result ≡ took_of taker.now }
+fn took_of(exec: &Exec) -> Took
+    ensures { result ≡ took_of exec.now }
 {
-    if taker.has_ended() {
+    if exec.has_ended() {
         return Took::Logout;
     }
-    match taker.stop() {
+    match exec.stop() {
         Some(code) => Took::Stopped(code),
         None => Took::Ok,
     }

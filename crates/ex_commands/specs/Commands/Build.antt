@@ -1,7 +1,5 @@
 -- BUILD: a directory is made, and told how many generations it keeps.
-use Rattle.std.specs.Prelude.{ℕ, ◌==◌, Bool, if◌then◌else◌, List, Option, Some, None, option_and_then}
-use Rattle.cm_fields.specs.declared.value.Value.{Value}
-use Rattle.cm_fields.specs.declared.value.Value.TheVariants as values
+use Rattle.std.specs.Prelude.{ℕ, ◌==◌, Bool, if◌then◌else◌, List, Option, None}
 use Rattle.cm_blocks.specs.declared.function.Role.TheVariants as roles
 use Rattle.cm_blocks.specs.FieldView.{FieldView}
 use Rattle.cm_state.specs.Roles.{field_of}
@@ -13,17 +11,12 @@ use Rattle.ex_commands.specs.declared.command.Command.{Command}
 use Rattle.ex_commands.specs.declared.command.Command.TheVariants as commands
 use Rattle.ex_commands.specs.declared.pairs.Origin.TheVariants.{Files}
 use Rattle.ex_commands.specs.Effect.{Act, pends, plays}
-use Rattle.ex_commands.specs.Line.{Line, directory_in, has_subs, on}
+use Rattle.ex_commands.specs.Line.{Line, count_in, directory_in, has_subs, on}
 
 abbrev pub build_of : Line → Command
 build_of line =
     on (λ directory. commands.Build directory None (has_subs line))
     (directory_in line (field_of roles.Files line.fields))
-
--- how many generations, as a rule judged it
-abbrev pub count_by : Value → Option ℕ
-count_by (values.Hook id count) = Some count
-count_by value = None
 
 -- it waits for its subcommands where they follow
 abbrev pub builds : List ℕ → Option ℕ → Bool → ℕ → State → Act
@@ -33,4 +26,4 @@ builds directory retention sub moment state =
 -- with a subcommand of this code and what its value says: GENERATIONS tells how many, and of several the last counts
 abbrev pub retention_with : ℕ → Option FieldView → Option ℕ → Option ℕ
 retention_with code said retention =
-    if code == GENERATIONS then option_and_then (λ field. count_by field.value) said else retention
+    if code == GENERATIONS then count_in said else retention

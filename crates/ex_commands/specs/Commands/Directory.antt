@@ -33,7 +33,7 @@ everything c = record {
 abbrev pub directory_of : Line → Command
 directory_of line =
     commands.Directory (unwrap_or (place_in line (field_of roles.Files line.fields)) (everything line.catalogue))
-    None None false (has_subs line)
+    None None false false (has_subs line)
 
 -- the same files, of those that are marked deleted or of those that are not
 abbrev pub marked_so : Bool → Place → Place
@@ -43,20 +43,20 @@ marked_so deleted files = record files { flags = record files.flags { deleted = 
 abbrev pub listed : Bool → Days → Place → State → List Row
 listed deleted days files state = filter (is_within days) (sources (marked_so deleted files) state)
 
--- the files of a directory, line by line
-unfoldable pub listing : List ℕ → List Row → List ℕ
-listing directory rows = heading directory ++ flat_map listed_line rows ++ total_line (length rows)
+-- the files of a directory, line by line, with the day of reading or of writing
+unfoldable pub listing : Bool → List ℕ → List Row → List ℕ
+listing read directory rows = heading directory ++ flat_map (listed_line read) rows ++ total_line (length rows)
 
 -- files are listed; where there are none it is refused
-abbrev pub lists_rows : List ℕ → List Row → State → Act
-lists_rows directory [] state = refuses NoMatch state
-lists_rows directory (row ∷ rows) state = does (listing directory (row ∷ rows)) state
+abbrev pub lists_rows : Bool → List ℕ → List Row → State → Act
+lists_rows read directory [] state = refuses NoMatch state
+lists_rows read directory (row ∷ rows) state = does (listing read directory (row ∷ rows)) state
 
 -- it waits for its subcommands where they follow
-abbrev pub lists : Place → Option ℤ → Option ℤ → Bool → Bool → State → Act
-lists files since before deleted sub state =
+abbrev pub lists : Place → Option ℤ → Option ℤ → Bool → Bool → Bool → State → Act
+lists files since before deleted read sub state =
     if sub then pends state
-    else lists_rows files.directory (listed deleted (record { since = since; before = before }) files state) state
+    else lists_rows read files.directory (listed deleted (record { since = since; before = before }) files state) state
 
 -- a day with what the value of a subcommand says, where it is the one that sets the day; of several the last counts
 abbrev pub day_with : Bool → Option FieldView → Option ℤ → Option ℤ

@@ -4,16 +4,15 @@
 ghost use Rattle.std.specs.Prelude.{true, not, IfSome, ◌≡◌, ◌≤◌, option_copied};
 ghost use Rattle.cm_files.specs.Catalogue.{is_directory_name};
 ghost use Rattle.ex_store.specs.declared.limits.TheConstants.{RETENTION_LIMIT};
-ghost use Rattle.ex_commands.specs.Commands.Build.{build_of, builds, count_by, retention_with};
+ghost use Rattle.ex_commands.specs.Commands.Build.{build_of, builds, retention_with};
 ghost use Rattle.ex_commands.specs.Outcome.{Outcome};
-ghost use Rattle.ex_commands.specs.Said.{IsReadable, IsSaid, IsSaidIn, line_of};
+ghost use Rattle.ex_commands.specs.Said.{IsReadable, IsSaidIn, line_of};
 
-use crate::fields::{directory_in, has_subs};
+use crate::fields::{count_in, directory_in, has_subs};
 use crate::pairs::Origin;
 use crate::plans::play;
 use crate::{Acted, Command};
 use cm_blocks::{Field, Grammar, Role};
-use cm_fields::Value;
 use cm_files::Names;
 use cm_io::{Sink, Writer};
 use cm_state::Session;
@@ -37,17 +36,6 @@ pub(crate) fn read<N: Names>(session: &Session<ExecRules>, grammar: &Grammar, na
     )
 }
 
-// How many generations, as a rule judged it.
-fn count_by(value: &Value) -> Option<u8>
-    requires { IsSaid value.now }
-    ensures { result ≡ count_by value.now }
-{
-    match value {
-        Value::Hook { value, .. } => Some(*value as u8),
-        _ => None,
-    }
-}
-
 /// How many generations are kept behind a subcommand of this code, with its value: those of the last one that says
 /// how many.
 pub(crate) fn retention_with(code: u16, said: Option<&Field>, retention: Option<u8>) -> Option<u8>
@@ -57,10 +45,7 @@ pub(crate) fn retention_with(code: u16, said: Option<&Field>, retention: Option<
     if code != GENERATIONS {
         return retention;
     }
-    match said {
-        Some(field) => count_by(field.value()),
-        None => None,
-    }
+    count_in(said)
 }
 
 /// Makes a directory, and tells how many generations it keeps; or waits for its subcommands.

@@ -31,7 +31,7 @@ pub(crate) fn act<S: Sink>(store: &mut Store, files: &Place, out: &mut Writer<'_
     ensures { Outcome S.Sink out.old out.new (deletes files.now store.old.state) false store.old.state
         store.new.state result }
 {
-    put_lines(store, files, Lines::Marked, out);
+    put_lines(store, files, Lines::Changed, out);
     store.mark(files);
     Acted::Ok
 }

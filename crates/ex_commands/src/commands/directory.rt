@@ -65,6 +65,7 @@ pub(crate) fn read<N: Names>(session: &Session<ExecRules>, grammar: &Grammar, na
         since: None,
         before: None,
         deleted: false,
+        read: false,
         sub: has_subs(session),
     }
 }
@@ -95,34 +96,41 @@ fn marked_so(files: &Place, deleted: bool) -> Place
     }
 }
 
-// Puts the listing of files of these days, of which there are so many.
+// Puts the listing of files of these days, of which there are so many, with the day of reading or of writing.
 #[tactic(auto, using(cm_io::proofs::Texts::texts, crate::proofs::Listing::lines_within), unfolding(crate::specs::Commands::Directory::listing))]
 fn put_listing<S: Sink>(
     store: &Store,
     files: &Place,
     days: Days,
+    read: bool,
     count: u32,
     out: &mut Writer<'_, S>,
 )
     requires { count ≡ length (filter (is_within days) (sources files.now store.now.state)) }
     ensures { Writes S.Sink out.old out.new
-        (listing files.now.directory (filter (is_within days) (sources files.now store.now.state))) }
+        (listing read files.now.directory (filter (is_within days) (sources files.now store.now.state))) }
 {
     put_heading(files.directory.as_str(), out);
-    put_lines(store, files, Lines::Listed(days), out);
+    put_lines(store, files, Lines::Listed { days, read }, out);
     put_total(count, out);
 }
 
 // Lists files of these days, where there are any.
-fn list<S: Sink>(store: &Store, files: &Place, days: Days, out: &mut Writer<'_, S>) -> Acted
+fn list<S: Sink>(
+    store: &Store,
+    files: &Place,
+    days: Days,
+    read: bool,
+    out: &mut Writer<'_, S>,
+) -> Acted
     ensures { Outcome S.Sink out.old out.new
-        (lists_rows files.now.directory (filter (is_within days) (sources files.now store.now.state)) store.now.state)
-        false store.now.state store.now.state result }
+        (lists_rows read files.now.directory (filter (is_within days) (sources files.now store.now.state))
+        store.now.state) false store.now.state store.now.state result }
 {
     match count_files(store, files, days) {
         0 => refuse(Code::NoMatch, out),
         count => {
-            put_listing(store, files, days, count, out);
+            put_listing(store, files, days, read, count, out);
             Acted::Ok
         }
     }
@@ -134,14 +142,16 @@ pub(crate) fn act<S: Sink>(
     files: &Place,
     days: Days,
     deleted: bool,
+    read: bool,
     sub: bool,
     out: &mut Writer<'_, S>,
 ) -> Acted
-    ensures { Outcome S.Sink out.old out.new (lists files.now days.since days.before deleted sub store.now.state) false
-        store.now.state store.now.state result }
+    ensures { Outcome S.Sink out.old out.new
+        (lists files.now days.since days.before deleted read sub store.now.state) false store.now.state
+        store.now.state result }
 {
     if sub {
         return Acted::Pending;
     }
-    list(store, &marked_so(files, deleted), days, out)
+    list(store, &marked_so(files, deleted), days, read, out)
 }

@@ -12,7 +12,7 @@ use cm_files::Names;
 use cm_io::{Sink, Writer};
 use cm_state::Session;
 use ex_grammar::ExecRules;
-use ex_store::{Place, Store};
+use ex_store::{MOMENT_LIMIT, Place, Store};
 
 /// What a line of TYPE commands.
 pub(crate) fn read<N: Names>(session: &Session<ExecRules>, grammar: &Grammar, names: &N) -> Command
@@ -25,11 +25,17 @@ pub(crate) fn read<N: Names>(session: &Session<ExecRules>, grammar: &Grammar, na
     )
 }
 
-/// Shows what files hold.
-pub(crate) fn act<S: Sink>(store: &Store, files: &Place, out: &mut Writer<'_, S>) -> Acted
-    ensures { Outcome S.Sink out.old out.new (types_out files.now store.now.state) false store.now.state
-        store.now.state result }
+/// Shows what files hold, and notes that they are read at this moment, whether or not the sink took it.
+pub(crate) fn act<S: Sink>(
+    store: &mut Store,
+    files: &Place,
+    moment: u64,
+    out: &mut Writer<'_, S>,
+) -> Acted
+    ensures { Outcome S.Sink out.old out.new (types_out files.now moment store.old.state) false store.old.state
+        store.new.state result }
 {
     put_lines(store, files, Lines::Held, out);
+    store.touch(files, moment.min(MOMENT_LIMIT));
     Acted::Ok
 }

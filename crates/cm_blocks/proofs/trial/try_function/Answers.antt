@@ -32,12 +32,12 @@ returns-in-Directory-clause-seen g c =
 
 pub returns-in-InFile-clause-seen : goal.returns-in-InFile-clause-seen
 returns-in-InFile-clause-seen g c =
-    seen_from _ (file_is_local _ _ _) c.args.text.now c.args.at c.file.result c.file.ensures
+    seen_from _ (file_is_local _ _ _) c.args.text.now c.args.at c.file_of.result c.file_of.ensures
 
 pub returns-in-OutFile-clause-seen : goal.returns-in-OutFile-clause-seen
 returns-in-OutFile-clause-seen g c =
-    seen_from _ (file_is_local _ _ _) c.args.text.now c.args.at c.file-in-OutFile.result c.file-in-OutFile.ensures
+    seen_from _ (file_is_local _ _ _) c.args.text.now c.args.at c.file_of-in-OutFile.result c.file_of-in-OutFile.ensures
 
 pub returns-in-AnyFile-clause-seen : goal.returns-in-AnyFile-clause-seen
 returns-in-AnyFile-clause-seen g c =
-    seen_from _ (file_is_local _ _ _) c.args.text.now c.args.at c.file-in-AnyFile.result c.file-in-AnyFile.ensures
+    seen_from _ (file_is_local _ _ _) c.args.text.now c.args.at c.file_of-in-AnyFile.result c.file_of-in-AnyFile.ensures

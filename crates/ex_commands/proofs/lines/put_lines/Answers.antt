@@ -16,7 +16,7 @@ loop-row-init g c =
 pub put_row-requires : goal.put_row-requires
 put_row-requires g c =
     let first = is_first c.args.store.now.state.directories _ _ _ c.in-Some.ensures.steps c.loop-row.invariant.lawful in
-    record { moment = first.moment; short = first.short }
+    record { moment = first.moment; reading = first.reading; short = first.short }
 
 pub loop-row-preserved : goal.loop-row-preserved
 loop-row-preserved g c =

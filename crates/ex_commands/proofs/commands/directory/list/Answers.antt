@@ -4,5 +4,5 @@ use Rattle.ex_commands.proofs.commands.directory.list.Goals as goal
 
 pub returns-in-0 : goal.returns-in-0
 returns-in-0 g c =
-    refused_to_list _ _ _ c.args.files.now.directory _ c.args.store.now.state _ (sym c.in-0.is ∙ c.count_files.ensures)
+    refused_to_list _ _ _ c.args.read c.args.files.now.directory _ c.args.store.now.state _ (sym c.in-0.is ∙ c.count_files.ensures)
     (c.refuse.ensures c.args.store.now.state false)

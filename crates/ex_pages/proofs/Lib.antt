@@ -1,0 +1,3 @@
+mod PageLaws
+mod PartLaws
+mod RowLaws

@@ -1,0 +1,168 @@
+-- How a run ends where nothing outside failed.
+use Rattle.std.proofs.Common.{◌≡◌, ◌⊎◌, ℕ, ◌+◌, ◌<◌, Bool, true, false, List, [], ◌∷◌, ◌++◌, length, Result, Ok, Err, refl, sym, ap, ◌∙◌, subst, inl, inr, arith, length-append}
+use Rattle.cm_io.specs.Told.{Told}
+use Rattle.cm_run.specs.Cause.{Counts, KeyCount}
+use Rattle.cm_run.specs.Event.{Event, keys_of, state_behind}
+use Rattle.cm_run.specs.Observed.{Between}
+use Rattle.cm_run.specs.Trace.{RunState, keys_trace}
+use Rattle.cm_run.specs.declared.stop.Stop.{Stop}
+use Rattle.cm_run.specs.declared.stop.Stop.TheVariants as stop
+use Rattle.cm_run.proofs.Prefixes.{GoesOn, runs_on}
+use Rattle.ex_store.specs.State.{State}
+use Rattle.ex_system.specs.Quiet.{IsQuiet}
+use Rattle.ex_run.specs.Cause.{StatusCause}
+use Rattle.ex_run.specs.Closing.{Closes, Ends}
+use Rattle.ex_system.specs.Saving.{HostCause}
+use Rattle.ex_system.specs.Start.{IsRun}
+use Rattle.cm_io.specs.declared.status.Status.{Status}
+use Rattle.cm_io.specs.declared.status.Status.TheVariants as status
+use Rattle.ex_system.specs.Disk.{Disk}
+use Rattle.ex_system.proofs.Starting.{not_quiet}
+use Rattle.ex_system.specs.Form.{Form}
+use Rattle.ex_run.specs.Over.{Over, has_ended, left_of, trace_of}
+use Rattle.ex_run.specs.Scene.{Scene, seen}
+use Rattle.ex_run.specs.Course.{AreQuiet, Ran}
+use Rattle.ex_run.specs.declared.program.TheConstants.{KEY_LIMIT}
+use Rattle.ex_run.proofs.Ending.{closes_done, done_between, is_not}
+
+-- it is Done, or was halted by the limit of keys, or memory was wanting
+abbrev IsQuietEnd : Status → Type 0
+IsQuietEnd result = (result ≡ status.Done) ⊎ (result ≡ status.KeyLimit) ⊎ (result ≡ status.NoMemory)
+
+module _ (f g : Counts) (h k : ℕ) (screen : IsQuiet f.screen g.screen) (log : IsQuiet f.log g.log) (keys : IsQuiet f.keys g.keys)
+    (host : IsQuiet h k) where
+  cut : StatusCause f g status.WriteFault → ⊥
+  cut (inl rose) = not_quiet f.screen g.screen rose.0 screen
+  cut (inr rose) = not_quiet f.log g.log rose.0 log
+
+  quiet_end : (result : Status) → IsRun result → StatusCause f g result → HostCause h k result → IsQuietEnd result
+  quiet_end status.Done run cause host_cause = inl refl
+  quiet_end status.KeyLimit run cause host_cause = inr (inl refl)
+  quiet_end status.NoMemory run cause host_cause = inr (inr refl)
+  quiet_end status.ReadFault run cause host_cause = absurd (not_quiet f.keys g.keys cause.0 keys)
+  quiet_end status.WriteFault run cause host_cause = absurd (cut cause)
+  quiet_end status.HostFault run cause host_cause = absurd (not_quiet h k host_cause host)
+  quiet_end status.Stopped run cause host_cause = absurd cause
+  quiet_end result run cause host_cause = absurd run
+
+-- a run that closed as KeyLimit was cut short by the limit
+ends_limit : (ended : Bool) (before now : Told) (f g : ℕ) (result : Status) → Ends ended before now f g result → result ≡ status.KeyLimit → ⊥
+ends_limit true before now f g result ends is =
+    is_not result status.Done status.KeyLimit ends.0 is (λ (same : status.Done ≡ status.KeyLimit). cc) (λ (same : status.HostFault ≡ status.KeyLimit). cc)
+ends_limit false before now f g result (inl ends) is =
+    is_not result status.Done status.KeyLimit ends.0 is (λ (same : status.Done ≡ status.KeyLimit). cc) (λ (same : status.HostFault ≡ status.KeyLimit). cc)
+ends_limit false before now f g result (inr ends) is =
+    is_not result status.WriteFault status.KeyLimit ends.0 is (λ (same : status.WriteFault ≡ status.KeyLimit). cc) (λ (same : status.HostFault ≡ status.KeyLimit). cc)
+
+closes_limit : (why : Result Unit Stop) (ended : Bool) (before now : Told) (f g : ℕ) (result : Status) → Closes why ended before now f g result
+    → result ≡ status.KeyLimit → why ≡ Err stop.Limit
+unfolding Closes
+closes_limit (Ok value) ended before now f g result closes is = absurd (ends_limit ended before now f g result closes is)
+closes_limit (Err stop.Limit) ended before now f g result closes is = refl
+closes_limit (Err stop.Keys) ended before now f g result closes is =
+    absurd (is_not result status.ReadFault status.KeyLimit closes.0 is (λ (same : status.ReadFault ≡ status.KeyLimit). cc) (λ (same : status.HostFault ≡ status.KeyLimit). cc))
+closes_limit (Err stop.Memory) ended before now f g result closes is =
+    absurd (is_not result status.NoMemory status.KeyLimit closes.0 is (λ (same : status.NoMemory ≡ status.KeyLimit). cc) (λ (same : status.HostFault ≡ status.KeyLimit). cc))
+closes_limit (Err stop.Screen) ended before now f g result closes is =
+    absurd (is_not result status.WriteFault status.KeyLimit closes.0 is (λ (same : status.WriteFault ≡ status.KeyLimit). cc) (λ (same : status.HostFault ≡ status.KeyLimit). cc))
+closes_limit (Err stop.Log) ended before now f g result closes is =
+    absurd (is_not result status.WriteFault status.KeyLimit closes.0 is (λ (same : status.WriteFault ≡ status.KeyLimit). cc) (λ (same : status.HostFault ≡ status.KeyLimit). cc))
+
+-- then as many keys were taken
+limit_count : (before now : ℕ) (ended : Bool) → KeyCount KEY_LIMIT before now ended (Err stop.Limit) → before ≡ now + KEY_LIMIT
+unfolding KeyCount
+limit_count before now ended count = count.0
+
+-- no bytes
+none_of : (xs : List ℕ) → length xs ≡ 0 → xs ≡ []
+none_of [] none = refl
+none_of (x ∷ xs) none = absurd (omega (arith, none))
+
+-- a run that went to its end, at as many keys as it takes, ended over them
+module _ {S : Type 0} (o : Over S) (logging : Bool) (start : State) (moments taken rest : List ℕ) (left : S) where
+  abbrev events : List ℕ → List (Event S)
+  events keys = trace_of o logging start moments keys
+
+  ended_over : (next : RunState S) → has_ended o next.state ≡ false
+      → left ≡ state_behind next.state (keys_trace o.means logging next rest) → has_ended o left ≡ true
+      → length (keys_of (keys_trace o.means logging next rest)) ≡ 0 → ⊥
+  ended_over next going leads ended none = by rest leads none where
+    by : (behind : List ℕ) → left ≡ state_behind next.state (keys_trace o.means logging next behind)
+        → length (keys_of (keys_trace o.means logging next behind)) ≡ 0 → ⊥
+    by [] leads none = let both : true ≡ false = sym ended ∙ ap (λ (it : S). has_ended o it) leads ∙ going in cc
+    by (key ∷ keys) leads none = let empty = none_of (keys_of (keys_trace o.means logging next (key ∷ keys))) none in cc
+
+  not_over_by : (more : List ℕ) → length taken ≡ KEY_LIMIT → GoesOn o.means logging (o.begins start) (events (taken ++ rest)) taken rest
+      → keys_of (events (taken ++ rest)) ++ more ≡ taken ++ rest → left ≡ state_behind (o.begins start) (events (taken ++ rest))
+      → (ended : Bool) → has_ended o left ≡ ended → KeyCount KEY_LIMIT (length (taken ++ rest)) (length more) ended (Ok tt) → ⊥
+  unfolding KeyCount
+  not_over_by more limit on keys leads false is count =
+      omega (
+        arith,
+        count,
+        limit,
+        length-append taken rest,
+        ap length keys,
+        length-append (keys_of (events (taken ++ rest))) more,
+        ap length on.keys,
+        length-append taken (keys_of (keys_trace o.means logging on.next rest)),
+      )
+  not_over_by more limit on keys leads true is count =
+      ended_over on.next on.going (leads ∙ on.left) is
+      (omega (
+        arith,
+        count,
+        limit,
+        length-append taken rest,
+        ap length keys,
+        length-append (keys_of (events (taken ++ rest))) more,
+        ap length on.keys,
+        length-append taken (keys_of (keys_trace o.means logging on.next rest)),
+      ))
+
+  not_over : (all more : List ℕ) → taken ++ rest ≡ all → length taken ≡ KEY_LIMIT
+      → has_ended o (left_of o logging start moments taken) ≡ false → keys_of (events all) ++ more ≡ all
+      → left ≡ state_behind (o.begins start) (events all)
+      → KeyCount KEY_LIMIT (length all) (length more) (has_ended o left) (Ok tt) → ⊥
+  not_over all more joined limit going keys leads count =
+      not_over_by more limit
+      (runs_on o.means logging (o.begins start) moments taken rest going)
+      (subst (λ (it : List ℕ). keys_of (events it) ++ more ≡ it) (sym joined) keys)
+      (subst (λ (it : List ℕ). left ≡ state_behind (o.begins start) (events it)) (sym joined) leads)
+      (has_ended o left) refl
+      (subst (λ (it : List ℕ). KeyCount KEY_LIMIT (length it) (length more) (has_ended o left) (Ok tt)) (sym joined) count)
+
+-- a run of which keys and clock told
+module _ {S : Type 0} (told : Type 0) (tells : told) (o : Over S) (form : Form) (start : State) (left : S) (a b : Scene) (before now : Disk)
+    (result : Status) (ran : Ran told o form start left a b result) (run : IsRun result) (cause : StatusCause a.faults b.faults result)
+    (host_cause : HostCause before.faults now.faults result) (quiet : AreQuiet a b before now) where
+  ends : IsQuietEnd result
+  ends = quiet_end a.faults b.faults before.faults now.faults quiet.screen quiet.log quiet.keys quiet.host result run cause host_cause
+
+  -- with fewer keys than a run takes it is Done
+  pub quiet_done : length a.keys < KEY_LIMIT → (result ≡ status.Done) ⊎ (result ≡ status.NoMemory)
+  quiet_done few = by ends where
+    by : IsQuietEnd result → (result ≡ status.Done) ⊎ (result ≡ status.NoMemory)
+    by (inl done) = inl done
+    by (inr (inr memory)) = inr memory
+    by (inr (inl limit)) = absurd (omega (
+      arith,
+      few,
+      limit_count (length a.keys) (length ran.at.keys) (has_ended o left)
+          (subst (λ (why : Result Unit Stop). KeyCount KEY_LIMIT (length a.keys) (length ran.at.keys) (has_ended o left) why)
+          (closes_limit ran.stop (has_ended o left) ran.at.screen b.screen ran.at.faults.screen b.faults.screen result ran.closes limit)
+          (ran.count tells)),
+    ))
+
+  -- with as many keys as a run takes, over which it has not ended, it is halted
+  pub quiet_limit : (taken rest : List ℕ) → taken ++ rest ≡ a.keys → length taken ≡ KEY_LIMIT
+      → has_ended o (left_of o form.logs start a.moments taken) ≡ false → (result ≡ status.KeyLimit) ⊎ (result ≡ status.NoMemory)
+  quiet_limit taken rest all count going = by ends where
+    by : IsQuietEnd result → (result ≡ status.KeyLimit) ⊎ (result ≡ status.NoMemory)
+    by (inr (inr memory)) = inr memory
+    by (inr (inl limit)) = inl limit
+    by (inl done) = absurd (not_over o form.logs start a.moments taken rest left a.keys ran.at.keys all count going between.keys between.state
+        (subst (λ (why : Result Unit Stop). KeyCount KEY_LIMIT (length a.keys) (length ran.at.keys) (has_ended o left) why)
+        (closes_done ran.stop (has_ended o left) ran.at.screen b.screen ran.at.faults.screen b.faults.screen result ran.closes done).stop (ran.count tells))) where
+          between : Between (seen a (o.begins start)) (seen ran.at left) (trace_of o form.logs start a.moments a.keys)
+          between = done_between told o form start left a b result ran done tells

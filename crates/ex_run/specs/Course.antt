@@ -1,0 +1,145 @@
+-- All that is known of a run over a store.
+use Rattle.std.specs.Prelude.{◌≡◌, ◌⊎◌, ◌<◌, ◌+◌, ℕ, Bool, false, List, [], ◌++◌, length, Option, Some, None, IsTrue, Result}
+use Rattle.cm_io.specs.Told.{add}
+use Rattle.cm_io.specs.declared.status.Status.{Status}
+use Rattle.cm_io.specs.declared.status.Status.TheVariants as status
+use Rattle.cm_run.specs.Cause.{KeyCount, RunCause}
+use Rattle.cm_run.specs.Cut.{Traces}
+use Rattle.cm_run.specs.Event.{log_bytes, trials_of}
+use Rattle.cm_run.specs.Keeping.{KeepsLine}
+use Rattle.cm_run.specs.Progress.{MeetSound}
+use Rattle.cm_run.specs.Trace.{starting}
+use Rattle.cm_run.specs.declared.stop.Stop.{Stop}
+use Rattle.tt_screen.specs.Grid.{feed}
+use Rattle.tt_screen.specs.Holds.{Holds}
+use Rattle.ex_image.specs.Image.{image_text}
+use Rattle.ex_store.specs.State.{State}
+use Rattle.ex_system.specs.Disk.{Disk}
+use Rattle.ex_system.specs.Form.{Form}
+use Rattle.ex_system.specs.Messages.{message}
+use Rattle.ex_system.specs.Quiet.{IsQuiet}
+use Rattle.ex_system.specs.Saving.{HostCause, Saves}
+use Rattle.ex_system.specs.Start.{Began, InputCause, IsEarly, IsLoaded, IsRun, Starts}
+use Rattle.ex_system.specs.Trying.{Tried}
+use Rattle.ex_run.specs.Cause.{StatusCause}
+use Rattle.ex_run.specs.Closing.{Closes}
+use Rattle.ex_run.specs.Over.{Over, has_ended, left_of, shown_of, trace_of}
+use Rattle.ex_run.specs.Scene.{Scene, seen, with_screen}
+use Rattle.ex_run.specs.declared.program.TheConstants.{KEY_LIMIT}
+
+-- before the first prompt this text is tried on the screen, and nothing else is touched
+pub record Shown (a b : Scene) (text : List ℕ) : Type 0 where
+  pub screen : Tried a.screen b.screen a.faults.screen b.faults.screen [] text
+  pub rest : b ≡ with_screen a b.screen b.faults.screen
+
+-- the message of a status is
+abbrev pub Refused : Scene → Scene → Status → Type 0
+Refused a b result = Shown a b (message result)
+
+-- nothing outside has failed
+pub record AreQuiet (a b : Scene) (before now : Disk) : Type 0 where
+  pub screen : IsQuiet a.faults.screen b.faults.screen
+  pub log : IsQuiet a.faults.log b.faults.log
+  pub keys : IsQuiet a.faults.keys b.faults.keys
+  pub host : IsQuiet before.faults now.faults
+
+module _ {S : Type 0} where
+  -- past it the run stopped so, and what was observed then is its trace, or a cut of it, as far as keys and clock tell;
+  -- behind that nothing but the screen is touched, which shows how the run is closed
+  pub record Ran (told : Type 0) (o : Over S) (form : Form) (start : State) (left : S) (a b : Scene) (result : Status)
+      : Type 0 where
+    pub stop : Result Unit Stop
+    pub at : Scene
+    pub traces : told
+        → Traces (seen a (o.begins start)) (seen at left) (trace_of o form.logs start a.moments a.keys) stop
+    pub count : told → KeyCount KEY_LIMIT (length a.keys) (length at.keys) (has_ended o left) stop
+    pub cause : RunCause a.faults at.faults stop
+    pub closes : Closes stop (has_ended o left) at.screen b.screen at.faults.screen b.faults.screen result
+    pub rest : b ≡ with_screen at b.screen b.faults.screen
+
+  -- the run began in a state, and the image of the state that it left is written
+  pub record Past (told : Type 0) (o : Over S) (form : Form) (a b : Scene) (before now : Disk) (result : Status)
+      : Type 0 where
+    pub start : State
+    pub left : S
+    pub loaded : Disk
+    pub begins : IsLoaded form.input before loaded × (loaded.faults ≡ before.faults) × Began before form.input start
+    pub ran : Ran told o form start left a b result
+    pub saves : Saves loaded now form.out (o.store_of left) result
+
+  -- what stands at the end of what was asked for so
+  abbrev pub StandsBy : Type 0 → Over S → Form → Scene → Scene → Disk → Disk → Status → Type 0
+  StandsBy told o form a b before now result =
+      (IsEarly form.input result × Refused a b result × IsLoaded form.input before now)
+      ⊎ Past told o form a b before now result
+
+  -- of a run that is to begin over a store in this state, keys and clock telling. Where it is Done, the screen was
+  -- given what the run over all keys shows, the log what it logs, the counter has risen by what all trials cost, and
+  -- OUT holds the image of the state that the keys leave. Behind each beginning of the keys taken the screen shows
+  -- prompt and line. Where nothing outside failed the run is Done, or at the limit of keys KeyLimit, but for want of
+  -- memory
+  pub record Follows (o : Over S) (form : Form) (start : State) (a b : Scene) (before now : Disk) (result : Status)
+      : Type 0 where
+    pub shown : result ≡ status.Done → b.screen ≡ add a.screen (shown_of o form.logs start a.moments a.keys)
+    pub logged : result ≡ status.Done
+        → b.log ≡ add a.log (log_bytes (trace_of o form.logs start a.moments a.keys))
+    pub counted : result ≡ status.Done
+        → b.trials ≡ a.trials + trials_of (trace_of o form.logs start a.moments a.keys)
+    pub saved : IsTrue before.tells → result ≡ status.Done
+        → now.files form.out ≡ Some (image_text (o.store_of (left_of o form.logs start a.moments a.keys)))
+    pub on_screen : (taken rest : List ℕ) → (taken ++ rest) ++ b.keys ≡ a.keys
+        → KeepsLine feed Holds o.means (o.begins start) a.moments taken
+    pub complete : length a.keys < KEY_LIMIT → AreQuiet a b before now
+        → (result ≡ status.Done) ⊎ (result ≡ status.NoMemory)
+    pub limit : (taken rest : List ℕ) → taken ++ rest ≡ a.keys → length taken ≡ KEY_LIMIT
+        → has_ended o (left_of o form.logs start a.moments taken) ≡ false → AreQuiet a b before now
+        → (result ≡ status.KeyLimit) ⊎ (result ≡ status.NoMemory)
+
+  -- all that is known of the run that a form asks for: what stands, whatever the status; that nothing is asked of a log
+  -- without one; when each status may come; and what follows where it is to begin in a state
+  pub record Course (told : Type 0) (o : Over S) (form : Form) (a b : Scene) (before now : Disk) (result : Status)
+      : Type 0 where
+    pub stands : StandsBy told o form a b before now result
+    pub unlogged : form.logs ≡ false → (b.log ≡ a.log) × (b.faults.log ≡ a.faults.log)
+    pub usage : result ≡ status.Usage → ⊥
+    pub cause : StatusCause a.faults b.faults result
+    pub host_cause : HostCause before.faults now.faults result
+    pub start : InputCause before form.input result
+    pub follows : told → (start : State) → Starts before form.input start → Follows o form start a b before now result
+
+  -- and of the run over a store alone, from the first prompt on
+  pub record Comes (told : Type 0) (o : Over S) (form : Form) (start : State) (a b : Scene) (before now : Disk)
+      (result : Status) : Type 0 where
+    pub left : S
+    pub ran : Ran told o form start left a b result
+    pub saves : Saves before now form.out (o.store_of left) result
+    pub cause : StatusCause a.faults b.faults result
+    pub is_run : IsRun result
+    pub unlogged : form.logs ≡ false → (b.log ≡ a.log) × (b.faults.log ≡ a.faults.log)
+    pub sound : told → (first rest : List ℕ) → (first ++ rest) ++ b.keys ≡ a.keys
+        → MeetSound o.means (starting o.means (o.begins start) a.moments) first
+
+-- what the words ask for, under which a run begins in this state
+abbrev pub Asks : Option Form → Disk → Form → State → Type 0
+Asks asked disk form start = (asked ≡ Some form) × Starts disk form.input start
+
+-- whether there is a log
+abbrev pub logs : Option Form → Bool
+logs None = false
+logs (Some form) = form.logs
+
+-- by what the words ask for
+abbrev pub StartCause : Disk → Option Form → Status → Type 0
+StartCause disk None result = Unit {0}
+StartCause disk (Some form) result = InputCause disk form.input result
+
+module _ {S : Type 0} where
+  -- all that is known by the words alone, whatever they ask for
+  pub record Heads (told : Type 0) (o : Over S) (asked : Option Form) (a b : Scene) (before now : Disk)
+      (result : Status) : Type 0 where
+    pub unlogged : logs asked ≡ false → (b.log ≡ a.log) × (b.faults.log ≡ a.faults.log)
+    pub cause : StatusCause a.faults b.faults result
+    pub host_cause : HostCause before.faults now.faults result
+    pub start : StartCause before asked result
+    pub follows : told → (form : Form) → (start : State) → Asks asked before form start
+        → Follows o form start a b before now result

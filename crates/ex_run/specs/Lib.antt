@@ -1,0 +1,7 @@
+pub mod Cause
+pub mod Closing
+pub mod Course
+pub mod Over
+pub mod Runs
+pub mod Scene
+pub mod Served

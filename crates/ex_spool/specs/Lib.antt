@@ -1,0 +1,4 @@
+pub mod Among
+pub mod Texts
+pub mod Spool
+pub mod Stands
