@@ -1,4 +1,5 @@
 mod Editing
+pub mod Branches
 mod Fronts
 pub mod Lines
 mod Logging
@@ -7,3 +8,4 @@ mod Roles
 mod ScreenLines
 mod Stacking
 mod Starting
+pub mod Ways

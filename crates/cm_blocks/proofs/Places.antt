@@ -1,5 +1,5 @@
--- What the trials of files, directories and users accept, and that its parts are no longer than a name.
-use Rattle.std.proofs.Common.{◌≡◌, ℕ, ◌+◌, ◌||◌, ◌&&◌, ◌==◌, Bool, true, false, not, nat_le, nat_lt, if◌then◌else◌, List, codes, length, take, Option, Some, None, option_map, is_some, is_none, Result, Ok, Err, refl, ap, sym, subst, ◌∙◌, arith}
+-- What the trials of files, directories, users and fixed texts accept.
+use Rattle.std.proofs.Common.{◌≡◌, ℕ, ◌+◌, ◌||◌, ◌&&◌, ◌==◌, Bool, true, false, not, nat_le, nat_lt, if◌then◌else◌, List, codes, length, take, Option, Some, None, is_some, is_none, Result, Ok, Err, refl, ap, sym, subst, ◌∙◌, arith}
 use Rattle.std.specs.Char.{is_ascii_digit}
 use Rattle.std.specs.Str.Parse.{digits_value}
 use Rattle.std.specs.List.{common_prefix_len, list_all, prefix_len}
@@ -26,7 +26,6 @@ use Rattle.cm_files.specs.Catalogue.{Catalogue}
 use Rattle.cm_files.specs.Fields.{directory_of, directory_read, file_of, file_read, file_in, is_plain_path, moved, moved_spec, new_directory, old_directory, user_of, user_or_refused, user_named}
 use Rattle.cm_files.specs.Resolve.{by_device, by_directory, has_wild, refuse, resolve, then_in}
 use Rattle.cm_files.specs.Spec.{by_parts, generation_of, is_long, numbered, part_or_nothing, parts_of, read_spec}
-use Rattle.ex_commands.specs.Said.{IsSaid, IsShort}
 
 -- an accepted run is decided by its bytes, and ends behind them
 pub record IsRun (is_part : ℕ → Bool) (decide : List ℕ → Result Value Code) (rest : List ℕ) (at : ℕ) (value : Value) (end : ℕ) : Type 0 where
@@ -139,11 +138,6 @@ parts_are_short atom spec =
           (generation_fits (part_or_nothing atom parts.generation)) refl
     ]
 
--- a part stays as short where it is moved
-short_moved : (at : ℕ) (place : Option Span) → is_long place ≡ false → IsShort (option_map (moved at) place)
-short_moved at None short = tt
-short_moved at (Some place) short = grind (arith, nat_tests)
-
 -- what a run that is a file says
 pub record IsFileOf (c : Catalogue) (kind : FileKind) (flags : Flags) (at : ℕ) (run : List ℕ) (value : Value) : Type 0 where
   pub spec : Spec
@@ -168,13 +162,6 @@ file_says c kind flags at run value is = by (read_spec run) refl is
         → IsFileOf c kind flags at run value
     by (Ok spec) read is = resolved spec (resolve c kind flags run spec) read refl is
     by (Err fault) read is = cc
-
-pub file_said : (c : Catalogue) (kind : FileKind) (flags : Flags) (at : ℕ) (run : List ℕ) (value : Value)
-    → file_of c kind flags at run ≡ Ok value → IsSaid value
-file_said c kind flags at run value is =
-    let of = file_says c kind flags at run value is in
-    let short = parts_are_short run of.spec of.read in
-    subst IsSaid (sym of.value_is) (short_moved at of.spec.name short.name, short_moved at of.spec.kind short.kind)
 
 -- what a run that is a directory says: that of a number, or a new one by its name
 abbrev pub SaysDirectory : Bool → Catalogue → ℕ → List ℕ → Spec → ℕ → Value → Type 0
@@ -248,29 +235,6 @@ directory_says new c at run value is =
           device = third.1;
           says = chosen spec third.0 new refl third.2;
         }
-
-pub directory_said : (new : Bool) (c : Catalogue) (at : ℕ) (run : List ℕ) (value : Value)
-    → directory_of new c at run ≡ Ok value → IsSaid value
-directory_said new c at run value is =
-    let of = directory_says new c at run value is in
-    let short = parts_are_short run of.spec of.read in
-    by of.spec of.meant short.directory value of.says
-  where
-    moved_short : (part place : Span) (directory : Option Span) → is_long directory ≡ false → directory ≡ Some part → place ≡ moved at part
-        → IsShort (Some place)
-    moved_short part place directory short is same =
-        subst (λ (it : Span). IsShort (Some it)) (sym same)
-        (short_moved at (Some part) (ap is_long (sym is) ∙ short))
-
-    by : (spec : Spec) (meant : ℕ) → is_long spec.directory ≡ false → (value : Value) → SaysDirectory new c at run spec meant value
-        → IsSaid value
-    by spec meant short (values.NewDirectory place) says = moved_short says.0 place spec.directory short says.1 says.2
-    by spec meant short (values.Directory directory) says = tt
-    by spec meant short (values.File kind of directory) says = absurd says
-    by spec meant short (values.Hook id number) says = absurd says
-    by spec meant short (values.Word place) says = absurd says
-    by spec meant short (values.Date day) says = absurd says
-    by spec meant short value says = tt
 
 -- a user
 pub user_says : (c : Catalogue) (colon : Bool) (run : List ℕ) (value : Value) → user_of c colon run ≡ Ok value
