@@ -1,5 +1,5 @@
 -- A line with a verb commands something: its keyword is that of a command, and its line has the fields that it wants.
-use Rattle.std.proofs.Common.{◌≡◌, ◌≢◌, ◌⊎◌, inl, inr, ℕ, ◌<◌, ◌≤◌, ◌||◌, ◌==◌, Bool, true, false, not, if◌then◌else◌, List, length, drop, get_or, Option, Some, None, slice_get, Ok, Err, refl, ap, sym, subst, ◌∙◌, arith}
+use Rattle.std.proofs.Common.{◌≡◌, ◌≢◌, ◌⊎◌, inl, inr, ℕ, ◌<◌, ◌≤◌, ◌||◌, ◌==◌, Bool, true, false, not, if◌then◌else◌, List, length, drop, get_or, Option, Some, None, slice_get, Ok, refl, ap, sym, ◌∙◌, arith}
 use Rattle.std.specs.List.{list_all}
 use Rattle.std.specs.Option.{option_map_or}
 use Rattle.std.proofs.lemmas.Bool.Decides.{nat_tests}
@@ -42,9 +42,10 @@ use Rattle.ex_commands.specs.Commands.Define.{logical_by, logical_in}
 use Rattle.ex_commands.specs.Commands.Print.{after_in, copies_in, form_in, job_in, note_in}
 use Rattle.ex_commands.specs.Commands.Set.{set_of}
 use Rattle.ex_commands.specs.Line.{Line, between, count_by, count_in, directory_by, directory_in, flags_of, has_subs, keyword_code, on, place_by, place_in, said_of, upper}
-use Rattle.ex_commands.proofs.Fitting.{all_pass_at}
-use Rattle.ex_commands.proofs.Verbs.{Branch, IsOf, command_table, or_right}
-use Rattle.ex_commands.proofs.Ways.{IsThere, IsWay, is_directory, is_files, is_ruled, meant_found, meant_within, there_behind, trial_says, verb_keyword}
+use Rattle.cm_blocks.proofs.Values.{is_directory, is_files, is_fixed, is_ruled, meant_found, meant_within, trial_says}
+use Rattle.cm_state.proofs.Branches.{Branch, IsOf, all_pass_at, or_right}
+use Rattle.cm_state.proofs.Ways.{IsThere, IsWay, there_behind, verb_keyword}
+use Rattle.ex_commands.proofs.Verbs.{begins, command_table}
 
 -- the codes of the commands
 abbrev is_command : ℕ → Bool
@@ -97,7 +98,8 @@ record IsTyped (c : Catalogue) (text : List ℕ) (fields : List FieldView) (verb
 verb_commands : (c : Catalogue) (text : List ℕ) (fields : List FieldView) (verb : FieldView)
     → IsTyped c text fields verb → is_command (keyword_code verb.value) ≡ true
 verb_commands c text fields verb typed =
-    let key = verb_keyword c text fields verb typed.parse typed.verb_is in
+    let key = verb_keyword (setting exec_graph c exec_meanings) COMMANDS command_table begins keyword_code
+    (λ place number. refl) text fields ending.Done verb typed.parse typed.verb_is in
     ap (λ (value : Value). is_command (keyword_code value)) key.value_is
     ∙ meant_commands (table_of exec_graph command_table) key.run key.place no_fault entries_command key.meant
 
@@ -141,11 +143,11 @@ files_value : (c : Catalogue) (function : Function) (flags : Flags) (rest : List
     → trial (setting exec_graph c exec_meanings) function flags rest at ≡ Accept value looked end
     → is_files value ≡ true
 files_value c functions.InFile flags rest at value looked end reads is =
-    trial_says c functions.InFile flags rest at value looked end refl is
+    trial_says (setting exec_graph c exec_meanings) functions.InFile flags rest at value looked end refl is
 files_value c functions.OutFile flags rest at value looked end reads is =
-    trial_says c functions.OutFile flags rest at value looked end refl is
+    trial_says (setting exec_graph c exec_meanings) functions.OutFile flags rest at value looked end refl is
 files_value c functions.AnyFile flags rest at value looked end reads is =
-    trial_says c functions.AnyFile flags rest at value looked end refl is
+    trial_says (setting exec_graph c exec_meanings) functions.AnyFile flags rest at value looked end refl is
 files_value c function flags rest at value looked end reads is = cc
 
 either : (a b : Bool) → (a ≡ true) ⊎ (b ≡ true) → (a || b) ≡ true
@@ -153,16 +155,21 @@ either true b is = refl
 either false b (inl is) = cc
 either false b (inr is) = is
 
+token_of : (value : Value) → is_fixed value ≡ true → is_token value ≡ true
+token_of values.Token is = refl
+token_of value is = cc
+
 source_value : (c : Catalogue) (function : Function) (flags : Flags) (rest : List ℕ) (at : ℕ) (value : Value)
     (looked end : ℕ) → reads_source function ≡ true
     → trial (setting exec_graph c exec_meanings) function flags rest at ≡ Accept value looked end
     → (is_token value || is_files value) ≡ true
 source_value c (functions.Token phrase) flags rest at value looked end reads is =
     either (is_token value) (is_files value)
-    (inl (trial_says c (functions.Token phrase) flags rest at value looked end refl is))
+    (inl (token_of value
+    (trial_says (setting exec_graph c exec_meanings) (functions.Token phrase) flags rest at value looked end refl is)))
 source_value c functions.InFile flags rest at value looked end reads is =
     either (is_token value) (is_files value)
-    (inr (trial_says c functions.InFile flags rest at value looked end refl is))
+    (inr (trial_says (setting exec_graph c exec_meanings) functions.InFile flags rest at value looked end refl is))
 source_value c function flags rest at value looked end reads is = cc
 
 directory_value : (c : Catalogue) (function : Function) (flags : Flags) (rest : List ℕ) (at : ℕ) (value : Value)
@@ -170,9 +177,9 @@ directory_value : (c : Catalogue) (function : Function) (flags : Flags) (rest : 
     → trial (setting exec_graph c exec_meanings) function flags rest at ≡ Accept value looked end
     → is_directory value ≡ true
 directory_value c functions.User flags rest at value looked end reads is =
-    trial_says c functions.User flags rest at value looked end refl is
+    trial_says (setting exec_graph c exec_meanings) functions.User flags rest at value looked end refl is
 directory_value c functions.Directory flags rest at value looked end reads is =
-    trial_says c functions.Directory flags rest at value looked end refl is
+    trial_says (setting exec_graph c exec_meanings) functions.Directory flags rest at value looked end refl is
 directory_value c function flags rest at value looked end reads is = cc
 
 name_value : (c : Catalogue) (function : Function) (flags : Flags) (rest : List ℕ) (at : ℕ) (value : Value)
@@ -182,7 +189,7 @@ name_value : (c : Catalogue) (function : Function) (flags : Flags) (rest : List 
 name_value c (functions.Hook rule) flags rest at value looked end reads is =
     let same : rule ≡ NAME_RULE = grind (arith, nat_tests) in
     ap (λ (n : ℕ). is_ruled n value) (sym same)
-    ∙ trial_says c (functions.Hook rule) flags rest at value looked end refl is
+    ∙ trial_says (setting exec_graph c exec_meanings) (functions.Hook rule) flags rest at value looked end refl is
 name_value c function flags rest at value looked end reads is = cc
 
 count_value : (c : Catalogue) (function : Function) (flags : Flags) (rest : List ℕ) (at : ℕ) (value : Value)
@@ -190,7 +197,7 @@ count_value : (c : Catalogue) (function : Function) (flags : Flags) (rest : List
     → trial (setting exec_graph c exec_meanings) function flags rest at ≡ Accept value looked end
     → is_judged value ≡ true
 count_value c (functions.Hook rule) flags rest at value looked end reads is =
-    judged_by rule value (trial_says c (functions.Hook rule) flags rest at value looked end refl is)
+    judged_by rule value (trial_says (setting exec_graph c exec_meanings) (functions.Hook rule) flags rest at value looked end refl is)
 count_value c function flags rest at value looked end reads is = cc
 
 -- what they mean
@@ -278,31 +285,31 @@ count_way = record {
   reads = λ (block : Block). reads_count block.function;
 }
 
-copied_is_way : IsWay copied_way
+copied_is_way : IsWay exec_graph command_table copied_way
 unfolding exec_graph exec_nodes first_nodes source_nodes target_blocks append_blocks delete_blocks type_blocks listing_nodes define_blocks build_blocks last_nodes print_blocks switch_blocks directory_nodes retention_nodes set_blocks exec_tables command_entries
 copied_is_way = record { none = refl; nodes = refl; commands = refl; other = refl }
 
-source_is_way : IsWay source_way
+source_is_way : IsWay exec_graph command_table source_way
 unfolding exec_graph exec_nodes first_nodes source_nodes target_blocks append_blocks delete_blocks type_blocks listing_nodes define_blocks build_blocks last_nodes print_blocks switch_blocks directory_nodes retention_nodes set_blocks exec_tables command_entries
 source_is_way = record { none = refl; nodes = refl; commands = refl; other = refl }
 
-target_is_way : IsWay target_way
+target_is_way : IsWay exec_graph command_table target_way
 unfolding exec_graph exec_nodes first_nodes source_nodes target_blocks append_blocks delete_blocks type_blocks listing_nodes define_blocks build_blocks last_nodes print_blocks switch_blocks directory_nodes retention_nodes set_blocks exec_tables command_entries
 target_is_way = record { none = refl; nodes = refl; commands = refl; other = refl }
 
-files_is_way : IsWay files_way
+files_is_way : IsWay exec_graph command_table files_way
 unfolding exec_graph exec_nodes first_nodes source_nodes target_blocks append_blocks delete_blocks type_blocks listing_nodes define_blocks build_blocks last_nodes print_blocks switch_blocks directory_nodes retention_nodes set_blocks exec_tables command_entries set_entries file_entries table_fault
 files_is_way = record { none = refl; nodes = refl; commands = refl; other = refl }
 
-count_is_way : IsWay count_way
+count_is_way : IsWay exec_graph command_table count_way
 unfolding exec_graph exec_nodes first_nodes source_nodes target_blocks append_blocks delete_blocks type_blocks listing_nodes define_blocks build_blocks last_nodes print_blocks switch_blocks directory_nodes retention_nodes set_blocks exec_tables command_entries set_entries file_entries table_fault
 count_is_way = record { none = refl; nodes = refl; commands = refl; other = refl }
 
-directory_is_way : IsWay directory_way
+directory_is_way : IsWay exec_graph command_table directory_way
 unfolding exec_graph exec_nodes first_nodes source_nodes target_blocks append_blocks delete_blocks type_blocks listing_nodes define_blocks build_blocks last_nodes print_blocks switch_blocks directory_nodes retention_nodes set_blocks exec_tables command_entries
 directory_is_way = record { none = refl; nodes = refl; commands = refl; other = refl }
 
-name_is_way : IsWay name_way
+name_is_way : IsWay exec_graph command_table name_way
 unfolding exec_graph exec_nodes first_nodes source_nodes target_blocks append_blocks delete_blocks type_blocks listing_nodes define_blocks build_blocks last_nodes print_blocks switch_blocks directory_nodes retention_nodes set_blocks exec_tables command_entries
 name_is_way = record { none = refl; nodes = refl; commands = refl; other = refl }
 
@@ -315,7 +322,7 @@ value_of : (c : Catalogue) (text : List ℕ) (reads : Function → Bool) (test :
     → ((function : Function) (flags : Flags) (rest : List ℕ) (at : ℕ) (value : Value) (looked end : ℕ)
     → reads function ≡ true
     → trial (setting exec_graph c exec_meanings) function flags rest at ≡ Accept value looked end → test value ≡ true)
-    → (field : FieldView) → IsOf c text (λ (block : Block). reads block.function) field → test field.value ≡ true
+    → (field : FieldView) → IsOf (setting exec_graph c exec_meanings) text (λ (block : Block). reads block.function) field → test field.value ≡ true
 value_of c text reads test law field of =
     let tried = of.tried in
     law tried.block.function tried.block.flags (drop tried.at tried.said) tried.at field.value tried.looked tried.end
@@ -323,7 +330,7 @@ value_of c text reads test law field of =
 
 -- the files of a role
 files_there : (c : Catalogue) (text : List ℕ) (fields : List FieldView) (way : Branch)
-    → ((field : FieldView) → IsOf c text way.reads field → is_files field.value ≡ true) → IsThere way c text fields
+    → ((field : FieldView) → IsOf (setting exec_graph c exec_meanings) text way.reads field → is_files field.value ≡ true) → IsThere (setting exec_graph c exec_meanings) text way fields
     → (place : Place) × (place_in (line_in c text fields) (field_of way.role fields) ≡ Some place)
 files_there c text fields way law there =
     let field = there.field in
@@ -349,11 +356,12 @@ between_said command from to source target from_is to_is some =
 module _ (c : Catalogue) (text : List ℕ) (fields : List FieldView) (verb : FieldView)
     (typed : IsTyped c text fields verb) where
   -- the field at the end of a way
-  there : (way : Branch) → IsWay way → (wanted : ℕ) → way.names wanted ≡ true
-      → (keyword_code verb.value == wanted) ≡ true → IsThere way c text fields
+  there : (way : Branch) → IsWay exec_graph command_table way → (wanted : ℕ) → way.names wanted ≡ true
+      → (keyword_code verb.value == wanted) ≡ true → IsThere (setting exec_graph c exec_meanings) text way fields
   there way is_way wanted names is =
       let same : keyword_code verb.value ≡ wanted = grind (arith, nat_tests) in
-      there_behind way is_way c text fields verb typed.parse typed.verb_is (ap way.names same ∙ names)
+      there_behind (setting exec_graph c exec_meanings) COMMANDS command_table begins keyword_code
+      (λ place number. refl) text way is_way fields verb typed.parse typed.verb_is (ap way.names same ∙ names)
 
   -- APPEND, COPY and RENAME
   target : (wanted : ℕ) → target_way.names wanted ≡ true → (keyword_code verb.value == wanted) ≡ true

@@ -35,7 +35,7 @@ use Rattle.ex_commands.proofs.Asking.{is_finished}
 use Rattle.ex_commands.proofs.Printable.{logical_named, may_ask}
 use Rattle.ex_commands.proofs.Resolving.{state_has}
 use Rattle.ex_commands.proofs.Targets.{directory_formed, directory_there, field_meant, field_one, field_target, place_there, trial_old}
-use Rattle.ex_commands.proofs.Trying.{IsTried}
+use Rattle.cm_blocks.proofs.Fields.{IsTried}
 use Rattle.ex_commands.proofs.Verbs.{grown_target, made_target, names_grown, names_made, names_old, not_true, old_directory}
 
 -- a line of the grammar over the catalogue of a state

@@ -3,7 +3,6 @@ use Rattle.std.proofs.Common.{◌≡◌, ℕ, zero, suc, ◌+◌, ◌≤◌, ◌
 use Rattle.std.specs.List.{list_all, prefix_len}
 use Rattle.std.proofs.lemmas.List.{length-take}
 use Rattle.std.proofs.lemmas.List.Sums.{prefix_len-le-length}
-use Rattle.std.proofs.lemmas.Bool.{and_parts}
 use Rattle.std.proofs.lemmas.Bool.Decides.{nat_tests}
 use Rattle.cm_text.specs.Bytes.{is_name}
 use Rattle.cm_text.specs.declared.name.TheConstants.{NAME_LIMIT}
@@ -18,7 +17,6 @@ use Rattle.cm_files.specs.declared.flags.Flags.{Flags}
 use Rattle.cm_files.specs.Catalogue.{Catalogue}
 use Rattle.cm_files.specs.Fields.{directory_of, file_of, has_colon_behind, is_file, is_plain_path, user_of}
 use Rattle.cm_files.specs.LogicalName.{is_logical_name}
-use Rattle.cm_hooks.specs.declared.answer.Answer.{Answer}
 use Rattle.cm_hooks.specs.declared.answer.Answer.TheVariants.{Yes, No}
 use Rattle.cm_hooks.specs.Field.{hook_of, judged}
 use Rattle.cm_blocks.specs.declared.field.Ending.{Ending}
@@ -32,6 +30,8 @@ use Rattle.cm_blocks.specs.Parse.{IsParse}
 use Rattle.cm_blocks.specs.Setting.{Setting, setting}
 use Rattle.cm_blocks.specs.FieldView.{FieldView}
 use Rattle.cm_blocks.specs.Trial.{table_of, trial}
+use Rattle.cm_blocks.proofs.Values.{hook_says}
+use Rattle.cm_state.proofs.Branches.{all_pass_at}
 use Rattle.cm_state.specs.Roles.{field_of, is_role}
 use Rattle.ex_grammar.specs.ExecRules.{exec_meanings, logical_verdict, rule_verdict}
 use Rattle.ex_grammar.specs.Graph.{append_blocks, build_blocks, define_blocks, delete_blocks, directory_nodes, exec_graph, exec_nodes, first_nodes, last_nodes, listing_nodes, print_blocks, retention_nodes, set_blocks, source_nodes, switch_blocks, target_blocks, type_blocks}
@@ -42,8 +42,9 @@ use Rattle.ex_commands.specs.Line.{last_at}
 use Rattle.ex_commands.proofs.Lasting.{last_tried}
 use Rattle.ex_commands.specs.Said.{IsLogical, IsLogicalIn, IsReadable, IsSaid, IsSaidIn}
 use Rattle.ex_commands.proofs.Judging.{IsPlain, PlainIfAccept, accepted_plain, date_is_plain, hook_said, number_is_plain, plain_said, quoted_plain, switch_plain, word_is_plain}
-use Rattle.ex_commands.proofs.Saying.{IsRun, directory_said, file_said, run_of, token_says, user_says}
-use Rattle.ex_commands.proofs.Trying.{IsTried, StandsIn, first_tried}
+use Rattle.cm_blocks.proofs.Places.{IsRun, run_of, token_says, user_says}
+use Rattle.ex_commands.proofs.ShortParts.{directory_said, file_said}
+use Rattle.cm_blocks.proofs.Fields.{IsTried, StandsIn, first_tried}
 
 -- what is read from: the terminal, or files that are there
 abbrev pub reads_source : Function → Bool
@@ -111,15 +112,6 @@ node_fits node = list_all fits node.chain
 pub nodes_fit : list_all node_fits exec_graph.nodes ≡ true
 unfolding exec_graph exec_nodes first_nodes source_nodes target_blocks append_blocks delete_blocks type_blocks listing_nodes define_blocks build_blocks last_nodes print_blocks switch_blocks directory_nodes retention_nodes set_blocks
 nodes_fit = refl
-
--- what all elements pass each passes
-pub all_pass_at : {A : Type 0} (test : A → Bool) (all : List A) (place : ℕ) (it : A) → list_all test all ≡ true
-    → slice_get all place ≡ Some it → test it ≡ true
-all_pass_at test [] place it passes is = cc
-all_pass_at {A} test (first ∷ more) zero it passes is =
-    let same : first ≡ it = cc in ap test (sym same) ∙ (and_parts (test first) (list_all test more) passes).0
-all_pass_at test (first ∷ more) (suc place) it passes is =
-    all_pass_at test more place it (and_parts (test first) (list_all test more) passes).1 is
 
 -- a field's block fits its role
 pub field_fits : (c : Catalogue) (text : List ℕ) (field : FieldView)
@@ -236,22 +228,10 @@ plain_sized at end (values.Quoted place) plain = tt
 plain_sized at end (values.Word place) plain = tt
 plain_sized at end value plain = absurd plain
 
-judged_id : (id : ℕ) (answer : Answer) (value : Value) → judged id answer ≡ Ok value → (number : ℕ) × (value ≡ values.Hook id number)
-judged_id id (Yes number) value is = let same : values.Hook id number ≡ value = cc in (number, sym same)
-judged_id id No value is = cc
-
-pub hook_id : (id : ℕ) (run : List ℕ) (value : Value) → hook_of rule_verdict id run ≡ Ok value → (number : ℕ) × (value ≡ values.Hook id number)
-unfolding hook_of
-hook_id id run value is = by (length run == 0) is
-  where
-    by : (none : Bool) → (if none then Err NoField else judged id (rule_verdict id run)) ≡ Ok value → (number : ℕ) × (value ≡ values.Hook id number)
-    by true is = cc
-    by false is = judged_id id (rule_verdict id run) value is
-
 hook_sized : (id : ℕ) (rest : List ℕ) (at : ℕ) (value : Value) (end : ℕ) → IsRun is_name (hook_of rule_verdict id) rest at value end
     → IsSized at end value
 hook_sized id rest at value end run =
-    let it = hook_id id (take (prefix_len is_name rest) rest) value run.decided in
+    let it = hook_says rule_verdict id (take (prefix_len is_name rest) rest) value run.decided in
     subst (IsSized at end) (sym it.1)
     (λ named. (
     let first : id ≡ NAME_RULE = grind (arith, nat_tests) in

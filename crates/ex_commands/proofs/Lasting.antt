@@ -5,7 +5,7 @@ use Rattle.cm_blocks.specs.FieldView.{FieldView}
 use Rattle.cm_blocks.specs.Parse.{Follow}
 use Rattle.cm_blocks.specs.Setting.{Setting}
 use Rattle.ex_commands.specs.Line.{last_at}
-use Rattle.ex_commands.proofs.Trying.{IsTried, chain_tried}
+use Rattle.cm_blocks.proofs.Fields.{IsTried, chain_tried}
 
 -- what is found from a place on is found in all
 last_whole : (node k : ℕ) (fields : List FieldView) (found : FieldView) → last_at node (drop k fields) ≡ Some found

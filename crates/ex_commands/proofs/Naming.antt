@@ -23,7 +23,7 @@ use Rattle.ex_store.specs.WellFormed.{is_file_name}
 use Rattle.ex_commands.specs.Line.{upper}
 use Rattle.ex_commands.proofs.Capitals.{up, upper_name}
 use Rattle.ex_commands.proofs.Places.{run_all}
-use Rattle.ex_commands.proofs.Saying.{run_of}
+use Rattle.cm_blocks.proofs.Places.{run_of}
 
 same_test : (p q : Bool) → (p ≡ true → q ≡ true) → (q ≡ true → p ≡ true) → p ≡ q
 same_test true true there back = refl

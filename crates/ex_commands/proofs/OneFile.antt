@@ -1,5 +1,5 @@
 -- A line of TAKE means one file.
-use Rattle.std.proofs.Common.{◌≡◌, ℕ, zero, suc, ◌<◌, ◌≤◌, ◌||◌, ◌&&◌, ◌==◌, nat_lt, Bool, true, false, not, if◌then◌else◌, List, [], ◌∷◌, length, map, filter, take, drop, Option, Some, None, option_and_then, option_map, slice_get, unwrap_or, Ok, refl, ap, sym, subst, ◌∙◌, arith}
+use Rattle.std.proofs.Common.{◌≡◌, ℕ, zero, suc, ◌<◌, ◌||◌, ◌&&◌, ◌==◌, Bool, true, false, not, if◌then◌else◌, List, [], ◌∷◌, length, map, filter, drop, Option, Some, None, option_and_then, option_map, slice_get, unwrap_or, Ok, refl, ap, sym, subst, ◌∙◌, arith}
 use Rattle.std.specs.List.{list_any, prefix_len}
 use Rattle.std.specs.Option.{option_map_or}
 use Rattle.std.proofs.lemmas.Bool.{or_parts}
@@ -19,7 +19,7 @@ use Rattle.cm_files.specs.Catalogue.{rows_of}
 use Rattle.cm_files.specs.Fields.{file_of, is_file, moved, moved_spec}
 use Rattle.cm_files.specs.Pattern.{is_wild, matches}
 use Rattle.cm_files.specs.Resolve.{has_bad_copy, has_wild, is_all, wanted_by, wanted_kind, wanted_name}
-use Rattle.cm_files.specs.Selection.{Wanted, is_seen, is_selected, name_matches, selected, selects}
+use Rattle.cm_files.specs.Selection.{is_seen, is_selected, name_matches, selected, selects}
 use Rattle.cm_files.specs.Spec.{part, read_spec}
 use Rattle.cm_blocks.specs.declared.field.Ending.{Ending}
 use Rattle.cm_blocks.specs.declared.function.Function.{Function}
@@ -44,7 +44,7 @@ use Rattle.ex_store.specs.Plan.{sources}
 use Rattle.ex_store.specs.Rows.{is_in, rows_in}
 use Rattle.ex_store.specs.Selection.{is_meant, wanted_of}
 use Rattle.ex_store.specs.Selection as selections
-use Rattle.ex_store.specs.State.{State, catalogue_of, file_row, rows_numbered}
+use Rattle.ex_store.specs.State.{State, catalogue_of, file_row}
 use Rattle.ex_store.specs.WellFormed.{IsWellFormed}
 use Rattle.ex_store.proofs.CatalogueLaws.{catalogue_lawful}
 use Rattle.ex_store.proofs.RowsInLaws.{filter_of_map, filter_same, kept_pass, rows_at_number, rows_of_catalogue}
@@ -56,14 +56,15 @@ use Rattle.ex_commands.specs.Commands.Print.{after_in, copies_in, form_in, job_i
 use Rattle.ex_commands.specs.Line.{Line, between, count_in, directory_in, directory_name, flags_of, has_subs, keyword_code, on, place_by, place_in, said_of, upper}
 use Rattle.ex_store.proofs.SelectionLaws.{meant_all}
 use Rattle.ex_commands.proofs.Capitals.{up}
+use Rattle.cm_state.proofs.Branches.{IsOf}
 use Rattle.ex_commands.proofs.Fitting.{reads_single}
 use Rattle.ex_commands.proofs.Places.{spec_kind, spec_name}
 use Rattle.ex_commands.proofs.Resolving.{resolves}
-use Rattle.ex_commands.proofs.Saying.{file_says, run_of}
-use Rattle.ex_commands.proofs.Single.{IsSingle, selected_same, single, up_matches}
+use Rattle.cm_blocks.proofs.Places.{file_says, run_of}
+use Rattle.ex_commands.proofs.Single.{selected_same, single, up_matches}
 use Rattle.ex_commands.proofs.Targets.{SaysParts, right_is, run_says, run_text}
-use Rattle.ex_commands.proofs.Trying.{IsTried}
-use Rattle.ex_commands.proofs.Verbs.{IsOf, is_single, names_take, not_true, take_file}
+use Rattle.cm_blocks.proofs.Fields.{IsTried}
+use Rattle.ex_commands.proofs.Verbs.{is_single, names_take, not_true, take_file}
 
 -- a directory of the catalogue is one of the state
 record IsNumbered (directories : List Directory) (number : ℕ) : Type 0 where
@@ -230,7 +231,7 @@ flags_are state text field tried =
     ∙ ap (λ (block : Option Block). option_map_or (λ (block : Block). block.flags) block no_flags) tried.block_is
 
 field_single : (state : State) → IsWellFormed state → (text : List ℕ) (field : FieldView) (place : Place)
-    → IsOf (catalogue_of state) text is_single field
+    → IsOf (setting exec_graph (catalogue_of state) exec_meanings) text is_single field
     → place_by (catalogue_of state) (flags_of exec_graph field) (said_of exec_graph text field) field.value ≡ Some place
     → length (sources place state) ≡ 1
 field_single state well text field place read placed =

@@ -15,7 +15,7 @@ use Rattle.cm_files.proofs.Typed.{read_of}
 use Rattle.cm_blocks.specs.Setting.{Setting}
 use Rattle.cm_blocks.specs.FieldView.{FieldView}
 use Rattle.ex_commands.specs.Line.{said_of}
-use Rattle.ex_commands.proofs.Trying.{IsTried, StandsIn}
+use Rattle.cm_blocks.proofs.Fields.{IsTried, StandsIn}
 
 -- a run has bytes of its class alone
 pub run_all : (p : ℕ → Bool) (text : List ℕ) → list_all p (take (prefix_len p text) text) ≡ true

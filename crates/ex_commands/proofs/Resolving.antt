@@ -21,7 +21,7 @@ use Rattle.ex_store.specs.declared.directory.Directory.{Directory}
 use Rattle.ex_store.specs.State.{State, catalogue_of, has_directory}
 use Rattle.ex_store.specs.State as states
 use Rattle.ex_commands.specs.Line.{directory_name}
-use Rattle.ex_commands.proofs.Saying.{passed, then_parts}
+use Rattle.cm_blocks.proofs.Places.{passed, then_parts}
 
 -- where the first is that passes
 position_within : {X : Type 0} (test : X → Bool) (xs : List X) (from place : ℕ) → position_from test from xs ≡ Some place

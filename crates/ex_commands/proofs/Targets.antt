@@ -38,12 +38,13 @@ use Rattle.ex_store.specs.State.{State, catalogue_of, has_directory}
 use Rattle.ex_store.specs.WellFormed.{is_file_name, is_file_type}
 use Rattle.ex_commands.specs.Line.{directory_by, directory_name, place_by, said_of, upper}
 use Rattle.ex_commands.proofs.Capitals.{plain_names, plain_paths, star_stays, up, upper_directory, upper_name}
+use Rattle.cm_state.proofs.Branches.{IsOf}
 use Rattle.ex_commands.proofs.Fitting.{IsRead, reads_made, reads_one, reads_places}
 use Rattle.ex_commands.proofs.Places.{said_part, spec_directory, spec_kind, spec_name}
 use Rattle.ex_commands.proofs.Resolving.{device_directory_within, name_of_directory, resolves, state_has, user_within}
-use Rattle.ex_commands.proofs.Saying.{SaysDirectory, directory_says, file_says, fits_number, parts_are_short, run_of, token_says, user_says}
-use Rattle.ex_commands.proofs.Trying.{IsTried}
-use Rattle.ex_commands.proofs.Verbs.{IsOf, is_made, is_one, not_true}
+use Rattle.cm_blocks.proofs.Places.{SaysDirectory, directory_says, file_says, fits_number, parts_are_short, run_of, token_says, user_says}
+use Rattle.cm_blocks.proofs.Fields.{IsTried}
+use Rattle.ex_commands.proofs.Verbs.{is_made, is_one, not_true}
 
 -- the bytes that a run of a field's text has, and its parts as parts of the text that the field is said in
 abbrev pub run_text : (is_part : ℕ → Bool) → List ℕ → List ℕ
@@ -332,7 +333,7 @@ trial_target state is_catalogue functions.OutFile flags own rest at text value l
 trial_target state is_catalogue function flags own rest at text value looked end place reads says is placed = cc
 
 pub field_target : (state : State) → IsCatalogue (catalogue_of state) → (text : List ℕ) (field : FieldView) (own : Flags) (place : Place)
-    → IsOf (catalogue_of state) text is_made field
+    → IsOf (setting exec_graph (catalogue_of state) exec_meanings) text is_made field
     → place_by (catalogue_of state) own (said_of exec_graph text field) field.value ≡ Some place → IsTarget place state.directories
 field_target state is_catalogue text field own place read placed =
     let tried = read.tried in
@@ -431,7 +432,7 @@ trial_one state is_catalogue functions.AnyFile flags own rest at text value look
 trial_one state is_catalogue function flags own rest at text value looked end place reads says is placed = cc
 
 pub field_one : (state : State) → IsCatalogue (catalogue_of state) → (text : List ℕ) (field : FieldView) (own : Flags)
-    (place : Place) → IsOf (catalogue_of state) text is_one field
+    (place : Place) → IsOf (setting exec_graph (catalogue_of state) exec_meanings) text is_one field
     → place_by (catalogue_of state) own (said_of exec_graph text field) field.value ≡ Some place
     → IsOneFile place state.directories
 field_one state is_catalogue text field own place read placed =
