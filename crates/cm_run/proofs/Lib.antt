@@ -13,6 +13,7 @@ pub mod LineEnds
 pub mod LineTurns
 mod Lines
 mod Modes
+mod MomentLaws
 pub mod Obeying
 mod Opening
 mod Outcomes
@@ -25,3 +26,4 @@ pub mod Showing
 mod Sparing
 mod Strokes
 mod Waiting
+pub mod Wanting

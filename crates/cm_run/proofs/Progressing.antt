@@ -11,7 +11,7 @@ use Rattle.cm_run.specs.Trace.{RunState, is_ended, line_start, run_state, starti
 
 module _ {S : Type 0} (m : Meaning S) where
   -- a run that has ended stays where it is
-  progress_ended : (at : RunState S) (keys : List ℕ) → is_ended (m.mode_of at.state) ≡ true → progress m at keys ≡ at
+  pub progress_ended : (at : RunState S) (keys : List ℕ) → is_ended (m.mode_of at.state) ≡ true → progress m at keys ≡ at
   unfolding progress
   progress_ended at [] is = refl
   progress_ended at (key ∷ keys) is = ap (λ test. cond test at (progress m (step m at key) keys)) is

@@ -3,7 +3,9 @@ pub mod Cut
 pub mod Event
 pub mod Idle
 pub mod Keeping
+pub mod LastKey
 pub mod Meaning
+pub mod Moments
 pub mod Obey
 pub mod Observed
 pub mod Progress

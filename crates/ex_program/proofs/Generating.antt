@@ -4,11 +4,11 @@ use Rattle.cm_io.specs.Told.{Told}
 use Rattle.cm_io.specs.declared.status.Status.{Status}
 use Rattle.ex_system.specs.Disk.{Disk}
 use Rattle.ex_system.specs.Form.{Form}
-use Rattle.ex_run.specs.Scene.{Scene}
+use Rattle.ex_run.specs.Scene.{Scene, Telling}
 use Rattle.ex_program.specs.Generates.{Rises, Sums}
 use Rattle.ex_program.specs.Stands.{Stands, StandsApart, with_count}
 
-pub stands_generated : (told : Type 0) (asked : Option Form) (lines : Option ℕ) (count : ℕ) (a : Scene) (screen : Told) (faults trials : ℕ)
+pub stands_generated : (told : Telling) (asked : Option Form) (lines : Option ℕ) (count : ℕ) (a : Scene) (screen : Told) (faults trials : ℕ)
     (disk : Disk) (result : Status) → None ≡ asked → Some count ≡ lines → Sums count a.screen screen a.faults.screen faults result
     → Rises count a.trials trials result → Stands told asked lines a (with_count a screen faults trials) disk disk result
 stands_generated told asked lines count a screen faults trials disk result is some sums rises =

@@ -12,7 +12,7 @@ use Rattle.ex_system.proofs.SavingLaws.{saved_image}
 use Rattle.ex_system.proofs.Starting.{from_image, one_image}
 use Rattle.ex_run.specs.Course.{Past, StandsBy}
 use Rattle.ex_run.specs.Over.{closing, has_ended, shown_of}
-use Rattle.ex_run.specs.Scene.{Scene}
+use Rattle.ex_run.specs.Scene.{Scene, Telling}
 use Rattle.ex_take.specs.ExecState.{ExecState}
 use Rattle.ex_take.specs.Interpreter.{mode_by}
 use Rattle.ex_take.specs.declared.pending.Pending.{Pending}
@@ -41,13 +41,13 @@ pub no_usage : (asked : Option Form) (lines : Option ℕ) (form : Form) (result 
 no_usage asked lines form result is other = (λ same. absurd (other same), λ none. let wrong : Some form ≡ None = is ∙ none.0 in absurd (cc))
 
 -- what stands, by what the words ask for
-pub stands_asked : (told : Type 0) (asked : Option Form) (lines : Option ℕ) (form : Form) (a b : Scene) (before now : Disk) (result : Status)
+pub stands_asked : (told : Telling) (asked : Option Form) (lines : Option ℕ) (form : Form) (a b : Scene) (before now : Disk) (result : Status)
     → Some form ≡ asked → StandsBy told exec_over form a b before now result → Stands told asked lines a b before now result
 stands_asked told asked lines form a b before now result is stands =
     subst (λ (it : Option Form). Stands told it lines a b before now result) is stands
 
 -- what one run saved the next reads
-module _ (told : Type 0) where
+module _ (told : Telling) where
   loaded_tells : (form : Form) (a b : Scene) (before now : Disk) (result : Status) (run : Past told exec_over form a b before now result)
       → IsTrue before.tells → IsTrue run.loaded.tells
   loaded_tells form a b before now result run tells = subst (λ (it : Bool). IsTrue it) (sym run.begins.0.tells) tells

@@ -30,7 +30,7 @@ memory_alone limit before now ended stop.Keys cause count few = absurd (omega (a
 memory_alone limit before now ended stop.Limit cause count few = absurd (omega (arith, few, count.0))
 
 -- a cut for want of memory is one at an event that asks for it
-is_memory : (cut : Cut) → why_of cut ≡ stop.Memory → cut ≡ MemoryCut
+pub is_memory : (cut : Cut) → why_of cut ≡ stop.Memory → cut ≡ MemoryCut
 is_memory (ScreenCut part rest) why = absurd (cc)
 is_memory (LogCut part rest) why = absurd (cc)
 is_memory (KeyCut key) why = absurd (cc)

@@ -4,15 +4,15 @@ use Rattle.cm_io.specs.declared.status.Status.{Status}
 use Rattle.ex_system.specs.Disk.{Disk}
 use Rattle.ex_system.specs.Form.{Form}
 use Rattle.ex_system.specs.Start.{Starts}
-use Rattle.ex_run.specs.Course.{Course, Follows, Heads, StartCause, logs}
+use Rattle.ex_run.specs.Course.{Course, Finishes, Follows, Heads, StartCause, logs}
 use Rattle.ex_run.specs.Over.{Over}
-use Rattle.ex_run.specs.Scene.{Scene}
+use Rattle.ex_run.specs.Scene.{Scene, Telling}
 
 -- the words have one form
 one_form : (asked : Option Form) (first second : Form) → Some first ≡ asked → asked ≡ Some second → first ≡ second
 one_form asked first second is was = cc
 
-module _ {S : Type 0} (told : Type 0) (o : Over S) (asked : Option Form) (form : Form) (a b : Scene) (before now : Disk) (result : Status)
+module _ {S : Type 0} (told : Telling) (o : Over S) (asked : Option Form) (form : Form) (a b : Scene) (before now : Disk) (result : Status)
     (is : Some form ≡ asked) (course : Course told o form a b before now result) where
   pub heads : Heads told o asked a b before now result
   heads = record {
@@ -24,4 +24,8 @@ module _ {S : Type 0} (told : Type 0) (o : Over S) (asked : Option Form) (form :
         let same = one_form asked form other is asks.0 in
         subst (λ (it : Form). Follows o it start a b before now result) same
         (course.follows tells start (subst (λ (it : Form). Starts before it.input start) (sym same) asks.1));
+    finishes = λ tells other start asks.
+        let same = one_form asked form other is asks.0 in
+        subst (λ (it : Form). Finishes told o it start a b before now result) same
+        (course.finishes tells start (subst (λ (it : Form). Starts before it.input start) (sym same) asks.1));
   }

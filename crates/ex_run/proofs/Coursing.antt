@@ -18,9 +18,9 @@ use Rattle.ex_system.specs.Saving.{HostCause}
 use Rattle.ex_system.specs.Start.{Began, InputCause, IsEarly, IsLoaded, Starts}
 use Rattle.ex_system.specs.Trying.{Tried}
 use Rattle.ex_system.proofs.Starting.{began_cause, early_memory, one_start}
-use Rattle.ex_run.specs.Course.{Comes, Course, Follows}
+use Rattle.ex_run.specs.Course.{Comes, Course, Finishes, Follows}
 use Rattle.ex_run.specs.Over.{Over}
-use Rattle.ex_run.specs.Scene.{Scene, with_screen}
+use Rattle.ex_run.specs.Scene.{Scene, Tell, Telling, with_screen}
 use Rattle.ex_run.proofs.Causing.{early_causes, early_not_done, early_not_usage, run_not_usage}
 use Rattle.ex_run.proofs.Ending.{done_counted, done_logged, done_saved, done_shown}
 use Rattle.ex_run.proofs.Quieting.{quiet_done, quiet_limit}
@@ -30,7 +30,7 @@ no_first : (first rest : List ℕ) → first ++ rest ≡ [] → first ≡ []
 no_first [] rest none = refl
 no_first (key ∷ first) rest none = cc
 
-module _ {S : Type 0} (told : Type 0) (o : Over S) (keeping : IsLineKeeping o.means) (form : Form) where
+module _ {S : Type 0} (told : Telling) (o : Over S) (keeping : IsLineKeeping o.means) (form : Form) where
   -- where no key was taken there is no beginning but this
   none_taken : (start : State) (moments before now taken rest : List ℕ) → now ≡ before → (taken ++ rest) ++ now ≡ before
       → KeepsLine feed Holds o.means (o.begins start) moments taken
@@ -47,7 +47,7 @@ module _ {S : Type 0} (told : Type 0) (o : Over S) (keeping : IsLineKeeping o.me
     host_cause : HostCause before.faults now.faults result
     host_cause = subst (λ (count : ℕ). HostCause count now.faults result) stays comes.saves.cause
 
-    follows : told → Follows o form start a b before now result
+    follows : Tell told → Follows o form start a b before now result
     follows tells = record {
       shown = λ done. done_shown told o form start comes.left a b result comes.ran done tells;
       logged = λ done. done_logged told o form start comes.left a b result comes.ran done tells;
@@ -56,11 +56,15 @@ module _ {S : Type 0} (told : Type 0) (o : Over S) (keeping : IsLineKeeping o.me
           (subst (λ (it : Bool). IsTrue it) (sym loads.tells) tell) comes.saves;
       on_screen = λ taken rest all.
           run_keeps o.means keeping feed Holds screen_is_a_display (o.begins start) a.moments taken (comes.sound tells taken rest all);
+    }
+
+    finishes : IsTrue told.keys → Finishes told o form start a b before now result
+    finishes tells = record {
       complete = λ few quiet.
           quiet_done told tells o form start comes.left a b before now result comes.ran comes.is_run comes.cause host_cause quiet few;
       limit = λ taken rest all count going quiet.
-          quiet_limit told tells o form start comes.left a b before now result comes.ran comes.is_run comes.cause host_cause quiet taken rest all
-          count going;
+          quiet_limit told tells o form start comes.left a b before now result comes.ran comes.is_run comes.cause host_cause quiet
+          (comes.leads tells) taken rest all count going;
     }
 
     pub course_past : Course told o form a b before now result
@@ -80,6 +84,8 @@ module _ {S : Type 0} (told : Type 0) (o : Over S) (keeping : IsLineKeeping o.me
       start = began_cause before form.input start result began comes.is_run;
       follows = λ tells other starts.
           subst (λ (it : State). Follows o form it a b before now result) (one_start before form.input start other began starts) (follows tells);
+      finishes = λ tells other starts.
+          subst (λ (it : State). Finishes told o form it a b before now result) (one_start before form.input start other began starts) (finishes tells);
     }
 
   -- before it
@@ -99,6 +105,10 @@ module _ {S : Type 0} (told : Type 0) (o : Over S) (keeping : IsLineKeeping o.me
       counted = λ done. no_done done;
       saved = λ tell done. no_done done;
       on_screen = λ taken rest all. none_taken start a.moments a.keys a.keys taken rest refl all;
+    }
+
+    early_finishes : (start : State) → Starts before form.input start → Finishes told o form start a b before now why
+    early_finishes start starts = record {
       complete = λ few quiet. inr (early_memory before form.input start before.faults now.faults why early cause starts host quiet.host);
       limit = λ taken rest all count going quiet.
           inr (early_memory before form.input start before.faults now.faults why early cause starts host quiet.host);
@@ -113,6 +123,7 @@ module _ {S : Type 0} (told : Type 0) (o : Over S) (keeping : IsLineKeeping o.me
       host_cause = host;
       start = cause;
       follows = λ tells start starts. early_follows start starts;
+      finishes = λ tells start starts. early_finishes start starts;
     }
 
     pub course_early : (result : Status) → result ≡ why → Course told o form a b before now result

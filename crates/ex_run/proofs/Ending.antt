@@ -20,7 +20,7 @@ use Rattle.cm_io.specs.declared.status.Status.{Status}
 use Rattle.cm_io.specs.declared.status.Status.TheVariants as status
 use Rattle.ex_system.specs.Form.{Form}
 use Rattle.ex_run.specs.Over.{Over, closing, has_ended, left_of, shown_of, trace_of}
-use Rattle.ex_run.specs.Scene.{Scene, seen}
+use Rattle.ex_run.specs.Scene.{Scene, Tell, Telling, seen}
 use Rattle.ex_run.specs.Course.{Ran}
 
 -- a status that is another one, or HostFault in its place, is not this
@@ -70,31 +70,31 @@ closes_done (Err stop.Log) ended before now f g result closes done =
     absurd (is_not result status.WriteFault status.Done closes.0 done (λ (same : status.WriteFault ≡ status.Done). cc) (λ (same : status.HostFault ≡ status.Done). cc))
 
 -- a run that is Done, and what was observed where it stopped
-module _ {S : Type 0} (told : Type 0) (o : Over S) (form : Form) (start : State) (left : S) (a b : Scene) (result : Status)
+module _ {S : Type 0} (told : Telling) (o : Over S) (form : Form) (start : State) (left : S) (a b : Scene) (result : Status)
     (ran : Ran told o form start left a b result) (done : result ≡ status.Done) where
   closes : ClosesDone ran.stop (has_ended o left) ran.at.screen b.screen
   closes = closes_done ran.stop (has_ended o left) ran.at.screen b.screen ran.at.faults.screen b.faults.screen result ran.closes done
 
-  pub done_between : told → Between (seen a (o.begins start)) (seen ran.at left) (trace_of o form.logs start a.moments a.keys)
+  pub done_between : Tell told → Between (seen a (o.begins start)) (seen ran.at left) (trace_of o form.logs start a.moments a.keys)
   unfolding Traces Performs
   done_between tells =
       subst (λ (why : Result Unit Stop). Traces (seen a (o.begins start)) (seen ran.at left) (trace_of o form.logs start a.moments a.keys) why)
       closes.stop (ran.traces tells)
 
-  pub done_shown : told → b.screen ≡ add a.screen (shown_of o form.logs start a.moments a.keys)
+  pub done_shown : Tell told → b.screen ≡ add a.screen (shown_of o form.logs start a.moments a.keys)
   done_shown tells =
       let between = done_between tells in
       let bytes = screen_bytes (trace_of o form.logs start a.moments a.keys) in
       closes.told ∙ ap (λ (it : Told). add it (closing (has_ended o left))) between.screen ∙ sym (add_append a.screen bytes (closing (has_ended o left)))
       ∙ ap (λ (it : S). add a.screen (bytes ++ closing (has_ended o it))) between.state
 
-  pub done_logged : told → b.log ≡ add a.log (log_bytes (trace_of o form.logs start a.moments a.keys))
+  pub done_logged : Tell told → b.log ≡ add a.log (log_bytes (trace_of o form.logs start a.moments a.keys))
   done_logged tells = ap (λ (it : Scene). it.log) ran.rest ∙ (done_between tells).log
 
-  pub done_counted : told → b.trials ≡ a.trials + trials_of (trace_of o form.logs start a.moments a.keys)
+  pub done_counted : Tell told → b.trials ≡ a.trials + trials_of (trace_of o form.logs start a.moments a.keys)
   done_counted tells = ap (λ (it : Scene). it.trials) ran.rest ∙ (done_between tells).trials
 
-  pub done_saved : (before now : Disk) → told → IsTrue before.tells → Saves before now form.out (o.store_of left) result
+  pub done_saved : (before now : Disk) → Tell told → IsTrue before.tells → Saves before now form.out (o.store_of left) result
       → now.files form.out ≡ Some (image_text (o.store_of (left_of o form.logs start a.moments a.keys)))
   done_saved before now tells tell saves =
       subst (λ (it : Status). Keeps (image_text (o.store_of left)) (before.files form.out) (now.files form.out) it) done (saves.file tell)

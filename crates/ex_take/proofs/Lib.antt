@@ -2,14 +2,14 @@ mod Acting
 mod Becoming
 mod Changes
 mod Files
-mod Following
+pub mod Following
 mod Keys
 pub mod LineKeeping
 mod LineLaws
 mod Obeying
 mod Outcomes
 mod Quiet
-mod QuietKeys
+pub mod QuietKeys
 mod QuietLines
 mod TypedKeys
 mod Waiting

@@ -49,14 +49,14 @@ returns-clause-start g c =
     (heads _ exec_over _ (form_view c.in-Some.form) _ _ _ _ c.run_form.result c.in-Some.ensures c.run_form.ensures).start
 
 pub returns-clause-complete : goal.returns-clause-complete
-returns-clause-complete g c = λ keys clock form start asks few screen log source host.
-    ((heads _ exec_over _ (form_view c.in-Some.form) _ _ _ _ c.run_form.result c.in-Some.ensures c.run_form.ensures).follows (keys, clock) form start asks).complete few
+returns-clause-complete g c = λ keys form start asks few screen log source host.
+    ((heads _ exec_over _ (form_view c.in-Some.form) _ _ _ _ c.run_form.result c.in-Some.ensures c.run_form.ensures).finishes keys form start asks).complete few
     (record { screen = screen; log = log; keys = source; host = host })
 
 pub returns-clause-limit : goal.returns-clause-limit
-returns-clause-limit g c = λ keys clock form start asks taken rest all count going screen log source host.
-    ((heads _ exec_over _ (form_view c.in-Some.form) _ _ _ _ c.run_form.result c.in-Some.ensures c.run_form.ensures).follows (keys, clock) form start asks).limit taken rest all count
-    (ended_where (exec_left form.logs start (g.C.Clock.left c.args.clock.now) taken) ∙ going)
+returns-clause-limit g c = λ keys form start asks taken rest all count going screen log source host.
+    ((heads _ exec_over _ (form_view c.in-Some.form) _ _ _ _ c.run_form.result c.in-Some.ensures c.run_form.ensures).finishes keys form start asks).limit taken rest all count
+    (λ moments told. ended_where (exec_left form.logs start moments taken) ∙ going moments told)
     (record { screen = screen; log = log; keys = source; host = host })
 
 -- what stands, by the way out
