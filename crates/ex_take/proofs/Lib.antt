@@ -6,10 +6,13 @@ mod Following
 mod Keys
 pub mod LineKeeping
 mod LineLaws
+mod LogoutKeys
+mod LogoutLines
 mod Obeying
 mod Outcomes
 mod Quiet
 mod QuietKeys
 mod QuietLines
+mod Replies
 mod TypedKeys
 mod Waiting
