@@ -140,12 +140,12 @@ added_stays fields (commands.Directory files since before deleted read sub) is =
     (commands.Directory files since before deleted read sub) (λ it. refl) refl)
 added_stays fields command is = absurd (cc)
 
-complete_stays : (command : Command) → is_pending command ≡ true → takes_subs (complete command) ≡ true
+pub complete_stays : (command : Command) → is_pending command ≡ true → takes_subs (complete command) ≡ true
 complete_stays (commands.Build directory retention sub) is = refl
 complete_stays (commands.Directory files since before deleted read sub) is = refl
 complete_stays command is = absurd (cc)
 
-complete_waits_not : (command : Command) → is_pending command ≡ true → is_pending (complete command) ≡ false
+pub complete_waits_not : (command : Command) → is_pending command ≡ true → is_pending (complete command) ≡ false
 complete_waits_not (commands.Build directory retention sub) is = refl
 complete_waits_not (commands.Directory files since before deleted read sub) is = refl
 complete_waits_not command is = absurd (cc)
@@ -167,8 +167,11 @@ module _ (interpreter : InterpreterState) (moment : ℕ) (command : Command) (ta
   pub sub_free : (deed_of interpreter moment command).state.pending ≡ interpreter.pending
   sub_free = ap (λ (it : InterpreterState). it.pending) (sym same)
 
+  pub sub_goes : (deed_of interpreter moment command).state.ended ≡ interpreter.ended
+  sub_goes = ap (λ (it : InterpreterState). it.ended) (sym same)
+
 -- acts of the EXEC's, and what follows them
-followed_left : (at : ExecState) (deeds : List (Deed InterpreterState)) (more : List (Deed ExecState))
+pub followed_left : (at : ExecState) (deeds : List (Deed InterpreterState)) (more : List (Deed ExecState))
     → left_by at (map (lifted at) deeds ++ more) ≡ left_by (record at { interpreter = left_by at.interpreter deeds }) more
 followed_left at deeds more =
     left_append (map (lifted at) deeds) more at ∙ ap (λ (it : ExecState). left_by it more) (left_lifted at deeds at.interpreter)

@@ -29,7 +29,7 @@ use Rattle.ex_take.proofs.Files.{some_last, some_left}
 use Rattle.ex_take.proofs.Quiet.{IsOpen, Stands, added_stays, follows_quiet, follows_stand, no_logout, settles_stand, stopped_stands, sub_free, sub_line, takes_subs}
 
 -- behind an act a command waits only for its subcommands
-waits_by : (interpreter : InterpreterState) (moment : ℕ) (command : Command) (act : Act) → Comes command interpreter.state act
+pub waits_by : (interpreter : InterpreterState) (moment : ℕ) (command : Command) (act : Act) → Comes command interpreter.state act
     → Waits interpreter.pending → Waits (becomes interpreter moment command act.answer).pending
 unfolding becomes
 waits_by interpreter moment command act (Comes.done is) waits =
@@ -69,10 +69,10 @@ ends_by_answer interpreter moment command answer is = ap (λ (it : Acted). (beco
 
 -- what a command leaves that acts
 module _ (at : ExecState) (moment : ℕ) (command : Command) where
-  abbrev acted : ExecState
+  abbrev pub acted : ExecState
   acted = record at { interpreter = (deed_of at.interpreter moment command).state }
 
-  abbrev act : Act
+  abbrev pub act : Act
   act = act_of command moment at.interpreter.state
 
   acts_quiet : IsQuiet at → Stands 0 (left_by at (acts at moment command))
@@ -134,30 +134,30 @@ commands_quiet at moment command line quiet = acts_quiet at moment command quiet
 
 -- a line of subcommands: the command waits on, or acts
 module _ (at : ExecState) (session : SessionState) (pending : Pending) (waits : is_pending pending.command ≡ true) where
-  abbrev on : ExecState
+  abbrev pub on : ExecState
   on = unwaiting at
 
-  abbrev more : Pending
+  abbrev pub more : Pending
   more = pending_with session pending
 
-  takes : takes_subs more.command ≡ true
+  pub takes : takes_subs more.command ≡ true
   takes = added_stays session.fields pending.command waits
 
   -- what it leaves where it waits on, and where it acts
-  abbrev waiting : ExecState
+  abbrev pub waiting : ExecState
   waiting = record on { interpreter = record on.interpreter { pending = Some more } }
 
-  abbrev done : ExecState
+  abbrev pub done : ExecState
   done = record on { interpreter = (deed_of on.interpreter more.moment more.command).state }
 
-  abbrev answer : Acted
+  abbrev pub answer : Acted
   answer = (act_of more.command more.moment on.interpreter.state).answer
 
-  abbrev by_test : Bool → List (Deed ExecState)
+  abbrev pub by_test : Bool → List (Deed ExecState)
   by_test test = lifted on (record { may_allocate = false; state = record on.interpreter { pending = Some more }; reply = [] })
       ∷ cond test (follows waiting answers.Pending) (lifted on (deed_of on.interpreter more.moment more.command) ∷ follows done answer)
 
-  pending_as : pending_deeds on session pending ≡ by_test (is_pending more.command)
+  pub pending_as : pending_deeds on session pending ≡ by_test (is_pending more.command)
   pending_as = by (is_pending more.command) where
     by : (test : Bool) → lifted on (record { may_allocate = false; state = record on.interpreter { pending = Some more }; reply = [] })
         ∷ (map (lifted on) (cond test [] (deed_of on.interpreter more.moment more.command ∷ []))
@@ -169,7 +169,7 @@ module _ (at : ExecState) (session : SessionState) (pending : Pending) (waits : 
   no_end : answer ≡ answers.Logout → ⊥
   no_end is = no_logout more.command takes ((ends_by_logout more.command more.moment on.interpreter.state).0 is)
 
-  free : is_pending more.command ≡ false → Waits done.interpreter.pending
+  pub free : is_pending more.command ≡ false → Waits done.interpreter.pending
   free over = subst (λ (it : Option Pending). Waits it) (sym (sub_free on.interpreter more.moment more.command takes over)) tt
 
   pending_stands : at.interpreter.typing ≡ None → (length at.files == 0) ≡ false → Stands at.taken (left_by at (pending_deeds on session pending))
