@@ -1,8 +1,8 @@
 -- A generated run takes all its keys.
-use Rattle.std.proofs.Common.{◌≡◌, ℕ, zero, suc, ◌+◌, ◌<◌, ◌≤◌, ◌==◌, ◌^◌, ◌%◌, ◌/◌, Bool, true, false, List, [], ◌∷◌, ◌++◌, length, Option, Some, None, inl, refl, sym, ap, ◌∙◌, arith, rules}
+use Rattle.std.proofs.Common.{◌≡◌, ℕ, zero, suc, ◌+◌, ◌<◌, ◌≤◌, ◌==◌, ◌^◌, Bool, true, false, List, [], ◌∷◌, ◌++◌, length, Option, Some, None, inl, refl, ap, ◌∙◌, arith, rules}
 use Rattle.std.specs.Char.{is_ascii_digit}
 use Rattle.std.specs.Fmt.{decimal}
-use Rattle.std.specs.List.{flat_map, list_all}
+use Rattle.std.specs.List.{list_all}
 use Rattle.std.specs.Option.{option_and_then}
 use Rattle.std.specs.Str.Parse.{digits_value}
 use Rattle.std.proofs.lemmas.Bool.{and_parts}
@@ -23,7 +23,7 @@ use Rattle.ex_program.specs.Summary.{generated_trace, summary_of}
 use Rattle.ex_program.specs.declared.progress.TheConstants.{GENERATED_LINES}
 use Rattle.ex_program.proofs.Heading.{ended_where}
 use Rattle.ex_program.proofs.KeySteps.{Holds, step_holds}
-use Rattle.ex_program.proofs.LineKeys.{Where, Fresh, Begun, Far, Ell, Lined, go}
+use Rattle.ex_program.proofs.LineKeys.{Where, Fresh, Far, Lined, go}
 
 -- where keys lead in a line
 abbrev goes : Where → List ℕ → Option Where
@@ -52,8 +52,13 @@ digit_text digit is = grind (arith, nat_tests, is)
 
 digit_far : (digit : ℕ) → is_ascii_digit digit ≡ true → go Far digit ≡ Some Far
 digit_far digit is =
-    rw (other_key digit 13 is (omega arith), other_key digit 27 is (omega arith), above_key digit 127 is (omega arith),
-    other_key digit 23 is (omega arith), digit_text digit is) refl
+    rw (
+      other_key digit 13 is (omega arith),
+      other_key digit 27 is (omega arith),
+      above_key digit 127 is (omega arith),
+      other_key digit 23 is (omega arith),
+      digit_text digit is,
+    ) refl
 
 digit_lined : (digit : ℕ) → is_ascii_digit digit ≡ true → go Lined digit ≡ Some Lined
 digit_lined digit is =

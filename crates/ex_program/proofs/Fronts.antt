@@ -1,8 +1,6 @@
 -- Lines whose first letters are those of the lines that are generated: none of them commands LOGOUT or TAKE.
-use Rattle.std.proofs.Common.{◌≡◌, ℕ, suc, ◌+◌, arith, ◌==◌, Bool, true, false, cond, not, ◌&&◌, List, [], ◌∷◌, ◌++◌, length, take, Option, Some, None, Result, Ok, Err, refl, ap, sym, ◌∙◌}
-use Rattle.std.specs.List.{enumerate_from, find, list_all, prefix_len}
-use Rattle.std.specs.Option.{option_map_or}
-use Rattle.std.proofs.lemmas.Bool.{and_parts}
+use Rattle.std.proofs.Common.{◌≡◌, ℕ, suc, ◌+◌, arith, ◌==◌, Bool, true, not, ◌&&◌, List, [], ◌∷◌, ◌++◌, take, Result, Ok, Err, refl, ap, sym, ◌∙◌}
+use Rattle.std.specs.List.{enumerate_from, list_all, prefix_len}
 use Rattle.cm_text.specs.Bytes.{is_blank, is_word}
 use Rattle.cm_text.specs.Case.{begins_with, equals}
 use Rattle.cm_fields.specs.declared.code.Code.{Code}
@@ -14,28 +12,20 @@ use Rattle.cm_files.specs.Catalogue.{Catalogue}
 use Rattle.cm_tables.specs.declared.entry.Entry.{Entry}
 use Rattle.cm_blocks.specs.declared.field.Chain.{Chain}
 use Rattle.cm_blocks.specs.declared.field.Chain.TheVariants as chain
-use Rattle.cm_blocks.specs.declared.field.Ending.{Ending}
 use Rattle.cm_blocks.specs.declared.function.Role.TheVariants as roles
-use Rattle.cm_blocks.specs.declared.chain.Walk.{Walk}
 use Rattle.cm_blocks.specs.declared.chain.Walk.TheVariants.{Fails}
 use Rattle.cm_blocks.specs.Chain.{chain_at, or_later, typed}
 use Rattle.cm_blocks.specs.FieldView.{FieldView}
 use Rattle.cm_blocks.specs.Keyword.{code_at, entry_position, key, key_value}
-use Rattle.cm_blocks.specs.Parse.{IsParse}
 use Rattle.cm_blocks.specs.Setting.{setting}
 use Rattle.cm_blocks.specs.Trial.{table_of, trial}
-use Rattle.cm_fields.specs.Skip.{skip}
-use Rattle.cm_state.specs.Roles.{field_of, is_role}
 use Rattle.ex_grammar.specs.ExecRules.{exec_meanings}
 use Rattle.ex_grammar.specs.Graph.{exec_graph, exec_nodes, first_nodes, source_nodes}
 use Rattle.ex_grammar.specs.Tables.{command_entries, exec_tables}
 use Rattle.ex_grammar.specs.Words.{keyword}
 use Rattle.ex_grammar.specs.declared.code.TheConstants.{LOGOUT, TAKE}
 use Rattle.ex_grammar.specs.declared.node.TheConstants.{COMMANDS}
-use Rattle.ex_commands.specs.Command.{command_of, named}
-use Rattle.ex_commands.specs.Line.{Line, keyword_code}
-use Rattle.ex_commands.specs.declared.command.Command.{Command}
-use Rattle.ex_commands.specs.declared.command.Command.TheVariants as commands
+use Rattle.ex_commands.specs.Line.{keyword_code}
 use Rattle.ex_commands.proofs.Saying.{run_of}
 use Rattle.ex_commands.proofs.Verbs.{command_table}
 use Rattle.ex_commands.proofs.Ways.{meant_found}

@@ -1,31 +1,14 @@
 -- The keys of a generated run, of which none ends it.
-use Rattle.std.proofs.Common.{◌≡◌, ◌⊎◌, inl, inr, ℕ, ◌==◌, ◌||◌, Bool, true, false, cond, List, [], ◌∷◌, ◌++◌, length, map, Option, Some, None, refl, sym, ap, subst, ◌∙◌}
-use Rattle.std.specs.Option.{option_and_then, option_map_or}
-use Rattle.cm_text.specs.Text.{finished}
-use Rattle.cm_line.specs.declared.key.KeyClass.{KeyClass}
-use Rattle.cm_line.specs.declared.key.KeyClass.TheVariants.{Text, End, Join, Rub, Word, Escape, Other}
-use Rattle.cm_line.specs.Keys.{class_at}
+use Rattle.std.proofs.Common.{◌≡◌, ℕ, ◌==◌, Bool, true, false, cond, List, [], ◌∷◌, length, map, Option, Some, None, refl, sym, ap, subst, ◌∙◌}
+use Rattle.std.specs.Option.{option_map_or}
 use Rattle.cm_fields.specs.declared.code.Code.TheVariants.{NotInTake}
 use Rattle.cm_blocks.specs.declared.function.Role.TheVariants as roles
 use Rattle.cm_state.specs.Roles.{field_of}
 use Rattle.ex_commands.specs.Line.{keyword_code}
-use Rattle.cm_blocks.specs.declared.field.Ending.{Ending}
 use Rattle.cm_blocks.specs.FieldView.{FieldView}
-use Rattle.cm_blocks.specs.Parse.{IsParse, parse_of}
-use Rattle.cm_blocks.specs.Setting.{Setting}
-use Rattle.cm_blocks.proofs.Parsing.{parse_of_parses}
-use Rattle.cm_state.specs.Edit.{completed, edited, edited_as}
-use Rattle.cm_state.specs.SessionState.{SessionState, met_line, text_of}
-use Rattle.cm_state.specs.Turn.{turn_of}
-use Rattle.cm_state.specs.declared.turn.Turn.{Turn}
-use Rattle.cm_state.specs.declared.turn.Turn.TheVariants as turn
-use Rattle.cm_run.specs.declared.mode.Mode.{Mode}
-use Rattle.cm_run.specs.declared.mode.Mode.TheVariants as mode
-use Rattle.cm_run.specs.Idle.{turn_at}
-use Rattle.cm_run.specs.Keeping.{is_line}
-use Rattle.cm_run.specs.Meaning.{Deed, setting_of}
+use Rattle.cm_state.specs.SessionState.{SessionState}
+use Rattle.cm_run.specs.Meaning.{Deed}
 use Rattle.cm_run.specs.Obey.{left_by}
-use Rattle.cm_run.specs.Trace.{RunState, line_start, next_session, node_of, step, step_by, step_of, turn_outcome}
 use Rattle.cm_run.proofs.Obeying.{left_append}
 use Rattle.ex_commands.specs.Act.{act_of}
 use Rattle.ex_commands.specs.Command.{added, is_pending, with_sub}
@@ -34,7 +17,7 @@ use Rattle.ex_commands.specs.declared.acted.Acted.TheVariants as answers
 use Rattle.ex_commands.specs.declared.command.Command.{Command}
 use Rattle.ex_commands.specs.declared.command.Command.TheVariants as commands
 use Rattle.ex_commands.proofs.Coming.{ends_by_logout}
-use Rattle.ex_take.specs.Exec.{acts, command_deeds, exec_meaning, followed, follows, lifted, line_by as deeds_by, line_deeds, refuses, settles, typing_deeds, unwaiting}
+use Rattle.ex_take.specs.Exec.{acts, command_deeds, followed, follows, lifted, line_by as deeds_by, refuses, typing_deeds, unwaiting}
 use Rattle.ex_take.specs.ExecState.{ExecState}
 use Rattle.ex_take.specs.Interpreter.{becomes, completion_answer, deed_of, pending_with, subcommand_deeds}
 use Rattle.ex_take.specs.InterpreterState.{InterpreterState}

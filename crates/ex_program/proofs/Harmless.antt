@@ -1,6 +1,5 @@
 -- What a line commands that begins as the lines that are generated do: neither LOGOUT nor TAKE.
-use Rattle.std.proofs.Common.{◌≡◌, ℕ, ◌==◌, Bool, true, false, cond, not, ◌&&◌, List, [], ◌∷◌, ◌++◌, Option, Some, None, refl, ap, sym, ◌∙◌}
-use Rattle.std.specs.List.{find}
+use Rattle.std.proofs.Common.{◌≡◌, ℕ, ◌==◌, Bool, true, false, cond, not, List, [], ◌∷◌, ◌++◌, Option, Some, None, refl, ap, ◌∙◌}
 use Rattle.std.specs.Option.{option_map_or}
 use Rattle.std.proofs.lemmas.Bool.{and_parts}
 use Rattle.cm_files.specs.Catalogue.{Catalogue}
@@ -22,8 +21,7 @@ use Rattle.ex_commands.specs.Commands.Print.{after_in, copies_in, form_in, job_i
 use Rattle.ex_commands.specs.Line.{Line, between, both, count_in, directory_in, has_subs, keyword_code, on}
 use Rattle.ex_commands.specs.declared.command.Command.{Command}
 use Rattle.ex_commands.specs.declared.command.Command.TheVariants as commands
-use Rattle.ex_commands.proofs.Verbs.{not_true}
-use Rattle.ex_program.proofs.Fronts.{Front, IsVerb, first_verb, is_harmless, letters}
+use Rattle.ex_program.proofs.Fronts.{Front, first_verb, is_harmless, letters}
 
 abbrev pub is_safe : Command → Bool
 is_safe commands.Logout = false

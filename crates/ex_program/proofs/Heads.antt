@@ -1,5 +1,5 @@
 -- The commands that a word may mean, by the letters that it begins with.
-use Rattle.std.proofs.Common.{◌≡◌, ℕ, Bool, true, false, cond, not, ◌&&◌, ◌||◌, List, [], ◌∷◌, ◌++◌, Option, Some, None, refl, ap, sym, ◌∙◌}
+use Rattle.std.proofs.Common.{◌≡◌, ℕ, Bool, true, false, cond, not, ◌&&◌, ◌||◌, List, [], ◌∷◌, ◌++◌, Some, refl, ap, sym, ◌∙◌}
 use Rattle.std.specs.List.{enumerate_from, filter, list_all}
 use Rattle.std.proofs.lemmas.Bool.{and_parts}
 use Rattle.cm_text.specs.BeginLaws.{begins_longer}

@@ -1,5 +1,5 @@
 -- Each key of a generated run leaves it going on.
-use Rattle.std.proofs.Common.{◌≡◌, ◌⊎◌, inl, inr, ℕ, ◌+◌, ◌-◌, ◌==◌, ◌||◌, nat_le, length, slice_get, if◌then◌else◌, Bool, true, false, cond, List, [], ◌∷◌, ◌++◌, map, Option, Some, None, refl, sym, ap, subst, ◌∙◌, arith, append_assoc}
+use Rattle.std.proofs.Common.{◌≡◌, ◌⊎◌, inl, inr, ℕ, ◌+◌, ◌-◌, ◌==◌, ◌||◌, nat_le, length, slice_get, if◌then◌else◌, Bool, true, false, List, [], ◌∷◌, ◌++◌, map, Option, Some, None, refl, sym, ap, subst, ◌∙◌, arith, append_assoc}
 use Rattle.std.proofs.lemmas.Bool.Decides.{nat_tests}
 use Rattle.cm_text.specs.Bytes.{is_text}
 use Rattle.ex_generations.specs.declared.file.TheConstants.{FILE_LIMIT}
@@ -10,7 +10,7 @@ use Rattle.cm_line.specs.Keys.{class_at}
 use Rattle.cm_blocks.specs.declared.field.Ending.{Ending}
 use Rattle.cm_blocks.specs.declared.field.Ending.TheVariants as endings
 use Rattle.cm_blocks.proofs.Parsing.{parse_of_parses}
-use Rattle.cm_state.specs.Edit.{completed, edit, edited, edited_as}
+use Rattle.cm_state.specs.Edit.{completed, edit, edited_as}
 use Rattle.cm_text.specs.Text.{finished}
 use Rattle.cm_blocks.specs.Parse.{IsParse}
 use Rattle.cm_state.specs.SessionState.{SessionState, met_line}
@@ -25,8 +25,8 @@ use Rattle.cm_run.specs.Idle.{turn_at}
 use Rattle.cm_run.specs.Keeping.{is_line}
 use Rattle.cm_run.specs.Meaning.{Deed, setting_of}
 use Rattle.cm_run.specs.Obey.{left_by}
-use Rattle.cm_run.specs.Trace.{RunState, Stroke, file_trace, line_start, line_stroke, next_session, node_of, raw_stroke, step, step_by, step_of, turn_outcome}
-use Rattle.cm_run.proofs.LineTurns.{abandonment_leads, confirmed_leads, edit_leads, fault_leads, moment_of, raw_leads, refusal_leads, session_at}
+use Rattle.cm_run.specs.Trace.{RunState, Stroke, line_start, line_stroke, next_session, node_of, raw_stroke, step, step_by, step_of, turn_outcome}
+use Rattle.cm_run.proofs.LineTurns.{confirmed_leads, edit_leads, moment_of, raw_leads, refusal_leads, session_at}
 use Rattle.cm_run.proofs.Obeying.{left_append}
 use Rattle.cm_run.proofs.Screens.{state-deeds}
 use Rattle.ex_commands.specs.declared.acted.Acted.{Acted}
@@ -46,11 +46,10 @@ use Rattle.ex_take.specs.Quiet.{IsQuiet}
 use Rattle.ex_take.specs.declared.pending.Pending.{Pending}
 use Rattle.ex_take.specs.declared.typing.Typing.{Typing}
 use Rattle.ex_take.proofs.QuietKeys.{step_quiet}
-use Rattle.ex_program.specs.TakesMemory.{command_by}
 use Rattle.ex_program.proofs.Fronts.{Front, OfC, OfD, OfE, OfI, OfU, OfLi, letters}
 use Rattle.ex_program.proofs.GoingOn.{GoesOn, line_on}
 use Rattle.ex_program.proofs.Harmless.{is_safe, line_safe}
-use Rattle.ex_program.proofs.LineKeys.{Edits, Ends, Headed, Is, Listed, Where, Fresh, Begun, Far, Ell, Lined, after, by_letter, go, is_edit, is_letter}
+use Rattle.ex_program.proofs.LineKeys.{Edits, Ends, Is, Where, Fresh, Begun, Far, Ell, Lined, after, by_letter, go, is_edit, is_letter}
 use Rattle.ex_program.proofs.MemoryKeys.{is_written, no_lines, of_line, of_raw, writes_at}
 
 -- how the run stands before a key

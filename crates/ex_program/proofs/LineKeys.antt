@@ -1,7 +1,6 @@
 -- What the keys of a generated run make of the line under edit, as far as its first letters go.
-use Rattle.std.proofs.Common.{◌≡◌, ◌⊎◌, inl, inr, ℕ, zero, suc, ◌-◌, ◌==◌, ◌&&◌, ◌||◌, not, nat_le, nat_lt, Bool, true, false, cond, if◌then◌else◌, List, [], ◌∷◌, ◌++◌, length, length-append, slice_get, take, Option, Some, None, refl, sym, ap, subst, ◌∙◌, arith}
-use Rattle.std.specs.List.{list_all}
-use Rattle.std.specs.Option.{option_and_then, option_map_or}
+use Rattle.std.proofs.Common.{◌≡◌, ◌⊎◌, inl, inr, ℕ, zero, suc, ◌-◌, ◌==◌, ◌&&◌, ◌||◌, not, nat_lt, Bool, true, false, cond, if◌then◌else◌, List, [], ◌∷◌, ◌++◌, length, length-append, slice_get, take, Option, Some, None, refl, sym, ap, subst, ◌∙◌, arith}
+use Rattle.std.specs.Option.{option_map_or}
 use Rattle.std.proofs.lemmas.Bool.{and_parts}
 use Rattle.std.proofs.lemmas.Bool.Decides.{nat_tests}
 use Rattle.cm_text.specs.Bytes.{is_text}
@@ -267,9 +266,12 @@ module _ (inserted : List ℕ) (restorable : Option (List ℕ)) where
 
         shorter : Headed (take (length line - 1) line)
         shorter =
-            let more : length (at.0 ∷ at.1 ∷ at.2) - 1 ≡ suc (length at.2) = omega arith in
-            (at.0, take (length at.2) (at.1 ∷ at.2), at.3,
-            ap (λ (line : List ℕ). take (length line - 1) line) at.4 ∙ ap (λ (n : ℕ). take n (at.0 ∷ at.1 ∷ at.2)) more)
+            let more : length (at.0 ∷ at.1 ∷ at.2) - 1 ≡ suc (length at.2) = omega arith in (
+              at.0,
+              take (length at.2) (at.1 ∷ at.2),
+              at.3,
+              ap (λ (line : List ℕ). take (length line - 1) line) at.4 ∙ ap (λ (n : ℕ). take n (at.0 ∷ at.1 ∷ at.2)) more,
+            )
 
   after_ell : (v : Where) (line : List ℕ) (key : ℕ) → go Ell key ≡ Some v → Is Ell line → Comes line key v
   unfolding is_text
