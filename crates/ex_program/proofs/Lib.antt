@@ -1,8 +1,14 @@
 mod Advancing
 mod AllKeys
+mod Fronts
 mod Generating
+mod GoingOn
+mod Harmless
 mod Heading
+mod Heads
 mod Hooking
+mod KeySteps
+mod LineKeys
 mod MemoryKeys
 mod Summing
 mod WordLaws

@@ -1,5 +1,5 @@
 -- At which keys of the EXEC memory is asked for.
-use Rattle.std.proofs.Common.{◌≡◌, ◌⊎◌, inl, inr, ℕ, zero, suc, ◌==◌, ◌||◌, ◌&&◌, Bool, true, false, cond, nat_le, List, [], ◌∷◌, ◌++◌, length, map, Option, None, Some, IsTrue, Result, Ok, Err, refl, sym, ap, subst, ◌∙◌, arith}
+use Rattle.std.proofs.Common.{◌≡◌, inl, inr, ℕ, zero, suc, ◌==◌, ◌||◌, Bool, true, false, cond, List, [], ◌∷◌, ◌++◌, map, Option, None, Some, IsTrue, Result, Err, refl, sym, ap, subst, ◌∙◌, arith}
 use Rattle.std.specs.List.{list_any}
 use Rattle.std.proofs.lemmas.Bool.Decides.{nat_tests}
 use Rattle.std.proofs.lemmas.List.{append-nil}
@@ -37,9 +37,9 @@ use Rattle.ex_commands.specs.declared.command.Command.TheVariants as commands
 use Rattle.ex_commands.specs.declared.data.DataTurn.{DataTurn}
 use Rattle.ex_commands.specs.declared.data.DataTurn.TheVariants as turns
 use Rattle.ex_commands.proofs.TypedEnds.{others_keep}
-use Rattle.ex_take.specs.Exec.{acts, command_deeds, counts, exec_meaning, fault_deeds, end_deeds, followed, follows, innermost, is_over, lifted, line_by as deeds_by, line_deeds, line_in, next_fault, pending_deeds, raw_deeds, settles, looks_ahead, unwaiting}
+use Rattle.ex_take.specs.Exec.{acts, command_deeds, counts, exec_meaning, fault_deeds, end_deeds, followed, follows, innermost, is_over, lifted, line_by as deeds_by, line_deeds, line_in, next_fault, raw_deeds, settles, looks_ahead, unwaiting}
 use Rattle.ex_take.specs.ExecState.{ExecState, exec_start}
-use Rattle.ex_take.specs.Interpreter.{allocates, completion, completion_answer, deed_of, mode_by, mode_of, pending_with, raw_answer, raw_by, subcommand_deeds, typed_deeds}
+use Rattle.ex_take.specs.Interpreter.{allocates, completion_answer, deed_of, mode_of, pending_with, raw_answer, raw_by, subcommand_deeds, typed_deeds}
 use Rattle.ex_take.specs.InterpreterState.{InterpreterState}
 use Rattle.ex_take.specs.Quiet.{IsQuiet, IsQuietUnlessEnded}
 use Rattle.ex_take.specs.declared.pending.Pending.{Pending}
@@ -73,7 +73,7 @@ or_none false = refl
 
 -- where no file is open, nothing of files follows an act
 module _ (at : ExecState) (none : at.files ≡ []) where
-  nothing_settles : settles at ≡ []
+  pub nothing_settles : settles at ≡ []
   unfolding settles looks_ahead
   nothing_settles =
       ap (λ (files : List (List (List ℕ))). cond (is_over (innermost files)) (end_deeds at at.interpreter.pending)
@@ -94,12 +94,11 @@ module _ (at : ExecState) (none : at.files ≡ []) where
   follows_keep answers.Failed = settles_keep
 
 -- acts of the EXEC's, and what follows them
-followed_keep : (at : ExecState) (deeds : List (Deed InterpreterState)) (answer : Acted) → at.files ≡ []
+pub followed_keep : (at : ExecState) (deeds : List (Deed InterpreterState)) (answer : Acted) → at.files ≡ []
     → (wants (followed at deeds answer) ≡ wants deeds) × ((left_by at (followed at deeds answer)).files ≡ [])
 followed_keep at deeds answer none =
     let left = record at { interpreter = left_by at.interpreter deeds } in
-    let more = follows_keep left none answer in
-    (
+    let more = follows_keep left none answer in (
       list_any-append (λ (deed : Deed ExecState). deed.may_allocate) (map (lifted at) deeds) (follows left answer)
           ∙ ap (λ rest. wants (map (lifted at) deeds) || rest) more.0 ∙ or_none (wants (map (lifted at) deeds)) ∙ wants_lifted at deeds,
       ap (λ (it : ExecState). it.files) (left_append (map (lifted at) deeds) (follows left answer) at)
@@ -144,7 +143,7 @@ no_next (mode.Line node prompt takes_moment) = refl
 no_next mode.Raw = refl
 no_next mode.Ended = refl
 
-no_lines : (lines moment : ℕ) (at : ExecState) → at.files ≡ [] → file_trace exec_meaning lines moment at ≡ []
+pub no_lines : (lines moment : ℕ) (at : ExecState) → at.files ≡ [] → file_trace exec_meaning lines moment at ≡ []
 unfolding file_trace
 no_lines zero moment at none = refl
 no_lines (suc lines) moment at none =
@@ -167,17 +166,16 @@ confirmed_keeps at session moment none free =
     ∙ ap (λ it. asks it) files
 
 -- of the keys of a file that is typed in control-Z alone writes it
-is_written : DataTurn → Bool
+abbrev pub is_written : DataTurn → Bool
 is_written turns.Write = true
 is_written turn = false
 
 written : (turn : DataTurn) → is_written turn ≡ true → turn ≡ turns.Write
-unfolding is_written
 written turns.More is = absurd (cc)
 written turns.Write is = refl
 written turns.Dropped is = absurd (cc)
 
-writes_at : (bytes : List ℕ) (key : ℕ) → is_written (turn_of (echo_of bytes key)) ≡ true → key ≡ 26
+pub writes_at : (bytes : List ℕ) (key : ℕ) → is_written (turn_of (echo_of bytes key)) ≡ true → key ≡ 26
 writes_at bytes key is = by (key == 26) refl where
   by : (test : Bool) → (key == 26) ≡ test → key ≡ 26
   by true same = grind (arith, nat_tests, same)
@@ -186,7 +184,7 @@ writes_at bytes key is = by (key == 26) refl where
       (written (turn_of (echo_of bytes key)) is))
 
 typed_wants : (interpreter : InterpreterState) (typing : Typing) (turn : DataTurn) → wants (typed_deeds interpreter typing turn) ≡ is_written turn
-unfolding typed_deeds is_written
+unfolding typed_deeds
 typed_wants interpreter typing turns.More = refl
 typed_wants interpreter typing turns.Write = refl
 typed_wants interpreter typing turns.Dropped = refl
@@ -213,12 +211,12 @@ raw_wants at key is =
     keys_want at.interpreter key at.interpreter.typing (sym all ∙ is)
 
 -- a key is one of a line, or a raw one
-of_line : (at : RunState ExecState) (key : ℕ) (it : Mode) → is_line it ≡ true → stroke_by exec_meaning at key it ≡ line_stroke exec_meaning at key
+pub of_line : (at : RunState ExecState) (key : ℕ) (it : Mode) → is_line it ≡ true → stroke_by exec_meaning at key it ≡ line_stroke exec_meaning at key
 of_line at key (mode.Line node prompt takes) line = refl
 of_line at key mode.Raw line = absurd (cc)
 of_line at key mode.Ended line = absurd (cc)
 
-of_raw : (at : RunState ExecState) (key : ℕ) (it : Mode) → is_line it ≡ false → stroke_by exec_meaning at key it ≡ raw_stroke exec_meaning at key
+pub of_raw : (at : RunState ExecState) (key : ℕ) (it : Mode) → is_line it ≡ false → stroke_by exec_meaning at key it ≡ raw_stroke exec_meaning at key
 of_raw at key (mode.Line node prompt takes) other = absurd (cc)
 of_raw at key mode.Raw other = refl
 of_raw at key mode.Ended other = refl
@@ -250,8 +248,11 @@ module _ (logging : Bool) (at : RunState ExecState) (key : ℕ) where
         turn_asks (turn_at exec_meaning at key) refl none is
         (subst (λ (s : Stroke ExecState). asks s.outcome.events ≡ true) (of_line at key (exec_meaning.mode_of at.state) is) events)
     by false is =
-        inl (is, raw_wants at.state key (sym (asks_deeds (raw_deeds at.state key))
-        ∙ subst (λ (s : Stroke ExecState). asks s.outcome.events ≡ true) (of_raw at key (exec_meaning.mode_of at.state) is) events))
+        inl (
+          is,
+          raw_wants at.state key (sym (asks_deeds (raw_deeds at.state key))
+              ∙ subst (λ (s : Stroke ExecState). asks s.outcome.events ≡ true) (of_raw at key (exec_meaning.mode_of at.state) is) events),
+        )
 
 -- between keys no file is open
 pub quiet_progress : (keys : List ℕ) (at : RunState ExecState) → IsQuiet at.state → IsQuietUnlessEnded (progress exec_meaning at keys).state
@@ -302,8 +303,7 @@ module _ (told : Telling) (form : Form) (a b : Scene) (before now : Disk) where
       = ap (λ (it : Cut). cut.done ++ event_of it ∷ cut.rest) (sym is) ∙ cut.split in
       let taken : keys_of cut.done ++ ran.at.keys ≡ a.keys
       = ap (λ (it : List (Event ExecState)). keys_of it ++ ran.at.keys) (sym (append-nil cut.done))
-      ∙ ap (λ (it : Cut). keys_of (cut.done ++ part_of it) ++ ran.at.keys) (sym is) ∙ cut.stands.keys in
-      (
+      ∙ ap (λ (it : Cut). keys_of (cut.done ++ part_of it) ++ ran.at.keys) (sym is) ∙ cut.stands.keys in (
         keys_of cut.done,
         ap (λ (it : Scene). keys_of cut.done ++ it.keys) ran.rest ∙ taken,
         last_takes form.logs run.start a.moments a.keys cut.done cut.rest split,

@@ -1,5 +1,5 @@
 //! Laws of a run.
-ghost use Rattle.std.specs.Prelude.{◌≡◌, ◌≢◌, ◌^◌, ◌∷◌, ◌++◌, ℕ, Bool, false, List, length, Some, IsTrue};
+ghost use Rattle.std.specs.Prelude.{◌≡◌, ◌≢◌, ◌≤◌, ◌^◌, ◌∷◌, ◌++◌, ℕ, Bool, List, length, Some, IsTrue};
 ghost use Rattle.cm_io.specs.declared.status.Status.{Status};
 ghost use Rattle.cm_io.specs.declared.status.Status.TheVariants as status;
 ghost use Rattle.cm_run.specs.Event.{Event, Memory, keys_of};
@@ -12,7 +12,7 @@ ghost use Rattle.ex_run.specs.Course.{Past};
 ghost use Rattle.ex_run.specs.Scene.{Scene, telling};
 ghost use Rattle.ex_program.specs.ExecRun.{exec_over, exec_trace};
 ghost use Rattle.ex_program.specs.GeneratedKeys.{generated_keys};
-ghost use Rattle.ex_program.specs.Summary.{generated_left, generated_trace, summary_of};
+ghost use Rattle.ex_program.specs.Summary.{generated_trace, summary_of};
 ghost use Rattle.ex_program.specs.TakesMemory.{LastTakesMemory};
 ghost use Rattle.ex_program.specs.declared.progress.TheConstants.{GENERATED_KEYS, GENERATED_LINES};
 ghost use Rattle.ex_program.specs.declared.words.TheConstants.{MOST_DIGITS};
@@ -51,12 +51,11 @@ pub fn memory_is_wanting_where_a_command_takes_it<K: Source, C: Clock>()
         → (taken : List ℕ) × (taken ++ b.keys ≡ a.keys) × LastTakesMemory run.start a.moments taken }
 {}
 
-/// A generated run that LOGOUT has not ended has taken all keys of its lines, in their order, and its summary counts
-/// them all.
-pub fn a_generated_run_takes_its_keys_unless_logout_acts()
-    ensures keys { (lines : ℕ) → (generated_left lines).interpreter.ended ≡ false
-        → keys_of (generated_trace lines) ≡ generated_keys lines }
-    ensures count { (lines : ℕ) → (generated_left lines).interpreter.ended ≡ false
+/// A generated run takes all keys of its lines, in their order, and its summary counts them all: no line of it is read
+/// as LOGOUT, nor does one take a command file.
+pub fn a_generated_run_takes_all_its_keys()
+    ensures keys { (lines : ℕ) → lines ≤ GENERATED_LINES → keys_of (generated_trace lines) ≡ generated_keys lines }
+    ensures count { (lines : ℕ) → lines ≤ GENERATED_LINES
         → (summary_of lines).keys ≡ length (generated_keys lines) }
 {}
 
