@@ -42,7 +42,7 @@ use Rattle.ex_store.specs.declared.place.Place.{Place}
 use Rattle.ex_store.specs.declared.row.Row.{Row}
 use Rattle.ex_store.specs.Plan.{sources}
 use Rattle.ex_store.specs.Rows.{is_in, rows_in}
-use Rattle.ex_store.specs.Selection.{is_meant, wanted_of}
+use Rattle.ex_store.specs.Selection.{is_selected_by, wanted_of}
 use Rattle.ex_store.specs.Selection as selections
 use Rattle.ex_store.specs.State.{State, catalogue_of, file_row}
 use Rattle.ex_store.specs.WellFormed.{IsWellFormed}
@@ -54,7 +54,7 @@ use Rattle.ex_commands.specs.Command.{command_of, named}
 use Rattle.ex_commands.specs.Commands.Copy.{copies, is_token}
 use Rattle.ex_commands.specs.Commands.Print.{after_in, copies_in, form_in, job_in, note_in}
 use Rattle.ex_commands.specs.Line.{Line, between, count_in, directory_in, directory_name, flags_of, has_subs, keyword_code, on, place_by, place_in, said_of, upper}
-use Rattle.ex_store.proofs.SelectionLaws.{meant_all}
+use Rattle.ex_store.proofs.SelectionLaws.{selected_all}
 use Rattle.ex_commands.proofs.Capitals.{up}
 use Rattle.cm_state.proofs.Branches.{IsOf}
 use Rattle.ex_commands.proofs.Fitting.{reads_single}
@@ -82,10 +82,10 @@ numbered (first ∷ more) (suc number) below =
 
 -- as many files are meant as rows of the catalogue are selected
 meant_inside : (deleted : Bool) (place : Place) (state : State) (row : Row) → is_in place.directory row ≡ true
-    → is_meant deleted place state row
+    → is_selected_by deleted place state row
     ≡ is_selected (wanted_of deleted place) (map (file_row state.directories) (rows_in place.directory state.rows))
     (file_row state.directories row)
-unfolding is_meant
+unfolding is_selected_by
 meant_inside deleted place state row is =
     ap (λ inside. inside && is_selected (wanted_of deleted place) (map (file_row state.directories) (rows_in place.directory state.rows)) (file_row state.directories row)) is
 
@@ -96,9 +96,9 @@ meant_count place state =
     let inside = rows_in place.directory state.rows in
     let f = file_row state.directories in
     let test = is_selected (wanted_of place.flags.deleted place) (map f inside) in
-    let same = filter_same (is_in place.directory) (is_meant place.flags.deleted place state) (λ row. test (f row))
+    let same = filter_same (is_in place.directory) (is_selected_by place.flags.deleted place state) (λ row. test (f row))
     (meant_inside place.flags.deleted place state) inside (kept_pass (is_in place.directory) state.rows) in
-    ap length (sym (meant_all place.flags.deleted place state))
+    ap length (sym (selected_all place.flags.deleted place state))
     ∙ ap length same
     ∙ sym (length-map (filter (λ row. test (f row)) inside) f)
     ∙ ap length (sym (filter_of_map test f inside))

@@ -17,10 +17,10 @@ use Rattle.ex_store.specs.declared.row.Row.{Row}
 use Rattle.ex_store.specs.Copying.{lacks_name, moment_of}
 use Rattle.ex_store.specs.Plan.{IsRequest, MayPlan, Planned, planned}
 use Rattle.ex_store.specs.Rows.{is_in}
-use Rattle.ex_store.specs.Selection.{is_meant, remarked}
+use Rattle.ex_store.specs.Selection.{is_selected_by, rows_with_remark}
 use Rattle.ex_store.specs.State.{State, defined, undefined}
 use Rattle.ex_store.specs.WellFormed.{IsWellFormed, is_remark}
-use Rattle.ex_store.proofs.RemarkedLaws.{rows_left, rows_remarked, well_formed_with_rows}
+use Rattle.ex_store.proofs.RemarkLaws.{rows_left, rows_of_remark, well_formed_with_rows}
 use Rattle.ex_store.proofs.SoundLaws.{plan_sound}
 use Rattle.ex_store.proofs.StateLaws.{fewer_well_formed}
 use Rattle.ex_commands.specs.declared.command.Command.{Command}
@@ -41,10 +41,10 @@ plays_sound origin plan moment state well may (Err code) is = well
 
 -- files of which something is changed, and those that are removed
 changes_sound : (remark : Remark) (files : Place) (state : State) → is_remark remark ≡ true → IsWellFormed state
-    → IsWellFormed (record state { rows = remarked remark files state })
+    → IsWellFormed (record state { rows = rows_with_remark remark files state })
 changes_sound remark files state fits well =
     well_formed_with_rows state _ well
-    (rows_remarked state.directories state.rows (is_meant files.flags.deleted files state) remark fits well.draft.rows)
+    (rows_of_remark state.directories state.rows (is_selected_by files.flags.deleted files state) remark fits well.draft.rows)
 
 moment_within : (moment : ℕ) → nat_le (moment_of moment) MOMENT_LIMIT ≡ true
 moment_within moment = grind (arith, nat_tests)

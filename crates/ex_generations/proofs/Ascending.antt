@@ -81,13 +81,13 @@ with_remark-bytes (remarks.Keep keep) file = refl
 with_remark-bytes (remarks.Read moment) file = refl
 
 -- a remark at a place
-pub IsAscending-remarked : (files : List File) (low i : ℕ) (remark : Remark) (d : File) → IsAscending low files
+pub IsAscending-remark : (files : List File) (low i : ℕ) (remark : Remark) (d : File) → IsAscending low files
     → IsAscending low (set files i (with_remark remark (get_or files i d)))
-IsAscending-remarked [] low i remark d a = tt
-IsAscending-remarked (file ∷ more) low zero remark d a =
+IsAscending-remark [] low i remark d a = tt
+IsAscending-remark (file ∷ more) low zero remark d a =
     rw (with_remark-generation remark file, with_remark-bytes remark file) (a.0, a.1, a.2, a.3)
-IsAscending-remarked (file ∷ more) low (suc i) remark d a =
-    (a.0, a.1, a.2, IsAscending-remarked more file.generation i remark d a.3)
+IsAscending-remark (file ∷ more) low (suc i) remark d a =
+    (a.0, a.1, a.2, IsAscending-remark more file.generation i remark d a.3)
 
 -- files without their bytes
 pub IsAscending-blank : (files : List File) (low : ℕ) → IsAscending low files → IsAscending low (map blank files)

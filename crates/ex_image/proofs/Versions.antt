@@ -5,7 +5,7 @@ use Rattle.ex_store.specs.declared.row.Row.{Row}
 use Rattle.ex_store.specs.Draft.{kept_by_directories}
 use Rattle.ex_store.specs.State.{State}
 use Rattle.ex_store.specs.WellFormed.{IsWellFormed}
-use Rattle.ex_store.proofs.RemarkedLaws.{rows_kept_by}
+use Rattle.ex_store.proofs.RemarkLaws.{rows_kept_by}
 use Rattle.ex_image.specs.declared.version.Version.{Version}
 use Rattle.ex_image.specs.declared.version.Version.TheVariants as versions
 use Rattle.ex_image.specs.Grammar.{IsImage, IsImageIn, Leads, Makes, MayStand, are_told_in, is_told_in, state_in}

@@ -278,7 +278,7 @@ rows_without directories full rows row are is =
     }
 
 -- no two of those rows that pass a test have one name
-pub distinct_meant : (test : Row → Bool) (rows : List Row) → ascends by_row rows ≡ true → AreDistinct (filter test rows)
-distinct_meant test rows ascend =
+pub distinct_selected : (test : Row → Bool) (rows : List Row) → ascends by_row rows ≡ true → AreDistinct (filter test rows)
+distinct_selected test rows ascend =
     distinct_sorted (filter test rows)
     (sorted_ascends by_row by_row_total (filter test rows) (ascends_filter by_row by_row_total test rows ascend))

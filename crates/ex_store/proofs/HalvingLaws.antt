@@ -6,9 +6,6 @@ use Rattle.std.specs.Ordering.{is_eq, is_gt, is_lt, ordering_reverse}
 use Rattle.std.specs.declared.cmp.Ordering.{Ordering}
 use Rattle.std.specs.declared.cmp.Ordering.TheVariants.{Less, Equal, Greater}
 use Rattle.std.proofs.lemmas.Bool.{and_from, and_parts, le-ltb, lt-ltb}
-use Rattle.ex_store.specs.declared.key.Key.{Key}
-use Rattle.ex_store.specs.declared.row.Row.{Row}
-use Rattle.ex_store.specs.Rows.{by_key}
 use Rattle.ex_store.proofs.AscendsLaws.{all_above, is_sorted}
 use Rattle.ex_store.proofs.RowsInLaws.{may_follow, rises}
 

@@ -1,12 +1,7 @@
 -- Where the row of a full name stands, and what a change there is.
-use Rattle.std.proofs.Common.{◌≡◌, ℕ, ◌+◌, ◌<◌, ◌≤◌, Bool, true, false, not, ◌||◌, cond, nat_lt, suc, zero, List, [], ◌∷◌, length, get_or, insert, position, Some, None, refl, sym, ap, ◌∙◌, arith}
-use Rattle.std.specs.List.{list_any, position_or_len, prefix_len}
-use Rattle.std.specs.Ordering.{is_lt}
-use Rattle.std.proofs.lemmas.Bool.{ltb-false, or_parts}
-use Rattle.std.proofs.lemmas.List.Quantifiers.{position-Some}
-use Rattle.ex_store.specs.declared.key.FullName.{FullName}
-use Rattle.ex_store.specs.declared.row.Row.{Row}
-use Rattle.ex_store.specs.Rows.{by_row, filled, inserted, is_full, row_at, without}
+use Rattle.std.proofs.Common.{◌≡◌, ℕ, ◌+◌, ◌≤◌, Bool, true, false, not, ◌||◌, cond, nat_lt, suc, List, [], ◌∷◌, length, position, Some, None, refl, arith}
+use Rattle.std.specs.List.{list_any, position_or_len}
+use Rattle.std.proofs.lemmas.Bool.{ltb-false}
 
 none-any-cons : {X : Type 0} (p : X → Bool) (xs : List X) (b : Bool) → (length xs ≤ position_or_len p xs → list_any p xs ≡ false) → suc (length xs) ≤ cond (not b) (1 + position_or_len p xs) 0 → (b || list_any p xs) ≡ false
 none-any-cons p xs true rest le = absurd (omega arith)

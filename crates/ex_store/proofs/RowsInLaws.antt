@@ -165,13 +165,6 @@ lower_falls Greater Less follow is = absurd (cc)
 lower_falls Greater Equal follow is = absurd (cc)
 lower_falls Greater Greater follow is = absurd (cc)
 
-pub upper_falls : (a b : Ordering) → may_follow a b ≡ true → is_le b ≡ true → is_le a ≡ true
-upper_falls Less b follow is = refl
-upper_falls Equal b follow is = refl
-upper_falls Greater Less follow is = absurd (cc)
-upper_falls Greater Equal follow is = absurd (cc)
-upper_falls Greater Greater follow is = absurd (cc)
-
 -- directories of rows that ascend never fall
 follows_itself : (o : Ordering) → may_follow o o ≡ true
 follows_itself Less = refl
@@ -424,20 +417,6 @@ row_in_stands state well i at name rows within first items =
       omega arith,
     )
 
--- where the files of the directory with a number begin, by its name
-pub first_named : (directories : List Directory) (rows : List Row) (n at : ℕ) (name : List ℕ)
-    → option_map (λ directory. first_in directory.name rows) (slice_get directories n) ≡ Some at
-    → option_map (λ directory. directory.name) (slice_get directories n) ≡ Some name → at ≡ first_in name rows
-first_named directories rows n at name first is = by (slice_get directories n) first is
-  where
-    by : (found : Option Directory) → option_map (λ directory. first_in directory.name rows) found ≡ Some at
-        → option_map (λ directory. directory.name) found ≡ Some name → at ≡ first_in name rows
-    by None first is = absurd (cc)
-    by (Some directory) first is =
-        let here : first_in directory.name rows ≡ at = cc in
-        let same : directory.name ≡ name = cc in
-        sym here ∙ ap (λ each. first_in each rows) same
-
 -- the same by the number of the directory
 pub row_stands : (state : State) → IsWellFormed state → (n i at : ℕ) (rows : List Row)
     → option_map (λ directory. first_in directory.name state.rows) (slice_get state.directories n) ≡ Some at
@@ -504,16 +483,22 @@ pub catalogue_rows : (state : State) (n : ℕ) → length (rows_of (catalogue_of
 catalogue_rows state n =
     ap length (rows_of_catalogue state n) ∙ length-map (rows_numbered n state) (file_row state.directories)
 
--- the same, as a search and the beginning tell them
-pub rows_between : (state : State) → IsWellFormed state → (n : ℕ) (name : List ℕ)
-    → option_map (λ directory. directory.name) (slice_get state.directories n) ≡ Some name
-    → (first end : ℕ) (rows : List Row) → rows ≡ state.rows → end ≡ end_in name rows
+-- the same, by where its files begin and end
+pub rows_between : (state : State) → IsWellFormed state → (n first end : ℕ)
     → option_map (λ directory. first_in directory.name state.rows) (slice_get state.directories n) ≡ Some first
+    → option_map (λ directory. end_in directory.name state.rows) (slice_get state.directories n) ≡ Some end
     → (end ≡ first + length (rows_of (catalogue_of state) n)) × (end ≤ 4096)
-rows_between state well n name is first end rows same ends starts =
-    let counts = rows_counted state well n name is in
-    let whole = counts.0 in
-    let few = counts.1 in
-    let last : end ≡ end_in name state.rows = ends ∙ ap (end_in name) same in
-    let start = first_named state.directories state.rows n first name starts is in
-    (omega arith, omega arith)
+rows_between state well n first end starts ends = by (slice_get state.directories n) refl starts ends
+  where
+    by : (found : Option Directory) → slice_get state.directories n ≡ found
+        → option_map (λ directory. first_in directory.name state.rows) found ≡ Some first
+        → option_map (λ directory. end_in directory.name state.rows) found ≡ Some end
+        → (end ≡ first + length (rows_of (catalogue_of state) n)) × (end ≤ 4096)
+    by None there starts ends = absurd (cc)
+    by (Some directory) there starts ends =
+        let counts = rows_counted state well n directory.name (ap (option_map (λ (each : Directory). each.name)) there) in
+        let whole = counts.0 in
+        let few = counts.1 in
+        let start : first_in directory.name state.rows ≡ first = cc in
+        let last : end_in directory.name state.rows ≡ end = cc in
+        (omega arith, omega arith)

@@ -22,7 +22,7 @@ use Rattle.ex_store.specs.WellFormed.{AreRows, IsWellFormed, is_file_name, is_fi
 use Rattle.ex_store.proofs.AdmittedLaws.{admitted_is, counted_target, rows_added}
 use Rattle.ex_store.proofs.AllCopiedLaws.{formed_is, moment_within, new_stamped}
 use Rattle.ex_store.proofs.PlannedLaws.{changes_files}
-use Rattle.ex_store.proofs.RemarkedLaws.{well_formed_with_rows}
+use Rattle.ex_store.proofs.RemarkLaws.{well_formed_with_rows}
 
 -- what is asked of the rows that the code has is what is asked of those of the state
 pub asked_is : (key given : Key) (generation : Gen) (size count files all : ℕ) (rows before : List Row) (answer : Result ℕ Code) → given ≡ key → before ≡ rows

@@ -8,7 +8,7 @@ use Rattle.ex_store.specs.Lent.{row_of_view}
 use Rattle.ex_store.specs.Rows.{with_remark}
 use Rattle.ex_store.specs.State.{retention_of}
 use Rattle.ex_store.proofs.ElementsLaws.{viewed}
-use Rattle.ex_store.proofs.RemarkedLaws.{changed_next}
+use Rattle.ex_store.proofs.RemarkLaws.{changed_next}
 use Rattle.ex_store.proofs.draft.keep_by.Goals as goal
 
 pub loop-i-preserved : goal.loop-i-preserved

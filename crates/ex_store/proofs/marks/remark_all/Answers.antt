@@ -4,7 +4,7 @@ use Rattle.ex_store.specs.declared.row.Row.{Row}
 use Rattle.ex_store.specs.Positions.{all_changed_at}
 use Rattle.ex_store.specs.Rows.{with_remark}
 use Rattle.ex_store.proofs.ElementsLaws.{place_within}
-use Rattle.ex_store.proofs.RemarkedLaws.{changed_more}
+use Rattle.ex_store.proofs.RemarkLaws.{changed_more}
 use Rattle.ex_store.proofs.marks.remark_all.Goals as goal
 
 -- stands where a place is past the end, which none is
