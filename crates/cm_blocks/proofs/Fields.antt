@@ -19,7 +19,7 @@ use Rattle.cm_blocks.specs.Parse.{Follow}
 use Rattle.cm_blocks.specs.Setting.{Setting}
 use Rattle.cm_blocks.specs.FieldView.{FieldView}
 use Rattle.cm_blocks.specs.Trial.{next_of, trial}
-use Rattle.cm_blocks.proofs.Keeping.{walk_step}
+use Rattle.cm_blocks.proofs.Needs.{walk_step}
 
 -- where a field stands whose trial was of a text from a place on: in the line, or in the default of its node, which
 -- was finished

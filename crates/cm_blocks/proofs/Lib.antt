@@ -1,9 +1,9 @@
-pub mod Closing
+pub mod Closure
 pub mod Fields
-pub mod Keeping
-pub mod Parsing
+pub mod Needs
+pub mod Parses
 pub mod Places
-pub mod Standing
+pub mod KeptFields
 pub mod Switches
 pub mod Trials
 pub mod Values

@@ -3,6 +3,7 @@ use Rattle.std.proofs.Common.{◌≡◌, ℕ, ◌<◌, ◌+◌, ◌&&◌, ◌==�
 use Rattle.std.specs.List.{prefix_len}
 use Rattle.std.specs.Option.{option_map_or}
 use Rattle.std.proofs.lemmas.Bool.Decides.{nat_tests}
+use Rattle.cm_lists.proofs.Bools.{cond_each}
 use Rattle.cm_text.specs.Bytes.{is_name, is_word}
 use Rattle.cm_text.specs.Case.{begins_with}
 use Rattle.cm_text.specs.declared.name.TheConstants.{NAME_LIMIT}
@@ -22,7 +23,6 @@ use Rattle.cm_fields.specs.declared.value.Value.{Value}
 use Rattle.cm_fields.specs.declared.value.Value.TheVariants as values
 use Rattle.cm_fields.specs.Phrase.{is_inside, noise, typed_noise}
 use Rattle.cm_fields.specs.Quoted.{by_closing, closing, is_cut, quoted}
-use Rattle.cm_fields.proofs.Holding.{of_choice}
 use Rattle.cm_files.specs.declared.flags.Flags.{Flags}
 use Rattle.cm_files.specs.Catalogue.{Catalogue}
 use Rattle.cm_files.specs.Fields.{directory_of, file_of, has_colon_behind, is_file, is_plain_path, user_of}
@@ -156,8 +156,8 @@ IfAccept test More = Unit {0}
 typed_guide : (phrase inside : List ℕ) (at : ℕ) → IfAccept is_guide (typed_noise phrase inside at)
 unfolding typed_noise
 typed_guide phrase inside at =
-    of_choice (IfAccept is_guide) (prefix_len is_inside inside == length inside) More _ tt
-    (of_choice (IfAccept is_guide)
+    cond_each (IfAccept is_guide) (prefix_len is_inside inside == length inside) More _ tt
+    (cond_each (IfAccept is_guide)
     (option_map_or (λ byte. byte == 41) (slice_get inside (prefix_len is_inside inside)) false
     && begins_with phrase (take (prefix_len is_inside inside) inside))
     (Accept (values.Noise true) (prefix_len is_inside inside + 2) (at + (prefix_len is_inside inside + 2)))
@@ -166,26 +166,26 @@ typed_guide phrase inside at =
 guide_said : (phrase rest : List ℕ) (at : ℕ) → IfAccept is_guide (noise phrase rest at)
 guide_said phrase [] at = tt
 guide_said phrase (byte ∷ rest) at =
-    of_choice (IfAccept is_guide) (byte == 40) (typed_noise phrase rest at) (Accept (values.Noise false) 1 at)
+    cond_each (IfAccept is_guide) (byte == 40) (typed_noise phrase rest at) (Accept (values.Noise false) 1 at)
     (typed_guide phrase rest at) refl
 
 -- what stands behind an opening quote
 quoted_behind : (at size written : ℕ) (rest : List ℕ) → IfAccept is_quoted (by_closing at (closing size written rest))
 quoted_behind at size written [] = tt
 quoted_behind at size written (byte ∷ []) =
-    of_choice (λ found. IfAccept is_quoted (by_closing at found)) (is_cut byte) _ _ tt tt
+    cond_each (λ found. IfAccept is_quoted (by_closing at found)) (is_cut byte) _ _ tt tt
 quoted_behind at size written (byte ∷ next ∷ more) =
-    of_choice (λ found. IfAccept is_quoted (by_closing at found)) (is_cut byte) _ _ tt
-    (of_choice (λ found. IfAccept is_quoted (by_closing at found)) (byte == 34) _ _
-    (of_choice (λ found. IfAccept is_quoted (by_closing at found)) (next == 34) _ _
+    cond_each (λ found. IfAccept is_quoted (by_closing at found)) (is_cut byte) _ _ tt
+    (cond_each (λ found. IfAccept is_quoted (by_closing at found)) (byte == 34) _ _
+    (cond_each (λ found. IfAccept is_quoted (by_closing at found)) (next == 34) _ _
     (quoted_behind at (size + 2) (written + 1) more)
-    (of_choice (IfAccept is_quoted) (nat_le written NAME_LIMIT) _ _ refl tt))
+    (cond_each (IfAccept is_quoted) (nat_le written NAME_LIMIT) _ _ refl tt))
     (quoted_behind at (size + 1) (written + 1) (next ∷ more)))
 
 quoted_said : (rest : List ℕ) (at : ℕ) → IfAccept is_quoted (quoted rest at)
 quoted_said [] at = tt
 quoted_said (byte ∷ rest) at =
-    of_choice (IfAccept is_quoted) (byte == 34) (by_closing at (closing 0 0 rest)) (Refuse NotQuoted 1)
+    cond_each (IfAccept is_quoted) (byte == 34) (by_closing at (closing 0 0 rest)) (Refuse NotQuoted 1)
     (quoted_behind at 0 0 rest) tt
 
 directory_said : (new : Bool) (c : Catalogue) (at : ℕ) (run : List ℕ) (spec : Spec) (meant : ℕ) (value : Value)

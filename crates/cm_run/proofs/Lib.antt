@@ -1,29 +1,29 @@
-mod Beginning
+pub mod Acts
 pub mod Causes
-mod Counting
-pub mod Cutting
+mod CommandLines
+mod Counts
+mod Course
+pub mod Cuts
 pub mod Deeds
+pub mod Displays
+pub mod Echoes
 mod FileLines
 pub mod Fileless
-pub mod Joining
-pub mod Keeping
+mod FirstPrompt
+pub mod Joins
 mod Keys
 mod LawLemmas
 pub mod LineEnds
 pub mod LineTurns
 mod Lines
+mod Memory
 mod Modes
 mod MomentLaws
-pub mod Obeying
-mod Opening
 mod Outcomes
 pub mod Prefixes
-pub mod Progressing
+pub mod Progress
 mod Rows
-mod Running
 pub mod Screens
-pub mod Showing
-mod Sparing
+mod ShownBytes
 mod Strokes
-mod Waiting
-pub mod Wanting
+pub mod MemoryEvents

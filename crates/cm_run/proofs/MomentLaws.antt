@@ -8,7 +8,7 @@ use Rattle.cm_run.specs.Meaning.{Meaning, setting_of}
 use Rattle.cm_run.specs.Moments.{Leads, RunsTo, given_if}
 use Rattle.cm_run.specs.Sound.{IsSound}
 use Rattle.cm_run.specs.Trace.{RunState, is_ended, line_start, moment_at, moment_if, moments_later, run_state, starting, step, step_of, turn_outcome}
-use Rattle.cm_run.proofs.Progressing.{Went, went_first, went_on}
+use Rattle.cm_run.proofs.Progress.{Went, went_first, went_on}
 
 -- a moment that is taken is the first of those to come, and no moment is 0
 pub first_given : (takes : Bool) (given moment : ℕ) (more : List ℕ) → (takes ≡ false → given ≡ 0)

@@ -2,7 +2,7 @@
 use Rattle.std.proofs.Common.{◌≡◌, ℕ, List, [], ◌∷◌, ◌++◌, refl, ap, sym, subst, ◌∙◌, arith}
 use Rattle.std.specs.Prelude.{Bool, true, false, Result, Ok, Err}
 use Rattle.cm_io.specs.Told.{Told}
-use Rattle.cm_io.proofs.Adding.{add_none}
+use Rattle.cm_io.proofs.Additions.{add_none}
 use Rattle.cm_state.specs.SessionState.{SessionState}
 use Rattle.cm_state.specs.declared.turn.Turn.TheVariants as turn
 use Rattle.cm_blocks.specs.declared.field.Fault.{Fault}
@@ -15,7 +15,7 @@ use Rattle.cm_run.specs.Obey.{Obeys, stage}
 use Rattle.cm_run.specs.Trace.{line_trace, deeds_trace, events_if, file_trace, moment_at, moments_later, line_start, opening, outcome_trace, run_state, step_of, takes_moment, turn_outcome}
 use Rattle.cm_run.specs.declared.engine.TheConstants.{FILE_LINES}
 use Rattle.cm_run.proofs.Deeds.{deeds_traces}
-use Rattle.cm_run.proofs.Joining.{performs_none, traces_both, traces_cut, traces_none, traces_on}
+use Rattle.cm_run.proofs.Joins.{performs_none, traces_both, traces_cut, traces_none, traces_on}
 
 module _ {S : Type 0} (m : Meaning S) (log : Told) (keys : List ℕ) (gets : ℕ) (moments : List ℕ) where
   -- a line that is confirmed acts, and takes the lines of its files

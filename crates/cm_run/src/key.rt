@@ -251,7 +251,7 @@ fn act<A: Application, S: Sink, C: Clock, L: Ledger>(
 }
 
 // Takes a raw key: shows what it does, logs it, and does it.
-#[tactic(auto, using(crate::proofs::Causes::acts_cause, crate::proofs::Causes::echo_cause, crate::proofs::Causes::log_cause, crate::proofs::Causes::obey_cause_on, crate::proofs::Sparing::acts_spare), unfolding(crate::specs::Cause::ObeyCause))]
+#[tactic(auto, using(crate::proofs::Causes::acts_cause, crate::proofs::Causes::echo_cause, crate::proofs::Causes::log_cause, crate::proofs::Causes::obey_cause_on, crate::proofs::Memory::acts_spare), unfolding(crate::specs::Cause::ObeyCause))]
 fn handle_raw_key<A: Application, S: Sink, W: Sink>(
     logging: bool,
     key: u8,

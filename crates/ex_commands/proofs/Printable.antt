@@ -3,13 +3,14 @@ use Rattle.std.proofs.Common.{◌≡◌, ℕ, ◌-◌, ◌<◌, ◌||◌, ◌&&�
 use Rattle.std.specs.List.{list_all, prefix_len}
 use Rattle.std.specs.Option.{option_map_or}
 use Rattle.std.proofs.lemmas.Bool.Decides.{nat_tests}
+use Rattle.cm_lists.proofs.Ascii.{up}
+use Rattle.std.proofs.lemmas.Bool.{cond_both}
 use Rattle.cm_text.specs.Bytes.{is_name, is_text}
 use Rattle.cm_text.specs.declared.name.TheConstants.{NAME_LIMIT}
 use Rattle.cm_fields.specs.declared.code.Code.TheVariants.{NoField}
 use Rattle.cm_fields.specs.declared.trial.Try.TheVariants.{Accept}
 use Rattle.cm_fields.specs.declared.value.Value.{Value}
 use Rattle.cm_fields.specs.declared.value.Value.TheVariants as values
-use Rattle.cm_fields.proofs.Holding.{holds_of_choice}
 use Rattle.cm_files.specs.declared.flags.Flags.{Flags}
 use Rattle.cm_files.specs.Catalogue.{Catalogue}
 use Rattle.cm_files.specs.LogicalName.{is_logical_name}
@@ -39,11 +40,10 @@ use Rattle.ex_commands.specs.Commands.Define.{logical_by}
 use Rattle.ex_commands.specs.Commands.Print.{after_in, form_by, form_in, job_in, note_in, quoted_by, word_by}
 use Rattle.ex_commands.specs.Line.{day_by, last_at, said_of, upper}
 use Rattle.ex_commands.specs.Said.{IsSaid, IsSaidIn}
-use Rattle.ex_commands.proofs.Asking.{is_finished, note_formed}
-use Rattle.ex_commands.proofs.Capitals.{up}
-use Rattle.ex_commands.proofs.Fitting.{IsAtNode, IsRead, after_node, at_node, job_node, names_are_short, note_node, reads_value, switches, value_at_node}
-use Rattle.ex_commands.proofs.Judging.{accepted_plain, date_is_plain, number_is_plain, quoted_plain, switch_plain, word_is_plain}
-use Rattle.ex_commands.proofs.Naming.{job_formed, logical_up}
+use Rattle.ex_commands.proofs.Forms.{is_finished, note_formed}
+use Rattle.ex_commands.proofs.Fits.{IsAtNode, IsRead, after_node, at_node, job_node, names_are_short, note_node, reads_value, switches, value_at_node}
+use Rattle.ex_commands.proofs.Judgements.{accepted_plain, date_is_plain, number_is_plain, quoted_plain, switch_plain, word_is_plain}
+use Rattle.ex_commands.proofs.UpperNames.{job_formed, logical_up}
 use Rattle.cm_blocks.proofs.Places.{run_of}
 use Rattle.cm_blocks.proofs.Fields.{StandsIn}
 
@@ -73,7 +73,7 @@ form_may (Some field) said = by field.value said
   where
     by : (value : Value) → IsSaid value → unwrap_or (form_by value) NORMAL < FORMS
     by (values.Hook id form) said =
-        holds_of_choice (λ (it : Option ℕ). unwrap_or it NORMAL < FORMS) (id == FORM_RULE) (Some form) None said.form (λ other. omega arith)
+        cond_both (id == FORM_RULE) (Some form) None (λ (it : Option ℕ). unwrap_or it NORMAL < FORMS) said.form (λ other. omega arith)
     by value said = omega arith
 
 -- the day

@@ -1,5 +1,5 @@
 -- What stands behind the keywords of some commands: by which blocks the fields of a role are read there.
-use Rattle.std.proofs.Common.{◌≡◌, ℕ, ◌||◌, ◌==◌, Bool, true, false, not, List, Some, refl}
+use Rattle.std.proofs.Common.{◌≡◌, ℕ, ◌||◌, ◌==◌, Bool, true, not, List, Some, refl}
 use Rattle.cm_files.specs.Catalogue.{Catalogue}
 use Rattle.cm_blocks.specs.declared.field.Ending.{Ending}
 use Rattle.cm_blocks.specs.declared.function.Role.TheVariants as roles
@@ -18,7 +18,7 @@ use Rattle.ex_grammar.specs.Words.{confirm, either, keyword}
 use Rattle.ex_grammar.specs.declared.code.TheConstants.{APPEND, CONNECT, COPY, DEFINE, EXPUNGE, RENAME, TAKE}
 use Rattle.ex_grammar.specs.declared.node.TheConstants.{COMMANDS}
 use Rattle.ex_commands.specs.Line.{keyword_code}
-use Rattle.ex_commands.proofs.Fitting.{reads_made, reads_one, reads_single}
+use Rattle.ex_commands.proofs.Fits.{reads_made, reads_one, reads_single}
 
 -- the table of the commands
 abbrev pub command_table : ℕ
@@ -47,10 +47,6 @@ behind : (c : Catalogue) (text : List ℕ) (branch : Branch) → IsBranch exec_g
     → field_of branch.role fields ≡ Some field → IsOf (setting exec_graph c exec_meanings) text branch.reads field
 behind c text =
     behind_verb (setting exec_graph c exec_meanings) COMMANDS command_table begins keyword_code (λ place number. refl) text
-
-pub not_true : (a : Bool) → not a ≡ true → a ≡ false
-not_true true is = cc
-not_true false is = refl
 
 -- CONNECT, EXPUNGE and DEFINE: a directory that is there
 abbrev pub names_old : ℕ → Bool

@@ -89,7 +89,7 @@ pub(crate) fn part(text: &[u8], place: Span) -> &[u8]
 }
 
 // A part of a text, in upper case.
-#[tactic(auto, using(crate::proofs::Uppercase::upper_more, crate::proofs::Uppercase::upper_all, crate::proofs::Uppercase::upper_is_ascii, crate::proofs::Uppercase::part_within))]
+#[tactic(auto, using(cm_lists::proofs::Ascii::up_more, cm_lists::proofs::Ascii::up_all, std::proofs::lemmas::Str::Ascii::uppercase_ascii, crate::proofs::Uppercase::part_within))]
 pub(crate) fn upper(text: &[u8], place: Span) -> Name
     requires ascii { IsAscii text.now }
     requires short { place.end ≤ place.start + NAME_LIMIT }

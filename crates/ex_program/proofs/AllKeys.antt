@@ -10,8 +10,8 @@ use Rattle.std.proofs.lemmas.Bool.Decides.{nat_tests}
 use Rattle.std.proofs.lemmas.Fmt.{digits_decimal}
 use Rattle.std.proofs.lemmas.Grind.{flat_map-append}
 use Rattle.std.proofs.lemmas.Str.Parse.{IsNumeralModel, numerals_by_value}
+use Rattle.cm_lists.proofs.Bools.{cond_each}
 use Rattle.cm_text.specs.Bytes.{is_text}
-use Rattle.cm_fields.proofs.Holding.{of_choice}
 use Rattle.cm_run.specs.Event.{event_key, keys_of}
 use Rattle.cm_run.specs.Trace.{RunState, is_ended, key_trace, keys_trace, run_trace, starting, step, unless}
 use Rattle.cm_run.proofs.Prefixes.{keys_of_key}
@@ -21,7 +21,7 @@ use Rattle.ex_take.specs.ExecState.{ExecState, exec_start}
 use Rattle.ex_program.specs.GeneratedKeys.{copy_end, copy_keys, copy_middle, copy_start, delete_start, expunge_keys, file_of, generated_keys, keys_behind, keys_by, kind_of, line_keys, list_end, list_start, name_end, next_number, tell_keys, undelete_start}
 use Rattle.ex_program.specs.Summary.{generated_trace, summary_of}
 use Rattle.ex_program.specs.declared.progress.TheConstants.{GENERATED_LINES}
-use Rattle.ex_program.proofs.Heading.{ended_where}
+use Rattle.ex_program.proofs.KnownRuns.{ended_where}
 use Rattle.ex_program.proofs.KeySteps.{Holds, step_holds}
 use Rattle.ex_program.proofs.LineKeys.{Where, Fresh, Far, Lined, go}
 
@@ -100,11 +100,11 @@ unfolding line_keys keys_by list_start list_end delete_start undelete_start name
 line_goes position number few =
     let small = file_small number in
     let P : List ℕ → Type 0 = λ keys. goes Fresh keys ≡ Some Fresh in
-    of_choice P (kind_of number == 0) _ _ (copy_goes position (file_of number) few small)
-    (of_choice P (kind_of number == 1) _ _ (named list_start list_end (file_of number) small refl refl)
-    (of_choice P (kind_of number == 2) _ _ (named delete_start name_end (file_of number) small refl refl)
-    (of_choice P (kind_of number == 3) _ _ (named undelete_start name_end (file_of number) small refl refl)
-    (of_choice P (kind_of number == 4) _ _ refl refl))))
+    cond_each P (kind_of number == 0) _ _ (copy_goes position (file_of number) few small)
+    (cond_each P (kind_of number == 1) _ _ (named list_start list_end (file_of number) small refl refl)
+    (cond_each P (kind_of number == 2) _ _ (named delete_start name_end (file_of number) small refl refl)
+    (cond_each P (kind_of number == 3) _ _ (named undelete_start name_end (file_of number) small refl refl)
+    (cond_each P (kind_of number == 4) _ _ refl refl))))
 
 lines_go : (lines position number : ℕ) → position + lines < 2 ^ 64 → goes Fresh (keys_behind position number lines) ≡ Some Fresh
 unfolding keys_behind

@@ -9,21 +9,21 @@ use Rattle.cm_blocks.specs.FieldView.{FieldView}
 use Rattle.cm_state.specs.SessionState.{SessionState}
 use Rattle.cm_run.specs.Meaning.{Deed}
 use Rattle.cm_run.specs.Obey.{left_by}
-use Rattle.cm_run.proofs.Obeying.{left_append}
+use Rattle.cm_run.proofs.Acts.{left_append}
 use Rattle.ex_commands.specs.Act.{act_of}
 use Rattle.ex_commands.specs.Command.{added, is_pending, with_sub}
 use Rattle.ex_commands.specs.declared.acted.Acted.{Acted}
 use Rattle.ex_commands.specs.declared.acted.Acted.TheVariants as answers
 use Rattle.ex_commands.specs.declared.command.Command.{Command}
 use Rattle.ex_commands.specs.declared.command.Command.TheVariants as commands
-use Rattle.ex_commands.proofs.Coming.{ends_by_logout}
+use Rattle.ex_commands.proofs.Outcomes.{ends_by_logout}
 use Rattle.ex_take.specs.Exec.{acts, command_deeds, followed, follows, lifted, line_by as deeds_by, refuses, typing_deeds, unwaiting}
 use Rattle.ex_take.specs.ExecState.{ExecState}
 use Rattle.ex_take.specs.Interpreter.{becomes, completion_answer, deed_of, pending_with, subcommand_deeds}
 use Rattle.ex_take.specs.InterpreterState.{InterpreterState}
 use Rattle.ex_take.specs.Quiet.{Waits}
 use Rattle.ex_take.specs.declared.pending.Pending.{Pending}
-use Rattle.ex_take.proofs.Following.{left_lifted}
+use Rattle.ex_take.proofs.Sequels.{left_lifted}
 use Rattle.ex_program.specs.TakesMemory.{command_by}
 use Rattle.ex_program.proofs.Harmless.{is_safe}
 use Rattle.ex_program.proofs.MemoryKeys.{followed_keep, nothing_settles}

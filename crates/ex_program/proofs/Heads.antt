@@ -1,7 +1,8 @@
 -- The commands that a word may mean, by the letters that it begins with.
 use Rattle.std.proofs.Common.{◌≡◌, ℕ, Bool, true, false, cond, not, ◌&&◌, ◌||◌, List, [], ◌∷◌, ◌++◌, Some, refl, ap, sym, ◌∙◌}
 use Rattle.std.specs.List.{enumerate_from, filter, list_all}
-use Rattle.std.proofs.lemmas.Bool.{and_parts}
+use Rattle.std.proofs.lemmas.Bool.{and_parts, not-true}
+use Rattle.cm_lists.proofs.Bools.{second_of_or}
 use Rattle.cm_text.specs.BeginLaws.{begins_longer}
 use Rattle.cm_text.specs.Case.{begins_with}
 use Rattle.cm_tables.specs.declared.entry.Entry.{Entry}
@@ -10,7 +11,6 @@ use Rattle.cm_tables.specs.declared.entry.Flag.TheVariants.{Plain, Invisible, No
 use Rattle.cm_tables.specs.Look.{by_equal, candidates, equal_entries, exact, found_at, is_recognised, look}
 use Rattle.cm_tables.proofs.FoundLemmas.{begins_of_equals}
 use Rattle.cm_blocks.specs.Keyword.{code_at}
-use Rattle.ex_commands.proofs.Verbs.{not_true, or_right}
 
 -- the first of those that pass a test passes it, and what all pass
 first_of : {A : Type 0} (f test : A → Bool) (xs : List A) (e : A) (more : List A) → filter f xs ≡ e ∷ more → list_all test xs ≡ true
@@ -45,9 +45,9 @@ module _ (good : ℕ → Bool) (table : List Entry) (front run : List ℕ)
       → (is_short e.1.flag ≡ false) × (good (code_at table e.0) ≡ true)
   begun e passed begins =
       let none : not (begins_with e.1.text front) ≡ false = ap not (begins_front e.1.text front run begins) in
-      let behind = or_right (not (begins_with e.1.text front)) (not (is_short e.1.flag) && good (code_at table e.0)) none passed in
+      let behind = second_of_or (not (begins_with e.1.text front)) (not (is_short e.1.flag) && good (code_at table e.0)) none passed in
       let both = and_parts (not (is_short e.1.flag)) (good (code_at table e.0)) behind in
-      (not_true (is_short e.1.flag) both.0, both.1)
+      (not-true (is_short e.1.flag) both.0, both.1)
 
   exactly : (place : ℕ) (flag : Flag) (at : ℕ) → is_short flag ≡ false → good (code_at table at) ≡ true → found_at (exact at flag) ≡ Some place
       → good (code_at table place) ≡ true

@@ -1,15 +1,15 @@
 -- Each key of a generated run leaves it going on.
 use Rattle.std.proofs.Common.{◌≡◌, ◌⊎◌, inl, inr, ℕ, ◌+◌, ◌-◌, ◌==◌, ◌||◌, nat_le, length, slice_get, if◌then◌else◌, Bool, true, false, List, [], ◌∷◌, ◌++◌, map, Option, Some, None, refl, sym, ap, subst, ◌∙◌, arith, append_assoc}
 use Rattle.std.proofs.lemmas.Bool.Decides.{nat_tests}
+use Rattle.cm_lists.proofs.Bools.{cond_each}
 use Rattle.cm_text.specs.Bytes.{is_text}
 use Rattle.ex_generations.specs.declared.file.TheConstants.{FILE_LIMIT}
-use Rattle.cm_fields.proofs.Holding.{of_choice}
 use Rattle.cm_line.specs.declared.key.KeyClass.{KeyClass}
 use Rattle.cm_line.specs.declared.key.KeyClass.TheVariants.{Text, End, Join, Rub, Word, Escape, Other}
 use Rattle.cm_line.specs.Keys.{class_at}
 use Rattle.cm_blocks.specs.declared.field.Ending.{Ending}
 use Rattle.cm_blocks.specs.declared.field.Ending.TheVariants as endings
-use Rattle.cm_blocks.proofs.Parsing.{parse_of_parses}
+use Rattle.cm_blocks.proofs.Parses.{parse_of_parses}
 use Rattle.cm_state.specs.Edit.{completed, edit, edited_as}
 use Rattle.cm_text.specs.Text.{finished}
 use Rattle.cm_blocks.specs.Parse.{IsParse}
@@ -27,11 +27,11 @@ use Rattle.cm_run.specs.Meaning.{Deed, setting_of}
 use Rattle.cm_run.specs.Obey.{left_by}
 use Rattle.cm_run.specs.Trace.{RunState, Stroke, line_start, line_stroke, next_session, node_of, raw_stroke, step, step_by, step_of, turn_outcome}
 use Rattle.cm_run.proofs.LineTurns.{confirmed_leads, edit_leads, moment_of, raw_leads, refusal_leads, session_at}
-use Rattle.cm_run.proofs.Obeying.{left_append}
+use Rattle.cm_run.proofs.Acts.{left_append}
 use Rattle.cm_run.proofs.Screens.{state-deeds}
 use Rattle.ex_commands.specs.declared.acted.Acted.{Acted}
 use Rattle.ex_commands.specs.declared.acted.Acted.TheVariants as answers
-use Rattle.ex_take.proofs.Following.{left_lifted}
+use Rattle.ex_take.proofs.Sequels.{left_lifted}
 use Rattle.ex_grammar.specs.declared.node.TheConstants.{COMMANDS}
 use Rattle.ex_store.specs.State.{catalogue_of}
 use Rattle.ex_commands.specs.Typed.{bytes_behind, echo_of, is_typed, rubbing}
@@ -265,7 +265,7 @@ chosen f put line rub write stop fits room it byte bell end rubbed written dropp
 rubbing_more : (last : Option ℕ) → is_dropped (typed.turn_of (rubbing last)) ≡ false
 unfolding is_dropped
 rubbing_more None = refl
-rubbing_more (Some last) = of_choice (λ it. is_dropped (typed.turn_of it) ≡ false) (last == 10) _ _ refl refl
+rubbing_more (Some last) = cond_each (λ it. is_dropped (typed.turn_of it) ≡ false) (last == 10) _ _ refl refl
 
 never_dropped : (bytes : List ℕ) (key : ℕ) → (key == 3) ≡ false → is_dropped (typed.turn_of (echo_of bytes key)) ≡ false
 unfolding is_dropped echo_of

@@ -23,10 +23,10 @@ use Rattle.cm_run.specs.Trace.{RunState, Stroke, deeds_trace, file_line_trace, f
 use Rattle.cm_run.specs.declared.stop.Stop.{Stop}
 use Rattle.cm_run.specs.declared.stop.Stop.TheVariants as stops
 use Rattle.cm_run.proofs.LineTurns.{moment_of, session_at}
-use Rattle.cm_run.proofs.Obeying.{left_append}
-use Rattle.cm_run.proofs.Progressing.{progress_ended}
+use Rattle.cm_run.proofs.Acts.{left_append}
+use Rattle.cm_run.proofs.Progress.{progress_ended}
 use Rattle.cm_run.proofs.Screens.{state-deeds}
-use Rattle.cm_run.proofs.Wanting.{asked_run, asks, asks_both, asks_deeds, asks_stroke}
+use Rattle.cm_run.proofs.MemoryEvents.{asked_run, asks, asks_both, asks_deeds, asks_stroke}
 use Rattle.ex_commands.specs.Act.{act_of}
 use Rattle.ex_commands.specs.Command.{is_pending}
 use Rattle.ex_commands.specs.Typed.{bytes_behind, echo_of, turn_of}
@@ -44,7 +44,7 @@ use Rattle.ex_take.specs.InterpreterState.{InterpreterState}
 use Rattle.ex_take.specs.Quiet.{IsQuiet, IsQuietUnlessEnded}
 use Rattle.ex_take.specs.declared.pending.Pending.{Pending}
 use Rattle.ex_take.specs.declared.typing.Typing.{Typing}
-use Rattle.ex_take.proofs.Following.{left_lifted}
+use Rattle.ex_take.proofs.Sequels.{left_lifted}
 use Rattle.ex_take.proofs.QuietKeys.{step_quiet}
 use Rattle.ex_store.specs.State.{State}
 use Rattle.cm_io.specs.declared.status.Status.TheVariants as status
@@ -53,11 +53,11 @@ use Rattle.ex_system.specs.Form.{Form}
 use Rattle.ex_run.specs.Course.{Past}
 use Rattle.ex_run.specs.Over.{has_ended}
 use Rattle.ex_run.specs.Scene.{Scene, Telling, seen}
-use Rattle.ex_run.proofs.Quieting.{closes_memory}
+use Rattle.ex_run.proofs.QuietEnds.{closes_memory}
 use Rattle.ex_program.specs.ExecRun.{exec_over, exec_trace}
 use Rattle.ex_program.specs.TakesMemory.{LastTakesMemory, TakesMemory, command_by, command_of_key}
-use Rattle.ex_program.proofs.Heading.{ended_where}
-use Rattle.ex_program.proofs.Summing.{is_memory}
+use Rattle.ex_program.proofs.KnownRuns.{ended_where}
+use Rattle.ex_program.proofs.Summaries.{is_memory}
 
 -- for one of these acts memory may be wanting
 abbrev wants : {S : Type 0} → List (Deed S) → Bool

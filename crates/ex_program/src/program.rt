@@ -47,7 +47,7 @@ pub struct ExecProgram;
 
 impl Program<Exec> for ExecProgram {
     ghost use Rattle.ex_take.specs.ExecState.{exec_start};
-    ghost use Rattle.ex_take.proofs.LineKeeping.{exec_keeps_lines};
+    ghost use Rattle.ex_take.proofs.KeptLines.{exec_keeps_lines};
 
     ghost begins = { exec_start };
 
@@ -69,7 +69,7 @@ impl Program<Exec> for ExecProgram {
 }
 
 // Runs the EXEC over the keys, as a form asks.
-#[tactic(auto, using(crate::proofs::Hooking::served_exec))]
+#[tactic(auto, using(crate::proofs::Hooks::served_exec))]
 fn run_form<H: Host, K: Source, S: Sink, W: Sink, C: Clock, L: Ledger>(
     alloc: Global,
     form: &ex_system::Form<'_>,

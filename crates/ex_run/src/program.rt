@@ -131,7 +131,7 @@ fn run_store<
 /// Before the first prompt the message of a status is shown alone, IN is loaded once, if there is one, and OUT is not
 /// created. Past it the trace of the run stands, or a cut of it, and then how it was closed; OUT is created once, is
 /// closed, and holds the image of the state that the run left. No other file changes.
-#[tactic(auto, using(crate::proofs::Serving::serves))]
+#[tactic(auto, using(crate::proofs::Hooks::serves))]
 pub fn run_program<
     A: Application + Drop,
     P: Program<A>,

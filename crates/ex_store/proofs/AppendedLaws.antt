@@ -5,6 +5,7 @@ use Rattle.std.specs.Option.{option_map_or}
 use Rattle.std.specs.Ordering.{is_lt}
 use Rattle.std.proofs.lemmas.Bool.{and_from, and_parts, le-leb, leb-true, not-true}
 use Rattle.std.proofs.lemmas.List.{length-map}
+use Rattle.cm_lists.proofs.Ascents.{all_above, is_sorted}
 use Rattle.cm_fields.specs.declared.code.Code.{Code}
 use Rattle.ex_generations.specs.declared.file.File.{File}
 use Rattle.ex_generations.specs.declared.file.TheConstants.{FILE_LIMIT}
@@ -30,7 +31,7 @@ use Rattle.ex_store.specs.Ready.{are_doable, is_lawful, rows_after_all}
 use Rattle.ex_store.specs.Rows.{added, by_row, files_of, filled, full_of, is_full, row_at, total}
 use Rattle.ex_store.specs.WellFormed.{AreRows, is_file_name, is_file_type, is_row_among, is_stamped}
 use Rattle.ex_store.proofs.AdmittedLaws.{admitted_is, and_then_ok, counted_file, rows_added}
-use Rattle.ex_store.proofs.AscendsLaws.{all_above, ascends_sorted, is_sorted, sorted_ascends}
+use Rattle.ex_store.proofs.AscendsLaws.{ascends_sorted, sorted_ascends}
 use Rattle.ex_store.proofs.AllCopiedLaws.{formed, formed_is, keep_within, moment_within, new_stamped}
 use Rattle.ex_store.proofs.ElementsLaws.{length_elements}
 use Rattle.ex_store.proofs.ConcatenationLaws.{concatenation_within}

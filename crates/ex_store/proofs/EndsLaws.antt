@@ -7,8 +7,8 @@ use Rattle.std.proofs.lemmas.Bool.{and_parts}
 use Rattle.std.proofs.lemmas.Bool.Decides.{nat_tests}
 use Rattle.std.proofs.lemmas.Option.{slice_get-map, slice_get_within}
 use Rattle.std.proofs.lemmas.List.{length-map}
+use Rattle.cm_lists.proofs.Quantifiers.{all_weaker}
 use Rattle.cm_files.specs.Catalogue.{by_bytes}
-use Rattle.cm_files.proofs.Sections.{all_implies}
 use Rattle.ex_store.specs.declared.directory.Directory.{Directory}
 use Rattle.ex_store.specs.Building.{by_directory}
 use Rattle.ex_store.specs.Rows.{end_in, first_in}
@@ -64,7 +64,7 @@ end_whole state well n directory here last =
     let sorted = sorted_ascends by_directory by_directory_total state.directories well.draft.directories_ascend in
     let own = number_at state.directories n directory sorted here in
     prefix_whole (λ row. is_le (by_bytes row.key.directory directory.name)) state.rows
-    (all_implies (is_row_among state.directories) (λ row. is_le (by_bytes row.key.directory directory.name))
+    (all_weaker (is_row_among state.directories) (λ row. is_le (by_bytes row.key.directory directory.name))
     (λ row is.
     let there = directory_there state.directories row is in
     let within = number_within state.directories row.key.directory there in

@@ -10,8 +10,12 @@ use Rattle.std.proofs.lemmas.Bool.{and_from, and_parts, not-true, not_from_false
 use Rattle.std.proofs.lemmas.Cmp.{on_total}
 use Rattle.std.proofs.lemmas.List.Folds.{list_all-append}
 use Rattle.std.proofs.lemmas.List.Quantifiers.{position-Some}
+use Rattle.cm_lists.proofs.Ascents.{all_above, is_sorted}
+use Rattle.cm_lists.proofs.Orders.{lt_is_not_gt}
+use Rattle.cm_lists.proofs.Places.{rises, rises_sorted}
+use Rattle.cm_lists.proofs.Positions.{none_from_position}
+use Rattle.cm_lists.proofs.Quantifiers.{all_weaker}
 use Rattle.cm_files.specs.Catalogue.{ascends}
-use Rattle.cm_files.proofs.Sections.{all_implies}
 use Rattle.ex_generations.specs.declared.file.File.{File}
 use Rattle.ex_generations.specs.Generations.{rewritten}
 use Rattle.ex_store.specs.declared.family.Family.{Family}
@@ -21,13 +25,10 @@ use Rattle.ex_store.specs.declared.row.Row.{Row}
 use Rattle.ex_store.specs.Appending.{bytes_at}
 use Rattle.ex_store.specs.Families.{by_family, is_under, demand_at, room_at, rooms_of, row_under, rows_of, rows_under}
 use Rattle.ex_store.specs.Rows.{added, by_key, by_row, filled, files_of, inserted, is_full, is_of, kept_newest, row_at, without}
-use Rattle.ex_store.proofs.AscendsLaws.{all_above, ascends_map, is_sorted, sorted_ascends}
+use Rattle.ex_store.proofs.AscendsLaws.{ascends_map, sorted_ascends}
 use Rattle.ex_store.proofs.AreRowsLaws.{by_key_total}
-use Rattle.ex_store.proofs.HalvingLaws.{full_stays, rises_sorted}
 use Rattle.ex_store.proofs.KeptLaws.{files_none, files_upper, kept_lower, kept_upper, none_of}
 use Rattle.ex_store.proofs.InsertionLaws.{inserted_ascends, inserted_there}
-use Rattle.ex_store.proofs.RowAtLaws.{none-from_position}
-use Rattle.ex_store.proofs.RowsInLaws.{rises}
 use Rattle.ex_store.proofs.FamilyLaws.{files_of_under, key_is}
 
 pub by_name_total : IsTotalOrder by_family
@@ -39,7 +40,7 @@ key_place key family = by_key family.key key
 
 pub names_rise : (key : Key) (families : List Family) → ascends by_family families ≡ true → rises (key_place key) families ≡ true
 names_rise key families ascend =
-    rises_sorted by_family by_key by_key_total (λ (family : Family). family.key) (λ x y less. full_stays (by_key x.key y.key) less) key families
+    rises_sorted by_family by_key by_key_total (λ (family : Family). family.key) (λ x y less. lt_is_not_gt (by_key x.key y.key) less) key families
     (sorted_ascends by_family by_name_total families ascend)
 
 -- the family at a place is of the key
@@ -107,10 +108,10 @@ above_none Equal is = absurd (cc)
 above_none Greater is = refl
 
 none_below : (key : Key) (rows : List Row) → list_all (is_below key) rows ≡ true → none_of key rows ≡ true
-none_below key rows all = all_implies (is_below key) (λ row. not (is_of key row)) (λ row is. below_none (by_key row.key key) is) rows all
+none_below key rows all = all_weaker (is_below key) (λ row. not (is_of key row)) (λ row is. below_none (by_key row.key key) is) rows all
 
 none_above : (key : Key) (rows : List Row) → list_all (is_above key) rows ≡ true → none_of key rows ≡ true
-none_above key rows all = all_implies (is_above key) (λ row. not (is_of key row)) (λ row is. above_none (by_key row.key key) is) rows all
+none_above key rows all = all_weaker (is_above key) (λ row. not (is_of key row)) (λ row is. above_none (by_key row.key key) is) rows all
 
 -- a row is added behind those below its key, and before those above it
 then_less : (o p : Ordering) → is_lt o ≡ true → is_lt (ordering_then o p) ≡ true
@@ -306,7 +307,7 @@ none_under key (family ∷ families) none =
     (none_under key families parts.1)
 
 none_found_of : (key : Key) (families : List Family) → position (is_under key) families ≡ None → none_of key (rows_of families) ≡ true
-none_found_of key families none = none_under key families (none-from_position (is_under key) families none)
+none_found_of key families none = none_under key families (none_from_position (is_under key) families none)
 
 pub files_absent : (key : Key) (families : List Family) → position (is_under key) families ≡ None → files_of key (rows_of families) ≡ []
 files_absent key families none = files_none key (rows_of families) (none_found_of key families none)
@@ -344,7 +345,7 @@ ascends_entered key families at new ascend place is none =
     ap (λ (n : ℕ). ascends by_family (insert families n new)) (place ∙ ap (λ (it : Key). prefix_len (λ family. is_lt (by_key family.key it)) families) (sym is))
     ∙ ap (ascends by_family) (inserted_there by_family new families)
     ∙ inserted_ascends by_family by_name_total new families ascend
-    (ap (λ (it : Key). list_any (is_under it) families) is ∙ none-from_position (is_under key) families none)
+    (ap (λ (it : Key). list_any (is_under it) families) is ∙ none_from_position (is_under key) families none)
 
 -- a family that keeps its key
 keys_set : (families : List Family) (at : ℕ) (new d : Family) → new.key ≡ (get_or families at d).key
@@ -530,7 +531,7 @@ room_nowhere key (family ∷ families) none =
     rw parts.0 (room_nowhere key families parts.1)
 
 pub room_none : (key : Key) (families : List Family) → position (is_under key) families ≡ None → room_at key (rooms_of families) ≡ 0
-room_none key families none = room_nowhere key families (none-from_position (is_under key) families none)
+room_none key families none = room_nowhere key families (none_from_position (is_under key) families none)
 
 -- what a file holds
 pub bytes_there : (full : FullName) (families : List Family) (at : ℕ) (d : Family) → ascends by_family families ≡ true

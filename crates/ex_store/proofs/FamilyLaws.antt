@@ -8,6 +8,7 @@ use Rattle.std.specs.declared.cmp.Ordering.TheVariants.{Less, Equal, Greater}
 use Rattle.std.proofs.lemmas.Bool.{and_from, and_parts, eqb-true, ne_eqb, or_parts}
 use Rattle.std.proofs.lemmas.Bool.Decides.{nat_tests}
 use Rattle.std.proofs.lemmas.Map.Lookups.{exact_bytes}
+use Rattle.cm_lists.proofs.Ascents.{all_above, is_sorted}
 use Rattle.cm_files.specs.Catalogue.{ascends, by_bytes}
 use Rattle.ex_generations.specs.declared.file.File.{File}
 use Rattle.ex_generations.specs.declared.file.TheConstants.{FILE_LIMIT}
@@ -21,7 +22,7 @@ use Rattle.cm_fields.specs.declared.value.Gen.TheVariants as gens
 use Rattle.ex_store.specs.Appending.{bytes_at, found}
 use Rattle.ex_store.specs.Families.{row_under}
 use Rattle.ex_store.specs.Rows.{added, by_key, by_row, filled, files, files_of, is_full, is_of, row_at, without}
-use Rattle.ex_store.proofs.AscendsLaws.{all_above, ascends_sorted, is_sorted}
+use Rattle.ex_store.proofs.AscendsLaws.{ascends_sorted}
 use Rattle.ex_store.proofs.AreRowsLaws.{all_added, by_key_total, full_parts}
 use Rattle.ex_store.proofs.FilesOfLaws.{files_added}
 

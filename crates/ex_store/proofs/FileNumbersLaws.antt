@@ -8,6 +8,9 @@ use Rattle.std.specs.declared.cmp.Ordering.TheVariants.{Less, Equal, Greater}
 use Rattle.std.proofs.lemmas.Bool.{and_from, and_parts, lt-ltb, ltb-false, ltb-true}
 use Rattle.std.proofs.lemmas.Cmp.{nat_list_cmp_total}
 use Rattle.std.proofs.lemmas.List.{set-append_left, set-append_right, length-append, length-map, length-set}
+use Rattle.cm_lists.proofs.Elements.{slice_get-append_left, slice_get-append_right}
+use Rattle.cm_lists.proofs.Places.{may_follow, parted, rises, rises_sorted}
+use Rattle.cm_lists.proofs.Prefixes.{prefix_len_all, prefix_len_at, prefix_len_none}
 use Rattle.cm_files.specs.Catalogue.{ascends, by_bytes}
 use Rattle.ex_generations.specs.declared.file.File.{File}
 use Rattle.ex_store.specs.declared.family.Family.{Family}
@@ -17,8 +20,6 @@ use Rattle.ex_store.specs.Families.{AreFamilies, IsCounted, by_family, counted, 
 use Rattle.ex_store.specs.Rows.{by_key}
 use Rattle.ex_store.proofs.AscendsLaws.{ascends_map, sorted_ascends}
 use Rattle.ex_store.proofs.FamiliesLaws.{all_append, by_name_total}
-use Rattle.ex_store.proofs.HalvingLaws.{rises_sorted}
-use Rattle.ex_store.proofs.RowsInLaws.{may_follow, parted, prefix_from_point, rises}
 
 -- counting changes neither rows nor keys
 pub rows_counted : (before : ℕ) (families : List Family) → rows_of (counted before families) ≡ rows_of families
@@ -135,17 +136,6 @@ pub record StandsUnder (families : List Family) (before i n : ℕ) : Type 0 wher
   pub same : (d : Family) → slice_get (rows_of families) (i - before)
       ≡ slice_get (rows_under (get_or families n d)) (i - (before + length (rows_of (take n families))))
 
-get_front : {X : Type 0} (front more : List X) (i : ℕ) → i < length front → slice_get (front ++ more) i ≡ slice_get front i
-get_front [] more i within = absurd (omega arith)
-get_front (x ∷ front) more zero within = refl
-get_front (x ∷ front) more (suc i) within = get_front front more i (omega arith)
-
-get_behind : {X : Type 0} (front more : List X) (i : ℕ) → length front ≤ i → slice_get (front ++ more) i ≡ slice_get more (i - length front)
-get_behind [] more i past = ap (slice_get more) (omega arith)
-get_behind (x ∷ front) more zero past = absurd (omega arith)
-get_behind (x ∷ front) more (suc i) past =
-    get_behind front more i (omega arith) ∙ ap (slice_get more) (omega arith)
-
 pub stands_under : (before : ℕ) (families : List Family) (i : ℕ) → IsCounted before families → before ≤ i
     → i < before + length (rows_of families) → StandsUnder families before i (prefix_len (λ family. nat_lt family.end (i + 1)) families)
 stands_under before [] i is low within = absurd (omega arith)
@@ -170,7 +160,7 @@ stands_under before (family ∷ families) i is low within =
           from = omega (arith, start, there.from);
           inside = λ d. subst (λ (m : ℕ). i - m < length (get_or families n d).gens.files) (sym start) (there.inside d);
           same = λ d.
-              get_behind (rows_under family) (rows_of families) (i - before) (omega (arith, size, is.0, past))
+              slice_get-append_right (rows_under family) (rows_of families) (i - before) (omega (arith, size, is.0, past))
               ∙ ap (slice_get (rows_of families)) (omega (arith, size, is.0, past))
               ∙ there.same d
               ∙ ap (λ (m : ℕ). slice_get (rows_under (get_or families n d)) (i - m)) (sym start);
@@ -184,7 +174,7 @@ stands_under before (family ∷ families) i is low within =
           within = omega arith;
           from = omega (arith, start, low);
           inside = λ d. omega (arith, start, here, is.0, low);
-          same = λ d. get_front (rows_under family) (rows_of families) (i - before) (omega (arith, size, is.0, here, low))
+          same = λ d. slice_get-append_left (rows_under family) (rows_of families) (i - before) (omega (arith, size, is.0, here, low))
               ∙ ap (λ (m : ℕ). slice_get (rows_under family) (i - m)) (sym start);
         }
 
@@ -199,22 +189,6 @@ directories_rise directory families ascend =
     first_stays Less p less = refl
     first_stays Equal p less = refl
     first_stays Greater p less = absurd (cc)
-
-prefix_all : {X : Type 0} (test : X → Bool) (front more : List X) → list_all test front ≡ true
-    → prefix_len test (front ++ more) ≡ length front + prefix_len test more
-prefix_all test [] more all = omega arith
-prefix_all test (x ∷ front) more all =
-    let parts : (test x ≡ true) × (list_all test front ≡ true) = and_parts _ _ all in
-    let rest = prefix_all test front more parts.1 in
-    rw parts.0 (omega (arith, rest))
-
-prefix_none : {X : Type 0} (test : X → Bool) (xs : List X) → list_all (λ x. not (test x)) xs ≡ true → prefix_len test xs ≡ 0
-prefix_none test [] none = refl
-prefix_none {X} test (x ∷ xs) none = by (test x) (and_parts _ _ none).0
-  where
-    by : (b : Bool) → not b ≡ true → cond b (1 + prefix_len test xs) 0 ≡ 0
-    by true is = absurd (cc)
-    by false is = refl
 
 own_all : (test : List ℕ → Bool) (family : Family) (own : List File) → test family.key.directory ≡ true
     → list_all (λ (row : Row). test row.key.directory) (map (row_under family.key) own) ≡ true
@@ -267,9 +241,9 @@ prefix_rows test falls directory (family ∷ families) rise =
         ∙ length_more family (take n families)
         ∙ ap (λ m. length family.gens.files + m) rest
         ∙ ap (λ m. m + prefix_len (λ (row : Row). passes row.key.directory) (rows_of families)) (sym (length_under family))
-        ∙ sym (prefix_all (λ (row : Row). passes row.key.directory) (rows_under family) (rows_of families) (own_all passes family family.gens.files is))
+        ∙ sym (prefix_len_all (λ (row : Row). passes row.key.directory) (rows_under family) (rows_of families) (own_all passes family family.gens.files is))
     by false is rest =
-        sym (prefix_none (λ (row : Row). passes row.key.directory) (rows_under family ++ rows_of families)
+        sym (prefix_len_none (λ (row : Row). passes row.key.directory) (rows_under family ++ rows_of families)
         (all_append (λ (row : Row). not (passes row.key.directory)) (rows_under family) (rows_of families)
         (own_all (λ it. not (passes it)) family family.gens.files (ap not is))
         (rows_all (λ it. not (passes it)) families (none families is (and_parts _ _ rise).0))))
@@ -291,7 +265,7 @@ pub rows_before : (test : Ordering → Bool)
 rows_before test falls directory families n ascend within point_from =
     let point = point_from (directories_part test falls directory families ascend) in
     ap (λ (m : ℕ). length (rows_of (take m families)))
-    (sym (prefix_from_point (λ (family : Family). test (by_bytes family.key.directory directory)) families n within point.0 point.1))
+    (sym (prefix_len_at (λ (family : Family). test (by_bytes family.key.directory directory)) families n within point.0 point.1))
     ∙ prefix_rows test falls directory families (directories_rise directory families ascend)
 
 pub found_under : (families : List Family) (i n : ℕ) → IsCounted 0 families → i < length (rows_of families)
@@ -305,10 +279,10 @@ row_numbered [] n at d within inside = absurd (omega arith)
 row_numbered (family ∷ families) zero at d within inside =
     ap (λ (m : ℕ). slice_get (rows_under family ++ rows_of families) (m + at)) (first_length (family ∷ families))
     ∙ ap (slice_get (rows_under family ++ rows_of families)) (omega arith)
-    ∙ get_front (rows_under family) (rows_of families) at (omega (arith, length_under family))
+    ∙ slice_get-append_left (rows_under family) (rows_of families) at (omega (arith, length_under family))
 row_numbered (family ∷ families) (suc n) at d within inside =
     let size = length_more family (take n families) in
-    get_behind (rows_under family) (rows_of families) (length (rows_of (take (suc n) (family ∷ families))) + at) (omega (arith, size, length_under family))
+    slice_get-append_right (rows_under family) (rows_of families) (length (rows_of (take (suc n) (family ∷ families))) + at) (omega (arith, size, length_under family))
     ∙ ap (slice_get (rows_of families)) (omega (arith, size, length_under family))
     ∙ row_numbered families n at d (omega arith) inside
 

@@ -4,6 +4,7 @@ use Rattle.std.specs.List.{list_all}
 use Rattle.std.proofs.lemmas.Bool.{and_from, and_parts, le-leb, lt-ltb, ltb-false}
 use Rattle.std.proofs.lemmas.List.{length-map}
 use Rattle.std.proofs.lemmas.List.Folds.{list_all-append}
+use Rattle.cm_lists.proofs.Quantifiers.{all_filter}
 use Rattle.cm_text.specs.Bytes.{is_text}
 use Rattle.cm_text.specs.declared.name.TheConstants.{NAME_LIMIT}
 use Rattle.cm_fields.specs.declared.code.Code.{Code}
@@ -25,7 +26,6 @@ use Rattle.ex_store.specs.Selection.{is_selected_by}
 use Rattle.ex_store.specs.State.{State}
 use Rattle.ex_store.specs.WellFormed.{IsWellFormed, is_entry_among, is_file_name, is_row_among}
 use Rattle.ex_store.proofs.AdmittedLaws.{and_then_ok, ok_same}
-use Rattle.ex_store.proofs.AscendsLaws.{all_filter}
 use Rattle.ex_store.proofs.ElementsLaws.{length_elements}
 use Rattle.ex_store.proofs.PositionsLaws.{elements_filter}
 use Rattle.ex_store.proofs.RemarkLaws.{length-positions_from}

@@ -6,6 +6,7 @@ use Rattle.cm_files.specs.Catalogue.{by_bytes}
 use Rattle.std.proofs.lemmas.Bool.{and_from, and_parts, lt-ltb}
 use Rattle.std.proofs.lemmas.List.{length-map}
 use Rattle.std.proofs.lemmas.List.Sums.{count_by-le-length, length-filter}
+use Rattle.cm_lists.proofs.Quantifiers.{all_filter, all_weaker}
 use Rattle.ex_generations.specs.declared.file.File.{File}
 use Rattle.ex_generations.specs.declared.file.Remark.{Remark}
 use Rattle.ex_generations.specs.declared.file.Remark.TheVariants as remarks
@@ -19,8 +20,8 @@ use Rattle.ex_store.specs.Rows.{by_full, by_row, expunged, first_in, full_of, is
 use Rattle.ex_store.specs.State.{State, firsts_in, retention_of}
 use Rattle.ex_store.specs.WellFormed.{AreRows, IsDraft, IsWellFormed, is_directory, is_remark, is_row_among, is_stamped}
 use Rattle.ex_store.proofs.AllCopiedLaws.{formed, formed_is}
-use Rattle.ex_store.proofs.AscendsLaws.{all_filter, ascends_filter, ascends_map}
-use Rattle.ex_store.proofs.BuiltLaws.{all_more, retention_within}
+use Rattle.ex_store.proofs.AscendsLaws.{ascends_filter, ascends_map}
+use Rattle.ex_store.proofs.BuiltLaws.{retention_within}
 use Rattle.ex_store.proofs.TotalLaws.{total_cons}
 use Rattle.ex_store.proofs.AreRowsLaws.{by_row_total}
 
@@ -280,7 +281,7 @@ pub row_short : (directories : List Directory) (row : Row) → is_row_among dire
 row_short directories row is = (and_parts _ _ is).1
 
 pub rows_short : (directories : List Directory) (rows : List Row) → AreRows directories rows → list_all is_short rows ≡ true
-rows_short directories rows are = all_more (is_row_among directories) is_short rows (λ row is. (and_parts _ _ is).1) are.within
+rows_short directories rows are = all_weaker (is_row_among directories) is_short (λ row is. (and_parts _ _ is).1) rows are.within
 
 pub draft_with_rows : (state : State) (rows : List Row) → IsDraft state → AreRows state.directories rows
     → IsDraft (record state { rows = rows })

@@ -5,6 +5,7 @@ use Rattle.std.specs.Option.{option_map_or}
 use Rattle.std.specs.Ordering.{is_eq}
 use Rattle.std.proofs.lemmas.Bool.{or_parts}
 use Rattle.std.proofs.lemmas.List.{get_or_default}
+use Rattle.cm_lists.proofs.Positions.{none_from_position}
 use Rattle.cm_files.specs.Catalogue.{ascends}
 use Rattle.ex_store.specs.declared.family.Family.{Family}
 use Rattle.ex_store.specs.declared.key.Key.{Key}
@@ -14,7 +15,6 @@ use Rattle.ex_store.specs.Rows.{by_key, files_of}
 use Rattle.ex_store.proofs.AscendsLaws.{ascends_map}
 use Rattle.ex_store.proofs.FamiliesLaws.{IsFirst, files_found, first_found, first_there, first_demand, room_found}
 use Rattle.ex_store.proofs.FamilyLaws.{key_is}
-use Rattle.ex_store.proofs.RowAtLaws.{none-from_position}
 
 -- where there is no demand
 pub rows_without_demand : (families : List Family) → rows_of (without_demand families) ≡ rows_of families
@@ -69,7 +69,7 @@ demand_new key other (family ∷ families) (suc at) new within is zero_demand no
 pub demand_entered : (key other : Key) (families : List Family) (at : ℕ) (new : Family) → at ≤ length families → new.key ≡ key → new.demand ≡ 0
     → position (is_under key) families ≡ None → demand_at other (insert families at new) ≡ demand_at other families
 demand_entered key other families at new within is zero_demand none =
-    demand_new key other families at new within is zero_demand (none-from_position (is_under key) families none)
+    demand_new key other families at new within is zero_demand (none_from_position (is_under key) families none)
 
 -- a family wants one more
 under_both : (key other : Key) (family : Family) → is_under key family ≡ true → is_eq (by_key key other) ≡ is_under other family
@@ -136,7 +136,7 @@ room_demand key (first ∷ more) ascend have some = by (position (is_under key) 
   where
     by : (it : Option ℕ) → position (is_under key) (first ∷ more) ≡ it
         → length (files_of key (rows_of (first ∷ more))) + demand_at key (first ∷ more) ≤ room_at key (rooms_of (first ∷ more))
-    by None found = absurd (omega (arith, some, demand_nowhere key (first ∷ more) (none-from_position (is_under key) (first ∷ more) found)))
+    by None found = absurd (omega (arith, some, demand_nowhere key (first ∷ more) (none_from_position (is_under key) (first ∷ more) found)))
     by (Some i) found =
         let at = first_found key (first ∷ more) i found in
         let family = get_or (first ∷ more) i first in

@@ -2,6 +2,7 @@
 use Rattle.std.proofs.Common.{◌≡◌, ℕ, nat_le, Bool, true, false, cond, List, [], ◌∷◌, ◌++◌, length, Result, Ok, Err, Option, Some, None, refl, ap, subst}
 use Rattle.std.specs.List.{list_all}
 use Rattle.std.proofs.lemmas.Bool.{and_parts}
+use Rattle.cm_lists.proofs.Quantifiers.{all_filter}
 use Rattle.cm_fields.specs.declared.code.Code.{Code}
 use Rattle.cm_fields.specs.declared.code.Code.TheVariants.{NameNeeded}
 use Rattle.ex_generations.specs.declared.file.Remark.TheVariants as remarks
@@ -31,7 +32,6 @@ use Rattle.ex_store.proofs.AdmittedLaws.{admitted_is, and_then_ok, counted_targe
 use Rattle.ex_store.proofs.AllCopiedLaws.{from_formed, keep_within, moment_within, renamed_formed}
 use Rattle.ex_store.proofs.AllRenamedLaws.{rows_without}
 use Rattle.ex_store.proofs.AppendedLaws.{append_ready, append_sound}
-use Rattle.ex_store.proofs.AscendsLaws.{all_filter}
 use Rattle.ex_store.proofs.BuiltLaws.{retention_within, well_formed_built}
 use Rattle.ex_store.proofs.DefinedLaws.{well_formed_defined}
 use Rattle.ex_store.proofs.PrintedLaws.{well_formed_printed}

@@ -1,13 +1,14 @@
 -- What is told of all files, family by family, and what is done with those of one directory.
-use Rattle.std.proofs.Common.{◌≡◌, ℕ, ◌+◌, ◌*◌, ◌<◌, ◌≤◌, ◌==◌, ◌&&◌, nat_le, Bool, true, false, not, cond, zero, suc, List, [], ◌∷◌, ◌++◌, length, drop, filter, get_or, map, set, take, refl, ap, sym, ◌∙◌, arith, append_assoc}
+use Rattle.std.proofs.Common.{◌≡◌, ℕ, ◌+◌, ◌*◌, ◌<◌, ◌≤◌, ◌==◌, ◌&&◌, nat_le, Bool, true, false, not, cond, zero, suc, List, [], ◌∷◌, ◌++◌, length, drop, filter, get_or, map, refl, ap, sym, ◌∙◌, arith}
 use Rattle.std.proofs.lemmas.List.{map-append}
 use Rattle.std.proofs.lemmas.List.Elements.{filter-append}
 use Rattle.std.specs.List.{list_all}
 use Rattle.std.specs.Ordering.{is_eq}
 use Rattle.std.proofs.lemmas.Bool.{and_from, and_parts, leb-true}
-use Rattle.std.proofs.lemmas.List.{drop-set-lt, drop_more, take_more_set}
+use Rattle.std.proofs.lemmas.List.{drop_more}
 use Rattle.std.proofs.lemmas.Bool.Decides.{nat_tests}
 use Rattle.std.proofs.lemmas.List.Sums.{count_by-le-length, length-filter, sum_by-append, sum_by-cons}
+use Rattle.cm_lists.proofs.Numbers.{suc_is_not_zero}
 use Rattle.cm_files.specs.Catalogue.{ascends, by_bytes}
 use Rattle.ex_generations.specs.declared.file.File.{File}
 use Rattle.ex_generations.specs.declared.file.TheConstants.{FILE_LIMIT}
@@ -39,9 +40,6 @@ total_more family families =
 abbrev pub has_files : Family → Bool
 has_files family = not (length family.gens.files == 0)
 
-some_files : (n : ℕ) → (suc n == 0) ≡ false
-some_files n = grind (arith, nat_tests)
-
 pub rows_filled : (families : List Family) → rows_of (filter has_files families) ≡ rows_of families
 rows_filled [] = refl
 rows_filled (family ∷ families) = by family.gens.files refl (rows_filled families)
@@ -49,7 +47,7 @@ rows_filled (family ∷ families) = by family.gens.files refl (rows_filled famil
     by : (own : List File) → family.gens.files ≡ own → rows_of (filter has_files families) ≡ rows_of families
         → rows_of (cond (not (length family.gens.files == 0)) (family ∷ filter has_files families) (filter has_files families)) ≡ rows_under family ++ rows_of families
     by [] is rest = rw is rest
-    by (file ∷ own) is rest = rw (is, some_files (length own)) (ap (λ more. map (row_under family.key) (file ∷ own) ++ more) rest)
+    by (file ∷ own) is rest = rw (is, suc_is_not_zero (length own)) (ap (λ more. map (row_under family.key) (file ∷ own) ++ more) rest)
 
 -- each family that is left has a file
 pub few_filled : (families : List Family) → length (filter has_files families) ≤ length (rows_of families)
@@ -251,18 +249,6 @@ rooms_swept directory (family ∷ families) = by (is_under_directory directory f
         → rooms_of (cond b (record family { gens = record family.gens { files = unmarked family.gens.files } }) family ∷ map (swept directory) families) ≡ rooms_of (family ∷ families)
     by true rest = ap (λ more. record { key = family.key; room = family.gens.room } ∷ more) rest
     by false rest = ap (λ more. record { key = family.key; room = family.gens.room } ∷ more) rest
-
--- one turn of a loop that changes each element in place
-pub turn_done : {X : Type 0} (f : X → X) (xs whole : List X) (i : ℕ) (item new : X) → i < length xs → item ≡ get_or xs i item → new ≡ f item
-    → take i xs ++ map f (drop i xs) ≡ whole → take (i + 1) (set xs i new) ++ map f (drop (i + 1) (set xs i new)) ≡ whole
-turn_done {X} f xs whole i item new within is made so_far =
-    let split : drop i xs ≡ item ∷ drop (i + 1) xs = drop_more xs i item within ∙ ap (λ (it : X). it ∷ drop (i + 1) xs) (sym is) in
-    ap (λ (front : List X). front ++ map f (drop (i + 1) (set xs i new))) (take_more_set xs i new within)
-    ∙ ap (λ (rest : List X). (take i xs ++ new ∷ []) ++ map f rest) (drop-set-lt (i + 1) xs i new (omega arith))
-    ∙ ap (λ (it : X). (take i xs ++ it ∷ []) ++ map f (drop (i + 1) xs)) made
-    ∙ append_assoc (take i xs) (f item ∷ []) (map f (drop (i + 1) xs))
-    ∙ sym (ap (λ (rest : List X). take i xs ++ map f rest) split)
-    ∙ so_far
 
 pub ascends_swept : (directory : List ℕ) (families : List Family) → ascends by_family families ≡ true → ascends by_family (map (swept directory) families) ≡ true
 ascends_swept directory families ascend =

@@ -5,6 +5,8 @@ use Rattle.std.specs.Cmp.{Equal-is}
 use Rattle.std.proofs.lemmas.Bool.{and_parts, both_ways}
 use Rattle.std.proofs.lemmas.List.{append-nil, append_assoc, drop-drop, drop-map, length-append, length-drop}
 use Rattle.std.proofs.lemmas.Map.Lookups.{exact_bytes}
+use Rattle.cm_lists.proofs.Places.{block_within}
+use Rattle.cm_lists.proofs.Quantifiers.{all_kept, all_weaker}
 use Rattle.cm_files.specs.declared.row.FileRow.{FileRow}
 use Rattle.cm_files.specs.Catalogue.{by_bytes, rows_of}
 use Rattle.cm_files.specs.Selection.{Wanted, is_selected}
@@ -16,9 +18,8 @@ use Rattle.ex_store.specs.Rows.{end_in, first_in, is_in, rows_in}
 use Rattle.ex_store.specs.Selection.{is_selected_by, wanted_of}
 use Rattle.ex_store.specs.State.{State, catalogue_of, file_row, has_directory, number_of}
 use Rattle.ex_store.specs.WellFormed.{IsWellFormed, is_row_among}
-use Rattle.ex_store.proofs.BuiltLaws.{all_more}
 use Rattle.ex_store.proofs.CatalogueLaws.{directory_there}
-use Rattle.ex_store.proofs.RowsInLaws.{block, block_within, kept_pass, positions_within, rows_by_number, rows_of_catalogue}
+use Rattle.ex_store.proofs.RowsInLaws.{block, positions_within, rows_by_number, rows_of_catalogue}
 
 position_map : {X Y : Type 0} (test : Y → Bool) (f : X → Y) (at : ℕ) (xs : List X)
     → position_from test at (map f xs) ≡ position_from (λ x. test (f x)) at xs
@@ -58,8 +59,7 @@ selected_in deleted place state row is = (and_parts _ _ is).0
 pub all_selected_in : (deleted : Bool) (place : Place) (state : State) (rows : List Row)
     → list_all (is_in place.directory) (filter (is_selected_by deleted place state) rows) ≡ true
 all_selected_in deleted place state rows =
-    all_more (is_selected_by deleted place state) (is_in place.directory) (filter (is_selected_by deleted place state) rows)
-    (selected_in deleted place state) (kept_pass (is_selected_by deleted place state) rows)
+    all_weaker (is_selected_by deleted place state) (is_in place.directory) (selected_in deleted place state) (filter (is_selected_by deleted place state) rows) (all_kept (is_selected_by deleted place state) rows)
 
 -- a walk over the catalogue's rows of the directory finds the first that is meant
 pub walk_selected : (state : State) → IsWellFormed state → (deleted : Bool) (place : Place) (from n : ℕ) (w : Wanted)
@@ -79,7 +79,7 @@ walk_selected state well deleted place from n w there number same =
     ∙ position_map (is_selected (wanted_of deleted place) (map f inside)) f from (drop from inside)
     ∙ position_same (is_in place.directory) (λ row. is_selected (wanted_of deleted place) (map f inside) (f row))
     (is_selected_by deleted place state) (selected_inside deleted place state) from (drop from inside)
-    (all_drop (is_in place.directory) from inside (kept_pass (is_in place.directory) state.rows))
+    (all_drop (is_in place.directory) from inside (all_kept (is_in place.directory) state.rows))
 
 -- a directory that is looked for: its number, where it is there
 pub found_there : (name : List ℕ) (directories : List Directory) (n : ℕ)

@@ -1,18 +1,18 @@
-mod Acting
-mod Becoming
+mod Acts
 mod Changes
+mod CommandAnswers
 mod Files
-pub mod Following
+pub mod KeptLines
 mod Keys
-pub mod LineKeeping
 mod LineLaws
 mod LogoutKeys
 mod LogoutLines
-mod Obeying
 mod Outcomes
+mod PendingCommands
 mod Quiet
 pub mod QuietKeys
 mod QuietLines
 mod Replies
+pub mod Sequels
+mod States
 mod TypedKeys
-mod Waiting

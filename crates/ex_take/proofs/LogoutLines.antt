@@ -13,7 +13,7 @@ use Rattle.ex_commands.specs.declared.acted.Acted.{Acted}
 use Rattle.ex_commands.specs.declared.acted.Acted.TheVariants as answers
 use Rattle.ex_commands.specs.declared.command.Command.{Command}
 use Rattle.ex_commands.specs.declared.command.Command.TheVariants as commands
-use Rattle.ex_commands.proofs.Coming.{comes}
+use Rattle.ex_commands.proofs.Outcomes.{comes}
 use Rattle.ex_take.specs.Exec.{acts, behind_end, closed, closes, command_deeds, completion_deeds, end_deeds, ending_deeds, fault_deeds, file_line_deeds, follows, innermost, is_over, line_by, line_deeds, looks_ahead, next_fault, opened, opens, passed, pending_deeds, refuses, settles, take_deeds, typing_deeds, unwaiting}
 use Rattle.ex_take.specs.ExecState.{ExecState}
 use Rattle.ex_take.specs.Interpreter.{command_at, completion_answer, deed_of, pending_complete, subcommand_deeds}

@@ -16,7 +16,7 @@ use Rattle.cm_run.specs.Keeping.{is_line}
 use Rattle.cm_run.specs.Obey.{left_by}
 use Rattle.cm_run.specs.Trace.{RunState, file_line_trace, file_session, file_trace, line_by, next_line, step}
 use Rattle.cm_run.proofs.LineTurns.{abandonment_leads, confirmed_leads, edit_leads, fault_leads, moment_of, raw_leads, refusal_leads, session_at}
-use Rattle.cm_run.proofs.Obeying.{left_append}
+use Rattle.cm_run.proofs.Acts.{left_append}
 use Rattle.cm_run.proofs.Screens.{state-deeds}
 use Rattle.ex_commands.specs.Typed.{bytes_behind, echo_of, turn_of}
 use Rattle.ex_commands.specs.declared.acted.Acted.{Acted}
@@ -32,7 +32,7 @@ use Rattle.ex_take.specs.Quiet.{IsQuiet, IsQuietUnlessEnded, Waits}
 use Rattle.ex_take.specs.declared.pending.Pending.{Pending}
 use Rattle.ex_take.specs.declared.typing.Typing.{Typing}
 use Rattle.ex_take.proofs.Files.{some_last}
-use Rattle.ex_take.proofs.Following.{left_lifted}
+use Rattle.ex_take.proofs.Sequels.{left_lifted}
 use Rattle.ex_take.proofs.Quiet.{IsOpen, Stands, ended_not, quiet_stands}
 use Rattle.ex_take.proofs.QuietLines.{file_line_stands, line_quiet}
 

@@ -1,6 +1,7 @@
 -- What each line leaves of the command files, a typed one and one of a file.
 use Rattle.std.proofs.Common.{◌≡◌, ℕ, ◌-◌, ◌==◌, Bool, true, false, cond, List, [], ◌∷◌, ◌++◌, map, length, take, drop, Option, None, Some, refl, sym, ap, ◌∙◌, subst}
 use Rattle.std.specs.Option.{option_map_or}
+use Rattle.cm_lists.proofs.Pieces.{push_is_not_empty}
 use Rattle.cm_io.specs.Fault.{next_count}
 use Rattle.cm_blocks.specs.declared.field.Ending.{Ending}
 use Rattle.cm_blocks.specs.declared.field.Ending.TheVariants as endings
@@ -16,7 +17,7 @@ use Rattle.ex_commands.specs.declared.acted.Acted.{Acted}
 use Rattle.ex_commands.specs.declared.acted.Acted.TheVariants as answers
 use Rattle.ex_commands.specs.declared.command.Command.{Command}
 use Rattle.ex_commands.specs.declared.command.Command.TheVariants as commands
-use Rattle.ex_commands.proofs.Coming.{Comes, comes, ends_by_logout}
+use Rattle.ex_commands.proofs.Outcomes.{Comes, comes, ends_by_logout}
 use Rattle.ex_take.specs.Exec.{acts, command_deeds, ending_deeds, file_line_deeds, follows, innermost, lifted, line_by, line_deeds, opened, opens, passed, pending_deeds, refuses, settles, take_deeds, typing_deeds, unwaiting}
 use Rattle.ex_take.specs.ExecState.{ExecState}
 use Rattle.ex_take.specs.Interpreter.{becomes, command_at, deed_of, pending_with}
@@ -25,7 +26,7 @@ use Rattle.ex_take.specs.Lines.{file_lines}
 use Rattle.ex_take.specs.Quiet.{IsQuiet, Waits}
 use Rattle.ex_take.specs.declared.exec.TheConstants.{MOST_FILES}
 use Rattle.ex_take.specs.declared.pending.Pending.{Pending}
-use Rattle.ex_take.proofs.Files.{some_last, some_left}
+use Rattle.ex_take.proofs.Files.{some_last}
 use Rattle.ex_take.proofs.Quiet.{IsOpen, Stands, added_stays, follows_quiet, follows_stand, no_logout, settles_stand, stopped_stands, sub_free, sub_line, takes_subs}
 
 -- behind an act a command waits only for its subcommands
@@ -96,7 +97,7 @@ module _ (at : ExecState) where
   take_stands file line waits = by (length at.files == MOST_FILES) where
     by : (full : Bool) → Stands at.taken (left_by at (cond full (refuses TakeDepth at ∷ []) (opens at file ∷ settles (opened at file))))
     by true = stopped_stands at.taken TakeDepth at
-    by false = settles_stand (opened at file) line waits (some_left at.files (file_lines (bytes_of file at.interpreter.state)))
+    by false = settles_stand (opened at file) line waits (push_is_not_empty at.files (file_lines (bytes_of file at.interpreter.state)))
 
   typing_stands : (moment : ℕ) (to : Place) → (length at.files == 0) ≡ false → Stands at.taken (left_by at (typing_deeds at moment to))
   typing_stands moment to some =
@@ -205,7 +206,7 @@ module _ (at : ExecState) (session : SessionState) (moment : ℕ) (line : at.int
 -- the line of a file is passed, and then does what it comes to
 passed_some : (files : List (List (List ℕ))) (last : Option (List (List ℕ))) → innermost files ≡ last → (length files == 0) ≡ false
     → (length (take (length files - 1) files ++ option_map_or (λ (file : List (List ℕ)). drop 1 file ∷ []) last []) == 0) ≡ false
-passed_some files (Some file) is some = some_left (take (length files - 1) files) (drop 1 file)
+passed_some files (Some file) is some = push_is_not_empty (take (length files - 1) files) (drop 1 file)
 passed_some [] None is some = absurd (cc)
 passed_some (file ∷ files) None is some = absurd (some_last file files is)
 

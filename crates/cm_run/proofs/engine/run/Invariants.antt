@@ -3,8 +3,8 @@ use Rattle.cm_run.specs.Observed.{observed}
 use Rattle.cm_run.specs.Ready.{IsReadyIn}
 use Rattle.cm_run.specs.Trace.{is_ended, keys_trace, run_state, run_trace, starting, unless}
 use Rattle.cm_run.proofs.MomentLaws.{Gone}
-use Rattle.cm_run.proofs.Progressing.{Went}
-use Rattle.cm_run.proofs.Running.{Ahead}
+use Rattle.cm_run.proofs.Progress.{Went}
+use Rattle.cm_run.proofs.Course.{Ahead}
 use Rattle.cm_run.proofs.engine.run.Given as goal
 
 -- the keys so far have happened, those behind them are left, and no fault was counted

@@ -1,4 +1,4 @@
-use Rattle.ex_generations.proofs.Ascending.{IsAscending-remark}
+use Rattle.ex_generations.proofs.Ascents.{IsAscending-remark}
 use Rattle.ex_generations.proofs.change.remark_at.Goals as goal
 
 pub returns-clause-ascending : goal.returns-clause-ascending

@@ -3,10 +3,10 @@ use Rattle.cm_io.specs.Told.{add}
 use Rattle.ex_system.specs.Asked.{form_view}
 use Rattle.ex_system.specs.Disk.{disk_of}
 use Rattle.ex_run.specs.Scene.{scene}
-use Rattle.ex_run.proofs.Asking.{heads}
+use Rattle.ex_run.proofs.Words.{heads}
 use Rattle.ex_program.specs.ExecRun.{exec_left, exec_over}
-use Rattle.ex_program.proofs.Generating.{stands_generated}
-use Rattle.ex_program.proofs.Heading.{ended_where, no_usage, shown_where, stands_asked}
+use Rattle.ex_program.proofs.GeneratedRuns.{stands_generated}
+use Rattle.ex_program.proofs.KnownRuns.{ended_where, no_usage, shown_where, stands_asked}
 use Rattle.ex_program.proofs.program.exec20.Goals as goal
 
 pub returns-clause-done_shown : goal.returns-clause-done_shown

@@ -12,8 +12,9 @@ use Rattle.ex_store.proofs.AdmittedLaws.{counted_target}
 use Rattle.ex_store.proofs.AlikeLaws.{either_alike, length_alike, total_alike}
 use Rattle.ex_store.proofs.AllCopiedLaws.{IsCopying, admitted_free, copies_more, copies_refused, outcome_at, way_start}
 use Rattle.ex_store.specs.Lent.{row_of_view}
-use Rattle.ex_store.proofs.ElementsLaws.{viewed, all_at}
 use Rattle.std.proofs.lemmas.Bool.{and_from}
+use Rattle.cm_lists.proofs.Elements.{get_or_of_some}
+use Rattle.cm_lists.proofs.Quantifiers.{all_at}
 use Rattle.ex_store.specs.declared.ready.RowChange.TheVariants as changes
 use Rattle.ex_store.specs.Adding.{keep_at, new_row}
 use Rattle.ex_generations.specs.declared.file.TheConstants.{FILE_LIMIT}
@@ -52,7 +53,7 @@ copy-requires-clause-absent c =
 
 pub returns-in-Err-admitted-clause-refused : goal.returns-in-Err-admitted-clause-refused
 returns-in-Err-admitted-clause-refused c = λ rows alike are.
-    let at = source_at c.args.files.now.rows c.args.positions.now c.loop-at.at-index c.from.result (row_of_view c.row_at-source.result) c.requires.within c.loop-at-test.true c.from.ensures (viewed c.args.files.now.rows c.from.result (row_of_view c.row_at-source.result) c.row_at-source.ensures) in
+    let at = source_at c.args.files.now.rows c.args.positions.now c.loop-at.at-index c.from.result (row_of_view c.row_at-source.result) c.requires.within c.loop-at-test.true c.from.ensures (get_or_of_some c.args.files.now.rows c.from.result (row_of_view c.row_at-source.result) c.row_at-source.ensures) in
     let copying = subst (λ (left : List Row). IsCopying c.args.directories.now.list c.retention_of-retention.result c.args.moment c.args.to.now rows (elements_at c.args.files.now.rows c.args.positions.now) left c.loop-at.simulation.row_changes.items c.loop-at.simulation.pairs.items (rows_of c.loop-at.simulation.families.items) c.loop-at.count c.loop-at.bytes) at.more (c.loop-at.invariant.copying rows alike are) in
     let retention_is : c.retention_of-retention.result ≡ retention_of c.args.to.now.directory c.args.directories.now.list = c.retention_of-retention.ensures ∙ ap (λ (name : List ℕ). retention_of name c.args.directories.now.list) c.as_str.ensures.value in
     subst (λ (retention : ℕ). each_in_turn (copied retention c.args.moment c.args.to.now) (elements_at c.args.files.now.rows c.args.positions.now) (record { rows = rows; pairs = [] }) ≡ Err c.in-Err-admitted.code) retention_is
@@ -61,7 +62,7 @@ returns-in-Err-admitted-clause-refused c = λ rows alike are.
 
 pub loop-at-preserved : goal.loop-at-preserved
 loop-at-preserved c =
-    let at = source_at c.args.files.now.rows c.args.positions.now c.loop-at.at-index c.from.result (row_of_view c.row_at-source.result) c.requires.within c.loop-at-test.true c.from.ensures (viewed c.args.files.now.rows c.from.result (row_of_view c.row_at-source.result) c.row_at-source.ensures) in
+    let at = source_at c.args.files.now.rows c.args.positions.now c.loop-at.at-index c.from.result (row_of_view c.row_at-source.result) c.requires.within c.loop-at-test.true c.from.ensures (get_or_of_some c.args.files.now.rows c.from.result (row_of_view c.row_at-source.result) c.row_at-source.ensures) in
     let count : length c.copy.new.self.pairs.items ≡ c.loop-at.at-index + 1 = rw c.in-Ok-copy.ensures.pairs (length-append _ _ ∙ ap (λ n. n + 1) c.loop-at.invariant.count) in
     let form = all_at (is_row_among c.args.directories.now.list) c.args.files.now.rows at.there.0 (row_of_view c.row_at-source.result) c.requires.rows.within at.there.1 in
     let retention_is : c.retention_of-retention.result ≡ retention_of c.args.to.now.directory c.args.directories.now.list = c.retention_of-retention.ensures ∙ ap (λ (name : List ℕ). retention_of name c.args.directories.now.list) c.as_str.ensures.value in

@@ -1,9 +1,9 @@
 use Rattle.std.proofs.Common.{◌≡◌, ◌++◌, List, [], drop, map, refl, ap, sym, ◌∙◌, arith}
 use Rattle.std.proofs.Math.ListN.{drop_of_length-le}
+use Rattle.cm_lists.proofs.Ascents.{is_sorted}
 use Rattle.ex_store.specs.declared.family.Family.{Family}
 use Rattle.ex_store.specs.Families.{rows_of}
 use Rattle.ex_store.specs.Rows.{by_key}
-use Rattle.ex_store.proofs.AscendsLaws.{is_sorted}
 use Rattle.ex_store.proofs.BlankFamiliesLaws.{keys_end, keys_passed, keys_put, keys_start, rows_passed, rows_put}
 use Rattle.ex_store.proofs.family.blanks.Goals as goal
 

@@ -1,8 +1,8 @@
 use Rattle.std.proofs.Common.{◌≡◌, ◌++◌, true, drop, map}
+use Rattle.cm_lists.proofs.Ascents.{is_sorted}
 use Rattle.ex_store.specs.declared.family.Family.{Family}
 use Rattle.ex_store.specs.Families.{rows_of}
 use Rattle.ex_store.specs.Rows.{blank, by_key, rows_in_either}
-use Rattle.ex_store.proofs.AscendsLaws.{is_sorted}
 use Rattle.ex_store.proofs.family.blanks.Given as goal
 
 abbrev pub invariant-loop-family : goal.invariant-loop-family

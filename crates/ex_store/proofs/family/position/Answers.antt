@@ -3,11 +3,11 @@ use Rattle.std.proofs.lemmas.Bool.{both_ways, lt-ltb, ltb-true}
 use Rattle.std.proofs.lemmas.List.{get_or_default}
 use Rattle.std.specs.Option.{is_some}
 use Rattle.std.specs.Ordering.{is_eq}
+use Rattle.cm_lists.proofs.Places.{found_at, none_there}
 use Rattle.ex_store.specs.declared.key.Key.{Key}
 use Rattle.ex_store.specs.Families.{is_under}
 use Rattle.ex_store.specs.Rows.{by_key}
 use Rattle.ex_store.proofs.FamiliesLaws.{key_place, names_rise}
-use Rattle.ex_store.proofs.HalvingLaws.{found_at, none_there}
 use Rattle.ex_store.proofs.family.position.Goals as goal
 
 pub returns-in-Some-clause-place : goal.returns-in-Some-clause-place

@@ -1,10 +1,10 @@
 use Rattle.std.proofs.Common.{rules, ◌∙◌}
 use Rattle.std.specs.Ordering.{is_lt}
 use Rattle.std.proofs.lemmas.List.Sorted.{IsPartitionPoint-from_clause}
+use Rattle.cm_lists.proofs.Places.{lower_falls}
 use Rattle.cm_files.specs.Catalogue.{by_bytes}
 use Rattle.ex_store.specs.declared.family.Family.{Family}
 use Rattle.ex_store.proofs.FileNumbersLaws.{counted_taken, rows_before}
-use Rattle.ex_store.proofs.RowsInLaws.{lower_falls}
 use Rattle.ex_store.proofs.file_numbers.first_of.Goals as goal
 
 pub files_before-requires-clause-counted : goal.files_before-requires-clause-counted

@@ -1,8 +1,8 @@
 use Rattle.std.proofs.Common.{◌+◌, nat_lt, rules, sym, arith}
 use Rattle.std.proofs.lemmas.List.Sorted.{IsPartitionPoint-from_clause}
+use Rattle.cm_lists.proofs.Prefixes.{prefix_len_at}
 use Rattle.ex_store.specs.declared.family.Family.{Family}
 use Rattle.ex_store.proofs.FileNumbersLaws.{StandsUnder, counted_taken, ends_fall, found_under}
-use Rattle.ex_store.proofs.RowsInLaws.{prefix_from_point}
 use Rattle.ex_store.proofs.file_numbers.place_of.Goals as goal
 
 pub files_before-requires-clause-counted : goal.files_before-requires-clause-counted
@@ -14,7 +14,7 @@ stands c =
     let point = IsPartitionPoint-from_clause test c.args.families.now c.seek-n.result c.seek-n.ensures.parted
     (ends_fall c.args.families.now (c.args.i + 1) c.requires.counted) (λ a r f k. search rules) in
     found_under c.args.families.now c.args.i c.seek-n.result c.requires.counted c.requires.within
-    (sym (prefix_from_point test c.args.families.now c.seek-n.result c.seek-n.ensures.bound point.0 point.1))
+    (sym (prefix_len_at test c.args.families.now c.seek-n.result c.seek-n.ensures.bound point.0 point.1))
 
 pub overflow_sub-result : goal.overflow_sub-result
 overflow_sub-result c = let from = (stands c).from in omega (arith, c.files_before.ensures, from)

@@ -8,8 +8,9 @@ use Rattle.ex_store.specs.Renaming.{pair_for}
 use Rattle.ex_store.specs.WellFormed.{is_row_among}
 use Rattle.ex_store.proofs.RenamedLaws.{IsRenaming, refused_so, renames_more, renames_refused, renaming_start}
 use Rattle.ex_store.specs.Lent.{row_of_view}
-use Rattle.ex_store.proofs.ElementsLaws.{viewed, all_at, place_within}
 use Rattle.std.specs.List.{list_all}
+use Rattle.cm_lists.proofs.Elements.{get_or_of_some}
+use Rattle.cm_lists.proofs.Quantifiers.{all_at, all_below}
 use Rattle.ex_store.specs.Ready.{is_lawful}
 use Rattle.ex_store.specs.declared.ready.RowChange.TheVariants as changes
 use Rattle.ex_store.proofs.DoableLaws.{lawful_more}
@@ -26,11 +27,11 @@ loop-at-init c = record {
 }
 
 pub row_at-source-requires : goal.row_at-source-requires
-row_at-source-requires c = place_within c.args.positions.now (length c.args.files.now.rows) c.loop-at.at-index c.from.result c.requires.within c.loop-at-test.true c.from.ensures
+row_at-source-requires c = all_below c.args.positions.now (length c.args.files.now.rows) c.loop-at.at-index c.from.result c.requires.within c.loop-at-test.true c.from.ensures
 
 pub returns-in-Err-simulate-clause-refused : goal.returns-in-Err-simulate-clause-refused
 returns-in-Err-simulate-clause-refused c =
-    let at = source_at c.args.files.now.rows c.args.positions.now c.loop-at.at-index c.from.result (row_of_view c.row_at-source.result) c.requires.within c.loop-at-test.true c.from.ensures (viewed c.args.files.now.rows c.from.result (row_of_view c.row_at-source.result) c.row_at-source.ensures) in
+    let at = source_at c.args.files.now.rows c.args.positions.now c.loop-at.at-index c.from.result (row_of_view c.row_at-source.result) c.requires.within c.loop-at-test.true c.from.ensures (get_or_of_some c.args.files.now.rows c.from.result (row_of_view c.row_at-source.result) c.row_at-source.ensures) in
     let renaming = subst (λ (left : List Row). IsRenaming c.args.directories.now.list c.args.from.now c.args.to.now c.args.files.now.rows (elements_at c.args.files.now.rows c.args.positions.now) left c.loop-at.simulation.row_changes.items c.loop-at.simulation.pairs.items (rows_of c.loop-at.simulation.families.items)) at.more c.loop-at.invariant.renaming in
     let form = all_at (is_row_among c.args.directories.now.list) c.args.files.now.rows at.there.0 (row_of_view c.row_at-source.result) c.requires.rows.within at.there.1 in
     refused_so (pair_for c.args.to.now (row_of_view c.row_at-source.result) (rows_of c.loop-at.simulation.families.items)) _ c.in-Err-simulate.refusal
@@ -40,7 +41,7 @@ returns-in-Err-simulate-clause-refused c =
 
 pub loop-at-preserved : goal.loop-at-preserved
 loop-at-preserved c =
-    let at = source_at c.args.files.now.rows c.args.positions.now c.loop-at.at-index c.from.result (row_of_view c.row_at-source.result) c.requires.within c.loop-at-test.true c.from.ensures (viewed c.args.files.now.rows c.from.result (row_of_view c.row_at-source.result) c.row_at-source.ensures) in
+    let at = source_at c.args.files.now.rows c.args.positions.now c.loop-at.at-index c.from.result (row_of_view c.row_at-source.result) c.requires.within c.loop-at-test.true c.from.ensures (get_or_of_some c.args.files.now.rows c.from.result (row_of_view c.row_at-source.result) c.row_at-source.ensures) in
     let renaming = subst (λ (left : List Row). IsRenaming c.args.directories.now.list c.args.from.now c.args.to.now c.args.files.now.rows (elements_at c.args.files.now.rows c.args.positions.now) left c.loop-at.simulation.row_changes.items c.loop-at.simulation.pairs.items (rows_of c.loop-at.simulation.families.items)) at.more c.loop-at.invariant.renaming in
     let form = all_at (is_row_among c.args.directories.now.list) c.args.files.now.rows at.there.0 (row_of_view c.row_at-source.result) c.requires.rows.within at.there.1 in
     let count : length c.rename.new.self.pairs.items ≡ c.loop-at.at-index + 1 = rw c.in-Ok-rename.ensures.pairs (length-append _ _ ∙ ap (λ n. n + 1) c.loop-at.invariant.count) in

@@ -1,12 +1,13 @@
 use Rattle.std.proofs.Common.{◌≡◌, ℕ, ◌+◌, ◌<◌, List, ◌∷◌, drop, get_or, length, map, set, true, false, refl, sym, ap, ◌∙◌, arith}
 use Rattle.std.proofs.lemmas.List.{drop-set-lt, drop_more, get_or_default}
 use Rattle.std.proofs.lemmas.Grind.{common_steps}
+use Rattle.cm_lists.proofs.Elements.{set_map_more}
 use Rattle.cm_files.specs.Catalogue.{ascends}
 use Rattle.ex_generations.specs.Generations.{marked, pages}
 use Rattle.ex_store.specs.declared.family.Family.{Family}
 use Rattle.ex_store.specs.Families.{by_family, is_under_directory, rooms_of, rows_of}
 use Rattle.ex_store.specs.Rows.{pages_marked}
-use Rattle.ex_store.proofs.SweepLaws.{ascends_swept, rooms_swept, pages_other, pages_own, pages_within, rows_swept, swept, turn_done}
+use Rattle.ex_store.proofs.SweepLaws.{ascends_swept, rooms_swept, pages_other, pages_own, pages_within, rows_swept, swept}
 use Rattle.ex_store.proofs.sweep.drop_marked.Goals as goal
 
 -- what is left behind a turn
@@ -29,7 +30,7 @@ loop-family-preserved-then-not-is_in c =
     pages_other c.args.directory.now item (drop (c.loop-family.family-index + 1) c.loop-family.families) apart ∙ omega arith in
     let left = left_is c.loop-family.families c.loop-family.family-index item item within there c.args.directory.now 0 none in
     record {
-      swept_are = turn_done (swept c.args.directory.now) c.loop-family.families (map (swept c.args.directory.now) c.args.families.now) c.loop-family.family-index item item
+      swept_are = set_map_more (swept c.args.directory.now) c.loop-family.families (map (swept c.args.directory.now) c.args.families.now) c.loop-family.family-index item item
           within there (sym (rw apart refl)) c.loop-family.invariant.swept_are;
       counted = omega (arith, left, c.loop-family.invariant.counted);
     }
@@ -55,7 +56,7 @@ loop-family-preserved c =
     let left = left_is c.loop-family.families c.loop-family.family-index item new within there c.args.directory.now (pages (marked item.gens.files))
     (pages_own c.args.directory.now item (drop (c.loop-family.family-index + 1) c.loop-family.families) own) in
     record {
-      swept_are = turn_done (swept c.args.directory.now) c.loop-family.families (map (swept c.args.directory.now) c.args.families.now) c.loop-family.family-index item new
+      swept_are = set_map_more (swept c.args.directory.now) c.loop-family.families (map (swept c.args.directory.now) c.args.families.now) c.loop-family.family-index item new
           within there (c.expunge-pages.ensures.kept ∙ sym (rw own refl)) c.loop-family.invariant.swept_are;
       counted = omega (arith, left, c.expunge-pages.ensures.pages, c.loop-family.invariant.counted);
     }
