@@ -1,6 +1,5 @@
 -- Pieces that are appended to the open file of a host, one behind the other.
-use Rattle.std.proofs.Common.{◌≡◌, ℕ, Bool, List, [], ◌++◌, Option, Some, None, IsTrue, refl, sym, ap, subst, ◌∙◌, arith, append_assoc}
-use Rattle.std.proofs.lemmas.List.{append-nil}
+use Rattle.std.proofs.Common.{◌≡◌, ℕ, Bool, List, ◌++◌, Option, Some, None, refl, sym, ap, subst, ◌∙◌, arith, append_assoc}
 use Rattle.std.specs.Option.{option_map}
 use Rattle.cm_io.specs.Fault.{PutCause}
 use Rattle.cm_io.specs.Host.{Writes}

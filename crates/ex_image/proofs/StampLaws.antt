@@ -1,6 +1,6 @@
 -- How many generations a file keeps, when it was written and when it was last read, in either version: what is read was
 -- written, and what is written is read.
-use Rattle.std.proofs.Common.{◌≡◌, ℕ, ◌==◌, ◌^◌, Bool, true, not, ◌&&◌, List, ◌∷◌, ◌++◌, Option, Some, None, Result, Ok, refl, ap, subst, sym, ◌∙◌, append_assoc, arith}
+use Rattle.std.proofs.Common.{◌≡◌, ℕ, ◌==◌, ◌^◌, true, not, ◌&&◌, List, ◌∷◌, ◌++◌, Option, Some, None, Result, Ok, refl, ap, subst, sym, ◌∙◌, append_assoc, arith}
 use Rattle.std.specs.Fmt.{decimal}
 use Rattle.std.specs.List.{list_all}
 use Rattle.std.specs.Option.{is_some}
