@@ -1,5 +1,5 @@
 -- A line of TAKE means one file.
-use Rattle.std.proofs.Common.{◌≡◌, ℕ, zero, suc, ◌<◌, ◌≤◌, ◌||◌, ◌&&◌, ◌==◌, nat_lt, Bool, true, false, not, if◌then◌else◌, List, [], ◌∷◌, length, map, filter, take, drop, Option, Some, None, option_and_then, option_map, slice_get, unwrap_or, Ok, refl, ap, sym, subst, ◌∙◌, arith}
+use Rattle.std.proofs.Common.{◌≡◌, ℕ, zero, suc, ◌<◌, ◌||◌, ◌&&◌, ◌==◌, Bool, true, false, not, if◌then◌else◌, List, [], ◌∷◌, length, map, filter, drop, Option, Some, None, option_and_then, option_map, slice_get, unwrap_or, Ok, refl, ap, sym, subst, ◌∙◌, arith}
 use Rattle.std.specs.List.{list_any, prefix_len}
 use Rattle.std.specs.Option.{option_map_or}
 use Rattle.std.proofs.lemmas.Bool.{or_parts}
@@ -19,7 +19,7 @@ use Rattle.cm_files.specs.Catalogue.{rows_of}
 use Rattle.cm_files.specs.Fields.{file_of, is_file, moved, moved_spec}
 use Rattle.cm_files.specs.Pattern.{is_wild, matches}
 use Rattle.cm_files.specs.Resolve.{has_bad_copy, has_wild, is_all, wanted_by, wanted_kind, wanted_name}
-use Rattle.cm_files.specs.Selection.{Wanted, is_seen, is_selected, name_matches, selected, selects}
+use Rattle.cm_files.specs.Selection.{is_seen, is_selected, name_matches, selected, selects}
 use Rattle.cm_files.specs.Spec.{part, read_spec}
 use Rattle.cm_blocks.specs.declared.field.Ending.{Ending}
 use Rattle.cm_blocks.specs.declared.function.Function.{Function}
@@ -44,7 +44,7 @@ use Rattle.ex_store.specs.Plan.{sources}
 use Rattle.ex_store.specs.Rows.{is_in, rows_in}
 use Rattle.ex_store.specs.Selection.{is_selected_by, wanted_of}
 use Rattle.ex_store.specs.Selection as selections
-use Rattle.ex_store.specs.State.{State, catalogue_of, file_row, rows_numbered}
+use Rattle.ex_store.specs.State.{State, catalogue_of, file_row}
 use Rattle.ex_store.specs.WellFormed.{IsWellFormed}
 use Rattle.ex_store.proofs.CatalogueLaws.{catalogue_lawful}
 use Rattle.ex_store.proofs.RowsInLaws.{filter_of_map, filter_same, kept_pass, rows_at_number, rows_of_catalogue}
@@ -60,7 +60,7 @@ use Rattle.ex_commands.proofs.Fitting.{reads_single}
 use Rattle.ex_commands.proofs.Places.{spec_kind, spec_name}
 use Rattle.ex_commands.proofs.Resolving.{resolves}
 use Rattle.ex_commands.proofs.Saying.{file_says, run_of}
-use Rattle.ex_commands.proofs.Single.{IsSingle, selected_same, single, up_matches}
+use Rattle.ex_commands.proofs.Single.{selected_same, single, up_matches}
 use Rattle.ex_commands.proofs.Targets.{SaysParts, right_is, run_says, run_text}
 use Rattle.ex_commands.proofs.Trying.{IsTried}
 use Rattle.ex_commands.proofs.Verbs.{IsOf, is_single, names_take, not_true, take_file}

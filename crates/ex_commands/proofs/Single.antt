@@ -1,5 +1,5 @@
 -- A name without wildcards selects at most one file, unless all generations are meant.
-use Rattle.std.proofs.Common.{◌≡◌, ℕ, zero, suc, ◌<◌, ◌≤◌, ◌==◌, ◌||◌, ◌&&◌, nat_le, Bool, true, false, not, cond, List, [], ◌∷◌, length, map, filter, slice_get, Option, Some, None, refl, ap, sym, subst, ◌∙◌, arith}
+use Rattle.std.proofs.Common.{◌≡◌, ℕ, zero, suc, ◌<◌, ◌≤◌, ◌==◌, ◌||◌, ◌&&◌, nat_le, Bool, true, false, not, cond, List, [], ◌∷◌, length, filter, slice_get, Option, Some, None, refl, ap, sym, subst, ◌∙◌, arith}
 use Rattle.std.specs.Char.{is_ascii_lowercase, to_ascii_lowercase, to_ascii_uppercase}
 use Rattle.std.specs.List.{list_all, list_any}
 use Rattle.std.specs.Option.{option_map_or}
@@ -15,7 +15,7 @@ use Rattle.cm_fields.specs.declared.value.Gen.TheVariants.{Missing, Highest, Nex
 use Rattle.cm_fields.specs.Phrase.{same_letter}
 use Rattle.cm_files.specs.declared.row.FileRow.{FileRow}
 use Rattle.cm_files.specs.Catalogue.{Catalogue, IsCatalogue, is_row, is_upper_name, rows_of}
-use Rattle.cm_files.specs.Pattern.{is_nothing, is_wild, matches, one_and, some_end, stands_for}
+use Rattle.cm_files.specs.Pattern.{is_wild, matches, one_and, some_end, stands_for}
 use Rattle.cm_files.specs.Resolve.{is_all}
 use Rattle.cm_files.specs.Selection.{Wanted, is_highest, is_lowest, is_same_file, is_seen, is_selected, name_matches, seen_with, selected, takes}
 use Rattle.cm_files.proofs.Ordered.{all_at, lower_generation, rows_ascend}
