@@ -4,7 +4,7 @@ use Rattle.std.specs.List.{flat_map}
 use Rattle.std.specs.Option.{option_map}
 use Rattle.std.proofs.lemmas.List.{drop-set-lt, drop_more, take_more_set}
 use Rattle.std.proofs.lemmas.Option.{get_or_from_slice_get, slice_get-get_or, slice_get_within, unwrap_or-slice_get}
-use Rattle.cm_lists.proofs.Numbers.{add_one, one_add, suc_add_one}
+use Rattle.cm_lists.proofs.Numbers.{add_one, one_add}
 
 pub slice_get-append_left : {X : Type 0} (front more : List X) (i : ℕ) → i < length front → slice_get (front ++ more) i ≡ slice_get front i
 slice_get-append_left [] more i within = absurd (omega arith)
