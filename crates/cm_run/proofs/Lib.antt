@@ -14,12 +14,12 @@ pub mod LineTurns
 mod Lines
 mod Modes
 pub mod Obeying
-mod Opening
-mod Outcomes
+pub mod Opening
+pub mod Outcomes
 pub mod Prefixes
 pub mod Progressing
 mod Rows
-mod Running
+pub mod Running
 pub mod Screens
 pub mod Showing
 mod Sparing
