@@ -2,7 +2,7 @@ pub mod Acts
 pub mod Causes
 mod CommandLines
 mod Counts
-mod Course
+pub mod Course
 pub mod Cuts
 pub mod Deeds
 pub mod Displays
@@ -17,13 +17,13 @@ pub mod LineEnds
 pub mod LineTurns
 mod Lines
 mod Memory
+pub mod MemoryEvents
 mod Modes
 mod MomentLaws
-mod Outcomes
+pub mod Outcomes
 pub mod Prefixes
 pub mod Progress
 mod Rows
 pub mod Screens
-mod ShownBytes
+pub mod ShownBytes
 mod Strokes
-pub mod MemoryEvents

@@ -5,6 +5,7 @@
 mod application;
 mod display;
 mod engine;
+mod handed;
 mod key;
 pub mod laws;
 mod line;
@@ -16,6 +17,7 @@ mod stop;
 pub use application::Application;
 pub use display::Display;
 pub use engine::{FILE_LINES, run};
+pub use handed::run_line;
 pub use line::run_lines;
 pub use mode::Mode;
 pub use no_clock::NoClock;

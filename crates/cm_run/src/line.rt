@@ -59,9 +59,9 @@ fn has_line<A: Application>(app: &A) -> bool
     }
 }
 
-// Parses a line of a command file, from the node at which a typed line would begin.
+/// Parses a line of a command file, from the node at which a typed line would begin.
 #[tactic(auto, using(crate::proofs::FileLines::file_text, crate::proofs::FileLines::file_node))]
-fn parse_line<A: Application, L: Ledger>(
+pub(crate) fn parse_line<A: Application, L: Ledger>(
     app: &A,
     node: u16,
     line: &[u8],

@@ -125,13 +125,8 @@ pub fn directory_name<N: Names>(names: &N, number: u16) -> Name
     }
 }
 
-// The files that a value means: those of the directory that it was resolved to.
-pub(crate) fn place_by<N: Names>(
-    names: &N,
-    flags: Flags,
-    text: &[u8],
-    value: &Value,
-) -> Option<Place>
+/// The files that a value means: those of the directory that it was resolved to.
+pub fn place_by<N: Names>(names: &N, flags: Flags, text: &[u8], value: &Value) -> Option<Place>
     requires ascii { IsAscii text.now }
     requires said { IsSaid value.now }
     ensures { result ≡ place_by (N.catalogue names.now) flags text.now value.now }

@@ -85,8 +85,8 @@ impl Exec {
         }
     }
 
-    // Does what a line commands.
-    fn obey_command<S: Sink>(
+    /// Does what a line commands.
+    pub fn obey_command<S: Sink>(
         &mut self,
         command: Command,
         moment: u64,

@@ -1,0 +1,11 @@
+mod Batching
+mod Closing
+mod Hooking
+mod Jobs
+mod LawLemmas
+mod Naming
+mod Printings
+mod Running
+mod Standing
+mod Steps
+mod Taking

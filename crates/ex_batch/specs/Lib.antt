@@ -1,0 +1,10 @@
+pub mod Asked
+pub mod Batch
+pub mod Heads
+pub mod Job
+pub mod Named
+pub mod Printing
+pub mod Stands
+pub mod Takes
+pub mod Used
+pub mod Whole
