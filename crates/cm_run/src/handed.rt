@@ -19,7 +19,7 @@ use std::sync::ledger::Ledger;
 
 // Takes a line that is handed in, if the next key is for one: parses it under the state that it finds, and does what it
 // comes to.
-#[tactic(auto, using(crate::proofs::Joining::traces_none, crate::proofs::FileLines::line_traces, crate::proofs::Sparing::acts_spare), unfolding(crate::specs::Cause::ObeyCause))]
+#[tactic(auto, using(crate::proofs::Joins::traces_none, crate::proofs::FileLines::line_traces, crate::proofs::Memory::acts_spare), unfolding(crate::specs::Cause::ObeyCause))]
 fn take_handed<A: Application, S: Sink, L: Ledger>(
     app: &mut A,
     line: &[u8],

@@ -5,8 +5,8 @@ use Rattle.cm_run.specs.Cut.{Traces}
 use Rattle.cm_run.specs.Event.{moments_behind, state_behind}
 use Rattle.cm_run.specs.Observed.{Observed, Performs}
 use Rattle.cm_run.specs.declared.stop.Stop.{Stop}
-use Rattle.cm_run.proofs.Joining.{traces_cut}
-use Rattle.cm_run.proofs.Running.{Ahead, ahead_all, ahead_first, ahead_more, ahead_trace}
+use Rattle.cm_run.proofs.Joins.{traces_cut}
+use Rattle.cm_run.proofs.Course.{Ahead, ahead_all, ahead_first, ahead_more, ahead_trace}
 use Rattle.ex_take.specs.ExecState.{ExecState}
 use Rattle.ex_batch.specs.Batch.{Batch, Step, batch_from, joined, limit_end, line_step}
 use Rattle.ex_batch.specs.Takes.{Takes}

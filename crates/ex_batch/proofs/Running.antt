@@ -4,14 +4,14 @@ use Rattle.std.specs.Prelude.{IfOk}
 use Rattle.std.proofs.lemmas.List.Sums.{sum_by-append}
 use Rattle.cm_text.specs.Lines.{lines}
 use Rattle.cm_fields.specs.declared.code.Code.{Code}
-use Rattle.cm_io.proofs.Adding.{add_none}
+use Rattle.cm_io.proofs.Additions.{add_none}
 use Rattle.cm_run.specs.Cause.{ObeyCause}
 use Rattle.cm_run.specs.Cut.{Cut, EndCut, KeyCut, LimitCut, LogCut, MemoryCut, ScreenCut, Traces, event_of, part_of}
 use Rattle.cm_run.specs.Event.{Event, Memory, event_trials, trials_of}
 use Rattle.cm_run.specs.Observed.{Observed, Performs}
 use Rattle.cm_run.specs.declared.stop.Stop.{Stop}
 use Rattle.cm_run.specs.declared.stop.Stop.TheVariants as stop
-use Rattle.cm_run.proofs.Joining.{performs_none, traces_both, traces_none}
+use Rattle.cm_run.proofs.Joins.{performs_none, traces_both, traces_none}
 use Rattle.ex_commands.specs.Commands.Take.{bytes_of}
 use Rattle.ex_store.specs.State.{State, catalogue_of}
 use Rattle.ex_store.specs.declared.place.Place.{Place}

@@ -18,8 +18,8 @@ use Rattle.ex_system.specs.Quiet.{IsQuiet}
 use Rattle.ex_system.specs.Saving.{HostCause, IsOr, Keeps}
 use Rattle.ex_system.specs.Start.{InputCause, IsEarly, IsLoaded, IsRun, Starts}
 use Rattle.ex_system.specs.Trying.{Tried}
-use Rattle.ex_system.proofs.Starting.{began_cause, early_memory, not_quiet, one_start}
-use Rattle.ex_system.proofs.TryingLemmas.{tried_behind}
+use Rattle.ex_system.proofs.Starts.{began_cause, early_memory, not_quiet, one_start}
+use Rattle.ex_system.proofs.Trials.{tried_behind}
 use Rattle.ex_take.specs.ExecState.{ExecState, exec_start}
 use Rattle.ex_batch.specs.Batch.{Batch}
 use Rattle.ex_batch.specs.Heads.{Heads}

@@ -12,7 +12,7 @@ use Rattle.cm_run.specs.Observed.{Observed, Performs, observed}
 use Rattle.cm_run.specs.Trace.{deeds_trace}
 use Rattle.cm_run.specs.declared.stop.Stop.{Stop}
 use Rattle.cm_run.proofs.Deeds.{deeds_traces}
-use Rattle.cm_run.proofs.Joining.{traces_both, traces_cut, traces_none}
+use Rattle.cm_run.proofs.Joins.{traces_both, traces_cut, traces_none}
 use Rattle.cm_run.proofs.Outcomes.{moment_taken}
 use Rattle.ex_control.specs.Control.{is_parsable}
 use Rattle.ex_take.specs.Exec.{refuses}

@@ -83,7 +83,7 @@ fn put_on<S: Sink>(line: &[u8], screen: &mut S) -> Put
 }
 
 /// Shows a line of a control file.
-#[tactic(auto, using(cm_run::proofs::Opening::shows_whole, cm_run::proofs::Opening::shows_part), unfolding(cm_run::specs::Cause::ObeyCause))]
+#[tactic(auto, using(cm_run::proofs::ShownBytes::shows_whole, cm_run::proofs::ShownBytes::shows_part), unfolding(cm_run::specs::Cause::ObeyCause))]
 pub(crate) fn show_line<S: Sink>(line: &[u8], screen: &mut S) -> Result<(), Stop>
     ensures traces { (log : Told) → (keys : List ℕ) → (gets : ℕ) → (moments : List ℕ) → (trials : ℕ) → (at : ExecState)
         → Traces (observed (S.told screen.old) log keys gets moments trials at)

@@ -20,7 +20,7 @@ use ex_grammar::ExecRules;
 
 impl Exec {
     /// What a line commands that is confirmed where no command waits for subcommands.
-    #[tactic(auto, using(crate::proofs::Waiting::main_line))]
+    #[tactic(auto, using(crate::proofs::PendingCommands::main_line))]
     pub fn command_of(&self, session: &Session<ExecRules>, grammar: &Grammar) -> Command
         requires grammar { grammar.now ≡ exec_graph }
         requires line { IsLineAt (mode_of self.now.interpreter) session.now.node }

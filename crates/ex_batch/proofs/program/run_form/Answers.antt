@@ -3,7 +3,7 @@ use Rattle.cm_io.specs.declared.status.Status.TheVariants as status
 use Rattle.ex_store.specs.State.{State}
 use Rattle.ex_system.specs.Disk.{disk_of}
 use Rattle.ex_system.specs.Saving.{Saves}
-use Rattle.ex_system.proofs.Starting.{began_cause}
+use Rattle.ex_system.proofs.Starts.{began_cause}
 use Rattle.ex_batch.specs.Asked.{job_view}
 use Rattle.ex_batch.specs.Stands.{Ran, scene}
 use Rattle.ex_batch.proofs.Standing.{course_early, course_past}

@@ -1,7 +1,7 @@
 use Rattle.std.proofs.Common.{subst, sym, ◌∙◌}
 use Rattle.cm_blocks.specs.declared.field.Ending.TheVariants as ending
 use Rattle.cm_run.specs.Obey.{Obeys, stage}
-use Rattle.cm_run.proofs.Obeying.{obeys_nothing}
+use Rattle.cm_run.proofs.Acts.{obeys_nothing}
 use Rattle.ex_take.specs.ExecState.{ExecState}
 use Rattle.ex_batch.specs.Job.{order_deeds}
 use Rattle.ex_batch.proofs.Jobs.{order_ended}
