@@ -1,9 +1,9 @@
 // Cases as texts.
 //
 // A case is a paragraph of lines. `file NAME|TEXT` is a file of OPERATOR, and lines with `#` say what the case is for.
-// Each other line is a step: what is asked, on a screen with so much room, what is answered and what is shown, with bars
-// between. `take NAME` asks `take` for a file, `keys TEXT` runs the engine over keys, and `lines` takes the lines that
-// wait. The steps are done in order, with the EXEC as the one before left it.
+// Each other line is a step: what is asked, on a screen with so much room, what is answered and what is shown, with
+// bars between. `take NAME` asks `take` for a file, `keys TEXT` runs the engine over keys, and `lines` takes the lines
+// that wait. The steps are done in order, with the EXEC as the one before left it.
 ghost use Rattle.std.specs.Prelude.{◌≡◌, ◌<◌, ◌≤◌};
 ghost use Rattle.cm_run.specs.Ready.{Serves};
 ghost use Rattle.ex_grammar.specs.ExecRules.{exec_meanings};
