@@ -10,7 +10,7 @@ use Rattle.cm_run.specs.declared.stop.Stop.{Stop}
 use Rattle.cm_run.specs.Event.{Act, Moment, state_behind}
 use Rattle.cm_run.specs.Observed.{Observed, Performs, observed}
 use Rattle.cm_run.specs.Cut.{Traces}
-use Rattle.cm_run.specs.Handed.{handed_trace}
+use Rattle.cm_run.specs.SingleLine.{handed_trace}
 use Rattle.cm_run.specs.Meaning.{Meaning}
 use Rattle.cm_run.specs.Obey.{Obeys, stage}
 use Rattle.cm_run.specs.Trace.{line_by, line_trace, deeds_trace, events_if, file_line_trace, file_trace, moment_at, moments_later, line_start, opening, outcome_trace, run_state, step_of, takes_moment, turn_outcome}

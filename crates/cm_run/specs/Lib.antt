@@ -1,7 +1,7 @@
 pub mod Cause
 pub mod Cut
 pub mod Event
-pub mod Handed
+pub mod SingleLine
 pub mod Idle
 pub mod Keeping
 pub mod LastKey

@@ -5,20 +5,20 @@
 mod application;
 mod display;
 mod engine;
-mod handed;
 mod key;
 pub mod laws;
 mod line;
 pub mod line_laws;
 mod mode;
 mod no_clock;
+mod single_line;
 mod stop;
 
 pub use application::Application;
 pub use display::Display;
 pub use engine::{FILE_LINES, run};
-pub use handed::run_line;
 pub use line::run_lines;
 pub use mode::Mode;
 pub use no_clock::NoClock;
+pub use single_line::run_line;
 pub use stop::Stop;

@@ -10,7 +10,7 @@ use Rattle.cm_blocks.specs.declared.field.Ending.TheVariants as endings
 use Rattle.cm_blocks.specs.declared.field.Fault.{Fault}
 use Rattle.cm_state.specs.SessionState.{SessionState}
 use Rattle.cm_run.specs.Event.{Event, Trials, moments_behind, state_behind}
-use Rattle.cm_run.specs.Handed.{handed_trace}
+use Rattle.cm_run.specs.SingleLine.{handed_trace}
 use Rattle.cm_run.specs.Meaning.{Deed, setting_of}
 use Rattle.cm_run.specs.Obey.{left_by}
 use Rattle.cm_run.specs.Trace.{deeds_trace, file_line_trace, file_session, file_trace, line_by, line_trace, next_line, node_of}
@@ -27,7 +27,7 @@ use Rattle.ex_take.specs.declared.pending.Pending.{Pending}
 use Rattle.ex_take.specs.declared.typing.Typing.{Typing}
 use Rattle.ex_batch.specs.Batch.{line_step, text_trace}
 use Rattle.ex_batch.specs.Job.{bar_of, job_deeds, job_line_deeds, job_meaning, order_deeds, unless_barred}
-use Rattle.ex_batch.specs.Used.{used_at, used_from, used_in}
+use Rattle.ex_batch.specs.LineCount.{used_at, used_from, used_in}
 use Rattle.ex_batch.specs.declared.batch.TheConstants.{CONTROL_LINES}
 use Rattle.ex_batch.specs.declared.step.Next.{Next}
 use Rattle.ex_batch.specs.declared.step.Next.TheVariants.{Line, Over}

@@ -3,7 +3,7 @@ use Rattle.std.proofs.Common.{◌≡◌, ℕ, suc, ◌+◌, Bool, true, false, L
 use Rattle.std.specs.List.{prefix_len}
 use Rattle.std.proofs.lemmas.Bool.{eqb-true}
 use Rattle.cm_text.specs.Shown.{printing_byte}
-use Rattle.ex_batch.specs.Printing.{first_shown, is_printing}
+use Rattle.ex_batch.specs.LineBytes.{first_shown, is_printing}
 
 -- those that are shown as they are, the byte behind them, and the rest
 pub run_shown : (line : List ℕ)

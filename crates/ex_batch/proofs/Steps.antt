@@ -19,7 +19,7 @@ use Rattle.ex_batch.specs.Takes.{Takes}
 use Rattle.ex_batch.specs.declared.step.Ended.TheVariants.{Finished, Stopped}
 use Rattle.ex_batch.specs.declared.step.Next.{Next}
 use Rattle.ex_batch.specs.declared.step.Next.TheVariants.{Line, Over}
-use Rattle.ex_batch.proofs.Taking.{cut_first, nothing_taken, takes_first}
+use Rattle.ex_batch.proofs.StepCuts.{cut_first, nothing_taken, takes_first}
 
 module _ (lines : List (List ℕ)) (place : ℕ) (moments : List ℕ) (at : ExecState) (a : Observed ExecState) where
   -- the run goes on at a label

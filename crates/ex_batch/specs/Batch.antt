@@ -5,7 +5,7 @@ use Rattle.cm_io.specs.Clock.{next_moment}
 use Rattle.cm_fields.specs.declared.code.Code.{Code}
 use Rattle.cm_fields.specs.declared.code.Code.TheVariants.{BadControl, BadLine, LineLimit, NoLabel}
 use Rattle.cm_run.specs.Event.{Act, Event, Moment, Screen, moments_behind, state_behind}
-use Rattle.cm_run.specs.Handed.{handed_trace}
+use Rattle.cm_run.specs.SingleLine.{handed_trace}
 use Rattle.cm_run.specs.Trace.{deeds_trace}
 use Rattle.ex_control.specs.Control.{Control, Condition, Label, Nothing, Plain, Order, Bad, Exec, Goto, control_of, is_parsable}
 use Rattle.ex_control.specs.Labels.{place_of}

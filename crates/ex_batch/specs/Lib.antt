@@ -1,10 +1,10 @@
-pub mod Asked
+pub mod Request
 pub mod Batch
 pub mod Heads
 pub mod Job
-pub mod Named
-pub mod Printing
+pub mod ControlFile
+pub mod LineBytes
 pub mod Stands
 pub mod Takes
-pub mod Used
+pub mod LineCount
 pub mod Whole

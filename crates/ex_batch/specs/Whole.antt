@@ -8,7 +8,7 @@ use Rattle.ex_store.specs.declared.place.Place.{Place}
 use Rattle.ex_store.specs.State.{State, catalogue_of}
 use Rattle.ex_take.specs.ExecState.{exec_start}
 use Rattle.ex_batch.specs.Batch.{Batch, batch_of}
-use Rattle.ex_batch.specs.Named.{named_file}
+use Rattle.ex_batch.specs.ControlFile.{named_file}
 use Rattle.ex_batch.specs.declared.step.Ended.TheVariants.{Stopped}
 
 -- a file that is refused stops it before any line; else memory is asked for, for the lines and the labels, and then the

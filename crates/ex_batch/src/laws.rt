@@ -7,7 +7,7 @@ ghost use Rattle.cm_blocks.specs.declared.field.Ending.TheVariants as endings;
 ghost use Rattle.cm_blocks.specs.declared.field.Fault.{Fault};
 ghost use Rattle.cm_state.specs.SessionState.{SessionState};
 ghost use Rattle.cm_run.specs.Event.{Trials, state_behind};
-ghost use Rattle.cm_run.specs.Handed.{handed_trace};
+ghost use Rattle.cm_run.specs.SingleLine.{handed_trace};
 ghost use Rattle.cm_run.specs.Meaning.{setting_of};
 ghost use Rattle.cm_run.specs.Obey.{left_by};
 ghost use Rattle.cm_run.specs.Trace.{file_session, line_trace, node_of};
@@ -21,7 +21,7 @@ ghost use Rattle.ex_take.specs.Interpreter.{command_at};
 ghost use Rattle.ex_take.specs.Taking.{is_at_rest};
 ghost use Rattle.ex_batch.specs.Batch.{text_trace};
 ghost use Rattle.ex_batch.specs.Job.{bar_of, job_deeds, job_meaning, order_deeds};
-ghost use Rattle.ex_batch.specs.Used.{used_in};
+ghost use Rattle.ex_batch.specs.LineCount.{used_in};
 ghost use Rattle.ex_batch.specs.declared.batch.TheConstants.{CONTROL_LINES};
 
 use ex_take::laws as refused_acts;

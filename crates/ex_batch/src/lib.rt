@@ -2,12 +2,12 @@
 #![tactic(auto)]
 
 mod batch;
+mod control_file;
 mod ending;
 mod job;
 pub mod laws;
-mod named;
+mod line_bytes;
 mod program;
-mod shown;
 mod step;
 
 pub use batch::{CONTROL_LINES, run_batch};

@@ -17,16 +17,16 @@ ghost use Rattle.ex_system.specs.Disk.{disk_of};
 ghost use Rattle.ex_system.specs.Quiet.{IsQuiet};
 ghost use Rattle.ex_system.specs.Saving.{HostCause};
 ghost use Rattle.ex_system.specs.Trying.{Tried};
-ghost use Rattle.ex_batch.specs.Asked.{job_view};
+ghost use Rattle.ex_batch.specs.Request.{job_view};
 ghost use Rattle.ex_batch.specs.Heads.{Heads};
 ghost use Rattle.ex_batch.specs.Job.{job_meaning};
 ghost use Rattle.ex_batch.specs.Stands.{Asks, Course, IsBatch, IsWhole, JobForm as Asked, Ran, ScreenCause, Stands, StartCause, end_status, end_text, form_of, scene, usage, with_file};
 ghost use Rattle.ex_batch.specs.Whole.{whole_of};
 
 use crate::batch::run_batch;
+use crate::control_file::named_file;
 use crate::ending::close;
 use crate::job::Job;
-use crate::named::named_file;
 use crate::step::Ended;
 use cm_blocks::{Grammar, Steps};
 use cm_hooks::Hooks;
@@ -109,7 +109,7 @@ fn run_file<S: Sink, C: Clock, L: Ledger>(
 }
 
 // Runs a control file as a form asks.
-#[tactic(auto, using(crate::proofs::Hooking::serves_job))]
+#[tactic(auto, using(crate::proofs::Hooks::serves_job))]
 fn run_form<H: Host, S: Sink, C: Clock, L: Ledger>(
     alloc: Global,
     asked: &JobForm<'_>,

@@ -14,7 +14,7 @@ ghost use Rattle.ex_batch.specs.Job.{job_meaning};
 ghost use Rattle.ex_batch.specs.Takes.{Takes, went};
 
 use crate::job::Job;
-use crate::shown::show_line;
+use crate::line_bytes::show_line;
 use cm_blocks::{Grammar, Steps};
 use cm_fields::Code;
 use cm_hooks::Hooks;
@@ -43,7 +43,7 @@ pub(crate) enum Next {
 }
 
 // Takes a line of the EXEC's.
-#[tactic(auto, using(crate::proofs::Taking::text_taken, crate::proofs::Taking::text_refused))]
+#[tactic(auto, using(crate::proofs::StepCuts::text_taken, crate::proofs::StepCuts::text_refused))]
 fn take_text<S: Sink, L: Ledger>(
     text: &[u8],
     job: &mut Job,
@@ -117,7 +117,7 @@ fn label_next(place: Option<usize>) -> Next
 }
 
 // Does an order.
-#[tactic(auto, using(crate::proofs::Taking::nothing_taken), unfolding(cm_run::specs::Cause::ObeyCause, crate::specs::Batch::order_step))]
+#[tactic(auto, using(crate::proofs::StepCuts::nothing_taken), unfolding(cm_run::specs::Cause::ObeyCause, crate::specs::Batch::order_step))]
 fn do_order<S: Sink, C: Clock, L: Ledger>(
     file: &ControlFile,
     place: usize,
@@ -154,7 +154,7 @@ fn is_met(error: bool, why: Option<Code>) -> bool
 }
 
 // Forgives a refusal, and does an order where the condition was met.
-#[tactic(auto, using(crate::proofs::Taking::nothing_taken), unfolding(cm_run::specs::Cause::ObeyCause))]
+#[tactic(auto, using(crate::proofs::StepCuts::nothing_taken), unfolding(cm_run::specs::Cause::ObeyCause))]
 fn do_condition<S: Sink, C: Clock, L: Ledger>(
     met: bool,
     file: &ControlFile,
@@ -188,7 +188,7 @@ fn do_condition<S: Sink, C: Clock, L: Ledger>(
 }
 
 // Does an order, unless the line before was refused.
-#[tactic(auto, using(crate::proofs::Taking::nothing_taken), unfolding(cm_run::specs::Cause::ObeyCause))]
+#[tactic(auto, using(crate::proofs::StepCuts::nothing_taken), unfolding(cm_run::specs::Cause::ObeyCause))]
 fn do_unless_refused<S: Sink, C: Clock, L: Ledger>(
     file: &ControlFile,
     place: usize,
@@ -231,7 +231,7 @@ fn behind_label(place: usize, job: &Job) -> Next
 }
 
 // Does what a line is.
-#[tactic(auto, using(crate::proofs::Taking::nothing_taken), unfolding(cm_run::specs::Cause::ObeyCause, crate::specs::Batch::control_step))]
+#[tactic(auto, using(crate::proofs::StepCuts::nothing_taken), unfolding(cm_run::specs::Cause::ObeyCause, crate::specs::Batch::control_step))]
 fn do_control<S: Sink, C: Clock, L: Ledger>(
     file: &ControlFile,
     place: usize,
@@ -275,7 +275,7 @@ fn do_control<S: Sink, C: Clock, L: Ledger>(
 }
 
 /// Takes the line at a place: shows it, and does what it is.
-#[tactic(auto, using(crate::proofs::Taking::nothing_taken), unfolding(cm_run::specs::Cause::ObeyCause, crate::specs::Batch::line_step))]
+#[tactic(auto, using(crate::proofs::StepCuts::nothing_taken), unfolding(cm_run::specs::Cause::ObeyCause, crate::specs::Batch::line_step))]
 pub(crate) fn take_control<S: Sink, C: Clock, L: Ledger>(
     file: &ControlFile,
     place: usize,

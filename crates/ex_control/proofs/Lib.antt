@@ -1,2 +1,2 @@
-mod Naming
-mod Placing
+mod LabelNames
+mod LabelIndex

@@ -84,7 +84,7 @@ fn is_exec(line: &[u8]) -> bool
 }
 
 // What a line orders.
-#[tactic(auto, using(crate::proofs::Naming::goto_named), unfolding(crate::specs::Control::order_of))]
+#[tactic(auto, using(crate::proofs::LabelNames::goto_named), unfolding(crate::specs::Control::order_of))]
 fn order_of(line: &[u8]) -> Order<'_>
     ensures order { order_view result ≡ order_of line.now }
     ensures named { IsNamed (order_view result) }
@@ -137,7 +137,7 @@ fn is_label(line: &[u8]) -> bool
 }
 
 /// What a line of a control file is. A label that it names, or is, has the name of one.
-#[tactic(auto, using(crate::proofs::Naming::label_named), unfolding(crate::specs::Control::control_of))]
+#[tactic(auto, using(crate::proofs::LabelNames::label_named), unfolding(crate::specs::Control::control_of))]
 pub fn control_of(line: &[u8]) -> Control<'_>
     ensures control { control_view result ≡ control_of line.now }
     ensures named { AreNamed (control_view result) }
@@ -178,7 +178,7 @@ fn is_parsable(text: &[u8]) -> bool
 }
 
 /// A text, where it can be parsed as a line of the EXEC's: text bytes alone, and at most as many as a line has.
-#[tactic(auto, using(crate::proofs::Naming::line_holds))]
+#[tactic(auto, using(crate::proofs::LabelNames::line_holds))]
 pub fn parsable(text: &[u8]) -> Option<&[u8]>
     ensures value { option_copied result ≡ (if is_parsable text.now then Some text.now else None) }
     ensures line { IfSome (option_copied result) IsLine }

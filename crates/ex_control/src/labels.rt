@@ -28,7 +28,7 @@ fn label_of(line: &[u8]) -> Option<&[u8]>
 }
 
 // A name as labels are kept under: in lower case.
-#[tactic(auto, using(crate::proofs::Naming::kept_more, crate::proofs::Naming::kept_all))]
+#[tactic(auto, using(crate::proofs::LabelNames::kept_more, crate::proofs::LabelNames::kept_all))]
 fn kept(name: &[u8]) -> Name
     requires named { is_label_name name.now ≡ true }
     requires short { length name.now ≤ NAME_LIMIT }
@@ -42,7 +42,7 @@ fn kept(name: &[u8]) -> Name
 }
 
 // Has a line, where it is a label, stand at its place, and at no place behind it.
-#[tactic(auto, using(crate::proofs::Naming::name_short))]
+#[tactic(auto, using(crate::proofs::LabelNames::name_short))]
 fn note(labels: &mut IndexMap<Name, usize>, line: &[u8], place: usize) -> Result<(), NoMemory>
     ensures { OnOk result ((name : List ℕ) → lookup (bytes_eq (kept name)) labels.new.entries
         ≡ (if has_label name line.now then Some place else lookup (bytes_eq (kept name)) labels.old.entries)) }
@@ -69,7 +69,7 @@ pub(crate) fn labels_in(alloc: Global, lines: &[Line]) -> Result<IndexMap<Name, 
 }
 
 /// Where a label stands, of those that are kept.
-#[tactic(auto, using(crate::proofs::Naming::name_short))]
+#[tactic(auto, using(crate::proofs::LabelNames::name_short))]
 pub(crate) fn place_in(labels: &IndexMap<Name, usize>, name: &[u8]) -> Option<usize>
     requires { is_label_name name.now ≡ true }
     ensures { result ≡ lookup (bytes_eq (kept name.now)) labels.now.entries }

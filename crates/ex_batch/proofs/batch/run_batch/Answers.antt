@@ -3,7 +3,7 @@ use Rattle.cm_io.specs.Told.{Nothing}
 use Rattle.cm_run.specs.Cause.{ObeyCause}
 use Rattle.ex_batch.specs.declared.batch.TheConstants.{CONTROL_LINES}
 use Rattle.ex_batch.specs.declared.step.Next.TheVariants.{Line, Over}
-use Rattle.ex_batch.proofs.Batching.{full_end, full_traces, over_end, over_traces, way_cut, way_first, way_more}
+use Rattle.ex_batch.proofs.Courses.{full_end, full_traces, over_end, over_traces, way_cut, way_first, way_more}
 use Rattle.ex_batch.proofs.batch.run_batch.Goals as goal
 
 pub loop-line-init : goal.loop-line-init

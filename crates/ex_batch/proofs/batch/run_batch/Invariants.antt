@@ -5,7 +5,7 @@ use Rattle.cm_run.specs.Observed.{observed}
 use Rattle.ex_batch.specs.Batch.{batch_from, batch_of}
 use Rattle.ex_batch.specs.declared.batch.TheConstants.{CONTROL_LINES}
 use Rattle.ex_batch.specs.declared.step.Next.TheVariants.{Line}
-use Rattle.ex_batch.proofs.Batching.{OnWay}
+use Rattle.ex_batch.proofs.Courses.{OnWay}
 use Rattle.ex_batch.proofs.batch.run_batch.Given as goal
 
 abbrev pub invariant-loop-line : goal.invariant-loop-line

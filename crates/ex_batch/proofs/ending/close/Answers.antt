@@ -1,7 +1,7 @@
 use Rattle.std.proofs.Common.{sym, subst, ◌∙◌}
 use Rattle.cm_io.specs.declared.status.Status.{Status}
 use Rattle.ex_system.specs.Saving.{IsOr}
-use Rattle.ex_batch.proofs.Closing.{closes_other, closes_stopped}
+use Rattle.ex_batch.proofs.Ends.{closes_other, closes_stopped}
 use Rattle.ex_batch.proofs.ending.close.Goals as goal
 
 pub returns-in-Some-clause-closes : goal.returns-in-Some-clause-closes

@@ -1,8 +1,8 @@
 use Rattle.std.proofs.Common.{IsTrue, refl}
 use Rattle.ex_system.specs.Disk.{disk_of}
-use Rattle.ex_batch.specs.Asked.{job_view}
+use Rattle.ex_batch.specs.Request.{job_view}
 use Rattle.ex_batch.specs.Stands.{scene}
-use Rattle.ex_batch.proofs.Standing.{heads, heads_usage, usage_tried}
+use Rattle.ex_batch.proofs.Outcomes.{heads, heads_usage, usage_tried}
 use Rattle.ex_batch.proofs.program.run_words.Goals as goal
 
 pub returns-in-Some : goal.returns-in-Some

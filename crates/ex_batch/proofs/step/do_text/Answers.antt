@@ -1,4 +1,4 @@
-use Rattle.ex_batch.proofs.Taking.{text_cut, text_whole}
+use Rattle.ex_batch.proofs.StepCuts.{text_cut, text_whole}
 use Rattle.ex_batch.proofs.step.do_text.Goals as goal
 
 pub returns-in-Ok-clause-takes : goal.returns-in-Ok-clause-takes

@@ -1,4 +1,4 @@
-use Rattle.ex_control.proofs.Naming.{name_small}
+use Rattle.ex_control.proofs.LabelNames.{name_small}
 use Rattle.ex_control.proofs.labels.kept.Goals as goal
 
 pub push-requires : goal.push-requires

@@ -3,7 +3,7 @@ use Rattle.std.specs.Prelude.{if◌then◌else◌}
 use Rattle.std.specs.Map.{lookup}
 use Rattle.std.specs.Str.{bytes_eq}
 use Rattle.ex_control.specs.Labels.{kept}
-use Rattle.ex_control.proofs.Placing.{one_noted}
+use Rattle.ex_control.proofs.LabelIndex.{one_noted}
 use Rattle.ex_control.proofs.labels.note.Goals as goal
 
 pub returns : goal.returns

@@ -6,7 +6,7 @@ ghost use Rattle.cm_fields.specs.declared.value.FileKind.TheVariants.{In};
 ghost use Rattle.cm_blocks.specs.Words.{no_flags};
 ghost use Rattle.cm_files.specs.Fields.{file as file_read};
 ghost use Rattle.ex_store.specs.State.{catalogue_of};
-ghost use Rattle.ex_batch.specs.Named.{named_file, place_or_shape, place_said};
+ghost use Rattle.ex_batch.specs.ControlFile.{named_file, place_or_shape, place_said};
 
 use arrayvec::ArrayVec;
 use cm_fields::{Code, FileKind, Try};
@@ -46,7 +46,7 @@ fn place_or_shape(place: Option<Place>) -> Result<Place, Code>
 }
 
 // The place that a finished word means, where the specification takes the whole word.
-#[tactic(auto, using(cm_text::proofs::Ascii::finished_is_ascii, crate::proofs::Naming::word_said, crate::proofs::Naming::said_short, crate::proofs::Naming::said_whole, crate::proofs::Naming::said_refused, crate::proofs::Naming::said_more))]
+#[tactic(auto, using(cm_text::proofs::Ascii::finished_is_ascii, crate::proofs::FileNames::word_said, crate::proofs::FileNames::said_short, crate::proofs::FileNames::said_whole, crate::proofs::FileNames::said_refused, crate::proofs::FileNames::said_more))]
 fn place_said(word: &[u8], text: &[u8], store: &Store) -> Result<Place, Code>
     requires line { IsLine word.now }
     requires text { text.now ≡ finished word.now }
@@ -67,7 +67,7 @@ fn place_said(word: &[u8], text: &[u8], store: &Store) -> Result<Place, Code>
 }
 
 /// The place that a word names: the file of a specification without wildcards that is there.
-#[tactic(auto, unfolding(crate::specs::Named::named_file))]
+#[tactic(auto, unfolding(crate::specs::ControlFile::named_file))]
 pub(crate) fn named_file(word: &[u8], store: &Store) -> Result<Place, Code>
     ensures { result ≡ named_file (catalogue_of store.now.state) word.now }
 {

@@ -2,7 +2,7 @@
 use Rattle.std.proofs.Common.{length, map}
 use Rattle.cm_text.specs.Shown.{printing_byte}
 use Rattle.cm_io.proofs.Texts.{Left}
-use Rattle.ex_batch.proofs.shown.put_bytes.Given as goal
+use Rattle.ex_batch.proofs.line_bytes.put_bytes.Given as goal
 
 abbrev pub invariant-loop-rest : goal.invariant-loop-rest
 invariant-loop-rest g l = Left g.S.Sink l.fn.out l.out (map printing_byte l.rest) (map printing_byte l.line)

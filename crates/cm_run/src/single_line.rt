@@ -4,7 +4,7 @@ ghost use Rattle.cm_text.specs.Text.{IsLine};
 ghost use Rattle.cm_io.specs.Told.{Told};
 ghost use Rattle.cm_run.specs.Cause.{ObeyCause};
 ghost use Rattle.cm_run.specs.Cut.{Traces};
-ghost use Rattle.cm_run.specs.Handed.{handed_trace};
+ghost use Rattle.cm_run.specs.SingleLine.{handed_trace};
 ghost use Rattle.cm_run.specs.Meaning.{IsSparing};
 ghost use Rattle.cm_run.specs.Observed.{observed};
 ghost use Rattle.cm_run.specs.Ready.{Serves, ServesWell};

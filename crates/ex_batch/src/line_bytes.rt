@@ -11,7 +11,7 @@ ghost use Rattle.cm_run.specs.Event.{Screen};
 ghost use Rattle.cm_run.specs.Observed.{observed};
 ghost use Rattle.ex_take.specs.ExecState.{ExecState};
 ghost use Rattle.ex_batch.specs.Batch.{shown};
-ghost use Rattle.ex_batch.specs.Printing.{first_shown, is_printing};
+ghost use Rattle.ex_batch.specs.LineBytes.{first_shown, is_printing};
 
 use cm_io::{Put, Sink, Writer};
 use cm_run::Stop;

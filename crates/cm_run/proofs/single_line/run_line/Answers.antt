@@ -1,5 +1,5 @@
 use Rattle.cm_run.proofs.Outcomes.{handed_cut, handed_on}
-use Rattle.cm_run.proofs.handed.run_line.Goals as goal
+use Rattle.cm_run.proofs.single_line.run_line.Goals as goal
 
 pub returns-in-Ok-clause-traces : goal.returns-in-Ok-clause-traces
 returns-in-Ok-clause-traces g c = λ log keys gets moments.

@@ -17,7 +17,7 @@ use Rattle.ex_store.specs.State.{State, catalogue_of}
 use Rattle.ex_store.specs.declared.place.Place.{Place}
 use Rattle.ex_take.specs.ExecState.{ExecState, exec_start}
 use Rattle.ex_batch.specs.Batch.{Batch, batch_of}
-use Rattle.ex_batch.specs.Named.{named_file}
+use Rattle.ex_batch.specs.ControlFile.{named_file}
 use Rattle.ex_batch.specs.Stands.{Ran, Scene, seen}
 use Rattle.ex_batch.specs.Takes.{went}
 use Rattle.ex_batch.specs.Whole.{batch_by, whole_of}

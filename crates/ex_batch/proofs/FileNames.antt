@@ -16,7 +16,7 @@ use Rattle.ex_store.specs.declared.place.Place.{Place}
 use Rattle.ex_commands.specs.Line.{place_by}
 use Rattle.ex_commands.specs.Said.{IsSaid}
 use Rattle.ex_commands.proofs.SaidParts.{file_said, run_of}
-use Rattle.ex_batch.specs.Named.{place_or_shape, place_said}
+use Rattle.ex_batch.specs.ControlFile.{place_or_shape, place_said}
 
 -- the names in it are short
 pub word_said : (c : Catalogue) (text : List ℕ) (value : Value) (looked end : ℕ) (said : Try) → said ≡ file c In no_flags text 0

@@ -28,8 +28,8 @@ use Rattle.ex_batch.specs.Stands.{Course, Follows, IsBatch, IsWhole, JobForm, Pa
 use Rattle.ex_batch.specs.Takes.{went}
 use Rattle.ex_batch.specs.Whole.{whole_of}
 use Rattle.ex_batch.specs.declared.step.Ended.{Ended}
-use Rattle.ex_batch.proofs.Closing.{WentWhole, closing_end, of_status, screen_cause, went_whole}
-use Rattle.ex_batch.proofs.Running.{cut_most}
+use Rattle.ex_batch.proofs.Ends.{WentWhole, closing_end, of_status, screen_cause, went_whole}
+use Rattle.ex_batch.proofs.Runs.{cut_most}
 
 -- the statuses that may come before FILE is looked at
 early_batch : (input : Option (List ℕ)) (result : Status) → IsEarly input result → IsBatch result

@@ -2,8 +2,8 @@ use Rattle.std.proofs.Common.{List, ℕ, subst, sym}
 use Rattle.std.specs.Str.{IsAscii}
 use Rattle.cm_text.proofs.Ascii.{finished_is_ascii}
 use Rattle.ex_store.specs.State.{catalogue_of}
-use Rattle.ex_batch.proofs.Naming.{word_said}
-use Rattle.ex_batch.proofs.named.place_said.Goals as goal
+use Rattle.ex_batch.proofs.FileNames.{word_said}
+use Rattle.ex_batch.proofs.control_file.place_said.Goals as goal
 
 pub place_by-requires-clause-ascii : goal.place_by-requires-clause-ascii
 place_by-requires-clause-ascii c =

@@ -6,7 +6,7 @@ use Rattle.cm_io.specs.Clock.{later_moments, next_moment}
 use Rattle.cm_io.specs.Told.{Told}
 use Rattle.cm_run.specs.Cut.{Traces}
 use Rattle.cm_run.specs.Event.{Event, Moment, state_behind}
-use Rattle.cm_run.specs.Handed.{handed_trace}
+use Rattle.cm_run.specs.SingleLine.{handed_trace}
 use Rattle.cm_run.specs.Obey.{Obeys, stage}
 use Rattle.cm_run.specs.Observed.{Observed, Performs, observed}
 use Rattle.cm_run.specs.Trace.{deeds_trace}
