@@ -4,4 +4,4 @@ mod Drops
 mod DueLaws
 mod Prints
 mod Queues
-mod Words
+mod WordCases

@@ -5,7 +5,7 @@ use Rattle.ex_system.specs.Asked.{form_view}
 use Rattle.ex_system.specs.Disk.{disk_of}
 use Rattle.ex_system.specs.Messages.{IsSilent}
 use Rattle.ex_spool.specs.Stands.{Course, scene}
-use Rattle.ex_spool.proofs.Words.{follows_asked, stands_asked, start_asked, usage_asked}
+use Rattle.ex_spool.proofs.WordCases.{follows_asked, stands_asked, start_asked, usage_asked}
 use Rattle.ex_spool.proofs.Prints.{course_cut, course_early, course_past, printed_whole}
 use Rattle.ex_spool.proofs.program.spool20.Given.{Over}
 use Rattle.ex_spool.proofs.program.spool20.Goals as goal
