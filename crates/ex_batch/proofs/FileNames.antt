@@ -15,7 +15,8 @@ use Rattle.cm_blocks.specs.Words.{no_flags}
 use Rattle.ex_store.specs.declared.place.Place.{Place}
 use Rattle.ex_commands.specs.Line.{place_by}
 use Rattle.ex_commands.specs.Said.{IsSaid}
-use Rattle.ex_commands.proofs.SaidParts.{file_said, run_of}
+use Rattle.cm_blocks.proofs.Places.{run_of}
+use Rattle.ex_commands.proofs.ShortParts.{file_said}
 use Rattle.ex_batch.specs.ControlFile.{place_or_shape, place_said}
 
 -- the names in it are short

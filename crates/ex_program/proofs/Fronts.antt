@@ -26,9 +26,9 @@ use Rattle.ex_grammar.specs.Words.{keyword}
 use Rattle.ex_grammar.specs.declared.code.TheConstants.{LOGOUT, TAKE}
 use Rattle.ex_grammar.specs.declared.node.TheConstants.{COMMANDS}
 use Rattle.ex_commands.specs.Line.{keyword_code}
-use Rattle.ex_commands.proofs.SaidParts.{run_of}
+use Rattle.cm_blocks.proofs.Places.{run_of}
 use Rattle.ex_commands.proofs.Verbs.{command_table}
-use Rattle.ex_commands.proofs.Ways.{meant_found}
+use Rattle.cm_blocks.proofs.Values.{meant_found}
 use Rattle.ex_program.proofs.Heads.{found_good, passes}
 
 -- C, D, E, I and U, and LI, with which a line of a file begins

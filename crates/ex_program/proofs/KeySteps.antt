@@ -47,7 +47,7 @@ use Rattle.ex_take.specs.declared.pending.Pending.{Pending}
 use Rattle.ex_take.specs.declared.typing.Typing.{Typing}
 use Rattle.ex_take.proofs.QuietKeys.{step_quiet}
 use Rattle.ex_program.proofs.Fronts.{Front, OfC, OfD, OfE, OfI, OfU, OfLi, letters}
-use Rattle.ex_program.proofs.GoingOn.{GoesOn, line_on}
+use Rattle.ex_program.proofs.GeneratedKeyLaws.{GoesOn, line_on}
 use Rattle.ex_program.proofs.Harmless.{is_safe, line_safe}
 use Rattle.ex_program.proofs.LineKeys.{Edits, Ends, Is, Where, Fresh, Begun, Far, Ell, Lined, after, by_letter, go, is_edit, is_letter}
 use Rattle.ex_program.proofs.MemoryKeys.{is_written, no_lines, of_line, of_raw, writes_at}

@@ -1,7 +1,7 @@
 mod AllKeys
 mod Fronts
 mod GeneratedRuns
-mod GoingOn
+mod GeneratedKeyLaws
 mod Harmless
 mod Heads
 mod Hooks
