@@ -8,7 +8,7 @@ use Rattle.cm_blocks.specs.Setting.{Setting}
 use Rattle.cm_blocks.specs.declared.field.Chain.{Chain}
 use Rattle.cm_blocks.specs.declared.field.Chain.TheVariants as chain
 use Rattle.cm_blocks.specs.declared.field.TheConstants.{FIELD_LIMIT}
-use Rattle.cm_blocks.proofs.Parsing.{parse_of_parses}
+use Rattle.cm_blocks.proofs.Parses.{parse_of_parses}
 
 count_from : (s : Setting) (text : List ℕ) (room node at : ℕ)
     → trials_from s text room node at ≡ length (parse_from s text room node at).fields + 1

@@ -9,10 +9,10 @@ use Rattle.cm_fields.specs.Run.{number_of, word_of}
 use Rattle.cm_fields.specs.Text.{is_inside, text_of}
 use Rattle.cm_fields.proofs.Marks.{comma_is_local, confirm_is_local}
 use Rattle.cm_fields.proofs.Phrases.{noise_is_local, token_is_local}
-use Rattle.cm_fields.proofs.Quoting.{quoted_is_local}
+use Rattle.cm_fields.proofs.QuotedTexts.{quoted_is_local}
 use Rattle.cm_fields.proofs.Runs.{run_is_local}
 use Rattle.cm_files.specs.declared.flags.Flags.{Flags}
-use Rattle.cm_files.proofs.Fielding.{directory_is_local, file_is_local, user_is_local}
+use Rattle.cm_files.proofs.Trials.{directory_is_local, file_is_local, user_is_local}
 use Rattle.cm_hooks.specs.Field.{hook_of}
 use Rattle.cm_blocks.specs.declared.function.Function.{Function}
 use Rattle.cm_blocks.specs.declared.function.Function.TheVariants.{Key, Switch, Noise, Number, Word, Quoted, Token, Date, User, Directory, InFile, OutFile, AnyFile, Text, Comma, Confirm, Hook}

@@ -3,6 +3,7 @@ use Rattle.std.proofs.Common.{◌≡◌, ℕ, zero, suc, ◌+◌, ◌<◌, ◌�
 use Rattle.std.proofs.lemmas.Bool.{and_parts}
 use Rattle.std.specs.List.{All, list_all}
 use Rattle.std.proofs.lemmas.Bool.Decides.{nat_tests}
+use Rattle.cm_lists.proofs.Bools.{cond_each}
 use Rattle.cm_text.specs.Bytes.{is_name, is_word}
 use Rattle.cm_text.specs.Text.{finished}
 use Rattle.cm_tables.specs.declared.entry.Entry.{Entry}
@@ -17,14 +18,14 @@ use Rattle.cm_fields.specs.declared.value.Value.TheVariants as values
 use Rattle.cm_fields.specs.Run.{number_of, word_of}
 use Rattle.cm_fields.specs.Skip.{skip}
 use Rattle.cm_fields.specs.Text.{is_inside, text_of}
-use Rattle.cm_fields.proofs.Holding.{Reaches, of_choice}
+use Rattle.cm_fields.proofs.Trials.{Reaches}
 use Rattle.cm_fields.proofs.Marks.{comma_reaches, confirm_reaches}
 use Rattle.cm_fields.proofs.Phrases.{noise_reaches, token_reaches}
-use Rattle.cm_fields.proofs.Quoting.{quoted_reaches}
+use Rattle.cm_fields.proofs.QuotedTexts.{quoted_reaches}
 use Rattle.cm_fields.proofs.Runs.{run_reaches}
-use Rattle.cm_fields.proofs.Skipping.{skip_within}
+use Rattle.cm_fields.proofs.Skips.{skip_within}
 use Rattle.cm_files.specs.declared.flags.Flags.{Flags}
-use Rattle.cm_files.proofs.Fielding.{directory_reaches, file_reaches, user_reaches}
+use Rattle.cm_files.proofs.Trials.{directory_reaches, file_reaches, user_reaches}
 use Rattle.cm_hooks.specs.Field.{hook_of}
 use Rattle.cm_blocks.specs.declared.chain.Walk.{Walk}
 use Rattle.cm_blocks.specs.declared.chain.Walk.TheVariants.{Takes, Wants, Fails}
@@ -147,7 +148,7 @@ pub typed_leads : (nodes at size number start most : ℕ) (walked : Walk) → at
     → WalkLeads nodes start most walked → ChainLeads nodes at size (typed number start walked)
 typed_leads nodes at size number start most (Takes block role next value looked end) behind within leads =
     let reached = leads.1 in
-    of_choice (ChainLeads nodes at size) (is_confirm value) _ _ tt
+    cond_each (ChainLeads nodes at size) (is_confirm value) _ _ tt
     (record { next = leads.0; start = behind; end = reached.begins; within = omega arith; need = omega arith; covered = reached.seen })
 typed_leads nodes at size number start most (Wants block) behind within leads = tt
 typed_leads nodes at size number start most (Fails code) behind within leads = tt
@@ -155,7 +156,7 @@ typed_leads nodes at size number start most (Fails code) behind within leads = t
 pub defaulted_leads : (nodes at size number start from most : ℕ) (walked : Walk) → at ≤ start → start ≤ size
     → WalkLeads nodes from most walked → ChainLeads nodes at size (defaulted number start walked)
 defaulted_leads nodes at size number start from most (Takes block role next value looked end) behind within leads =
-    of_choice (ChainLeads nodes at size) (is_confirm value) _ _ tt
+    cond_each (ChainLeads nodes at size) (is_confirm value) _ _ tt
     (record { next = leads.0; start = behind; end = omega arith; within = within; need = omega arith; covered = omega arith })
 defaulted_leads nodes at size number start from most (Wants block) behind within leads = tt
 defaulted_leads nodes at size number start from most (Fails code) behind within leads = tt
@@ -193,7 +194,7 @@ pub choice_leads : (s : Setting) (number : ℕ) (node : Node) (text : List ℕ) 
     → ChainLeads (length s.graph.nodes) at (length text) (by_default s number node (drop start text) start default).chain
 choice_leads s number node text at start None well some behind within = text_leads s number node text at start well some behind within 0 _
 choice_leads s number node text at start (Some default) well some behind within =
-    of_choice (λ (counted : Counted). ChainLeads (length s.graph.nodes) at (length text) counted.chain) (is_line_end (drop start text)) _ _
+    cond_each (λ (counted : Counted). ChainLeads (length s.graph.nodes) at (length text) counted.chain) (is_line_end (drop start text)) _ _
     (default_leads s number node at start (length text) default well some behind within 0 _)
     (text_leads s number node text at start well some behind within 0 _)
 

@@ -1,22 +1,19 @@
 -- The catalogue of many files is one.
 use Rattle.std.proofs.Common.{◌≡◌, ℕ, zero, suc, ◌+◌, ◌<◌, ◌≤◌, true, ◌==◌, ◌∷◌, Some, length, filter, slice_get, refl, ap, arith, ◌∙◌, sym}
 use Rattle.std.specs.List.{list_all}
-use Rattle.std.specs.Ordering.{is_lt, nat_cmp}
-use Rattle.std.specs.declared.cmp.Ordering.TheVariants.{Less}
+use Rattle.std.specs.Ordering.{is_lt}
 use Rattle.std.proofs.lemmas.Bool.{and_from, le-leb, lt-ltb}
+use Rattle.cm_lists.proofs.Numbers.{nat_cmp_suc}
 use Rattle.cm_text.specs.Bytes.{is_name, is_word}
 use Rattle.cm_files.specs.declared.generation.TheConstants.{GENERATION_LIMIT}
 use Rattle.cm_files.specs.Catalogue.{IsCatalogue, ascends, by_file, is_row, rows_of}
 use Rattle.cm_blocks_tests.specs.Many.{many_catalogue, many_from, many_row}
 
-rises : (generation : ℕ) → nat_cmp generation (suc generation) ≡ Less
-rises generation = rw (lt-ltb generation (suc generation) (omega arith)) refl
-
 ascend : (unmarked generation count : ℕ) → ascends by_file (many_from unmarked generation count) ≡ true
 ascend unmarked generation zero = refl
 ascend unmarked generation (suc zero) = refl
 ascend unmarked generation (suc (suc count)) =
-    and_from _ _ (ap is_lt (rises generation)) (ascend unmarked (suc generation) (suc count))
+    and_from _ _ (ap is_lt (nat_cmp_suc generation)) (ascend unmarked (suc generation) (suc count))
 
 are_rows : (unmarked generation count : ℕ) → 1 ≤ generation → generation + count ≤ GENERATION_LIMIT + 1
     → list_all (is_row 1) (many_from unmarked generation count) ≡ true

@@ -1,8 +1,6 @@
-pub mod Decimals
 pub mod Days
-pub mod Digits
 pub mod MonthNames
 pub mod OneText
-pub mod Reading
+pub mod DayTexts
 pub mod Texts
 pub mod Values

@@ -1,11 +1,11 @@
 -- The text of a day, found from 1970 on, is that of the day.
 use Rattle.std.proofs.Common.{◌≡◌, ℕ, zero, suc, ◌+◌, ◌-◌, ◌<◌, ◌≤◌, nat_lt, ℤ, pos, negsuc, List, refl, arith}
 use Rattle.std.proofs.lemmas.Bool.Decides.{nat_tests}
+use Rattle.std.proofs.lemmas.Bool.{cond_both}
 use Rattle.jiff_core.specs.Calendar.{IsBetween, day_count, days_in_month, days_in_year}
 use Rattle.jiff_core.proofs.CalendarLemmas.{day_count-day, day_count-day_of_year, day_count-epoch, day_count-next_month, day_count-next_year, days_from_civil-day_count, days_of_months_all}
 use Rattle.jiff_core.proofs.MarchLemmas.{day_count-early}
 use Rattle.jiff_core.proofs.SignedLemmas.{signed_arith}
-use Rattle.cm_fields.proofs.Holding.{holds_of_choice}
 use Rattle.cm_dates.specs.DayText.{IsDayText, date_text, day_text, text_from_month, text_from_year}
 use Rattle.cm_dates.proofs.OneText.{one_text}
 use borrow.Author.Differences.{up, down}
@@ -38,15 +38,13 @@ from_month zero day count year month days counted range first room is within =
     let place = rw last at (day_count-day_of_year (pos year) month 1 (omega arith)) in
     absurd (omega (arith, place, days_of_months_all (pos year)))
 from_month (suc more) day count year month days counted range first room is within =
-    holds_of_choice (IsDayText day) (nat_lt days (days_in_month (pos year) month)) _ _
-    (λ few. found day count year month days counted range first (omega arith) is (grind (arith, nat_tests)))
-    (λ many.
+    cond_both (nat_lt days (days_in_month (pos year) month)) _ _ (IsDayText day) (λ few. found day count year month days counted range first (omega arith) is (grind (arith, nat_tests))) (λ many.
     let all : days_in_month (pos year) month ≤ days = grind (arith, nat_tests) in
     let next = day_count-next_month (pos year) month first in
     from_month more day count year (month + 1) (days - days_in_month (pos year) month) counted range (omega arith)
     (omega arith) (omega (arith, next, all)) within)
 
-behind_last : day_count (pos 2100) 1 1 ≡ 4_419_435
+pub behind_last : day_count (pos 2100) 1 1 ≡ 4_419_435
 behind_last = day_count-early (pos 2100) 12099 1 1 refl (omega arith) (omega arith) (omega arith)
 
 from_year : (more : ℕ) (day : ℤ) (count year days : ℕ) → IsCounted day count → 1970 ≤ year → year + more ≡ 2100
@@ -56,12 +54,10 @@ from_year zero day count year days counted first room is within =
     let place = rw last at is in
     absurd (omega (arith, place, behind_last))
 from_year (suc more) day count year days counted first room is within =
-    holds_of_choice (IsDayText day) (nat_lt days (days_in_year (pos year))) _ _
-    (λ few.
+    cond_both (nat_lt days (days_in_year (pos year))) _ _ (IsDayText day) (λ few.
     let small : days < days_in_year (pos year) = grind (arith, nat_tests) in
     from_month 12 day count year 1 days counted (omega (arith, signed_arith), omega (arith, signed_arith)) (omega arith)
-    refl is (omega (arith, small, is)))
-    (λ many.
+    refl is (omega (arith, small, is))) (λ many.
     let all : days_in_year (pos year) ≤ days = grind (arith, nat_tests) in
     let next =
     day_count-next_year (pos year) (pos (year + 1)) (omega (arith, signed_arith)) (omega (arith, signed_arith)) in

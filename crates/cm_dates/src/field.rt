@@ -76,7 +76,7 @@ fn is_number(digits: &[u8], few: usize, many: usize) -> bool
 }
 
 // The number that at most four digits write.
-#[tactic(auto, using(crate::proofs::Digits::few_digits, crate::proofs::Digits::two_digits))]
+#[tactic(auto, using(cm_lists::proofs::Digits::value_of_four, cm_lists::proofs::Digits::value_of_two))]
 fn number_of(digits: &[u8]) -> u16
     requires digits { list_all is_ascii_digit digits.now ≡ true }
     requires few { length digits.now ≤ 4 }

@@ -40,7 +40,7 @@ fn date_of_day(day: i32) -> civil::Date
 }
 
 // The text of a date.
-#[tactic(auto, using(crate::proofs::Decimals::at_most_two, crate::proofs::Decimals::at_most_four))]
+#[tactic(auto, using(cm_lists::proofs::Digits::decimal_fits_two, cm_lists::proofs::Digits::decimal_fits_four))]
 fn date_text(year: u16, month: u8, day: u8) -> ArrayString<DAY_TEXT_LIMIT>
     requires year { year ≤ 9999 }
     requires month { IsInRange 1 12 month }

@@ -1,10 +1,10 @@
 pub mod Ends
-pub mod Finishing
-pub mod Holding
+pub mod LineEnds
+pub mod Trials
 pub mod Runs
-pub mod Skipping
-pub mod Quoting
+pub mod Skips
+pub mod QuotedTexts
 pub mod Marks
 pub mod Phrases
-pub mod Passing
-pub mod Unquoting
+pub mod FieldStarts
+pub mod QuotedNames

@@ -4,26 +4,15 @@ use Rattle.std.specs.List.{prefix_len}
 use Rattle.std.proofs.lemmas.Bool.Decides.{nat_tests}
 use Rattle.std.proofs.lemmas.List.{take-append-le}
 use Rattle.std.proofs.lemmas.List.Sums.{prefix_len-le-length}
-use Rattle.std.proofs.lemmas.List.Folds.{prefix_len-append}
+use Rattle.cm_lists.proofs.Bools.{by_test}
+use Rattle.cm_lists.proofs.Prefixes.{prefix_len_beyond, prefix_len_inside}
+use Rattle.std.proofs.lemmas.Bool.{cond_both}
 use Rattle.cm_fields.specs.declared.code.Code.{Code}
 use Rattle.cm_fields.specs.declared.value.Value.{Value}
 use Rattle.cm_fields.specs.declared.trial.Try.TheVariants.{Accept}
 use Rattle.cm_fields.specs.Try.{by_run, said}
-use Rattle.cm_text.specs.Bytes.{is_word}
-use Rattle.cm_fields.specs.Run.{number, number_of, word, word_of}
-use Rattle.cm_fields.specs.Text.{is_inside, text_field, text_of}
 use Rattle.cm_fields.specs.Local.{Holds, IsLocal, IsSeen}
-use Rattle.cm_fields.proofs.Holding.{LooksBeyond, Reaches, ReachesIfAccept, by_test, holds_beyond, holds_of_choice, holds_same, is_local, reaches_accepted}
-
--- a run that ends in the front is the same whatever follows
-pub run_inside : (is_part : ℕ → Bool) (front more : List ℕ) → prefix_len is_part front < length front
-    → prefix_len is_part (front ++ more) ≡ prefix_len is_part front
-run_inside is_part front more ends = let whole = prefix_len-append is_part front more in grind (arith, nat_tests)
-
--- a run that does not goes on with what follows
-pub run_beyond : (is_part : ℕ → Bool) (front more : List ℕ) → prefix_len is_part front ≡ length front
-    → length front ≤ prefix_len is_part (front ++ more)
-run_beyond is_part front more ends = let whole = prefix_len-append is_part front more in grind (arith, nat_tests)
+use Rattle.cm_fields.proofs.Trials.{LooksBeyond, Reaches, ReachesIfAccept, holds_beyond, holds_same, is_local, reaches_accepted}
 
 -- where the run ends in the front, the trial is the decision on it
 decided_inside : (is_part : ℕ → Bool) (decide : List ℕ → Result Value Code) (front more : List ℕ) (at : ℕ)
@@ -31,12 +20,12 @@ decided_inside : (is_part : ℕ → Bool) (decide : List ℕ → Result Value Co
     → by_run is_part decide (front ++ more) at
     ≡ said at (prefix_len is_part front) (prefix_len is_part front + 1) (decide (take (prefix_len is_part front) front))
 decided_inside is_part decide front more at ends =
-    let whole = run_inside is_part front more ends in
+    let whole = prefix_len_inside is_part front more ends in
     let other : (prefix_len is_part front == length (front ++ more)) ≡ false = grind (arith, nat_tests, length-append front more) in
     let same = take-append-le (prefix_len is_part front) front more (omega arith) in
     rw (whole, other, same)
 
-said_beyond : (size at field looked : ℕ) (decision : Result Value Code) → size < looked
+pub said_beyond : (size at field looked : ℕ) (decision : Result Value Code) → size < looked
     → LooksBeyond size (said at field looked decision)
 said_beyond size at field looked (Ok value) beyond = beyond
 said_beyond size at field looked (Err code) beyond = beyond
@@ -59,8 +48,7 @@ run_decided is_part decide front more other at =
     let size = prefix_len is_part front in
     by_test _ (size == length front)
     (λ ends. holds_beyond _ _ _
-    (holds_of_choice (LooksBeyond (length front)) (prefix_len is_part (front ++ more) == length (front ++ more)) _ _ (λ _. tt)
-    (λ _. said_beyond _ at _ _ _ (let beyond = run_beyond is_part front more (grind (arith, nat_tests)) in omega arith))))
+    (cond_both (prefix_len is_part (front ++ more) == length (front ++ more)) _ _ (LooksBeyond (length front)) (λ _. tt) (λ _. said_beyond _ at _ _ _ (let beyond = prefix_len_beyond is_part front more (grind (arith, nat_tests)) in omega arith))))
     (λ ends.
     let inside : size < length front = (let most = prefix_len-le-length is_part front in grind (arith, nat_tests)) in
     let first = decided_inside is_part decide front more at inside in
@@ -71,8 +59,7 @@ pub run_seen : (is_part : ℕ → Bool) (decide : List ℕ → Result Value Code
     → IsSeen (length rest) (by_run is_part decide rest at)
 run_seen is_part decide rest at =
     let most = prefix_len-le-length is_part rest in
-    holds_of_choice (IsSeen (length rest)) (prefix_len is_part rest == length rest) _ _ (λ _. tt)
-    (λ ends. said_seen _ at _ _ _ (grind (arith, nat_tests)))
+    cond_both (prefix_len is_part rest == length rest) _ _ (IsSeen (length rest)) (λ _. tt) (λ ends. said_seen _ at _ _ _ (grind (arith, nat_tests)))
 
 -- a trial of a run is local, whatever the bytes and the decision
 pub run_is_local : (is_part : ℕ → Bool) (decide : ℕ → List ℕ → Result Value Code)
@@ -87,5 +74,4 @@ pub run_reaches : (is_part : ℕ → Bool) (decide : List ℕ → Result Value C
 run_reaches is_part decide rest at value looked end is =
     let most = prefix_len-le-length is_part rest in
     reaches_accepted at (length rest) (by_run is_part decide rest at) value looked end
-    (holds_of_choice (ReachesIfAccept at (length rest)) (prefix_len is_part rest == length rest) _ _ (λ _. tt)
-    (λ ends. said_reaches at (length rest) _ _ _ (omega arith) (omega arith) (omega arith))) is
+    (cond_both (prefix_len is_part rest == length rest) _ _ (ReachesIfAccept at (length rest)) (λ _. tt) (λ ends. said_reaches at (length rest) _ _ _ (omega arith) (omega arith) (omega arith))) is

@@ -18,7 +18,7 @@ enum Closing {
 }
 
 // How the text behind an opening quote goes on, behind so many bytes of it, which write so many.
-#[tactic(auto, using(crate::proofs::Quoting::plain_passed, crate::proofs::Quoting::quote_passed))]
+#[tactic(auto, using(crate::proofs::QuotedTexts::plain_passed, crate::proofs::QuotedTexts::quote_passed))]
 fn closing_from(size: usize, written: usize, inside: &[u8]) -> Closing
     requires size { size + length inside.now ≤ TEXT_LIMIT }
     requires written { written ≤ size }
@@ -82,7 +82,7 @@ pub fn unquoted(text: &[u8]) -> Name
 }
 
 // Puts what a quoted text says behind a name, as far as it fits.
-#[tactic(auto, using(crate::proofs::Unquoting::rest_is_ascii, crate::proofs::Unquoting::pushed_within, crate::proofs::Unquoting::nothing_pushed))]
+#[tactic(auto, using(cm_lists::proofs::Ascii::IsAscii_rest, crate::proofs::QuotedNames::pushed_within, crate::proofs::QuotedNames::nothing_pushed))]
 fn push_unquoted(name: &mut Name, text: &[u8])
     requires ascii { IsAscii text.now }
     requires within { length name.old ≤ NAME_LIMIT }
@@ -98,7 +98,7 @@ fn push_unquoted(name: &mut Name, text: &[u8])
 }
 
 // What is left of a quoted text behind a byte, where this goes on: a quote that stands twice is passed whole.
-#[tactic(auto, using(crate::proofs::Unquoting::rest_is_ascii, crate::proofs::Unquoting::plain_passed, crate::proofs::Unquoting::quote_passed, crate::proofs::Unquoting::lone_quote_passed, crate::proofs::Unquoting::last_passed))]
+#[tactic(auto, using(cm_lists::proofs::Ascii::IsAscii_rest, crate::proofs::QuotedNames::plain_passed, crate::proofs::QuotedNames::quote_passed, crate::proofs::QuotedNames::lone_quote_passed, crate::proofs::QuotedNames::last_passed))]
 fn behind_byte(byte: u8, more: &[u8]) -> &[u8]
     requires { IsAscii more.now }
     ensures said { unquoted (byte ∷ more.now) ≡ byte ∷ unquoted result.now }

@@ -2,16 +2,17 @@
 use Rattle.std.proofs.Common.{◌≡◌, ℕ, zero, suc, ◌+◌, ◌<◌, ◌≤◌, Bool, true, false, ◌&&◌, nat_le, cond, ◌⊎◌, inl, inr, List, [], ◌∷◌, length, filter, slice_get, Option, Some, None, option_and_then, refl, ap, arith, ◌∙◌, sym, subst}
 use Rattle.std.specs.List.{list_all}
 use Rattle.std.specs.Option.{option_map_or}
-use Rattle.std.proofs.lemmas.Bool.{and_from, and_parts, and_left, and_right, cases_Bool, cases_lt, cases_order, le-leb, leb-true}
+use Rattle.std.proofs.lemmas.Bool.{and_from, and_parts, and_left, and_right, cases_Bool, cases_lt, cases_order, le-leb, leb-true, false_from_ne_true}
 use Rattle.std.proofs.lemmas.Option.{slice_get_within}
 use Rattle.std.proofs.lemmas.Slice.Eq.{bytes_eq-Decides}
+use Rattle.cm_lists.proofs.Quantifiers.{all_kept_at}
 use Rattle.cm_files.specs.declared.row.FileRow.{FileRow}
 use Rattle.cm_files.specs.Catalogue.{Catalogue, IsCatalogue, rows_of}
 use Rattle.cm_files.specs.Neighbours.{is_bottom, is_top, mark_of_same}
 use Rattle.cm_files.specs.Passing.{passes_at}
 use Rattle.cm_files.specs.Pattern.{matches}
 use Rattle.cm_files.specs.Selection.{Wanted, agree, is_same_file, is_seen, name_matches}
-use Rattle.cm_files.proofs.Ordered.{between, lower_generation, rows_ascend}
+use Rattle.cm_files.proofs.RowOrder.{between, lower_generation, rows_ascend}
 
 -- a row that is seen, and has the name and type of another
 abbrev is_with : Wanted → FileRow → FileRow → Bool
@@ -21,7 +22,7 @@ same_texts : (row other : FileRow) → is_same_file row other ≡ true → (row.
 same_texts row other same =
     ((bytes_eq-Decides row.name other.name).0 (and_parts _ _ same).0, (bytes_eq-Decides row.kind other.kind).0 (and_parts _ _ same).1)
 
-texts_same : (row other : FileRow) → row.name ≡ other.name → row.kind ≡ other.kind → is_same_file row other ≡ true
+pub texts_same : (row other : FileRow) → row.name ≡ other.name → row.kind ≡ other.kind → is_same_file row other ≡ true
 texts_same row other name kind =
     and_from _ _ ((bytes_eq-Decides row.name other.name).1 name) ((bytes_eq-Decides row.kind other.kind).1 kind)
 
@@ -179,21 +180,6 @@ all_of_kept test keep (row ∷ rows) all =
     by true kept rest = and_from _ _ (all 0 row refl kept) rest
     by false kept rest = rest
 
-kept_at : (test keep : FileRow → Bool) (rows : List FileRow) (k : ℕ) (other : FileRow) → list_all test (filter keep rows) ≡ true
-    → slice_get rows k ≡ Some other → keep other ≡ true → test other ≡ true
-kept_at test keep [] k other all is kept = absurd (cc)
-kept_at test keep (row ∷ rows) k other all is kept = by k (keep row) refl all is (λ n later. kept_at test keep rows n other later)
-  where
-    by : (k : ℕ) (first : Bool) → keep row ≡ first → list_all test (cond first (row ∷ filter keep rows) (filter keep rows)) ≡ true
-        → slice_get (row ∷ rows) k ≡ Some other
-        → ((n : ℕ) → list_all test (filter keep rows) ≡ true → slice_get rows n ≡ Some other → keep other ≡ true → test other ≡ true)
-        → test other ≡ true
-    by zero true first all is rest =
-        let same : row ≡ other = cc in subst (λ (each : FileRow). test each ≡ true) same (and_parts _ _ all).0
-    by zero false first all is rest = let same : row ≡ other = cc in absurd (cc)
-    by (suc n) true first all is rest = rest n (and_parts _ _ all).1 is kept
-    by (suc n) false first all is rest = rest n all is kept
-
 -- with no such row behind it, a row has the highest generation
 top_is : (c : Catalogue) → IsCatalogue c → (directory i : ℕ) (w : Wanted) (row : FileRow)
     → slice_get (rows_of c directory) i ≡ Some row
@@ -244,10 +230,6 @@ with_other c directory j w row other seen is mark =
     let texts = same_texts other row found.0 in
     and_from _ _ (seen_alike w row other seen texts.0 texts.1 found.1) found.0
 
-not_true : (b : Bool) → (b ≡ true → ⊥) → b ≡ false
-not_true true never = absurd (never refl)
-not_true false never = refl
-
 -- one of them behind a row, and it has not the highest generation
 top_is_not : (c : Catalogue) → IsCatalogue c → (directory i j : ℕ) (w : Wanted) (row : FileRow)
     → slice_get (rows_of c directory) i ≡ Some row → is_seen w row ≡ true → i < j → j < length (rows_of c directory)
@@ -258,8 +240,8 @@ top_is_not c lawful directory i j w row at seen below within mark =
     let kept = with_other c directory j w row other.row seen other.is mark in
     let texts = same_texts other.row row (and_parts _ _ kept).1 in
     let lower = lower_generation row other.row (sym texts.0) (sym texts.1) (rows_ascend c lawful directory i j row other.row below at other.is) in
-    not_true _ (λ all.
-    let under = leb-true _ _ (kept_at (λ each. nat_le each.generation row.generation) (is_with w row) (rows_of c directory) j other.row all other.is kept) in
+    false_from_ne_true _ (λ all.
+    let under = leb-true _ _ (all_kept_at (λ each. nat_le each.generation row.generation) (is_with w row) (rows_of c directory) j other.row all other.is kept) in
     absurd (omega arith))
 
 bottom_is_not : (c : Catalogue) → IsCatalogue c → (directory i j : ℕ) (w : Wanted) (row : FileRow)
@@ -272,8 +254,8 @@ bottom_is_not c lawful directory i j w row at seen below mark =
     let kept = with_other c directory j w row other.row seen other.is mark in
     let texts = same_texts other.row row (and_parts _ _ kept).1 in
     let lower = lower_generation other.row row texts.0 texts.1 (rows_ascend c lawful directory j i other.row row below other.is at) in
-    not_true _ (λ all.
-    let over = leb-true _ _ (kept_at (λ each. nat_le row.generation each.generation) (is_with w row) (rows_of c directory) j other.row all other.is kept) in
+    false_from_ne_true _ (λ all.
+    let over = leb-true _ _ (all_kept_at (λ each. nat_le row.generation each.generation) (is_with w row) (rows_of c directory) j other.row all other.is kept) in
     absurd (omega arith))
 
 -- what a row passes that is there

@@ -52,7 +52,7 @@ record Within (atom : List ℕ) (place : Span) : Type 0 where
   order : place.start ≤ place.end
   end : place.end ≤ length atom
 
-stands_within : (atom : List ℕ) (at mark : ℕ) → stands_at atom at mark ≡ true → at < length atom
+pub stands_within : (atom : List ℕ) (at mark : ℕ) → stands_at atom at mark ≡ true → at < length atom
 stands_within [] at mark stands = cc
 stands_within (byte ∷ atom) zero mark stands = omega arith
 stands_within (byte ∷ atom) (suc at) mark stands = let rest = stands_within atom at mark stands in omega arith

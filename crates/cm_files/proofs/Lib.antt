@@ -1,11 +1,10 @@
 pub mod Beside
-pub mod Choosing
-pub mod Fielding
+pub mod Choices
 pub mod Fronts
 pub mod LogicalNames
-pub mod Ordered
+pub mod RowOrder
 pub mod Sections
-pub mod Spending
 pub mod Stars
-pub mod Typed
-pub mod Walking
+pub mod Trials
+pub mod TypedFiles
+pub mod Walks

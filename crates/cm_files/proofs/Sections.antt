@@ -2,12 +2,17 @@
 use Rattle.std.proofs.Common.{◌≡◌, ℕ, zero, suc, ◌+◌, ◌-◌, ◌<◌, ◌≤◌, Bool, true, false, ◌&&◌, ◌==◌, nat_lt, if◌then◌else◌, List, [], ◌∷◌, ◌++◌, length, take, drop, Option, Some, None, Ok, refl, ap, sym, arith, ◌∙◌, length-append, length-drop}
 use Rattle.std.specs.List.{list_all, list_any, prefix_len}
 use Rattle.std.specs.Option.{option_map_or}
-use Rattle.std.proofs.lemmas.Bool.{and_from, and_parts, or_parts}
+use Rattle.std.proofs.lemmas.Bool.{and_parts, or_parts}
 use Rattle.std.proofs.lemmas.Bool.Decides.{nat_tests}
-use Rattle.std.proofs.lemmas.List.{drop-append-le, drop-drop, drop_all, take-append-le}
+use Rattle.std.proofs.lemmas.List.{drop-append-le, drop_all, take-append-le}
 use Rattle.std.proofs.lemmas.List.Sums.{prefix_len-le-length}
 use Rattle.std.proofs.lemmas.Option.{slice_get_past}
 use Rattle.std.proofs.Math.Seq.{take-append_seam}
+use Rattle.cm_lists.proofs.Bools.{by_test}
+use Rattle.cm_lists.proofs.Elements.{slice_get-append_left}
+use Rattle.cm_lists.proofs.Pieces.{append_cons_first, drop_next, drop_of_some, drop_part, drop_within}
+use Rattle.cm_lists.proofs.Prefixes.{prefix_len_beyond, prefix_len_inside, prefix_len_stops}
+use Rattle.cm_lists.proofs.Quantifiers.{all_weaker}
 use Rattle.cm_text.specs.declared.name.TheConstants.{NAME_LIMIT}
 use Rattle.cm_text.specs.Bytes.{is_name, is_word}
 use Rattle.cm_fields.specs.declared.value.Gen.{Gen}
@@ -15,20 +20,10 @@ use Rattle.cm_fields.specs.declared.value.Gen.TheVariants as generations
 use Rattle.cm_fields.specs.declared.value.Span.{Span}
 use Rattle.cm_fields.specs.declared.value.Spec.{Spec}
 use Rattle.cm_fields.specs.Try.{span}
-use Rattle.cm_fields.proofs.Holding.{by_test}
-use Rattle.cm_fields.proofs.Phrases.{slice_get-append}
-use Rattle.cm_fields.proofs.Runs.{run_beyond, run_inside}
 use Rattle.cm_files.specs.declared.parts.Parts.{Parts}
 use Rattle.cm_files.specs.declared.parts.Read.{Read}
 use Rattle.cm_files.specs.Spec.{are_parts, device_read, directory_read, generation_of, is_long, is_path, is_pattern, name_read, nothing_read, part, part_read, parts_behind, parts_of, pointed_read, read_spec, stands_at}
-
--- a weaker test is passed too
-pub all_implies : {X : Type 0} (p q : X → Bool) → ((x : X) → p x ≡ true → q x ≡ true) → (xs : List X) → list_all p xs ≡ true
-    → list_all q xs ≡ true
-all_implies p q one [] all = refl
-all_implies p q one (x ∷ xs) all =
-    let parts = and_parts (p x) (list_all p xs) all in
-    and_from (q x) (list_all q xs) (one x parts.0) (all_implies p q one xs parts.1)
+use Rattle.cm_files.proofs.Fronts.{stands_within}
 
 -- a mark that does not stand in a text
 abbrev pub lacks : ℕ → List ℕ → Type 0
@@ -51,13 +46,7 @@ stands_past text place mark past =
 stands_inside : (text more : List ℕ) (place mark : ℕ) → place < length text
     → stands_at (text ++ more) place mark ≡ stands_at text place mark
 stands_inside text more place mark within =
-    ap (λ found. option_map_or (λ other. other == mark) found false) (slice_get-append place text more within)
-
--- a byte that stands is within the text
-within_by : (text : List ℕ) (place mark : ℕ) → stands_at text place mark ≡ true → place < length text
-within_by [] place mark stands = cc
-within_by (byte ∷ text) zero mark stands = omega arith
-within_by (byte ∷ text) (suc place) mark stands = let rest = within_by text place mark stands in omega arith
+    ap (λ found. option_map_or (λ other. other == mark) found false) (slice_get-append_left text more place within)
 
 -- what stands at a place, and behind it
 pub stands_first : (text : List ℕ) (place first : ℕ) (rest : List ℕ) (mark : ℕ) → drop place text ≡ first ∷ rest
@@ -68,41 +57,10 @@ stands_first (byte ∷ text) zero first rest mark is =
     let same : byte ≡ first = cc in ap (λ byte. byte == mark) same
 stands_first (byte ∷ text) (suc place) first rest mark is = stands_first text place first rest mark is
 
-behind_suc : (text : List ℕ) (place first : ℕ) (rest : List ℕ) → drop place text ≡ first ∷ rest → drop (suc place) text ≡ rest
-behind_suc [] zero first rest is = cc
-behind_suc [] (suc place) first rest is = cc
-behind_suc (byte ∷ text) zero first rest is = cc
-behind_suc (byte ∷ text) (suc place) first rest is = behind_suc text place first rest is
-
-pub behind_first : (text : List ℕ) (place first : ℕ) (rest : List ℕ) → drop place text ≡ first ∷ rest
-    → drop (place + 1) text ≡ rest
-behind_first text place first rest is =
-    let next : suc place ≡ place + 1 = omega arith in
-    rw (← next) (behind_suc text place first rest is)
-
 stands_end : (text : List ℕ) (place mark : ℕ) → drop place text ≡ [] → stands_at text place mark ≡ false
 stands_end [] place mark is = refl
 stands_end (byte ∷ text) zero mark is = cc
 stands_end (byte ∷ text) (suc place) mark is = stands_end text place mark is
-
-pub behind_part : (text : List ℕ) (place : ℕ) (first rest : List ℕ) → drop place text ≡ first ++ rest
-    → drop (place + length first) text ≡ rest
-behind_part text place first rest is =
-    sym (drop-drop (length first) place text) ∙ ap (drop (length first)) is ∙ seam first rest
-  where
-    seam : (first rest : List ℕ) → drop (length first) (first ++ rest) ≡ rest
-    seam [] rest = refl
-    seam (byte ∷ first) rest = seam first rest
-
--- a run that stops, and one that is all
-pub run_stops : (p : ℕ → Bool) (text rest : List ℕ) → list_all p text ≡ true → prefix_len p rest ≡ 0
-    → prefix_len p (text ++ rest) ≡ length text
-run_stops p [] rest all none = none
-run_stops p (byte ∷ text) rest all none =
-    let parts = and_parts (p byte) (list_all p text) all in
-    let here = parts.0 in
-    let later = run_stops p text rest parts.1 none in
-    rw here (omega arith)
 
 -- what is said of the device, by how many name bytes there are and whether a colon stands behind them
 abbrev device_by : ℕ → Bool → Read
@@ -120,7 +78,7 @@ device_more atom more none =
     by_test _ (prefix_len is_name atom == length atom)
     (λ all.
     let size : prefix_len is_name atom ≡ length atom = grind (arith, nat_tests) in
-    let long = run_beyond is_name atom more size in
+    let long = prefix_len_beyond is_name atom more size in
     let first : stands_at (atom ++ more) (prefix_len is_name (atom ++ more)) 58 ≡ false =
     stands_more atom more (prefix_len is_name (atom ++ more)) 58 none ∙ stands_past atom (prefix_len is_name (atom ++ more)) 58 long in
     let second : stands_at atom (prefix_len is_name atom) 58 ≡ false = stands_past atom (prefix_len is_name atom) 58 (omega arith) in
@@ -132,7 +90,7 @@ device_more atom more none =
     (λ differs.
     let most = prefix_len-le-length is_name atom in
     let inside : prefix_len is_name atom < length atom = grind (arith, nat_tests) in
-    let same = run_inside is_name atom more inside in
+    let same = prefix_len_inside is_name atom more inside in
     let stands = stands_more atom more (prefix_len is_name atom) 58 none in
     ap (λ (size : ℕ). device_by size (stands_at (atom ++ more) size 58)) same ∙ ap (device_by (prefix_len is_name atom)) stands)
 
@@ -159,11 +117,11 @@ closing_more atom more at read within is =
     let size = prefix_len is_path inner in
     let test = closed_test at size (stands_at atom (at + 1 + size) 62 && are_parts (take size inner)) read is in
     let parts = and_parts (stands_at atom (at + 1 + size) 62) (are_parts (take size inner)) test in
-    let place = within_by atom (at + 1 + size) 62 parts.0 in
+    let place = stands_within atom (at + 1 + size) 62 parts.0 in
     let rest : drop (at + 1) (atom ++ more) ≡ inner ++ more = drop-append-le (at + 1) atom more (omega arith) in
     let inner_size = length-drop (at + 1) atom in
     let inside : size < length inner = omega arith in
-    let same : prefix_len is_path (drop (at + 1) (atom ++ more)) ≡ size = ap (prefix_len is_path) rest ∙ run_inside is_path inner more inside in
+    let same : prefix_len is_path (drop (at + 1) (atom ++ more)) ≡ size = ap (prefix_len is_path) rest ∙ prefix_len_inside is_path inner more inside in
     let stands : stands_at (atom ++ more) (at + 1 + size) 62 ≡ true = stands_inside atom more (at + 1 + size) 62 place ∙ parts.0 in
     let front : take size (drop (at + 1) (atom ++ more)) ≡ take size inner = ap (take size) rest ∙ take-append-le size inner more (omega arith) in
     let whole : are_parts (take size (drop (at + 1) (atom ++ more))) ≡ true = ap are_parts front ∙ parts.1 in
@@ -180,7 +138,7 @@ directory_more atom more at read none is = by (stands_at atom at 60) refl is
     by true opens is =
         let stands : stands_at (atom ++ more) at 60 ≡ true = stands_more atom more at 60 none ∙ opens in
         ap (λ (opens : Bool). directory_by opens at (closing (atom ++ more) at)) stands
-        ∙ closing_more atom more at read (within_by atom at 60 opens) is
+        ∙ closing_more atom more at read (stands_within atom at 60 opens) is
     by false opens is =
         let stands : stands_at (atom ++ more) at 60 ≡ false = stands_more atom more at 60 none ∙ opens in
         ap (λ (opens : Bool). directory_by opens at (closing (atom ++ more) at)) stands ∙ is
@@ -192,9 +150,9 @@ pub directory_whole : (whole : List ℕ) (at : ℕ) (body : List ℕ) → drop a
 unfolding is_name is_word
 directory_whole whole at body is all parts =
     let opens : stands_at whole at 60 ≡ true = stands_first whole at 60 (body ++ 62 ∷ []) 60 is in
-    let rest = behind_first whole at 60 (body ++ 62 ∷ []) is in
-    let size : prefix_len is_path (drop (at + 1) whole) ≡ length body = ap (prefix_len is_path) rest ∙ run_stops is_path body (62 ∷ []) all refl in
-    let end : drop (at + 1 + length body) whole ≡ 62 ∷ [] = behind_part whole (at + 1) body (62 ∷ []) rest in
+    let rest = drop_next whole at 60 (body ++ 62 ∷ []) is in
+    let size : prefix_len is_path (drop (at + 1) whole) ≡ length body = ap (prefix_len is_path) rest ∙ prefix_len_stops is_path body (62 ∷ []) all refl in
+    let end : drop (at + 1 + length body) whole ≡ 62 ∷ [] = drop_part whole (at + 1) body (62 ∷ []) rest in
     let stands : stands_at whole (at + 1 + length body) 62 ≡ true = stands_first whole (at + 1 + length body) 62 [] 62 end in
     let front : take (length body) (drop (at + 1) whole) ≡ body = ap (take (length body)) rest ∙ take-append_seam body (62 ∷ []) in
     let named : are_parts (take (length body) (drop (at + 1) whole)) ≡ true = ap are_parts front ∙ parts in
@@ -207,7 +165,7 @@ directory_whole whole at body is all parts =
 pub name_at : (whole : List ℕ) (at : ℕ) (name rest : List ℕ) → drop at whole ≡ name ++ rest → list_all is_pattern name ≡ true
     → prefix_len is_pattern rest ≡ 0 → 0 < length name → name_read whole at ≡ Some (part_read at (length name) (at + length name))
 name_at whole at name rest is all none some =
-    let size : prefix_len is_pattern (drop at whole) ≡ length name = ap (prefix_len is_pattern) is ∙ run_stops is_pattern name rest all none in
+    let size : prefix_len is_pattern (drop at whole) ≡ length name = ap (prefix_len is_pattern) is ∙ prefix_len_stops is_pattern name rest all none in
     let test : nat_lt 0 (length name) ≡ true = grind (arith, nat_tests) in
     rw (size, test) refl
 
@@ -221,8 +179,8 @@ pub pointed_at : (whole : List ℕ) (at : ℕ) (text rest : List ℕ) → drop a
     → prefix_len is_pattern rest ≡ 0 → pointed_read whole at ≡ part_read (at + 1) (length text) (at + 1 + length text)
 pointed_at whole at text rest is all none =
     let stands : stands_at whole at 46 ≡ true = stands_first whole at 46 (text ++ rest) 46 is in
-    let behind = behind_first whole at 46 (text ++ rest) is in
-    let size : prefix_len is_pattern (drop (at + 1) whole) ≡ length text = ap (prefix_len is_pattern) behind ∙ run_stops is_pattern text rest all none in
+    let behind = drop_next whole at 46 (text ++ rest) is in
+    let size : prefix_len is_pattern (drop (at + 1) whole) ≡ length text = ap (prefix_len is_pattern) behind ∙ prefix_len_stops is_pattern text rest all none in
     rw (stands, size) refl
 
 pub pointed_nowhere : (whole : List ℕ) (at : ℕ) → drop at whole ≡ [] → pointed_read whole at ≡ nothing_read at
@@ -277,15 +235,6 @@ full_spec device directory name kind generation =
 pattern_byte : (byte : ℕ) → is_name byte ≡ true → is_pattern byte ≡ true
 pattern_byte byte is = rw is refl
 
-not_empty : (whole : List ℕ) (at : ℕ) (first : ℕ) (rest : List ℕ) → drop at whole ≡ first ∷ rest → (length whole == 0) ≡ false
-not_empty [] zero first rest is = cc
-not_empty [] (suc at) first rest is = cc
-not_empty (byte ∷ whole) at first rest is = grind (arith, nat_tests)
-
-cons_of : (text : List ℕ) (byte : ℕ) (rest : List ℕ) → (first : ℕ) × (later : List ℕ) × (text ++ byte ∷ rest ≡ first ∷ later)
-cons_of [] byte rest = (byte, rest, refl)
-cons_of (first ∷ text) byte rest = (first, text ++ byte ∷ rest, refl)
-
 -- how it is read behind a directory
 pub parts_full : (whole : List ℕ) (device directory : Read) (name kind number : List ℕ) → device_read whole ≡ device
     → directory_read whole device.next ≡ Some directory → directory.next ≤ length whole
@@ -293,15 +242,15 @@ pub parts_full : (whole : List ℕ) (device directory : Read) (name kind number 
     → parts_of whole ≡ Some (full_parts device directory name kind number)
 parts_full whole device directory name kind number device_is directory_is within is f =
     let at = directory.next in
-    let cons = cons_of name 46 (kind ++ 46 ∷ number) in
-    let some : (length whole == 0) ≡ false = not_empty whole at cons.0 cons.1 (is ∙ cons.2) in
-    let names = all_implies is_name is_pattern pattern_byte name f.names in
-    let kinds = all_implies is_name is_pattern pattern_byte kind f.kinds in
+    let cons = append_cons_first name 46 (kind ++ 46 ∷ number) in
+    let some : (length whole == 0) ≡ false = drop_of_some whole at cons.0 cons.1 (is ∙ cons.2) in
+    let names = all_weaker is_name is_pattern pattern_byte name f.names in
+    let kinds = all_weaker is_name is_pattern pattern_byte kind f.kinds in
     let name_is = name_at whole at name (46 ∷ (kind ++ 46 ∷ number)) is names (stops_at_point (kind ++ 46 ∷ number)) f.some in
-    let first : drop (at + length name) whole ≡ 46 ∷ (kind ++ 46 ∷ number) = behind_part whole at name (46 ∷ (kind ++ 46 ∷ number)) is in
+    let first : drop (at + length name) whole ≡ 46 ∷ (kind ++ 46 ∷ number) = drop_part whole at name (46 ∷ (kind ++ 46 ∷ number)) is in
     let kind_is = pointed_at whole (at + length name) kind (46 ∷ number) first kinds (stops_at_point number) in
-    let inner : drop (at + length name + 1) whole ≡ kind ++ 46 ∷ number = behind_first whole (at + length name) 46 (kind ++ 46 ∷ number) first in
-    let second : drop (at + length name + 1 + length kind) whole ≡ 46 ∷ number = behind_part whole (at + length name + 1) kind (46 ∷ number) inner in
+    let inner : drop (at + length name + 1) whole ≡ kind ++ 46 ∷ number = drop_next whole (at + length name) 46 (kind ++ 46 ∷ number) first in
+    let second : drop (at + length name + 1 + length kind) whole ≡ 46 ∷ number = drop_part whole (at + length name + 1) kind (46 ∷ number) inner in
     let all : drop (at + length name + 1 + length kind) whole ≡ 46 ∷ (number ++ []) = second ∙ ap (λ (text : List ℕ). 46 ∷ text) (sym (none number)) in
     let number_is = pointed_at whole (at + length name + 1 + length kind) number [] all f.numbers refl in
     let end : (at + length name + 1 + length kind + 1 + length number == length whole) ≡ true =
@@ -328,11 +277,11 @@ read_full whole device directory name kind number generation device_is directory
     let parts_are = parts_full whole device directory name kind number device_is directory_is within is f in
     let name_short = not_long at (length name) f.name_short in
     let kind_short = not_long (at + length name + 1) (length kind) f.kind_short in
-    let first : drop (at + length name) whole ≡ 46 ∷ (kind ++ 46 ∷ number) = behind_part whole at name (46 ∷ (kind ++ 46 ∷ number)) is in
-    let inner : drop (at + length name + 1) whole ≡ kind ++ 46 ∷ number = behind_first whole (at + length name) 46 (kind ++ 46 ∷ number) first in
-    let second : drop (at + length name + 1 + length kind) whole ≡ 46 ∷ number = behind_part whole (at + length name + 1) kind (46 ∷ number) inner in
+    let first : drop (at + length name) whole ≡ 46 ∷ (kind ++ 46 ∷ number) = drop_part whole at name (46 ∷ (kind ++ 46 ∷ number)) is in
+    let inner : drop (at + length name + 1) whole ≡ kind ++ 46 ∷ number = drop_next whole (at + length name) 46 (kind ++ 46 ∷ number) first in
+    let second : drop (at + length name + 1 + length kind) whole ≡ 46 ∷ number = drop_part whole (at + length name + 1) kind (46 ∷ number) inner in
     let last : drop (at + length name + 1 + length kind + 1) whole ≡ number ++ [] =
-    behind_first whole (at + length name + 1 + length kind) 46 number second ∙ sym (none number) in
+    drop_next whole (at + length name + 1 + length kind) 46 number second ∙ sym (none number) in
     let bytes : part whole (span (at + length name + 1 + length kind + 1) (length number)) ≡ number =
     part_bytes whole (at + length name + 1 + length kind + 1) number [] last in
     rw (parts_are, device_short, directory_short, name_short, kind_short, bytes, means) refl
@@ -340,13 +289,6 @@ read_full whole device directory name kind number generation device_is directory
     none : (text : List ℕ) → text ++ [] ≡ text
     none [] = refl
     none (byte ∷ text) = ap (λ (text : List ℕ). byte ∷ text) (none text)
-
--- what a text begins with at a place stands within it
-pub drop_within : (at : ℕ) (text : List ℕ) (first : ℕ) (rest : List ℕ) → drop at text ≡ first ∷ rest → at < length text
-drop_within zero [] first rest is = cc
-drop_within (suc at) [] first rest is = cc
-drop_within zero (byte ∷ text) first rest is = omega arith
-drop_within (suc at) (byte ∷ text) first rest is = let later = drop_within at text first rest is in omega arith
 
 -- behind a directory with which the text ends nothing is read
 abbrev behind_by : Option Span → Option Span → Read → Read → Read → ℕ → Option Parts

@@ -1,10 +1,12 @@
 -- Patterns, part by part between their stars.
 use Rattle.std.proofs.Common.{◌≡◌, ℕ, zero, suc, ◌+◌, ◌-◌, ◌<◌, ◌≤◌, Bool, true, false, not, ◌==◌, ◌&&◌, ◌||◌, cond, subst, ◌⊎◌, inl, inr, List, [], ◌∷◌, ◌++◌, Option, Some, None, length, take, drop, refl, ap, arith, ◌∙◌, sym}
 use Rattle.std.specs.List.{common_prefix_len, list_all, prefix_len}
-use Rattle.std.proofs.lemmas.Bool.{and_from, and_parts, cases_lt, cases_order, eq-eqb, eqb-true, le-leb, lt-leb, ne_eqb}
+use Rattle.std.proofs.lemmas.Bool.{and_from, and_parts, cases_lt, cases_order, eq-eqb, eqb-true, le-leb, lt-leb, ne_eqb, or_right}
 use Rattle.std.proofs.lemmas.Bool.Decides.{nat_tests}
 use Rattle.std.proofs.lemmas.List.{drop-drop, take_all}
 use Rattle.std.proofs.lemmas.List.Folds.{length-prefix_len}
+use Rattle.cm_lists.proofs.Bools.{and-false, and-true, and_assoc, or-false, or_absorbs}
+use Rattle.cm_lists.proofs.Numbers.{eq-suc, suc_add, zero_add, zero_is_no_suc}
 use Rattle.cm_files.specs.Pattern.{is_plain, matches, some_end, stands_for}
 use Rattle.cm_files.specs.Place.{ends_like, fits, place_from}
 
@@ -17,24 +19,8 @@ fits_more mark byte part name = by (stands_for mark byte) (common_prefix_len sta
     by true size = grind (arith, nat_tests)
     by false size = grind (arith, nat_tests)
 
-zero_suc : (n : ℕ) → (0 == suc n) ≡ false
-zero_suc n = ne_eqb 0 (suc n) (λ equal. absurd (omega arith))
-
-suc_suc : (n m : ℕ) → (n == m) ≡ (suc n == suc m)
-suc_suc n m = grind (arith, nat_tests)
-
-suc_plus : (n m : ℕ) → suc (n + m) ≡ suc n + m
-suc_plus n m = omega arith
-
-zero_plus : (n : ℕ) → n ≡ 0 + n
-zero_plus n = omega arith
-
 fits_none : (mark : ℕ) (part : List ℕ) → fits (mark ∷ part) [] ≡ false
-fits_none mark part = zero_suc (length part)
-
-and_assoc : (a b c : Bool) → (a && (b && c)) ≡ ((a && b) && c)
-and_assoc true b c = refl
-and_assoc false b c = refl
+fits_none mark part = zero_is_no_suc (length part)
 
 plain_mark : (mark : ℕ) → is_plain mark ≡ true → (mark == 42) ≡ false
 plain_mark mark plain = by (mark == 42) plain
@@ -61,7 +47,7 @@ first_part (mark ∷ part) more (byte ∷ name) plain =
 whole_part : (part name : List ℕ) → list_all is_plain part ≡ true
     → matches part name ≡ (fits part name && (length part == length name))
 whole_part [] [] plain = refl
-whole_part [] (byte ∷ name) plain = sym (zero_suc (length name))
+whole_part [] (byte ∷ name) plain = sym (zero_is_no_suc (length name))
 whole_part (mark ∷ part) [] plain =
     let star = plain_mark mark (and_parts _ _ plain).0 in
     rw star (sym (ap (λ b. b && (length (mark ∷ part) == 0)) (fits_none mark part)))
@@ -71,16 +57,12 @@ whole_part (mark ∷ part) (byte ∷ name) plain =
     rw star (ap (λ b. stands_for mark byte && b) rest
     ∙ and_assoc (stands_for mark byte) (fits part name) (length part == length name)
     ∙ ap (λ b. b && (length part == length name)) (sym (fits_more mark byte part name))
-    ∙ ap (λ b. fits (mark ∷ part) (byte ∷ name) && b) (suc_suc (length part) (length name)))
-
-or_true : (a b : Bool) → b ≡ true → (a || b) ≡ true
-or_true true b is = refl
-or_true false b is = is
+    ∙ ap (λ b. fits (mark ∷ part) (byte ∷ name) && b) (eq-suc (length part) (length name)))
 
 -- an end of what stands behind more bytes is an end of what stands behind fewer
 end_of_more : (test : List ℕ → Bool) (size byte : ℕ) (name : List ℕ)
     → some_end test (drop size name) ≡ true → some_end test (drop size (byte ∷ name)) ≡ true
-end_of_more test zero byte name is = or_true (test (byte ∷ name)) _ is
+end_of_more test zero byte name is = or_right (test (byte ∷ name)) _ is
 end_of_more test (suc zero) byte [] is = is
 end_of_more test (suc (suc size)) byte [] is = is
 end_of_more test (suc size) byte (other ∷ name) is = end_of_more test size other name is
@@ -98,11 +80,6 @@ later_end fit test size (byte ∷ name) is =
         → some_end test (drop size (byte ∷ name)) ≡ true
     by true here is later = (and_parts _ _ here).1
     by false here is later = end_of_more test size byte name (later is)
-
-absorb : (a b : Bool) → (b ≡ true → a ≡ true) → (a || b) ≡ a
-absorb true b to = refl
-absorb false true to = sym (to refl)
-absorb false false to = refl
 
 -- the same list of ends, by tests that agree
 same_ends : (f g : List ℕ → Bool) (name : List ℕ) → ((rest : List ℕ) → f rest ≡ g rest) → some_end f name ≡ some_end g name
@@ -129,7 +106,7 @@ first_place part more at place [] found = by (fits part []) refl found
         record {
           later = 0;
           place_is = (let same : at ≡ place = cc in omega arith);
-          same = rw fit (ap (λ n. some_end (matches more) (drop n [])) (zero_plus (length part)));
+          same = rw fit (ap (λ n. some_end (matches more) (drop n [])) (zero_add (length part)));
         }
     by false fit found = absurd (cc)
 first_place part more at place (byte ∷ name) found = by (fits part (byte ∷ name)) refl found (first_place part more (at + 1) place name)
@@ -140,9 +117,9 @@ first_place part more at place (byte ∷ name) found = by (fits part (byte ∷ n
     by true fit found rest = record {
       later = 0;
       place_is = (let same : at ≡ place = cc in omega arith);
-      same = rw fit (absorb (some_end (matches more) (drop (length part) (byte ∷ name))) (some_end (fit_and part more) name)
+      same = rw fit (or_absorbs (some_end (matches more) (drop (length part) (byte ∷ name))) (some_end (fit_and part more) name)
           (λ is. end_of_more (matches more) (length part) byte name (later_end (fits part) (matches more) (length part) name is))
-          ∙ ap (λ n. some_end (matches more) (drop n (byte ∷ name))) (zero_plus (length part)));
+          ∙ ap (λ n. some_end (matches more) (drop n (byte ∷ name))) (zero_add (length part)));
     }
     by false fit found rest =
         let behind = rest found in
@@ -150,7 +127,7 @@ first_place part more at place (byte ∷ name) found = by (fits part (byte ∷ n
           later = suc behind.later;
           place_is = (let is = behind.place_is in omega arith);
           same = rw fit (behind.same
-              ∙ ap (λ n. some_end (matches more) (drop n (byte ∷ name))) (suc_plus behind.later (length part)));
+              ∙ ap (λ n. some_end (matches more) (drop n (byte ∷ name))) (suc_add behind.later (length part)));
         }
 
 no_place : (part more : List ℕ) (at : ℕ) (name : List ℕ) → place_from part at name ≡ None → some_end (fit_and part more) name ≡ false
@@ -182,18 +159,6 @@ ends_equal part name byte equal =
 ends_longer : (part name : List ℕ) → length name < length part → ends_like part name ≡ false
 ends_longer part name long = rw (lt-leb (length part) (length name) long) refl
 
-and_false : (a : Bool) → (a && false) ≡ false
-and_false true = refl
-and_false false = refl
-
-and_true : (a : Bool) → (a && true) ≡ a
-and_true true = refl
-and_true false = refl
-
-or_false : (a : Bool) → (a || false) ≡ a
-or_false true = refl
-or_false false = refl
-
 -- a part that no star follows stands for the end
 pub last_part : (part name : List ℕ) → list_all is_plain part ≡ true → some_end (matches part) name ≡ ends_like part name
 last_part [] [] plain = refl
@@ -209,11 +174,11 @@ last_part part (byte ∷ name) plain =
         → ((fits part (byte ∷ name) && (length part == suc (length name))) || ends_like part name) ≡ ends_like part (byte ∷ name)
     by (inl equal) =
         rw (eq-eqb (length part) (suc (length name)) equal, ends_longer part name (omega arith), ends_equal part name byte equal)
-        (or_false (fits part (byte ∷ name) && true) ∙ and_true (fits part (byte ∷ name)))
+        (or-false (fits part (byte ∷ name) && true) ∙ and-true (fits part (byte ∷ name)))
     by (inr (inl short)) =
-        rw (ne_eqb (length part) (suc (length name)) (λ equal. absurd (omega arith)), ends_shorter part name byte (omega arith), and_false (fits part (byte ∷ name))) refl
+        rw (ne_eqb (length part) (suc (length name)) (λ equal. absurd (omega arith)), ends_shorter part name byte (omega arith), and-false (fits part (byte ∷ name))) refl
     by (inr (inr long)) =
-        rw (ne_eqb (length part) (suc (length name)) (λ equal. absurd (omega arith)), ends_longer part name (omega arith), ends_longer part (byte ∷ name) long, and_false (fits part (byte ∷ name))) refl
+        rw (ne_eqb (length part) (suc (length name)) (λ equal. absurd (omega arith)), ends_longer part name (omega arith), ends_longer part (byte ∷ name) long, and-false (fits part (byte ∷ name))) refl
 
 -- the part of a pattern before its first star, and what is behind the star
 plain_part : (pattern : List ℕ) → list_all is_plain (take (prefix_len is_plain pattern) pattern) ≡ true

@@ -258,7 +258,7 @@ fn is_user_at<N: Names>(names: &N, i: u16, name: &[u8]) -> bool
 }
 
 // The number of the user with this name.
-#[tactic(auto, using(crate::proofs::Walking::first_walk))]
+#[tactic(auto, using(crate::proofs::Walks::first_walk))]
 fn user_named<N: Names>(names: &N, name: &[u8]) -> Option<u16>
     ensures { result ≡ user_named (N.catalogue names.now) name.now }
 {

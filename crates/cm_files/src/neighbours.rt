@@ -111,7 +111,7 @@ fn is_selected_at<N: Names>(names: &N, directory: u16, i: u32, sought: &Sought<'
 /// The first file of a directory that is selected, among those with this number or a later one; none where
 /// there is no such file. Files of one name and type are neighbours, so a walk over all that are selected looks
 /// at each file a few times at most.
-#[tactic(auto, using(crate::proofs::Walking::first_walk))]
+#[tactic(auto, using(crate::proofs::Walks::first_walk))]
 pub fn select<N: Names>(names: &N, directory: u16, sought: &Sought<'_>, from: u32) -> Option<u32>
     requires { directory < length (N.catalogue names.now).directories }
     ensures { let rows = rows_of (N.catalogue names.now) directory in

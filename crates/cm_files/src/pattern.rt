@@ -37,7 +37,7 @@ fn fits(part: &[u8], name: &[u8], looked: &mut u64) -> bool
 }
 
 // The first place of a name where such a part stands for the bytes.
-#[tactic(auto, using(crate::proofs::Stars::part_walk, crate::proofs::Spending::tried_more))]
+#[tactic(auto, using(crate::proofs::Stars::part_walk, cm_lists::proofs::Products::tried_more))]
 fn place_of(part: &[u8], name: &[u8], looked: &mut u64) -> Option<usize>
     ensures value { result ≡ place_from part.now 0 name.now }
     ensures within { IfSome result (λ place. place + length part.now ≤ length name.now) }
@@ -65,7 +65,7 @@ fn ends_like(part: &[u8], name: &[u8], looked: &mut u64) -> bool
 
 // Whether a pattern means some end of a name: each part between two `*` at its first place behind the part
 // before, and the last part at the end of the name.
-#[tactic(auto, using(crate::proofs::Stars::star_walk, crate::proofs::Spending::spent_walk))]
+#[tactic(auto, using(crate::proofs::Stars::star_walk, cm_lists::proofs::Products::spent_walk))]
 fn means_an_end(pattern: &[u8], name: &[u8], looked: &mut u64) -> bool
     ensures value { result ≡ some_end (matches pattern.now) name.now }
     ensures few { looked.new ≤ looked.old + (length pattern.now + 1) * (length name.now + 1) }
@@ -87,7 +87,7 @@ fn means_an_end(pattern: &[u8], name: &[u8], looked: &mut u64) -> bool
 
 /// Whether a pattern means a name. The bytes compared are added to `looked`; they are at most the product of the
 /// two lengths, with one more each.
-#[tactic(auto, using(crate::proofs::Stars::first_parts, crate::proofs::Spending::spent_first))]
+#[tactic(auto, using(crate::proofs::Stars::first_parts, cm_lists::proofs::Products::spent_first))]
 pub(crate) fn means(pattern: &[u8], name: &[u8], looked: &mut u64) -> bool
     ensures value { result ≡ matches pattern.now name.now }
     ensures few { looked.new ≤ looked.old + (length pattern.now + 1) * (length name.now + 1) }

@@ -129,7 +129,7 @@ fn is_named_at<N: Names>(names: &N, i: u16, name: &[u8]) -> bool
 }
 
 // The number of the directory with this name.
-#[tactic(auto, using(crate::proofs::Walking::first_walk))]
+#[tactic(auto, using(crate::proofs::Walks::first_walk))]
 fn directory_named<N: Names>(names: &N, name: &[u8]) -> Option<u16>
     ensures value { result ≡ directory_named (N.catalogue names.now) name.now }
     ensures within { IfSome result (λ directory. directory < length (N.catalogue names.now).directories) }

@@ -70,7 +70,7 @@ fn may_pass_at<N: Names>(names: &N, directory: u16, i: u32, sought: &Sought<'_>)
 /// Whether a file of a directory is selected (GTJFN), in one pass over its files. A file is, where its name
 /// and type match and its mark is the one that is looked for, and where of those files of its name and type
 /// it has a generation that is meant: the number given, the highest, the lowest, or each.
-#[tactic(auto, using(crate::proofs::Choosing::any_may_pass, crate::proofs::Walking::some_walk))]
+#[tactic(auto, using(crate::proofs::Choices::any_may_pass, crate::proofs::Walks::some_walk))]
 pub fn selects<N: Names>(names: &N, directory: u16, sought: &Sought<'_>) -> bool
     requires { directory < length (N.catalogue names.now).directories }
     ensures { result ≡ selects (wanted sought.now) (rows_of (N.catalogue names.now) directory) }

@@ -2,7 +2,7 @@
 use Rattle.std.proofs.Common.{◌≡◌, ℕ, ◌+◌, Bool, List, ◌++◌, Some, slice_get, ap}
 use Rattle.cm_tables.specs.declared.entry.Entry.{Entry}
 use Rattle.cm_tables.specs.Listed.{listed_from, next_listed}
-use Rattle.cm_tables.proofs.Listing.{listed_first}
+use Rattle.cm_tables.proofs.ListedEntries.{listed_first}
 use Rattle.cm_help.specs.Phrase.{entry_line, entry_lines}
 
 -- where one more is listed its line comes next

@@ -1,2 +1,2 @@
-pub mod Joining
-pub mod Tied
+pub mod Joins
+pub mod Ties

@@ -1,5 +1,4 @@
-pub mod Adding
-mod Appending
-mod Decimal
-mod Repeating
+pub mod Additions
+mod Appends
+mod Repeats
 pub mod Texts

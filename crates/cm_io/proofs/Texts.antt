@@ -12,8 +12,8 @@ use Rattle.cm_io.specs.Writer.{Outlet, Puts, PutsOn, Writes, outlet}
 pub use Rattle.cm_io.specs.Writer.{Left}
 use Rattle.std.specs.List.{flat_map}
 use Rattle.cm_io.specs.Pieces.{times}
-use Rattle.cm_io.proofs.Repeating.{times_none, times_more}
-use Rattle.cm_io.proofs.Adding.{add_none, add_append, adds_early, adds_late}
+use Rattle.cm_io.proofs.Repeats.{times_none, times_more}
+use Rattle.cm_io.proofs.Additions.{add_none, add_append, adds_early, adds_late}
 
 -- a text put behind one that was put
 adds_both : (a b c : Told) (first second : List ℕ) (went : Put) → b ≡ add a first → Adds b c second went
@@ -23,7 +23,7 @@ adds_both a b c first second Failed put adds =
     adds_late a c first second (subst (λ told. AddsPart told c second) put adds)
 
 -- a count that stayed, and then is as the second put says
-cause_both : (a b c : ℕ) (went : Put) → b ≡ a → PutCause b c went → PutCause a c went
+pub cause_both : (a b c : ℕ) (went : Put) → b ≡ a → PutCause b c went → PutCause a c went
 cause_both a b c went stays cause = subst (λ n. PutCause n c went) stays cause
 
 -- both texts, by how the first went and how the second did

@@ -212,7 +212,7 @@ impl Host for MemHost {
         Put::Done
     }
 
-    #[tactic(auto, using(crate::proofs::Appending::appends_nothing, crate::proofs::Appending::appends_prefix,))]
+    #[tactic(auto, using(crate::proofs::Appends::appends_nothing, crate::proofs::Appends::appends_prefix,))]
     fn write(&mut self, bytes: &[u8]) -> Put
         requires { IsTrue self.old.is_open }
         ensures stays_open { IsTrue self.new.is_open }

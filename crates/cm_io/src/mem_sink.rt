@@ -52,7 +52,7 @@ impl Sink for MemSink {
 
     ghost faults = { λ sink. sink.faults };
 
-    #[tactic(auto, using(crate::proofs::Adding::adds_prefix), unfolding(crate::specs::Told::add))]
+    #[tactic(auto, using(crate::proofs::Additions::adds_prefix), unfolding(crate::specs::Told::add))]
     fn put(&mut self, bytes: &[u8]) -> Put
         ensures nothing { bytes.now ≡ [] → result ≡ Put.Done }
         ensures bytes { Adds (Bytes self.old.bytes) (Bytes self.new.bytes) bytes.now result }

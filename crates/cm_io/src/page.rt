@@ -77,7 +77,7 @@ impl Page {
 
     /// Puts the decimal digits of a number behind the others, with no zero before them. There must be room for the
     /// longest number.
-    #[tactic(auto, using(crate::proofs::Decimal::decimal_fits))]
+    #[tactic(auto, using(cm_lists::proofs::Digits::decimal_fits))]
     pub fn put_decimal(&mut self, number: u64)
         requires { length self.old + DIGIT_LIMIT ≤ PAGE_LIMIT }
         ensures value { self.new ≡ self.old ++ decimal number }

@@ -88,7 +88,7 @@ impl Sink for StdLog {
 
     ghost faults = { λ log. log };
 
-    #[tactic(auto, using(crate::proofs::Adding::adds_nothing), unfolding(crate::specs::Told::add))]
+    #[tactic(auto, using(crate::proofs::Additions::adds_nothing), unfolding(crate::specs::Told::add))]
     fn put(&mut self, bytes: &[u8]) -> Put {
         if bytes.is_empty() {
             return Put::Done;

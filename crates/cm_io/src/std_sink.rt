@@ -40,7 +40,7 @@ impl Sink for StdSink {
 
     ghost faults = { λ sink. sink };
 
-    #[tactic(auto, using(crate::proofs::Adding::adds_nothing), unfolding(crate::specs::Told::add))]
+    #[tactic(auto, using(crate::proofs::Additions::adds_nothing), unfolding(crate::specs::Told::add))]
     fn put(&mut self, bytes: &[u8]) -> Put {
         if bytes.is_empty() {
             return Put::Done;

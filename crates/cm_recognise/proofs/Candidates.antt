@@ -5,7 +5,7 @@ use Rattle.std.specs.List.{AllByRecursion, fold}
 use Rattle.std.specs.Str.{bytes_eq}
 use Rattle.std.proofs.lemmas.Slice.Eq.{bytes_eq-Decides}
 use Rattle.cm_tables.specs.Common.{AllBeginWith, shared}
-use Rattle.cm_tables.proofs.SharingLemmas.{fold-all, fold-first, fold-longest}
+use Rattle.cm_tables.proofs.ShareLemmas.{fold-all, fold-first, fold-longest}
 use Rattle.cm_recognise.specs.declared.found.Found.TheVariants.{Nobody, One, Several}
 use Rattle.cm_recognise.specs.Found.{found_of, gather, with_text}
 

@@ -1,9 +1,14 @@
 -- A user or a directory that is completed whole is taken.
-use Rattle.std.proofs.Common.{◌≡◌, ℕ, zero, suc, ◌+◌, ◌-◌, ◌≤◌, Bool, true, false, not, ◌&&◌, ◌||◌, ◌==◌, nat_lt, cond, if◌then◌else◌, List, [], ◌∷◌, ◌++◌, length, take, drop, codes, Option, Some, None, option_map, Result, Ok, Err, refl, ap, sym, subst, arith, ◌∙◌, append_assoc, append-nil, length-take}
-use Rattle.std.specs.List.{find, list_all, list_any, position_from, prefix_len}
+use Rattle.std.proofs.Common.{◌≡◌, ℕ, ◌+◌, ◌-◌, ◌≤◌, Bool, true, false, not, ◌&&◌, ◌||◌, ◌==◌, nat_lt, if◌then◌else◌, List, [], ◌∷◌, ◌++◌, length, take, drop, codes, Option, Some, None, option_map, Result, Ok, Err, refl, ap, sym, subst, arith, ◌∙◌, append_assoc, append-nil, length-take}
+use Rattle.std.specs.List.{find, list_all, list_any, prefix_len}
 use Rattle.std.proofs.lemmas.Bool.{and_from, and_parts, or_parts}
 use Rattle.std.proofs.lemmas.Bool.Decides.{nat_tests}
 use Rattle.std.proofs.lemmas.List.{drop-append-le}
+use Rattle.cm_lists.proofs.Pieces.{drop_next, drop_within}
+use Rattle.cm_lists.proofs.Positions.{find_passes, position_some}
+use Rattle.cm_lists.proofs.Prefixes.{all_of_prefix_len, prefix_len_stops}
+use Rattle.cm_lists.proofs.Quantifiers.{all_append, all_drop, all_weaker, none_of_all, not_all_at}
+use Rattle.cm_tables.proofs.FoundLemmas.{length_same, lower_same, same_lower}
 use Rattle.cm_text.specs.declared.name.TheConstants.{NAME_LIMIT}
 use Rattle.cm_text.specs.BeginLaws.{lower}
 use Rattle.cm_text.specs.Bytes.{is_blank, is_name, is_word}
@@ -25,32 +30,19 @@ use Rattle.cm_files.specs.Fields.{directory, directory_of, has_colon_behind, is_
 use Rattle.cm_files.specs.Pattern.{is_wild}
 use Rattle.cm_files.specs.Resolve.{by_device, by_directory, directory_named, has_wild, is_named, or_refused, refuse, then_in}
 use Rattle.cm_files.specs.Spec.{device_read, is_long, is_path, part, read_spec, stands_at}
-use Rattle.cm_files.proofs.Fielding.{directory_is_local}
+use Rattle.cm_files.proofs.Trials.{directory_is_local}
 use Rattle.cm_files.proofs.Fronts.{by_device_more, device_at}
-use Rattle.cm_files.proofs.Sections.{all_implies, behind_first, closed_reads, closed_spec, device_more, drop_within, lacks, part_bytes, run_stops, stands_first}
+use Rattle.cm_files.proofs.Sections.{closed_reads, closed_spec, device_more, lacks, part_bytes, stands_first}
 use Rattle.cm_recognise.specs.declared.found.Found.{Found}
 use Rattle.cm_recognise.specs.declared.found.Found.TheVariants.{Nobody, One, Several}
 use Rattle.cm_recognise.specs.declared.outcome.Outcome.TheVariants.{Whole}
 use Rattle.cm_recognise.specs.FileOutcome.{directory_completion, completed, directory_outcome, opened, unclosed, user_outcome}
 use Rattle.cm_recognise.specs.Found.{directory_like, found_directories, found_users, missing, user_like}
 use Rattle.cm_recognise.specs.Outcome.{plain_outcome}
-use Rattle.cm_recognise.proofs.Coming.{found_comes}
-use Rattle.cm_recognise.proofs.Completing.{TakesNamed, listed_of, plain_named, run_named}
-use Rattle.cm_recognise.proofs.Lowered.{DirectoryName, completed_lower, directory_name, equals_same, none_of_all, parts_same, paths_same, same_equals, same_length}
+use Rattle.cm_recognise.proofs.Sources.{found_comes}
+use Rattle.cm_recognise.proofs.Completions.{TakesNamed, listed_of, plain_named, run_named}
+use Rattle.cm_recognise.proofs.LetterCase.{DirectoryName, completed_lower, directory_name, parts_same, paths_same}
 use Rattle.cm_recognise.proofs.Plains.{IsOwnIfOk, run_ends, run_wants, space_no_file}
-use Rattle.cm_recognise.proofs.Spans.{all_of_run}
-
--- where some element passes there is a first one
-position_some : {X : Type 0} (test : X → Bool) (xs : List X) (from : ℕ) → list_any test xs ≡ true
-    → (place : ℕ) × (position_from test from xs ≡ Some place)
-position_some test [] from some = cc
-position_some test (x ∷ xs) from some = by (test x) some (position_some test xs (from + 1))
-  where
-    by : (here : Bool) → (here || list_any test xs) ≡ true
-        → (list_any test xs ≡ true → (place : ℕ) × (position_from test (from + 1) xs ≡ Some place))
-        → (place : ℕ) × (cond here (Some from) (position_from test (from + 1) xs) ≡ Some place)
-    by true some rest = (from, refl)
-    by false some rest = rest some
 
 -- one directory of a catalogue, which is completed
 record Named (c : Catalogue) (typed text : List ℕ) : Type 0 where
@@ -67,7 +59,7 @@ user_name c is_catalogue typed text found =
     let whole = typed ++ drop (length typed) text in
     let same : lower comes.x ≡ lower whole = ap lower listed.same ∙ sym (completed_lower text typed listed.begins) in
     let passes : is_user_named whole comes.x ≡ true =
-    and_from (is_user comes.x) (equals comes.x whole) listed.listed_is (same_equals comes.x whole same) in
+    and_from (is_user comes.x) (equals comes.x whole) listed.listed_is (same_lower comes.x whole same) in
     (record { begins = listed.begins; name = subst DirectoryName listed.same name }, comes.any (is_user_named whole) passes)
 
 -- what completes a directory
@@ -88,7 +80,7 @@ directory_named_so c is_catalogue typed text found =
     let begins : begins_with text typed ≡ true = subst (λ (name : List ℕ). begins_with name typed ≡ true) listed.0 listed.1 in
     let whole = typed ++ drop (length typed) text in
     let same : lower comes.x ≡ lower whole = ap lower listed.0 ∙ sym (completed_lower text typed begins) in
-    (record { begins = begins; name = subst DirectoryName listed.0 name }, comes.any (is_named whole) (same_equals comes.x whole same))
+    (record { begins = begins; name = subst DirectoryName listed.0 name }, comes.any (is_named whole) (same_lower comes.x whole same))
 
 space_no_path : is_plain_path 32 ≡ false
 unfolding is_name is_word
@@ -98,7 +90,7 @@ space_no_path = refl
 no_colon : (whole more : List ℕ) → list_all is_plain_path whole ≡ true → has_colon_behind (whole ++ 32 ∷ more) ≡ false
 no_colon whole more all =
     let none : prefix_len is_plain_path (32 ∷ more) ≡ 0 = rw space_no_path refl in
-    let size = run_stops is_plain_path whole (32 ∷ more) all none in
+    let size = prefix_len_stops is_plain_path whole (32 ∷ more) all none in
     ap (λ (size : ℕ). stands_at (whole ++ 32 ∷ more) size 58) size
     ∙ stands_first (whole ++ 32 ∷ more) (length whole) 32 more 58 (seam whole)
   where
@@ -144,19 +136,6 @@ user_sound c is_catalogue atom bytes more at next after is = by (found_users c a
         )
 
 -- a device that means a directory is no longer than a name may be
-find_passes : (X : Type 0) (p q : X → Bool) (xs : List X) (x : X) → find p xs ≡ Some x → list_all q xs ≡ true
-    → (p x ≡ true) × (q x ≡ true)
-find_passes X p q [] x is all = cc
-find_passes X p q (first ∷ xs) x is all =
-    let parts = and_parts (q first) (list_all q xs) all in by (p first) refl parts.0 is (λ is. find_passes X p q xs x is parts.1)
-  where
-    by : (test : Bool) → p first ≡ test → q first ≡ true → cond test (Some first) (find p xs) ≡ Some x
-        → (find p xs ≡ Some x → (p x ≡ true) × (q x ≡ true)) → (p x ≡ true) × (q x ≡ true)
-    by true here other is rest =
-        let same : first ≡ x = cc in
-        (subst (λ (x : X). p x ≡ true) same here, subst (λ (x : X). q x ≡ true) same other)
-    by false here other is rest = rest is
-
 logical_short : (c : Catalogue) → IsCatalogue c → (name : List ℕ) (directory : ℕ) → or_refused NoLogical (logical_of c name) ≡ Ok directory
     → length name ≤ NAME_LIMIT
 logical_short c is_catalogue name directory is = by (find (λ (entry : LogicalName). equals entry.name name) c.logical) refl is
@@ -167,7 +146,7 @@ logical_short c is_catalogue name directory is = by (find (λ (entry : LogicalNa
     by (Some entry) found is =
         let passes = find_passes LogicalName (λ (entry : LogicalName). equals entry.name name) (is_logical (length c.directories)) c.logical entry found is_catalogue.logical_within in
         let size = (and_parts (nat_lt entry.directory (length c.directories)) _ passes.1).1 in
-        let same = same_length entry.name name (equals_same entry.name name passes.0) in
+        let same = length_same entry.name name (lower_same entry.name name passes.0) in
         grind (arith, nat_tests)
 
 device_bytes : (c : Catalogue) → IsCatalogue c → (name : List ℕ) (directory : ℕ)
@@ -181,8 +160,8 @@ device_bytes c is_catalogue name directory is =
         → (if tty then Err Device else (if ps || dsk then Ok c.connected else or_refused NoLogical (logical_of c name))) ≡ Ok directory
         → length name ≤ NAME_LIMIT
     by true ps is_ps dsk is_dsk is = cc
-    by false true is_ps dsk is_dsk is = let size = same_length name (codes "PS") (equals_same name (codes "PS") is_ps) in omega arith
-    by false false is_ps true is_dsk is = let size = same_length name (codes "DSK") (equals_same name (codes "DSK") is_dsk) in omega arith
+    by false true is_ps dsk is_dsk is = let size = length_same name (codes "PS") (lower_same name (codes "PS") is_ps) in omega arith
+    by false false is_ps true is_dsk is = let size = length_same name (codes "DSK") (lower_same name (codes "DSK") is_dsk) in omega arith
     by false false is_ps false is_dsk is = logical_short c is_catalogue name directory is
 
 first_size : (size : ℕ) (text : List ℕ) → size ≤ length text → length (part text (span 0 size)) ≡ size
@@ -227,33 +206,6 @@ opened_of atom typed is = by (drop (device_read atom).next atom) is
     by [] is = cc
     by (byte ∷ more) is = unclosed_of byte more typed is
 
--- a test along a list
-pub all_drop : (p : ℕ → Bool) (size : ℕ) (text : List ℕ) → list_all p text ≡ true → list_all p (drop size text) ≡ true
-all_drop p zero text all = all
-all_drop p (suc size) [] all = refl
-all_drop p (suc size) (byte ∷ text) all = all_drop p size text (and_parts (p byte) (list_all p text) all).1
-
-pub all_append : (p : ℕ → Bool) (text more : List ℕ) → list_all p text ≡ true → list_all p more ≡ true
-    → list_all p (text ++ more) ≡ true
-all_append p [] more first second = second
-all_append p (byte ∷ text) more first second =
-    let parts = and_parts (p byte) (list_all p text) first in
-    and_from (p byte) (list_all p (text ++ more)) parts.0 (all_append p text more parts.1 second)
-
--- a byte further on that fails a test
-not_all : (p : ℕ → Bool) (at : ℕ) (text : List ℕ) (first : ℕ) (rest : List ℕ) → drop at text ≡ first ∷ rest → p first ≡ false
-    → list_all p text ≡ false
-not_all p zero [] first rest is fails = cc
-not_all p (suc at) [] first rest is fails = cc
-not_all p zero (byte ∷ text) first rest is fails =
-    let same : byte ≡ first = cc in rw (same, fails) refl
-not_all p (suc at) (byte ∷ text) first rest is fails =
-    by (p byte) (not_all p at text first rest is fails)
-  where
-    by : (here : Bool) → list_all p text ≡ false → (here && list_all p text) ≡ false
-    by true later = later
-    by false later = refl
-
 path_of_plain : (byte : ℕ) → is_plain_path byte ≡ true → is_path byte ≡ true
 path_of_plain byte is = by (is_name byte) (is_wild byte) (byte == 46) is
   where
@@ -296,10 +248,10 @@ closed_means : (c : Catalogue) (atom whole body : List ℕ) (at meant place : �
 unfolding directory_of
 closed_means c atom whole body at meant place read text plain device_is named =
     let device = device_read atom in
-    let outside = not_all is_plain_path device.next whole 60 (body ++ 62 ∷ []) text bracket_no_path in
+    let outside = not_all_at is_plain_path device.next whole 60 (body ++ 62 ∷ []) text bracket_no_path in
     let within = drop_within device.next whole 60 (body ++ 62 ∷ []) text in
     let some : nat_lt 0 (length whole) ≡ true = grind (arith, nat_tests) in
-    let rest = behind_first whole device.next 60 (body ++ 62 ∷ []) text in
+    let rest = drop_next whole device.next 60 (body ++ 62 ∷ []) text in
     let bytes : part whole (span (device.next + 1) (length body)) ≡ body = part_bytes whole (device.next + 1) body (62 ∷ []) rest in
     let wild = none_of_all is_plain_path is_wild no_wild_byte body plain in
     rw (some, outside, read, bytes, wild, device_is, named) refl
@@ -316,10 +268,10 @@ directory_taken c is_catalogue atom typed text more at meant front all of named 
     let read = device_read atom in
     let same = completed_lower text typed of.begins in
     let plain = paths_same body text same of.name.paths in
-    let paths = all_implies is_plain_path is_path path_of_plain body plain in
+    let paths = all_weaker is_plain_path is_path path_of_plain body plain in
     let parts = parts_same body text same of.name.parts in
     let short = of.name.short in
-    let size = same_length body text same in
+    let size = length_same body text same in
     let fits : length body ≤ NAME_LIMIT = omega arith in
     let rest_plain = all_drop is_plain_path (length typed) text of.name.paths in
     let inside = drop_within read.next atom 60 typed front in
@@ -333,7 +285,7 @@ directory_taken c is_catalogue atom typed text more at meant front all of named 
     let place = position_some (is_named body) c.directories 0 named in
     let decided = closed_means c atom whole body at meant place.0 spec_is text_is plain meant_is place.1 in
     let files = all_append is_file atom bytes all
-    (all_append is_file rest (62 ∷ []) (all_implies is_path is_file file_of_path rest (all_implies is_plain_path is_path path_of_plain rest rest_plain)) bracket_file) in
+    (all_append is_file rest (62 ∷ []) (all_weaker is_path is_file file_of_path rest (all_weaker is_plain_path is_path path_of_plain rest rest_plain)) bracket_file) in
     let taken = run_named is_file (directory_of false c at) atom bytes more at (values.Directory place.0) files space_no_file decided tt in
     record { value = taken.value; seen = taken.seen; accepts = taken.accepts; own = taken.own }
 
@@ -385,7 +337,7 @@ directory_sound c is_catalogue new atom bytes more at next after meant device wa
         let rest : missing text typed ++ 62 ∷ [] ≡ bytes = cc in
         let leads : next ≡ after = cc in
         let of = directory_named_so c is_catalogue typed text found in
-        let all = all_of_run is_file atom (run_wants is_file (directory_of false c at) atom at wants) in (
+        let all = all_of_prefix_len is_file atom (run_wants is_file (directory_of false c at) atom at wants) in (
           subst (λ (bytes : List ℕ). TakesNamed (directory false c) atom bytes more at) rest
               (directory_taken c is_catalogue atom typed text more at meant (opened_of atom typed opens) all of.0 of.1 device),
           leads,

@@ -1,10 +1,15 @@
 -- A file that is completed whole is taken.
 use Rattle.std.proofs.Common.{◌≡◌, ◌⊎◌, inl, inr, ℕ, ◌+◌, ◌<◌, ◌≤◌, Bool, true, false, not, ◌&&◌, ◌||◌, ◌==◌, if◌then◌else◌, List, [], ◌∷◌, ◌++◌, length, drop, decimal, Option, Some, None, Result, Ok, Err, refl, ap, sym, subst, arith, ◌∙◌, append_assoc, append-nil, length-append}
 use Rattle.std.specs.List.{list_all, list_any}
-use Rattle.std.proofs.lemmas.Bool.{and_parts, or_parts}
+use Rattle.std.proofs.lemmas.Bool.{or_parts}
 use Rattle.std.proofs.lemmas.Bool.Decides.{nat_tests}
 use Rattle.std.proofs.lemmas.List.{drop-append-le, drop_all}
 use Rattle.std.specs.Char.{is_ascii_digit}
+use Rattle.cm_lists.proofs.Digits.{decimal_digits}
+use Rattle.cm_lists.proofs.Pieces.{drop_next, drop_part}
+use Rattle.cm_lists.proofs.Prefixes.{all_of_prefix_len}
+use Rattle.cm_lists.proofs.Quantifiers.{all_append, all_append_right, all_weaker, none_of_all}
+use Rattle.cm_tables.proofs.FoundLemmas.{length_same}
 use Rattle.cm_text.specs.BeginLaws.{lower}
 use Rattle.cm_text.specs.Bytes.{is_name, is_word}
 use Rattle.cm_text.specs.Case.{equals}
@@ -27,8 +32,8 @@ use Rattle.cm_files.specs.Pattern.{is_wild}
 use Rattle.cm_files.specs.Resolve.{by_device, by_directory, has_bad_copy, has_bad_wild, has_wild, is_all, is_bad_generation, is_in, refuse, resolve, then_in}
 use Rattle.cm_files.specs.Selection.{Wanted, is_seen, selects}
 use Rattle.cm_files.specs.Spec.{device_read, generation_of, is_path, is_pattern, part, part_or_nothing, read_spec}
-use Rattle.cm_files.proofs.Choosing.{any_may_pass}
-use Rattle.cm_files.proofs.Fielding.{file_is_local}
+use Rattle.cm_files.proofs.Choices.{any_may_pass}
+use Rattle.cm_files.proofs.Trials.{file_is_local}
 use Rattle.cm_files.proofs.Fronts.{by_device_more, directory_same}
 use Rattle.cm_recognise.specs.declared.file_outcome.Request.{Request}
 use Rattle.cm_recognise.specs.declared.outcome.Outcome.{Outcome}
@@ -36,16 +41,15 @@ use Rattle.cm_recognise.specs.declared.outcome.Outcome.TheVariants.{Nothing, Who
 use Rattle.cm_recognise.specs.FileOutcome.{prefix_completion, by_kind, completion_in_directory, by_spec, file_outcome, generation_step, kind_step, meant, named_directory, opened}
 use Rattle.cm_recognise.specs.Found.{found_kinds, found_names, highest, missing}
 use Rattle.cm_recognise.specs.Outcome.{plain_outcome}
-use Rattle.cm_recognise.proofs.Completing.{TakesNamed, plain_named, run_named}
-use Rattle.cm_recognise.proofs.Directories.{all_append, file_of_path}
-use Rattle.cm_recognise.proofs.Lowered.{matches_same, names_same, none_of_all, same_length}
-use Rattle.cm_recognise.proofs.Numerals.{decimal_digits, decimal_means}
+use Rattle.cm_recognise.proofs.Completions.{TakesNamed, plain_named, run_named}
+use Rattle.cm_recognise.proofs.Directories.{file_of_path}
+use Rattle.cm_recognise.proofs.LetterCase.{matches_same, names_same}
+use Rattle.cm_recognise.proofs.Numerals.{decimal_means}
 use Rattle.cm_recognise.proofs.Plains.{file_ends, run_wants, space_no_file}
 use Rattle.cm_recognise.proofs.Rows.{Row, highest_row}
-use Rattle.cm_files.proofs.Sections.{Full, all_implies, behind_first, behind_part, device_more, directory_more, full, full_spec, part_bytes, read_full}
-use Rattle.cm_recognise.proofs.Spans.{all_of_run}
+use Rattle.cm_files.proofs.Sections.{Full, device_more, directory_more, full, full_spec, part_bytes, read_full}
 use Rattle.cm_recognise.proofs.Steps.{Called, Kinded, Numbered, called_of, kind_lower, kinded_of, name_lower, number_of, numbered_of, piece_never}
-use Rattle.cm_files.proofs.Typed.{ReadAs, cut_kind, cut_name, cut_point, name_of, read_of}
+use Rattle.cm_files.proofs.TypedFiles.{ReadAs, cut_kind, cut_name, cut_point, name_of, read_of}
 
 -- what it means
 abbrev meant_by : Bool → ℕ → Gen
@@ -71,7 +75,7 @@ number_pattern true generation most = star_pattern
         by true = refl
         by false = refl
 number_pattern false generation most =
-    all_implies is_ascii_digit is_pattern digit_pattern (decimal generation) (decimal_digits generation (omega arith))
+    all_weaker is_ascii_digit is_pattern digit_pattern (decimal generation) (decimal_digits generation (omega arith))
 
 -- bytes that a specification may have behind its directory
 pattern_of_name : (byte : ℕ) → is_name byte ≡ true → is_path byte ≡ true
@@ -98,13 +102,9 @@ no_wild_name byte is = grind (arith, nat_tests)
 
 full_path : (name kind number : List ℕ) → Full name kind number → list_all is_path (full name kind number) ≡ true
 full_path name kind number f =
-    all_append is_path name (46 ∷ (kind ++ 46 ∷ number)) (all_implies is_name is_path pattern_of_name name f.names)
-    (point_path (kind ++ 46 ∷ number) (all_append is_path kind (46 ∷ number) (all_implies is_name is_path pattern_of_name kind f.kinds)
-    (point_path number (all_implies is_pattern is_path path_of_pattern number f.numbers))))
-
-all_behind : (p : ℕ → Bool) (front rest : List ℕ) → list_all p (front ++ rest) ≡ true → list_all p rest ≡ true
-all_behind p [] rest all = all
-all_behind p (byte ∷ front) rest all = all_behind p front rest (and_parts (p byte) (list_all p (front ++ rest)) all).1
+    all_append is_path name (46 ∷ (kind ++ 46 ∷ number)) (all_weaker is_name is_path pattern_of_name name f.names)
+    (point_path (kind ++ 46 ∷ number) (all_append is_path kind (46 ∷ number) (all_weaker is_name is_path pattern_of_name kind f.kinds)
+    (point_path number (all_weaker is_pattern is_path path_of_pattern number f.numbers))))
 
 -- the directory that is meant
 record Means (c : Catalogue) (request : Request) (atom : List ℕ) (spec : Spec) (directory : ℕ) : Type 0 where
@@ -186,8 +186,8 @@ resolves c request atom w spec r directory stored stored_kind name kind generati
     let whole = atom ++ w in
     let at = r.directory.next in
     let number = number_of request.flags.all_generations generation in
-    let first : drop (at + length name) whole ≡ 46 ∷ (kind ++ 46 ∷ number) = behind_part whole at name (46 ∷ (kind ++ 46 ∷ number)) text in
-    let inner : drop (at + length name + 1) whole ≡ kind ++ 46 ∷ number = behind_first whole (at + length name) 46 (kind ++ 46 ∷ number) first in
+    let first : drop (at + length name) whole ≡ 46 ∷ (kind ++ 46 ∷ number) = drop_part whole at name (46 ∷ (kind ++ 46 ∷ number)) text in
+    let inner : drop (at + length name + 1) whole ≡ kind ++ 46 ∷ number = drop_next whole (at + length name) 46 (kind ++ 46 ∷ number) first in
     let name_is = part_bytes whole at name (46 ∷ (kind ++ 46 ∷ number)) text in
     let kind_is = part_bytes whole (at + length name + 1) kind (46 ∷ number) inner in
     let same = directory_same c atom w (device_read atom).next r.directory r.directory_is in
@@ -224,8 +224,8 @@ generation_taken c is_catalogue request atom w more at spec directory stored sto
     let number = number_of request.flags.all_generations generation in
     let name_is : lower name ≡ lower row.row.name = name_same ∙ sym row.name_same in
     let kind_is : lower kind ≡ lower row.row.kind = kind_same ∙ sym row.kind_same in
-    let name_size = same_length name row.row.name name_is in
-    let kind_size = same_length kind row.row.kind kind_is in
+    let name_size = length_same name row.row.name name_is in
+    let kind_size = length_same kind row.row.kind kind_is in
     let some = row.form.some in
     let name_short = row.form.name_short in
     let kind_short = row.form.kind_short in
@@ -240,7 +240,7 @@ generation_taken c is_catalogue request atom w more at spec directory stored sto
       kinds = names_same kind row.row.kind kind_is row.form.kinds;
       numbers = number_pattern request.flags.all_generations generation (omega arith);
     } in
-    let paths = all_behind is_path (drop r.directory.next atom) w
+    let paths = all_append_right is_path (drop r.directory.next atom) w
     (subst (λ (text : List ℕ). list_all is_path text ≡ true) (sym cut) (full_path name kind number f)) in
     let colons = none_of_all is_path (λ (byte : ℕ). byte == 58) no_colon_path w paths in
     let brackets = none_of_all is_path (λ (byte : ℕ). byte == 60) no_bracket_path w paths in
@@ -256,7 +256,7 @@ generation_taken c is_catalogue request atom w more at spec directory stored sto
     rw (spec_is, directory_is) refl in
     let taken = run_named is_file (file_of c request.kind request.flags at) atom w more at
     (values.File request.kind (moved_spec at (full_spec (device_read atom) r.directory name kind (meant_by request.flags.all_generations generation))) directory)
-    (all_append is_file atom w files (all_implies is_path is_file file_of_path w paths)) space_no_file decided tt in
+    (all_append is_file atom w files (all_weaker is_path is_file file_of_path w paths)) space_no_file decided tt in
     record { value = taken.value; seen = taken.seen; accepts = taken.accepts; own = taken.own }
 
 -- joins of what is typed and what is put in
@@ -358,7 +358,7 @@ file_sound c is_catalogue request atom bytes more at after read flags wants is =
         (file_ends c request.kind request.flags atom at wants) is
 
     files : list_all is_file atom ≡ true
-    files = all_of_run is_file atom (run_wants is_file (file_of c request.kind request.flags at) atom at wants)
+    files = all_of_prefix_len is_file atom (run_wants is_file (file_of c request.kind request.flags at) atom at wants)
 
     by_number : (spec : Spec) (directory : ℕ) → ReadAs atom spec → Means c request atom spec directory → (place : Span) → spec.kind ≡ Some place
         → drop place.end atom ≡ 46 ∷ []

@@ -8,6 +8,9 @@ use Rattle.std.proofs.lemmas.Bool.Decides.{nat_tests}
 use Rattle.std.proofs.lemmas.List.{drop-append-le, take-append-le, take_all}
 use Rattle.std.proofs.lemmas.List.Folds.{prefix_len-append}
 use Rattle.std.proofs.Math.Seq.{take-append_seam}
+use Rattle.cm_lists.proofs.Bools.{by_test}
+use Rattle.cm_lists.proofs.Elements.{slice_get_at}
+use Rattle.cm_lists.proofs.Prefixes.{all_of_prefix_len, prefix_len_both, prefix_len_drop}
 use Rattle.cm_text.specs.BeginLaws.{begins-le, begins_same, begins_whole, length-whole, lower, same_begins}
 use Rattle.cm_text.specs.Case.{begins_with, equals}
 use Rattle.cm_fields.specs.declared.code.Code.TheVariants.{BadNoise}
@@ -15,13 +18,11 @@ use Rattle.cm_fields.specs.declared.trial.Try.{Try}
 use Rattle.cm_fields.specs.declared.trial.Try.TheVariants.{Accept, Refuse, More}
 use Rattle.cm_fields.specs.declared.value.Value.TheVariants.{Noise, Token}
 use Rattle.cm_fields.specs.Phrase.{is_inside, noise, same_letter, token, typed_noise}
-use Rattle.cm_fields.proofs.Holding.{by_test}
 use Rattle.cm_fields.proofs.Phrases.{token_whole}
 use Rattle.cm_blocks.specs.Fault.{is_parenthesis, is_shown_byte}
 use Rattle.cm_recognise.specs.declared.outcome.Outcome.TheVariants.{Nothing, Whole}
 use Rattle.cm_recognise.specs.Found.{missing}
 use Rattle.cm_recognise.specs.Outcome.{guide, phrase_outcome}
-use Rattle.cm_recognise.proofs.Spans.{all_of_run, run_append, run_of_all, slice_get_seam}
 
 -- what a phrase that begins with the atom is completed by
 pub record Begins (text atom bytes : List ℕ) : Type 0 where
@@ -134,7 +135,7 @@ closed_takes text body more at all begins =
     (let both = prefix_len-append is_inside body (41 ∷ more) in grind (arith, nat_tests)) in
     let other : (length body == length (body ++ 41 ∷ more)) ≡ false =
     (let size = length-append body (41 ∷ more) in grind (arith, nat_tests)) in
-    let byte = slice_get_seam body 41 more in
+    let byte = slice_get_at 41 more body in
     let same : take (length body) (body ++ 41 ∷ more) ≡ body = take-append_seam body (41 ∷ more) in
     rw (run, other, byte, same, begins)
 
@@ -145,13 +146,13 @@ inside_takes : (text inside more : List ℕ) (at : ℕ) → list_all is_inside t
     ≡ Accept (Noise true) (length text + 2)
     (at + (1 + length (inside ++ drop (length inside) (text ++ 41 ∷ []))))
 inside_takes text inside more at plain run begins =
-    let fits = noise_fits text inside (all_of_run is_inside inside run) begins in
+    let fits = noise_fits text inside (all_of_prefix_len is_inside inside run) begins in
     let begin = noise_begins text inside fits begins in
     let body = inside ++ drop (length inside) text in
     let tail = drop-append-le (length inside) text (41 ∷ []) fits in
     let size : length (inside ++ drop (length inside) text) ≡ length text = length-whole text inside begin in
     let all : prefix_len is_inside body ≡ length body =
-    run_append is_inside inside (drop (length inside) text) run (run_of_all is_inside is_inside inside_same (length inside) text plain) in
+    prefix_len_both is_inside inside (drop (length inside) text) run (prefix_len_drop is_inside is_inside inside_same (length inside) text plain) in
     let taken = closed_takes text body more at all (begins_whole text inside begin) in
     let joined : inside ++ ((drop (length inside) text ++ 41 ∷ []) ++ more) ≡ body ++ 41 ∷ more = simp append_assoc in
     let end : length (inside ++ (drop (length inside) text ++ 41 ∷ [])) ≡ length text + 1 =

@@ -6,6 +6,7 @@ use Rattle.std.proofs.lemmas.Bool.{and_parts}
 use Rattle.std.proofs.lemmas.Bool.Decides.{nat_tests}
 use Rattle.std.proofs.lemmas.List.Folds.{prefix_len-append}
 use Rattle.std.proofs.Math.Seq.{take-append_seam}
+use Rattle.cm_lists.proofs.Prefixes.{prefix_len_both, prefix_len_drop}
 use Rattle.cm_text.specs.BeginLaws.{length-whole}
 use Rattle.cm_text.specs.Bytes.{is_blank, is_word}
 use Rattle.cm_tables.specs.declared.entry.Entry.{Entry}
@@ -27,7 +28,6 @@ use Rattle.cm_recognise.specs.declared.outcome.Outcome.TheVariants.{Nothing, Par
 use Rattle.cm_recognise.specs.Found.{missing}
 use Rattle.cm_recognise.specs.Outcome.{entry_outcome, keyword_outcome, switch_outcome, text_at}
 use Rattle.cm_recognise.proofs.Plains.{run_wants, run_whole, space_no_word}
-use Rattle.cm_recognise.proofs.Spans.{run_append, run_of_all}
 use Rattle.cm_recognise.proofs.Texts.{AreKeywords, keywords_of}
 
 -- the entry whose rest these bytes are
@@ -117,12 +117,12 @@ whole_is_entry switch table atom bytes next none words c =
     ap (λ (rest : List ℕ). length (atom ++ rest)) (sym c.bytes_is) ∙ length-whole c.entry.text atom begins in
     let rest : prefix_len is_word bytes ≡ length bytes =
     subst (λ (rest : List ℕ). prefix_len is_word rest ≡ length rest) c.bytes_is
-    (run_of_all is_keyword_byte is_word word_of_keyword (length atom) c.entry.text parts.1) in
+    (prefix_len_drop is_keyword_byte is_word word_of_keyword (length atom) c.entry.text parts.1) in
     let exact : look table (atom ++ bytes) ≡ looks.Exact c.position =
     ap (λ (rest : List ℕ). look table (atom ++ rest)) (sym c.bytes_is)
     ∙ completed_is_exact table atom c.position c.entry none c.found_is c.entry_is in
     let test : (length (atom ++ bytes) == 0) ≡ false = grind (arith, nat_tests) in
-    record { words = run_append is_word atom bytes words rest; means = rw (test, exact) }
+    record { words = prefix_len_both is_word atom bytes words rest; means = rw (test, exact) }
 
 -- a keyword that wants more, completed
 pub key_takes : (table : List Entry) (atom bytes more : List ℕ) (at next : ℕ) → table_fault table ≡ None

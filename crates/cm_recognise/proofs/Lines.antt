@@ -2,9 +2,10 @@
 use Rattle.std.proofs.Common.{◌≡◌, ℕ, ◌+◌, ◌≤◌, ◌==◌, ◌&&◌, Bool, true, false, not, nat_lt, nat_le, List, [], ◌∷◌, ◌++◌, length, drop, map, Option, Some, None, slice_get, refl, suc, arith, length-append, length-drop}
 use Rattle.std.specs.List.{All, flat_map, list_any}
 use Rattle.std.specs.Option.{option_map_or}
-use Rattle.std.proofs.lemmas.Bool.{and_parts}
+use Rattle.std.proofs.lemmas.Bool.{and_parts, cond_both}
 use Rattle.std.proofs.lemmas.Bool.Decides.{nat_tests}
 use Rattle.std.proofs.lemmas.List.Elements.{All-drop}
+use Rattle.cm_lists.proofs.Bools.{cond_each}
 use Rattle.cm_text.specs.Case.{begins_with}
 use Rattle.cm_text.specs.Shown.{shown_byte}
 use Rattle.cm_text.specs.Text.{IsLine}
@@ -16,7 +17,6 @@ use Rattle.cm_tables.specs.Common.{common}
 use Rattle.cm_tables.specs.Look.{has_text, look}
 use Rattle.cm_fields.specs.declared.trial.Try.{Try}
 use Rattle.cm_fields.specs.declared.trial.Try.TheVariants.{Accept, Refuse, More}
-use Rattle.cm_fields.proofs.Holding.{holds_of_choice, of_choice}
 use Rattle.cm_files.specs.declared.flags.Flags.{Flags}
 use Rattle.cm_files.specs.Catalogue.{IsCatalogue}
 use Rattle.cm_hooks.specs.declared.answer.Answer.{Answer}
@@ -43,7 +43,7 @@ use Rattle.cm_recognise.specs.declared.outcome.Outcome.TheVariants.{Nothing, Par
 use Rattle.cm_recognise.specs.Insertion.{asked, at_block, behind, block_put, default_put, first_put, fitted, guide_behind, guide_of, insertion, is_asked, or_put, put_in, bell_only}
 use Rattle.cm_recognise.specs.Found.{missing}
 use Rattle.cm_recognise.specs.Outcome.{by_function, entry_outcome, guide, hook_outcome, keyword_outcome, outcome, phrase_outcome, plain_outcome, switch_outcome}
-use Rattle.cm_recognise.proofs.Shown.{IsShown, directory_outcome_shown, file_shown, user_shown}
+use Rattle.cm_recognise.proofs.ShownBytes.{IsShown, directory_outcome_shown, file_shown, user_shown}
 use Rattle.cm_recognise.proofs.Texts.{AreKeywords, AreShown, AreTyped, common_shown, keywords_of, name_shown, phrase_shown, screen_of_shown, shown_append, shown_drop, table_none, test_of_shown, typed_of_shown, line_append, text_at_shown, line_of_shown}
 
 entry_shown : (colon : Bool) (table : List Entry) (atom : List ℕ) (position : ℕ) → AreKeywords table
@@ -56,18 +56,18 @@ keyword_shown : (switch : Bool) (table : List Entry) (atom : List ℕ) (found : 
     → IsShown (keyword_outcome switch table atom found)
 keyword_shown switch table atom looks.None all = tt
 keyword_shown switch table atom looks.Ambiguous all =
-    of_choice IsShown (has_text table atom) Nothing (Part (common table atom)) tt (common_shown table atom all)
+    cond_each IsShown (has_text table atom) Nothing (Part (common table atom)) tt (common_shown table atom all)
 keyword_shown switch table atom (looks.Abbrev position) all = entry_shown _ table atom position all
 keyword_shown switch table atom (looks.Exact position) all = entry_shown _ table atom position all
 
 switch_shown : (table : List Entry) (atom : List ℕ) → AreKeywords table → IsShown (switch_outcome table atom)
 switch_shown table [] all = tt
 switch_shown table (byte ∷ atom) all =
-    of_choice IsShown (byte == 47) _ Nothing (keyword_shown true table atom (look table atom) all) tt
+    cond_each IsShown (byte == 47) _ Nothing (keyword_shown true table atom (look table atom) all) tt
 
 rest_shown : (text : List ℕ) (next : ℕ) (atom : List ℕ) → AreShown text → IsShown (phrase_outcome text next atom)
 rest_shown text next atom all =
-    of_choice IsShown (begins_with text atom) (Whole (missing text atom) next) Nothing (shown_drop (length atom) text all) tt
+    cond_each IsShown (begins_with text atom) (Whole (missing text atom) next) Nothing (shown_drop (length atom) text all) tt
 
 guide_shown : (text : List ℕ) → AreShown text → AreShown (guide text)
 guide_shown text all = (refl, shown_append text (41 ∷ []) all (refl, tt))
@@ -102,7 +102,7 @@ function_shown s mode (Switch table) flags next atom plain named tables lawful h
 function_shown s mode (Noise text) flags next atom plain named tables lawful has short own =
     rest_shown (guide text) next atom (guide_shown text (noise_shown text has))
 function_shown s mode (Token text) flags next atom plain named tables lawful has short own =
-    of_choice IsShown (length atom == 0) Nothing _ tt (rest_shown text next atom (token_shown text has))
+    cond_each IsShown (length atom == 0) Nothing _ tt (rest_shown text next atom (token_shown text has))
 function_shown s mode Date flags next atom plain named tables lawful has short own = own
 function_shown s mode User flags next atom plain named tables lawful has short own = user_shown s.catalogue named next atom
 function_shown s mode Directory flags next atom plain named tables lawful has short own =
@@ -112,7 +112,7 @@ function_shown s mode InFile flags next atom plain named tables lawful has short
 function_shown s mode AnyFile flags next atom plain named tables lawful has short own =
     file_shown s.catalogue named _ atom plain own
 function_shown s mode (Hook id) flags next atom plain named tables lawful has short own =
-    of_choice IsShown (length atom == 0) Nothing _ tt
+    cond_each IsShown (length atom == 0) Nothing _ tt
     (hook_shown next plain (s.meanings.verdict id) atom (s.meanings.completion id atom) own (lawful.completes id atom short))
 function_shown s mode Number flags next atom plain named tables lawful has short own = own
 function_shown s mode Word flags next atom plain named tables lawful has short own = own
@@ -154,7 +154,7 @@ PutShown (Some insertion) = AreShown insertion.bytes
 
 put_in_shown : (graph : Graph) (outcome : Outcome) → grammar_fault graph ≡ None → IsShown outcome → PutShown (put_in graph outcome)
 put_in_shown graph Nothing none all = tt
-put_in_shown graph (Part bytes) none all = of_choice PutShown (length bytes == 0) None _ tt all
+put_in_shown graph (Part bytes) none all = cond_each PutShown (length bytes == 0) None _ tt all
 put_in_shown graph (Piece bytes) none all = all
 put_in_shown graph (Whole bytes next) none all = shown_append bytes (behind graph next) all (behind_shown graph next none)
 
@@ -166,7 +166,7 @@ block_put_shown : (s : Setting) (mode : Mode) (atom : List ℕ) (at : ℕ) (bloc
     → IsCatalogue s.catalogue → AreTables s.graph.tables → IsLawful s.meanings → length atom ≤ LINE_LIMIT
     → IsWellBlock s.graph block → PutShown (block_put s mode atom at block)
 block_put_shown s mode atom at block none named tables lawful short well =
-    of_choice PutShown (is_asked mode block.function) (put_in s.graph (outcome s mode block atom at)) None
+    cond_each PutShown (is_asked mode block.function) (put_in s.graph (outcome s mode block atom at)) None
     (put_in_shown s.graph _ none (outcome_shown s mode block atom at named tables lawful well.phrase short)) tt
 
 first_put_shown : (s : Setting) (mode : Mode) (atom : List ℕ) (at : ℕ) (blocks : List Block) → grammar_fault s.graph ≡ None
@@ -182,7 +182,7 @@ default_put_shown : (atom : List ℕ) (default : Option (List ℕ)) → option_m
     → PutShown (default_put atom default)
 default_put_shown atom None shown = tt
 default_put_shown atom (Some text) shown =
-    of_choice PutShown (length atom == 0) _ None (shown_append text (32 ∷ []) (phrase_shown text shown) (refl, tt)) tt
+    cond_each PutShown (length atom == 0) _ None (shown_append text (32 ∷ []) (phrase_shown text shown) (refl, tt)) tt
 
 asked_shown : (s : Setting) (mode : Mode) (node : Node) (block : ℕ) (atom : List ℕ) (at : ℕ) → grammar_fault s.graph ≡ None
     → IsCatalogue s.catalogue → AreTables s.graph.tables → IsLawful s.meanings → length atom ≤ LINE_LIMIT
@@ -218,14 +218,13 @@ bell_only_fits size within = omega arith
 fitted_fits : (size : ℕ) (put : Option Insertion) → size ≤ LINE_LIMIT → Fits size (fitted size put)
 fitted_fits size None within = bell_only_fits size within
 fitted_fits size (Some insertion) within =
-    holds_of_choice (Fits size) (nat_le (size + length insertion.bytes) LINE_LIMIT) insertion bell_only
-    (λ fits. grind (arith, nat_tests)) (λ full. bell_only_fits size within)
+    cond_both (nat_le (size + length insertion.bytes) LINE_LIMIT) insertion bell_only (Fits size) (λ fits. grind (arith, nat_tests)) (λ full. bell_only_fits size within)
 
 insertion_fits : (s : Setting) (ends : Ending) (line : List ℕ) (mode : Mode) → length line ≤ LINE_LIMIT
     → Fits (length line) (insertion s ends line mode)
 unfolding insertion
 insertion_fits s (ending.Open place) line mode within =
-    of_choice (Fits (length line)) (nat_lt (length line) LINE_LIMIT && nat_le place.at (length line)) _ bell_only
+    cond_each (Fits (length line)) (nat_lt (length line) LINE_LIMIT && nat_le place.at (length line)) _ bell_only
     (fitted_fits (length line) (at_block s mode line place.at place.block (slice_get s.graph.nodes place.node)) within)
     (bell_only_fits (length line) within)
 insertion_fits s ending.Done line mode within = bell_only_fits (length line) within
@@ -238,20 +237,18 @@ IsShownPut insertion = AreShown insertion.bytes
 fitted_shown : (size : ℕ) (put : Option Insertion) → PutShown put → IsShownPut (fitted size put)
 fitted_shown size None all = tt
 fitted_shown size (Some insertion) all =
-    of_choice IsShownPut (nat_le (size + length insertion.bytes) LINE_LIMIT) insertion bell_only all tt
+    cond_each IsShownPut (nat_le (size + length insertion.bytes) LINE_LIMIT) insertion bell_only all tt
 
 pub insertion_shown : (s : Setting) (ends : Ending) (line : List ℕ) (mode : Mode) → grammar_fault s.graph ≡ None
     → IsCatalogue s.catalogue → AreTables s.graph.tables → IsLawful s.meanings
     → AreShown (insertion s ends line mode).bytes
 unfolding insertion
 insertion_shown s (ending.Open place) line mode none named tables lawful =
-    holds_of_choice IsShownPut (nat_lt (length line) LINE_LIMIT && nat_le place.at (length line)) _ bell_only
-    (λ room.
+    cond_both (nat_lt (length line) LINE_LIMIT && nat_le place.at (length line)) _ bell_only IsShownPut (λ room.
     let size = length-drop place.at line in
     let short : length (drop place.at line) ≤ LINE_LIMIT = grind (arith, nat_tests) in
     fitted_shown (length line) (at_block s mode line place.at place.block (slice_get s.graph.nodes place.node))
-    (at_block_shown s mode line place.at place.block place.node none named tables lawful short))
-    (λ full. tt)
+    (at_block_shown s mode line place.at place.block place.node none named tables lawful short)) (λ full. tt)
 insertion_shown s ending.Done line mode none named tables lawful = tt
 insertion_shown s (ending.Fault fault) line mode none named tables lawful = tt
 

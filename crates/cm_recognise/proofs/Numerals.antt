@@ -1,33 +1,18 @@
 -- The decimal digits of a generation mean it.
-use Rattle.std.proofs.Common.{◌≡◌, ℕ, ◌+◌, ◌%◌, ◌^◌, ◌<◌, ◌≤◌, true, false, ◌==◌, List, [], ◌∷◌, ◌++◌, length, decimal, Some, arith, ◌∙◌}
+use Rattle.std.proofs.Common.{◌≡◌, ℕ, ◌<◌, ◌≤◌, true, false, ◌==◌, List, [], ◌∷◌, length, decimal, Some, arith}
 use Rattle.std.specs.Char.{is_ascii_digit, to_ascii_lowercase}
 use Rattle.std.specs.List.{list_all}
 use Rattle.std.specs.Str.Parse.{digits_value}
-use Rattle.std.proofs.lemmas.Bool.{and_from, and_parts}
+use Rattle.std.proofs.lemmas.Bool.{and_parts}
 use Rattle.std.proofs.lemmas.Bool.Decides.{nat_tests}
-use Rattle.std.proofs.lemmas.Fmt.{decimal_by_steps, decimal_is_IsNumeral, length-decimal-le}
-use Rattle.std.proofs.lemmas.List.Folds.{list_all-append}
+use Rattle.std.proofs.lemmas.Fmt.{decimal_is_IsNumeral}
+use Rattle.cm_lists.proofs.Bools.{by_test}
+use Rattle.cm_lists.proofs.Digits.{decimal_digits}
+use Rattle.cm_tables.proofs.FoundLemmas.{lower_same}
 use Rattle.cm_text.specs.Case.{equals}
 use Rattle.cm_fields.specs.declared.value.Gen.TheVariants as generations
-use Rattle.cm_fields.proofs.Holding.{by_test}
 use Rattle.cm_files.specs.declared.generation.TheConstants.{GENERATION_LIMIT}
 use Rattle.cm_files.specs.Spec.{generation_of, numbered}
-use Rattle.cm_recognise.proofs.Lowered.{equals_same}
-
-abbrev are_digits : List ℕ → Type 0
-are_digits text = list_all is_ascii_digit text ≡ true
-
-one_digit : (n : ℕ) → n < 10 → are_digits ((48 + n) ∷ [])
-one_digit n low = grind (arith, nat_tests)
-
-more_digits : (n : ℕ) (text : List ℕ) → 10 ≤ n → are_digits text → are_digits (text ++ ((48 + n % 10) ∷ []))
-more_digits n text high all =
-    let last = one_digit (n % 10) (omega arith) in
-    list_all-append is_ascii_digit text ((48 + n % 10) ∷ [])
-    ∙ and_from (list_all is_ascii_digit text) (list_all is_ascii_digit ((48 + n % 10) ∷ [])) all last
-
-pub decimal_digits : (n : ℕ) → n < 2 ^ 64 → list_all is_ascii_digit (decimal n) ≡ true
-decimal_digits = decimal_by_steps (λ n text. are_digits text) one_digit more_digits
 
 -- digits are no text that begins with a mark
 no_mark : (digit : ℕ) (text : List ℕ) (mark : ℕ) (rest : List ℕ) → is_ascii_digit digit ≡ true → mark < 48
@@ -35,7 +20,7 @@ no_mark : (digit : ℕ) (text : List ℕ) (mark : ℕ) (rest : List ℕ) → is_
 no_mark digit text mark rest is low =
     by_test _ (equals (digit ∷ text) (mark ∷ rest))
     (λ same.
-    let letters = equals_same (digit ∷ text) (mark ∷ rest) same in
+    let letters = lower_same (digit ∷ text) (mark ∷ rest) same in
     let first : to_ascii_lowercase digit ≡ to_ascii_lowercase mark = cc in
     absurd (grind (arith, nat_tests)))
     (λ differs. differs)
@@ -60,7 +45,3 @@ pub decimal_means : (n : ℕ) → 0 < n → n ≤ GENERATION_LIMIT → generatio
 decimal_means n low most =
     let numeral = decimal_is_IsNumeral n (omega arith) in
     digits_mean (decimal n) n numeral.0.0 (decimal_digits n (omega arith)) numeral.1 low most
-
--- a number of 32 bits has at most 10 digits
-pub decimal_fits : (n : ℕ) → n < 2 ^ 32 → length (decimal n) ≤ 10
-decimal_fits n small = length-decimal-le 10 n (omega arith) (omega arith) (omega arith)

@@ -6,6 +6,7 @@ use Rattle.std.specs.Str.Parse.{digits_value}
 use Rattle.std.proofs.lemmas.Bool.Decides.{nat_tests}
 use Rattle.std.proofs.lemmas.List.Folds.{prefix_len-append}
 use Rattle.std.proofs.Math.Seq.{take-append_seam}
+use Rattle.cm_lists.proofs.Bools.{by_test, cond_each}
 use Rattle.cm_text.specs.Bytes.{is_name, is_word}
 use Rattle.cm_text.specs.declared.name.TheConstants.{NAME_LIMIT}
 use Rattle.cm_dates.specs.Date.{date, date_of, dated, month_of}
@@ -24,8 +25,7 @@ use Rattle.cm_fields.specs.Quoted.{quoted}
 use Rattle.cm_fields.specs.Run.{number, number_of, word, word_of}
 use Rattle.cm_fields.specs.Text.{is_inside, text_field, text_of}
 use Rattle.cm_fields.specs.Try.{by_run, said, span}
-use Rattle.cm_fields.proofs.Holding.{by_test, of_choice}
-use Rattle.cm_fields.proofs.Quoting.{IsQuoted, QuotedAt, quoted_ends}
+use Rattle.cm_fields.proofs.QuotedTexts.{IsQuoted, QuotedAt, quoted_ends}
 use Rattle.cm_files.specs.declared.flags.Flags.{Flags}
 use Rattle.cm_files.specs.declared.spec.SpecFault.{SpecFault}
 use Rattle.cm_files.specs.Catalogue.{Catalogue}
@@ -95,14 +95,14 @@ run_ends is_part decide rest at outside own is =
 number_own : (run : List ℕ) → IsOwnIfOk (number_of run)
 unfolding number_of
 number_own run =
-    of_choice IsOwnIfOk (nat_lt 0 (length run) && list_all is_ascii_digit run) _ (Err BadNumber)
-    (of_choice IsOwnIfOk (nat_le (digits_value 10 run) NUMBER_LIMIT) (Ok (values.Number (digits_value 10 run))) (Err NumberRange) tt tt) tt
+    cond_each IsOwnIfOk (nat_lt 0 (length run) && list_all is_ascii_digit run) _ (Err BadNumber)
+    (cond_each IsOwnIfOk (nat_le (digits_value 10 run) NUMBER_LIMIT) (Ok (values.Number (digits_value 10 run))) (Err NumberRange) tt tt) tt
 
 word_own : (at : ℕ) (run : List ℕ) → IsOwnIfOk (word_of at run)
 unfolding word_of
 word_own at run =
-    of_choice IsOwnIfOk (length run == 0) (Err NoField) _ tt
-    (of_choice IsOwnIfOk (nat_le (length run) NAME_LIMIT) (Ok (values.Word (span at (length run)))) (Err FieldLong) tt tt)
+    cond_each IsOwnIfOk (length run == 0) (Err NoField) _ tt
+    (cond_each IsOwnIfOk (nat_le (length run) NAME_LIMIT) (Ok (values.Word (span at (length run)))) (Err FieldLong) tt tt)
 
 date_own : (run : List ℕ) → IsOwnIfOk (date_of run)
 date_own run = by (date_of run) (run_is_date run)
@@ -127,7 +127,7 @@ judged_own id No = tt
 
 hook_own : (verdict : ℕ → List ℕ → Answer) (id : ℕ) (run : List ℕ) → IsOwnIfOk (hook_of verdict id run)
 unfolding hook_of
-hook_own verdict id run = of_choice IsOwnIfOk (length run == 0) (Err NoField) _ tt (judged_own id (verdict id run))
+hook_own verdict id run = cond_each IsOwnIfOk (length run == 0) (Err NoField) _ tt (judged_own id (verdict id run))
 
 pub space_no_word : is_word 32 ≡ false
 unfolding is_word

@@ -1,8 +1,10 @@
 -- The rows of a directory have their forms.
-use Rattle.std.proofs.Common.{◌≡◌, ℕ, ◌<◌, ◌≤◌, Bool, true, false, ◌&&◌, ◌==◌, nat_lt, nat_le, cond, if◌then◌else◌, List, [], ◌∷◌, length, filter, Some, None, refl, arith}
+use Rattle.std.proofs.Common.{◌≡◌, ℕ, ◌<◌, ◌≤◌, Bool, true, false, ◌&&◌, ◌==◌, nat_lt, nat_le, if◌then◌else◌, List, length, Some, None, refl, arith}
 use Rattle.std.specs.List.{list_all, list_any}
-use Rattle.std.proofs.lemmas.Bool.{and_from, and_parts}
+use Rattle.std.proofs.lemmas.Bool.{and_parts}
 use Rattle.std.proofs.lemmas.Bool.Decides.{nat_tests}
+use Rattle.cm_lists.proofs.Quantifiers.{all_filter}
+use Rattle.cm_tables.proofs.FoundLemmas.{lower_same}
 use Rattle.cm_text.specs.declared.name.TheConstants.{NAME_LIMIT}
 use Rattle.cm_text.specs.BeginLaws.{lower}
 use Rattle.cm_text.specs.Bytes.{is_name}
@@ -11,8 +13,8 @@ use Rattle.cm_files.specs.declared.row.FileRow.{FileRow}
 use Rattle.cm_files.specs.Catalogue.{Catalogue, IsCatalogue, is_row, is_upper_name, rows_of}
 use Rattle.cm_files.specs.Selection.{agree}
 use Rattle.cm_recognise.specs.Found.{generation_like, highest}
-use Rattle.cm_recognise.proofs.Coming.{Comes, highest_comes}
-use Rattle.cm_recognise.proofs.Lowered.{equals_same, upper_names}
+use Rattle.cm_recognise.proofs.Sources.{Comes, highest_comes}
+use Rattle.cm_recognise.proofs.LetterCase.{upper_names}
 
 pub record RowForm (row : FileRow) : Type 0 where
   pub some : 0 < length row.name
@@ -47,16 +49,6 @@ row_form directories row is =
       most = grind (arith, nat_tests);
     }
 
-all_filter : (test keep : FileRow → Bool) (rows : List FileRow) → list_all test rows ≡ true → list_all test (filter keep rows) ≡ true
-all_filter test keep [] all = refl
-all_filter test keep (row ∷ rows) all =
-    let both = and_parts (test row) (list_all test rows) all in by (keep row) both.0 (all_filter test keep rows both.1)
-  where
-    by : (kept : Bool) → test row ≡ true → list_all test (filter keep rows) ≡ true
-        → list_all test (cond kept (row ∷ filter keep rows) (filter keep rows)) ≡ true
-    by true here rest = and_from (test row) (list_all test (filter keep rows)) here rest
-    by false here rest = rest
-
 pub rows_form : (c : Catalogue) → IsCatalogue c → (directory : ℕ) → list_all (is_row (length c.directories)) (rows_of c directory) ≡ true
 rows_form c is_catalogue directory =
     all_filter (is_row (length c.directories)) (λ (row : FileRow). row.directory == directory) c.rows is_catalogue.rows_within
@@ -89,8 +81,8 @@ highest_row c is_catalogue directory deleted name kind generation is =
           row = comes.x;
           form = row_form (length c.directories) comes.x (comes.all (is_row (length c.directories)) (rows_form c is_catalogue directory));
           marked = first.0;
-          name_same = equals_same comes.x.name name second.0;
-          kind_same = equals_same comes.x.kind kind second.1;
+          name_same = lower_same comes.x.name name second.0;
+          kind_same = lower_same comes.x.kind kind second.1;
           generation_same = same;
           any = comes.any;
         }

@@ -13,9 +13,9 @@ use Rattle.cm_recognise.specs.declared.outcome.Outcome.{Outcome}
 use Rattle.cm_recognise.specs.declared.outcome.Outcome.TheVariants.{Nothing, Part, Piece, Whole}
 use Rattle.cm_recognise.specs.FileOutcome.{as_piece, behind_kind, behind_name, generation_step, kind_step, name_step}
 use Rattle.cm_recognise.specs.Found.{found_kinds, found_names, highest, kind_like, missing, name_like}
-use Rattle.cm_recognise.proofs.Coming.{found_comes}
-use Rattle.cm_recognise.proofs.Completing.{listed_of}
-use Rattle.cm_recognise.proofs.Lowered.{completed_lower}
+use Rattle.cm_recognise.proofs.Sources.{found_comes}
+use Rattle.cm_recognise.proofs.Completions.{listed_of}
+use Rattle.cm_recognise.proofs.LetterCase.{completed_lower}
 
 -- what stands for the generation
 abbrev pub number_of : Bool → ℕ → List ℕ

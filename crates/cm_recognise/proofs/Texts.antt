@@ -4,6 +4,8 @@ use Rattle.std.specs.List.{AllByRecursion, enumerate_from, flat_map, list_all, r
 use Rattle.std.specs.Option.{option_map_or}
 use Rattle.std.proofs.lemmas.Bool.{and_parts}
 use Rattle.std.proofs.lemmas.Bool.Decides.{nat_tests}
+use Rattle.cm_lists.proofs.Bools.{cond_each}
+use Rattle.cm_lists.proofs.Quantifiers.{AllByRecursion-append, AllByRecursion-drop}
 use Rattle.cm_text.specs.Bytes.{is_line_byte, is_name, is_text, is_word}
 use Rattle.cm_text.specs.Case.{begins_with}
 use Rattle.cm_text.specs.Shown.{join_shown, shown_byte}
@@ -14,9 +16,8 @@ use Rattle.cm_tables.specs.Common.{AllBeginWith, common, rests, shared}
 use Rattle.cm_tables.specs.Look.{is_recognised}
 use Rattle.cm_tables.specs.Order.{is_keyword, is_keyword_byte, table_fault, texts_fault}
 use Rattle.cm_tables.proofs.FoundLemmas.{keyword_of, no-texts_fault}
-use Rattle.cm_tables.proofs.SharingLemmas.{common_is_shared}
+use Rattle.cm_tables.proofs.ShareLemmas.{common_is_shared}
 use Rattle.cm_tables.proofs.WithinLemmas.{both-none}
-use Rattle.cm_fields.proofs.Holding.{of_choice}
 use Rattle.cm_blocks.specs.Fault.{is_shown, is_shown_byte}
 use Rattle.cm_blocks.specs.Grammar.{Graph}
 use Rattle.cm_blocks.specs.Trial.{table_of}
@@ -35,27 +36,17 @@ AreTyped bytes = AllByRecursion (λ byte. is_text byte ≡ true) bytes
 abbrev pub AreShown : List ℕ → Type 0
 AreShown bytes = AllByRecursion (λ byte. is_shown_byte byte ≡ true) bytes
 
-pub all_append : (P : ℕ → Type 0) (text more : List ℕ) → AllByRecursion P text → AllByRecursion P more
-    → AllByRecursion P (text ++ more)
-all_append P [] more first second = second
-all_append P (byte ∷ text) more first second = (first.0, all_append P text more first.1 second)
-
-pub all_drop : (P : ℕ → Type 0) (size : ℕ) (text : List ℕ) → AllByRecursion P text → AllByRecursion P (drop size text)
-all_drop P zero text all = all
-all_drop P (suc size) [] all = tt
-all_drop P (suc size) (byte ∷ text) all = all_drop P size text all.1
-
 pub line_append : (text more : List ℕ) → AreLineBytes text → AreLineBytes more → AreLineBytes (text ++ more)
-line_append = all_append (λ byte. is_line_byte byte ≡ true)
+line_append = AllByRecursion-append (λ byte. is_line_byte byte ≡ true)
 
 pub line_drop : (size : ℕ) (text : List ℕ) → AreLineBytes text → AreLineBytes (drop size text)
-line_drop = all_drop (λ byte. is_line_byte byte ≡ true)
+line_drop = AllByRecursion-drop (λ byte. is_line_byte byte ≡ true)
 
 pub shown_append : (text more : List ℕ) → AreShown text → AreShown more → AreShown (text ++ more)
-shown_append = all_append (λ byte. is_shown_byte byte ≡ true)
+shown_append = AllByRecursion-append (λ byte. is_shown_byte byte ≡ true)
 
 pub shown_drop : (size : ℕ) (text : List ℕ) → AreShown text → AreShown (drop size text)
-shown_drop = all_drop (λ byte. is_shown_byte byte ≡ true)
+shown_drop = AllByRecursion-drop (λ byte. is_shown_byte byte ≡ true)
 
 pub shown_take : (size : ℕ) (text : List ℕ) → AreShown text → AreShown (take size text)
 shown_take zero text all = tt
@@ -142,7 +133,7 @@ rests_shown : (entries : List Entry) (position : ℕ) (atom : List ℕ) → AreK
     (filter (λ (e : ℕ × Entry). is_recognised e.1.flag && begins_with e.1.text atom) (enumerate_from position entries)))
 rests_shown [] position atom all = tt
 rests_shown (entry ∷ more) position atom all =
-    of_choice (λ (found : List (ℕ × Entry)). AllByRecursion AreShown (map (λ (e : ℕ × Entry). drop (length atom) e.1.text) found))
+    cond_each (λ (found : List (ℕ × Entry)). AllByRecursion AreShown (map (λ (e : ℕ × Entry). drop (length atom) e.1.text) found))
     (is_recognised entry.flag && begins_with entry.text atom) _ _
     (shown_drop (length atom) entry.text (keyword_shown entry.text all.0), rests_shown more (position + 1) atom all.1)
     (rests_shown more (position + 1) atom all.1)

@@ -5,7 +5,7 @@ use crate::Bytes;
 use cm_text::decimal_digits;
 
 /// The decimal digits of a number, with no zero before them.
-#[tactic(auto, using(crate::proofs::Numerals::decimal_fits))]
+#[tactic(auto, using(cm_lists::proofs::Digits::decimal_fits_ten))]
 pub(crate) fn decimal(number: u32) -> Bytes
     ensures value { result ≡ decimal number }
     ensures short { length result ≤ 10 }

@@ -66,7 +66,7 @@ fn with_directory<N: Names>(found: Found, names: &N, i: u16, typed: &[u8]) -> Fo
 }
 
 /// What the directories say that begin with what is typed.
-#[tactic(auto, using(crate::proofs::Gathering::gather_next, crate::proofs::Gathering::gather_past))]
+#[tactic(auto, using(crate::proofs::Gathers::gather_next, crate::proofs::Gathers::gather_past))]
 pub(crate) fn found_directories<N: Names>(names: &N, typed: &[u8]) -> Found
     ensures value { result ≡ found_directories (N.catalogue names.now) typed.now }
     ensures short { IsFound result }
@@ -102,7 +102,7 @@ fn with_user<N: Names>(found: Found, names: &N, i: u16, typed: &[u8]) -> Found
 }
 
 /// What the users say that begin with what is typed.
-#[tactic(auto, using(crate::proofs::Gathering::gather_next, crate::proofs::Gathering::gather_past))]
+#[tactic(auto, using(crate::proofs::Gathers::gather_next, crate::proofs::Gathers::gather_past))]
 pub(crate) fn found_users<N: Names>(names: &N, typed: &[u8]) -> Found
     ensures value { result ≡ found_users (N.catalogue names.now) typed.now }
     ensures short { IsFound result }
@@ -141,7 +141,7 @@ fn with_name<N: Names>(
 
 /// What the names of the files of a directory say that begin with what is typed; of those that are marked deleted, or
 /// of the others.
-#[tactic(auto, using(crate::proofs::Gathering::gather_next, crate::proofs::Gathering::gather_past))]
+#[tactic(auto, using(crate::proofs::Gathers::gather_next, crate::proofs::Gathers::gather_past))]
 pub(crate) fn found_names<N: Names>(names: &N, directory: u16, deleted: bool, typed: &[u8]) -> Found
     requires { directory < length (N.catalogue names.now).directories }
     ensures value { result ≡ found_names (rows_of (N.catalogue names.now) directory) deleted typed.now }
@@ -181,7 +181,7 @@ fn with_kind<N: Names>(
 }
 
 /// What the types of the files of one name say that begin with what is typed.
-#[tactic(auto, using(crate::proofs::Gathering::gather_next, crate::proofs::Gathering::gather_past))]
+#[tactic(auto, using(crate::proofs::Gathers::gather_next, crate::proofs::Gathers::gather_past))]
 pub(crate) fn found_kinds<N: Names>(
     names: &N,
     directory: u16,
@@ -236,7 +236,7 @@ fn with_generation<N: Names>(
 }
 
 /// The highest generation of the files of one name and type, which are marked deleted or are not.
-#[tactic(auto, using(crate::proofs::Gathering::gather_next, crate::proofs::Gathering::gather_past))]
+#[tactic(auto, using(crate::proofs::Gathers::gather_next, crate::proofs::Gathers::gather_past))]
 pub(crate) fn highest<N: Names>(
     names: &N,
     directory: u16,

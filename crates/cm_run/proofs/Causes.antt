@@ -2,6 +2,7 @@
 use Rattle.std.specs.Prelude.{Bool, true, false, List, [], ◌∷◌, length, ◌<◌, ◌+◌}
 use Rattle.std.proofs.Common.{arith, ◌≡◌, ◌≤◌, ℕ, refl, ap, sym, subst, ◌∙◌}
 use Rattle.std.specs.Prelude.{Result, Ok, Err}
+use Rattle.cm_lists.proofs.Pieces.{length_of_cons}
 use Rattle.cm_io.specs.Fault.{Rose, next_count}
 use Rattle.cm_run.specs.declared.stop.Stop.{Stop}
 use Rattle.cm_run.specs.declared.stop.Stop.TheVariants as stop
@@ -99,14 +100,11 @@ within limit before now ended stop.Memory a b most cause = most
 within limit before now ended stop.Keys a b most cause = absurd cause
 within limit before now ended stop.Limit a b most cause = absurd cause
 
-one_more : (keys left : List ℕ) (key : ℕ) → keys ≡ key ∷ left → length keys ≡ length left + 1
-one_more keys left key first = ap length first ∙ (omega arith)
-
 -- where a key is cut short
 pub count_cut : (limit before turn : ℕ) (keys left : List ℕ) (key : ℕ) (ended : Bool) (why : Stop) (a b : Counts) → before ≡ length keys + turn → turn < limit → keys ≡ key ∷ left
     → StrokeCause a b (Err why) → KeyCount limit before (length left) ended (Err why)
 count_cut limit before turn keys left key ended why a b taken below first cause =
-    let as_many : length keys ≡ length left + 1 = one_more keys left key first in
+    let as_many : length keys ≡ length left + 1 = length_of_cons keys left key first in
     within limit before (length left) ended why a b (omega arith) cause
 
 -- where the first prompt is
@@ -115,19 +113,12 @@ count_prompt limit before screen screen' log ended why cause =
     within limit before before ended why (counts screen log 0) (counts screen' log 0) (omega arith)
     (acts_cause 0 screen screen screen' log log (Err why) cause refl refl)
 
--- one key more is taken
-pub count_more : (before turn : ℕ) (keys left : List ℕ) (key : ℕ) → before ≡ length keys + turn → keys ≡ key ∷ left → before ≡ length left + (turn + 1)
-count_more before turn keys left key taken first = let as_many : length keys ≡ length left + 1 = one_more keys left key first in omega arith
-
 pub counts_same : (screen screen' log log' keys keys' : ℕ) → screen' ≡ screen → log' ≡ log → keys' ≡ keys → counts screen' log' keys' ≡ counts screen log keys
 counts_same screen screen' log log' keys keys' a b c = cc
 
 -- one get a turn was asked, and no more turns than the limit says
 pub asked_more : (before gets now turn : ℕ) → gets ≤ before + turn → now ≡ next_count gets → now ≤ before + (turn + 1)
 asked_more before gets now turn few is = omega (arith, few, is)
-
-pub asked_within : (limit before gets turn : ℕ) → gets ≤ before + turn → turn ≤ limit → gets ≤ before + limit
-asked_within limit before gets turn few most = omega (arith, few, most)
 
 pub asked_last : (limit before gets now turn : ℕ) → gets ≤ before + turn → turn < limit → now ≡ next_count gets
     → now ≤ before + limit

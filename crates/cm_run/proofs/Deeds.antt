@@ -5,7 +5,7 @@ use Rattle.std.specs.List.{flat_map}
 use Rattle.std.proofs.lemmas.List.{append-nil}
 use Rattle.std.proofs.lemmas.Grind.{flat_map-append}
 use Rattle.cm_io.specs.Told.{Told, add}
-use Rattle.cm_io.proofs.Adding.{add_none, add_append}
+use Rattle.cm_io.proofs.Additions.{add_none, add_append}
 use Rattle.cm_run.specs.declared.stop.Stop.{Stop}
 use Rattle.cm_run.specs.declared.stop.Stop.TheVariants as stop
 use Rattle.cm_run.specs.Event.{Screen, Memory, Act}
@@ -14,7 +14,7 @@ use Rattle.cm_run.specs.Cut.{MemoryCut, ScreenCut, Traces}
 use Rattle.cm_run.specs.Meaning.{Deed}
 use Rattle.cm_run.specs.Obey.{Obeys, Stage, behind, left_by, replies, stage}
 use Rattle.cm_run.specs.Trace.{deed_trace, deeds_trace, events_if}
-use Rattle.cm_run.proofs.Joining.{performs_both, performs_none}
+use Rattle.cm_run.proofs.Joins.{performs_both, performs_none}
 
 module _ {S : Type 0} (log : Told) (keys : List ℕ) (gets : ℕ) (moments : List ℕ) (trials : ℕ) where
   -- what is observed where only the screen and the state change

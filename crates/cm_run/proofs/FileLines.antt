@@ -3,7 +3,7 @@ use Rattle.std.proofs.Common.{◌≡◌, ℕ, ◌+◌, List, [], ◌∷◌, refl
 use Rattle.std.specs.Prelude.{None, Result}
 use Rattle.cm_text.specs.Text.{finished}
 use Rattle.cm_io.specs.Told.{Told}
-use Rattle.cm_io.proofs.Adding.{add_none}
+use Rattle.cm_io.proofs.Additions.{add_none}
 use Rattle.cm_line.specs.declared.key.KeyClass.TheVariants.{End}
 use Rattle.cm_blocks.specs.Setting.{Setting}
 use Rattle.cm_state.specs.Edit.{edited_as}
@@ -17,7 +17,7 @@ use Rattle.cm_run.specs.Meaning.{Deed}
 use Rattle.cm_run.specs.Obey.{Obeys, stage}
 use Rattle.cm_run.specs.Trace.{deeds_trace}
 use Rattle.cm_run.proofs.Deeds.{deeds_traces}
-use Rattle.cm_run.proofs.Joining.{traces_both}
+use Rattle.cm_run.proofs.Joins.{traces_both}
 
 -- a line of a command file, finished, is the text of the session that has read it
 pub file_text : (s : Setting) (node : ℕ) (line : List ℕ) → text_of (edited_as s (record (at_start node Main None) { line = line }) End 13) ≡ finished line

@@ -23,7 +23,7 @@ use Rattle.cm_run.specs.Meaning.{Meaning, setting_of}
 use Rattle.cm_run.specs.Obey.{Obeys, stage}
 use Rattle.cm_run.specs.Trace.{RunState, deeds_trace, line_stroke, moment_at, line_start, opening, outcome_trace, raw_log, raw_stroke, run_state, step_by, step_of, stroke_trace, turn_outcome}
 use Rattle.cm_run.proofs.Deeds.{deeds_traces}
-use Rattle.cm_run.proofs.Joining.{traces_cut, traces_on}
+use Rattle.cm_run.proofs.Joins.{traces_cut, traces_on}
 use Rattle.cm_run.proofs.Strokes.{logged_if, stroke_log_cut, stroke_on, stroke_screen_cut}
 
 -- a key leaves the node at which the line begins

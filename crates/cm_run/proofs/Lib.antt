@@ -1,27 +1,29 @@
-mod Beginning
+pub mod Acts
 pub mod Causes
-mod Counting
-pub mod Cutting
+mod CommandLines
+mod Counts
+pub mod Course
+pub mod Cuts
 pub mod Deeds
+pub mod Displays
+pub mod Echoes
 mod FileLines
 pub mod Fileless
-pub mod Joining
-pub mod Keeping
+mod FirstPrompt
+pub mod Joins
 mod Keys
 mod LawLemmas
 pub mod LineEnds
 pub mod LineTurns
 mod Lines
+mod Memory
+pub mod MemoryEvents
 mod Modes
-pub mod Obeying
-mod Opening
-mod Outcomes
+mod MomentLaws
+pub mod Outcomes
 pub mod Prefixes
-pub mod Progressing
+pub mod Progress
 mod Rows
-mod Running
 pub mod Screens
-pub mod Showing
-mod Sparing
+pub mod ShownBytes
 mod Strokes
-mod Waiting

@@ -1,5 +1,5 @@
 -- What a key of a line leaves of the application.
-use Rattle.std.proofs.Common.{◌≡◌, ℕ, Bool, true, false, List, [], ◌∷◌, ◌++◌, refl, sym, ap, ◌∙◌}
+use Rattle.std.proofs.Common.{◌≡◌, ℕ, true, false, refl, ap, ◌∙◌}
 use Rattle.std.proofs.lemmas.List.Sums.{fold-append}
 use Rattle.cm_line.specs.declared.key.KeyClass.{KeyClass}
 use Rattle.cm_line.specs.declared.key.KeyClass.TheVariants.{End, Stop}
@@ -19,7 +19,7 @@ use Rattle.cm_run.specs.Idle.{IsIdle, turn_at}
 use Rattle.cm_run.specs.Keeping.{is_line}
 use Rattle.cm_run.specs.Meaning.{Meaning, setting_of}
 use Rattle.cm_run.specs.Obey.{left_by}
-use Rattle.cm_run.specs.Trace.{RunState, Stroke, deeds_trace, file_trace, line_stroke, line_trace, moment_at, raw_stroke, step, step_by, step_of, stroke, stroke_by, turn_outcome}
+use Rattle.cm_run.specs.Trace.{RunState, Stroke, deeds_trace, file_trace, line_stroke, line_trace, moment_at, raw_stroke, step, step_by, step_of, stroke_by, turn_outcome}
 use Rattle.cm_run.proofs.Screens.{state-deeds}
 
 -- only an End key confirms a line

@@ -1,8 +1,8 @@
 -- What a key comes to behind its echo and its log line.
 use Rattle.std.proofs.Common.{◌≡◌, ℕ, List, [], ◌∷◌, ◌++◌, refl, ap, sym, subst, ◌∙◌, arith}
-use Rattle.std.specs.Prelude.{Bool, true, false, Result, Ok, Err}
+use Rattle.std.specs.Prelude.{Bool, true, false, Result, Ok, Err, Some}
 use Rattle.cm_io.specs.Told.{Told}
-use Rattle.cm_io.proofs.Adding.{add_none}
+use Rattle.cm_io.proofs.Additions.{add_none}
 use Rattle.cm_state.specs.SessionState.{SessionState}
 use Rattle.cm_state.specs.declared.turn.Turn.TheVariants as turn
 use Rattle.cm_blocks.specs.declared.field.Fault.{Fault}
@@ -10,12 +10,13 @@ use Rattle.cm_run.specs.declared.stop.Stop.{Stop}
 use Rattle.cm_run.specs.Event.{Act, Moment, state_behind}
 use Rattle.cm_run.specs.Observed.{Observed, Performs, observed}
 use Rattle.cm_run.specs.Cut.{Traces}
+use Rattle.cm_run.specs.SingleLine.{handed_trace}
 use Rattle.cm_run.specs.Meaning.{Meaning}
 use Rattle.cm_run.specs.Obey.{Obeys, stage}
-use Rattle.cm_run.specs.Trace.{line_trace, deeds_trace, events_if, file_trace, moment_at, moments_later, line_start, opening, outcome_trace, run_state, step_of, takes_moment, turn_outcome}
+use Rattle.cm_run.specs.Trace.{line_by, line_trace, deeds_trace, events_if, file_line_trace, file_trace, moment_at, moments_later, line_start, opening, outcome_trace, run_state, step_of, takes_moment, turn_outcome}
 use Rattle.cm_run.specs.declared.engine.TheConstants.{FILE_LINES}
 use Rattle.cm_run.proofs.Deeds.{deeds_traces}
-use Rattle.cm_run.proofs.Joining.{performs_none, traces_both, traces_cut, traces_none, traces_on}
+use Rattle.cm_run.proofs.Joins.{performs_none, traces_both, traces_cut, traces_none, traces_on}
 
 module _ {S : Type 0} (m : Meaning S) (log : Told) (keys : List ℕ) (gets : ℕ) (moments : List ℕ) where
   -- a line that is confirmed acts, and takes the lines of its files
@@ -43,8 +44,30 @@ module _ {S : Type 0} (m : Meaning S) (log : Told) (keys : List ℕ) (gets : ℕ
       (file_trace m FILE_LINES moment (state_behind state acts)) why
       (deeds_traces log keys gets moments trials (m.line_deeds state session moment) screen screen' state state' (Err why) obeys)
 
+  -- a line that is handed in acts, and takes the lines of its files
+  pub handed_on : (screen screen' : Told) (trials trials' moment : ℕ) (line : List ℕ) (state state' : S) (value : Unit) (b : Observed S) (result : Result Unit Stop)
+      → Traces (observed screen' log keys gets moments trials' state') b (file_trace m FILE_LINES moment state') result
+      → Traces (observed screen log keys gets moments trials state) (observed screen' log keys gets moments trials' state')
+      (file_line_trace m moment state (line_by (m.mode_of state) (Some line))) (Ok value)
+      → Traces (observed screen log keys gets moments trials state) b (handed_trace m moment state line) result
+  unfolding handed_trace Traces Performs
+  handed_on screen screen' trials trials' moment line state state' value b result more first =
+      let events = file_line_trace m moment state (line_by (m.mode_of state) (Some line)) in
+      traces_on (observed screen log keys gets moments trials state) (observed screen' log keys gets moments trials' state') b events
+      (file_trace m FILE_LINES moment (state_behind state events)) value result
+      (subst (λ s. Traces (observed screen' log keys gets moments trials' state') b (file_trace m FILE_LINES moment s) result) first.state more) first
+
+  -- or is cut
+  pub handed_cut : (moment : ℕ) (line : List ℕ) (a b : Observed S) (state : S) (why : Stop)
+      → Traces a b (file_line_trace m moment state (line_by (m.mode_of state) (Some line))) (Err why)
+      → Traces a b (handed_trace m moment state line) (Err why)
+  unfolding handed_trace
+  handed_cut moment line a b state why cut =
+      let events = file_line_trace m moment state (line_by (m.mode_of state) (Some line)) in
+      traces_cut a b events (file_trace m FILE_LINES moment (state_behind state events)) why cut
+
   -- a moment is taken, or none
-  moment_taken : (takes : Bool) (screen : Told) (trials : ℕ) (state : S)
+  pub moment_taken : (takes : Bool) (screen : Told) (trials : ℕ) (state : S)
       → Performs (observed screen log keys gets moments trials state) (observed screen log keys gets (moments_later takes moments) trials state) (events_if takes (Moment ∷ []))
   unfolding Performs
   moment_taken true screen trials state = record {
@@ -107,7 +130,7 @@ module _ {S : Type 0} (m : Meaning S) (log : Told) (keys : List ℕ) (gets : ℕ
       (sym later) (moment_taken (takes_moment (m.mode_of state)) screen trials state))
 
   -- an act that shows nothing
-  acted : (screen : Told) (trials : ℕ) (state left : S) → Performs (observed screen log keys gets moments trials state) (observed screen log keys gets moments trials left) (Act left ∷ [])
+  pub acted : (screen : Told) (trials : ℕ) (state left : S) → Performs (observed screen log keys gets moments trials state) (observed screen log keys gets moments trials left) (Act left ∷ [])
   unfolding Performs
   acted screen trials state left = record {
     screen = sym (add_none screen);

@@ -72,7 +72,7 @@ module _ {S : Type 0} where
     keys_of_stroke at key mode.Ended = keys_of_deeds _
 
     -- a key that is taken takes no other
-    keys_of_key : (logging : Bool) (at : RunState S) (key : ℕ) → flat_map event_key (key_trace m logging at key) ≡ []
+    pub keys_of_key : (logging : Bool) (at : RunState S) (key : ℕ) → flat_map event_key (key_trace m logging at key) ≡ []
     unfolding stroke_trace outcome_trace
     keys_of_key logging at key =
         let s = stroke m at key in

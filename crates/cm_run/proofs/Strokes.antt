@@ -3,7 +3,7 @@ use Rattle.std.proofs.Common.{◌≡◌, ℕ, ◌+◌, Bool, true, false, List, 
 use Rattle.std.specs.Prelude.{Result, Err}
 use Rattle.std.proofs.lemmas.List.{append-nil}
 use Rattle.cm_io.specs.Told.{Told, AddsPart, add}
-use Rattle.cm_io.proofs.Adding.{add_none}
+use Rattle.cm_io.proofs.Additions.{add_none}
 use Rattle.cm_run.specs.declared.stop.Stop.{Stop}
 use Rattle.cm_run.specs.declared.stop.Stop.TheVariants as stop
 use Rattle.cm_run.specs.Event.{Trials, Screen, Log}
@@ -11,7 +11,7 @@ use Rattle.cm_run.specs.Observed.{Observed, Performs, observed}
 use Rattle.cm_run.specs.Cut.{LogCut, ScreenCut, Traces}
 use Rattle.cm_run.specs.Meaning.{Meaning}
 use Rattle.cm_run.specs.Trace.{Stroke, events_if, outcome_trace, stroke_trace}
-use Rattle.cm_run.proofs.Joining.{performs_both, performs_none, traces_both}
+use Rattle.cm_run.proofs.Joins.{performs_both, performs_none, traces_both}
 
 -- the log behind a line that is put where there is a log
 abbrev pub logged_if : Bool → Told → List ℕ → Told

@@ -1,9 +1,12 @@
 pub mod Cause
 pub mod Cut
 pub mod Event
+pub mod SingleLine
 pub mod Idle
 pub mod Keeping
+pub mod LastKey
 pub mod Meaning
+pub mod Moments
 pub mod Obey
 pub mod Observed
 pub mod Progress

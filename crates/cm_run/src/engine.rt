@@ -1,8 +1,9 @@
 // The run over the keys.
-ghost use Rattle.std.specs.Prelude.{◌≡◌, ◌≢◌, ◌≤◌, ◌+◌, ◌++◌, List, ℕ, Err, false, length, IsTrue};
+ghost use Rattle.std.specs.Prelude.{◌≡◌, ◌≢◌, ◌≤◌, ◌+◌, ◌++◌, List, ℕ, Err, Ok, false, length, IsTrue};
 ghost use Rattle.cm_run.specs.Cause.{KeyCount, RunCause, counts};
 ghost use Rattle.cm_run.specs.Cut.{Traces};
 ghost use Rattle.cm_run.specs.Meaning.{IsSparing, setting_of};
+ghost use Rattle.cm_run.specs.Moments.{RunsTo};
 ghost use Rattle.cm_run.specs.Observed.{observed};
 ghost use Rattle.cm_run.specs.Progress.{MeetSound};
 ghost use Rattle.cm_run.specs.Ready.{Serves};
@@ -54,6 +55,10 @@ pub fn run<A: Application, K: Source, S: Sink, W: Sink, C: Clock, L: Ledger>(
     // How many keys were taken.
     ensures count { IsTrue K.tells → KeyCount limit (length (K.left keys.old)) (length (K.left keys.new))
         (is_ended (A.means.mode_of app.new)) result }
+    // Where it went to its end, the keys that were taken lead to the state that is left, at the moments given:
+    // also where the clock does not tell them.
+    ensures leads { IsTrue K.tells → result ≡ Ok tt
+        → RunsTo A.means app.old app.new (K.left keys.old) (K.left keys.new) }
     // Without a log nothing is put on it.
     ensures quiet { logging ≡ false → (W.told log.new ≡ W.told log.old) × (W.faults log.new ≡ W.faults log.old) }
     // What each key that was taken met is sound.

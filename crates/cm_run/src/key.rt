@@ -1,5 +1,5 @@
 // What one key of a run does.
-ghost use Rattle.std.specs.Prelude.{◌≡◌, ◌≢◌, Err, ◌≤◌, ◌+◌, ℕ, List, None, Ok, IsTrue, true, false};
+ghost use Rattle.std.specs.Prelude.{◌≡◌, ◌≢◌, Err, ◌+◌, ℕ, List, None, Ok, IsTrue, true, false};
 ghost use Rattle.cm_io.specs.Fault.{PutCause};
 ghost use Rattle.cm_io.specs.Told.{Adds, Told};
 ghost use Rattle.cm_io.specs.Writer.{Writes};
@@ -16,6 +16,7 @@ ghost use Rattle.cm_state.specs.Turn.{put_of, turn_of};
 ghost use Rattle.cm_run.specs.Cause.{ObeyCause, StrokeCause, counts};
 ghost use Rattle.cm_run.specs.Cut.{Traces};
 ghost use Rattle.cm_run.specs.Meaning.{IsLineAt, IsSparing, setting_of};
+ghost use Rattle.cm_run.specs.Moments.{Leads};
 ghost use Rattle.cm_run.specs.Observed.{observed};
 ghost use Rattle.cm_run.specs.Ready.{IsAtLine, IsReadyIn, ServesWell};
 ghost use Rattle.cm_run.specs.Trace.{key_trace, line_stroke, moment_at, moments_later, outcome_trace, raw_log, raw_mark, raw_stroke, run_state, step, step_by, step_of, stroke_trace, takes_moment, turn_outcome};
@@ -50,9 +51,9 @@ pub(crate) fn handle_key<A: Application, S: Sink, W: Sink, C: Clock, L: Ledger>(
         (key_trace A.means logging (run_state session.old app.old (C.left clock.old)) key) result }
     ensures next { IsTrue C.tells → result ≡ Ok tt → run_state session.new app.new (C.left clock.new)
         ≡ step A.means (run_state session.old app.old (C.left clock.old)) key }
+    ensures leads { result ≡ Ok tt → Leads (λ moments. step A.means (run_state session.old app.old moments) key)
+        session.new app.new }
     ensures ready { result ≡ Ok tt → IsReadyIn A.means app.new session.new }
-    ensures screen_later { S.faults screen.old ≤ S.faults screen.new }
-    ensures log_later { W.faults log.old ≤ W.faults log.new }
     ensures quiet { logging ≡ false → (W.told log.new ≡ W.told log.old) × (W.faults log.new ≡ W.faults log.old) }
     ensures cause { (keys : ℕ) → StrokeCause (counts (S.faults screen.old) (W.faults log.old) keys)
         (counts (S.faults screen.new) (W.faults log.new) keys) result }
@@ -91,9 +92,9 @@ fn handle_line_key<A: Application, S: Sink, W: Sink, C: Clock, L: Ledger>(
     ensures next { IsTrue C.tells → result ≡ Ok tt → run_state session.new app.new (C.left clock.new)
         ≡ step_by A.means (run_state session.old app.old (C.left clock.old))
         (line_stroke A.means (run_state session.old app.old (C.left clock.old)) key) }
+    ensures leads { result ≡ Ok tt → Leads (λ moments. step_by A.means (run_state session.old app.old moments)
+        (line_stroke A.means (run_state session.old app.old moments) key)) session.new app.new }
     ensures ready { result ≡ Ok tt → IsReadyIn A.means app.new session.new }
-    ensures screen_later { S.faults screen.old ≤ S.faults screen.new }
-    ensures log_later { W.faults log.old ≤ W.faults log.new }
     ensures quiet { logging ≡ false → (W.told log.new ≡ W.told log.old) × (W.faults log.new ≡ W.faults log.old) }
     ensures cause { (keys : ℕ) → StrokeCause (counts (S.faults screen.old) (W.faults log.old) keys)
         (counts (S.faults screen.new) (W.faults log.new) keys) result }
@@ -131,7 +132,6 @@ fn edit_line<A: Application, S: Sink, L: Ledger>(
         → result ≡ turn_of (class_at (met_line session.old) key) session.new.ending }
     ensures bytes { Adds (S.told screen.old) (S.told screen.new)
         (echo (setting_of A.means app.now) session.old key) (put_of result) }
-    ensures later { S.faults screen.old ≤ S.faults screen.new }
     ensures cause { PutCause (S.faults screen.old) (S.faults screen.new) (put_of result) }
     ensures steps { steps.new ≡ steps.old
         + cost (setting_of A.means app.now) session.old.node (met_line session.old) (text_of session.new) }
@@ -144,7 +144,6 @@ fn log_line<R: Rules, W: Sink>(logging: bool, key: u8, session: &Session<R>, log
     ensures bytes { logging ≡ true → Adds (W.told log.old) (W.told log.new) (log_line key session.now) result }
     ensures nothing { logging ≡ false → result ≡ Put.Done }
     ensures quiet { logging ≡ false → (W.told log.new ≡ W.told log.old) × (W.faults log.new ≡ W.faults log.old) }
-    ensures later { W.faults log.old ≤ W.faults log.new }
     ensures cause { PutCause (W.faults log.old) (W.faults log.new) result }
 {
     if logging {
@@ -179,8 +178,9 @@ fn finish_key<A: Application, S: Sink, C: Clock, L: Ledger>(
     ensures next { IsTrue C.tells → result ≡ Ok tt → run_state session.new app.new (C.left clock.new)
         ≡ step_of A.means session.old app.old (C.left clock.old) (turn_outcome A.means app.old session.old
         (moment_at A.means app.old (C.left clock.old)) turn) }
+    ensures leads { result ≡ Ok tt → Leads (λ moments. step_of A.means session.old app.old moments
+        (turn_outcome A.means app.old session.old (moment_at A.means app.old moments) turn)) session.new app.new }
     ensures ready { result ≡ Ok tt → IsReadyIn A.means app.new session.new }
-    ensures later { S.faults screen.old ≤ S.faults screen.new }
     ensures cause { ObeyCause (S.faults screen.old) (S.faults screen.new) result }
     ensures spares { IsSparing A.means → result ≢ Err Stop.Memory }
 {
@@ -204,6 +204,7 @@ fn moment_of<A: Application, C: Clock>(app: &A, clock: &mut C) -> u64
     ensures moment { IsTrue C.tells → result ≡ moment_at A.means app.now (C.left clock.old) }
     ensures later { IsTrue C.tells → C.left clock.new
         ≡ moments_later (takes_moment (A.means.mode_of app.now)) (C.left clock.old) }
+    ensures none { takes_moment (A.means.mode_of app.now) ≡ false → result ≡ 0 }
 {
     match app.mode() {
         Mode::Line { takes_moment, .. } => { if takes_moment { clock.now() } else { 0 } }
@@ -235,8 +236,10 @@ fn act<A: Application, S: Sink, C: Clock, L: Ledger>(
     ensures next { IsTrue C.tells → result ≡ Ok tt → run_state session.new app.new (C.left clock.new)
         ≡ step_of A.means session.old app.old (C.left clock.old) (turn_outcome A.means app.old session.old
         (moment_at A.means app.old (C.left clock.old)) Turn.Confirmed) }
+    ensures leads { result ≡ Ok tt → Leads (λ moments. step_of A.means session.old app.old moments
+        (turn_outcome A.means app.old session.old (moment_at A.means app.old moments) Turn.Confirmed))
+        session.new app.new }
     ensures ready { result ≡ Ok tt → IsReadyIn A.means app.new session.new }
-    ensures later { S.faults screen.old ≤ S.faults screen.new }
     ensures cause { ObeyCause (S.faults screen.old) (S.faults screen.new) result }
     ensures spares { IsSparing A.means → result ≢ Err Stop.Memory }
 {
@@ -248,7 +251,7 @@ fn act<A: Application, S: Sink, C: Clock, L: Ledger>(
 }
 
 // Takes a raw key: shows what it does, logs it, and does it.
-#[tactic(auto, using(crate::proofs::Causes::acts_cause, crate::proofs::Causes::echo_cause, crate::proofs::Causes::log_cause, crate::proofs::Causes::obey_cause_on, crate::proofs::Sparing::acts_spare), unfolding(crate::specs::Cause::ObeyCause))]
+#[tactic(auto, using(crate::proofs::Causes::acts_cause, crate::proofs::Causes::echo_cause, crate::proofs::Causes::log_cause, crate::proofs::Causes::obey_cause_on, crate::proofs::Memory::acts_spare), unfolding(crate::specs::Cause::ObeyCause))]
 fn handle_raw_key<A: Application, S: Sink, W: Sink>(
     logging: bool,
     key: u8,
@@ -266,8 +269,6 @@ fn handle_raw_key<A: Application, S: Sink, W: Sink>(
         ≡ step_by A.means (run_state session.old app.old moments)
         (raw_stroke A.means (run_state session.old app.old moments) key) }
     ensures ready { result ≡ Ok tt → IsReadyIn A.means app.new session.new }
-    ensures screen_later { S.faults screen.old ≤ S.faults screen.new }
-    ensures log_later { W.faults log.old ≤ W.faults log.new }
     ensures quiet { logging ≡ false → (W.told log.new ≡ W.told log.old) × (W.faults log.new ≡ W.faults log.old) }
     ensures cause { (keys : ℕ) → StrokeCause (counts (S.faults screen.old) (W.faults log.old) keys)
         (counts (S.faults screen.new) (W.faults log.new) keys) result }
@@ -290,7 +291,6 @@ fn log_raw<W: Sink>(logging: bool, key: u8, log: &mut W) -> Put
     ensures bytes { logging ≡ true → Adds (W.told log.old) (W.told log.new) (raw_log key) result }
     ensures nothing { logging ≡ false → result ≡ Put.Done }
     ensures quiet { logging ≡ false → (W.told log.new ≡ W.told log.old) × (W.faults log.new ≡ W.faults log.old) }
-    ensures later { W.faults log.old ≤ W.faults log.new }
     ensures cause { PutCause (W.faults log.old) (W.faults log.new) result }
 {
     if logging {
@@ -302,7 +302,6 @@ fn log_raw<W: Sink>(logging: bool, key: u8, log: &mut W) -> Put
 
 fn put_raw_log<W: Sink>(key: u8, log: &mut W) -> Put
     ensures bytes { Adds (W.told log.old) (W.told log.new) (raw_log key) result }
-    ensures later { W.faults log.old ≤ W.faults log.new }
     ensures cause { PutCause (W.faults log.old) (W.faults log.new) result }
 {
     let mut out = Writer::new(log);

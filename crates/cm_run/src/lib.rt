@@ -11,6 +11,7 @@ mod line;
 pub mod line_laws;
 mod mode;
 mod no_clock;
+mod single_line;
 mod stop;
 
 pub use application::Application;
@@ -19,4 +20,5 @@ pub use engine::{FILE_LINES, run};
 pub use line::run_lines;
 pub use mode::Mode;
 pub use no_clock::NoClock;
+pub use single_line::run_line;
 pub use stop::Stop;

@@ -22,7 +22,7 @@ use cm_state::Session;
 use std::sync::ledger::Ledger;
 
 /// Begins the next line, if the next key is for one: shows its prompt.
-#[tactic(auto, using(crate::proofs::Opening::shows_whole, crate::proofs::Opening::shows_part, crate::proofs::Joining::traces_none), unfolding(crate::specs::Ready::IsReadyIn, crate::specs::Cause::ObeyCause))]
+#[tactic(auto, using(crate::proofs::ShownBytes::shows_whole, crate::proofs::ShownBytes::shows_part, crate::proofs::Joins::traces_none), unfolding(crate::specs::Ready::IsReadyIn, crate::specs::Cause::ObeyCause))]
 pub(crate) fn open_line<A: Application, S: Sink>(
     app: &A,
     session: &mut Session<A::Rules>,
@@ -59,9 +59,9 @@ fn has_line<A: Application>(app: &A) -> bool
     }
 }
 
-// Parses a line of a command file, from the node at which a typed line would begin.
+/// Parses a line of a command file, from the node at which a typed line would begin.
 #[tactic(auto, using(crate::proofs::FileLines::file_text, crate::proofs::FileLines::file_node))]
-fn parse_line<A: Application, L: Ledger>(
+pub(crate) fn parse_line<A: Application, L: Ledger>(
     app: &A,
     node: u16,
     line: &[u8],
@@ -84,7 +84,7 @@ fn parse_line<A: Application, L: Ledger>(
 }
 
 // Takes a line of a command file, if one is next: parses it under the state that it finds, and does what it comes to.
-#[tactic(auto, using(crate::proofs::Joining::traces_none, crate::proofs::FileLines::line_traces, crate::proofs::Sparing::acts_spare), unfolding(crate::specs::Cause::ObeyCause))]
+#[tactic(auto, using(crate::proofs::Joins::traces_none, crate::proofs::FileLines::line_traces, crate::proofs::Memory::acts_spare), unfolding(crate::specs::Cause::ObeyCause))]
 fn take_line<A: Application, S: Sink, L: Ledger>(
     app: &mut A,
     grammar: &Grammar,
@@ -113,7 +113,7 @@ fn take_line<A: Application, S: Sink, L: Ledger>(
 }
 
 // Takes the lines of command files that wait, one after the other.
-#[tactic(auto, using(crate::proofs::Waiting::files_over, crate::proofs::Waiting::files_full, crate::proofs::Waiting::files_more, crate::proofs::Waiting::files_cut, crate::proofs::Running::ahead_first, crate::proofs::Causes::obey_cause_on), unfolding(crate::specs::Cause::ObeyCause))]
+#[tactic(auto, using(crate::proofs::CommandLines::files_over, crate::proofs::CommandLines::files_full, crate::proofs::CommandLines::files_more, crate::proofs::CommandLines::files_cut, crate::proofs::Course::ahead_first, crate::proofs::Causes::obey_cause_on), unfolding(crate::specs::Cause::ObeyCause))]
 fn take_lines<A: Application, S: Sink, L: Ledger>(
     app: &mut A,
     grammar: &Grammar,
@@ -167,7 +167,7 @@ pub fn run_lines<A: Application, S: Sink, L: Ledger>(
 }
 
 /// Does what a confirmed line commands, and then takes the lines of the command files that it names.
-#[tactic(auto, using(crate::proofs::Outcomes::confirmed_on, crate::proofs::Outcomes::confirmed_cut, crate::proofs::Causes::obey_cause_on, crate::proofs::Sparing::acts_spare), unfolding(crate::specs::Cause::ObeyCause))]
+#[tactic(auto, using(crate::proofs::Outcomes::confirmed_on, crate::proofs::Outcomes::confirmed_cut, crate::proofs::Causes::obey_cause_on, crate::proofs::Memory::acts_spare), unfolding(crate::specs::Cause::ObeyCause))]
 pub(crate) fn confirm_line<A: Application, S: Sink, L: Ledger>(
     app: &mut A,
     session: &Session<A::Rules>,

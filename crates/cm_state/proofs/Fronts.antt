@@ -4,6 +4,7 @@ use Rattle.std.proofs.lemmas.Bool.Decides.{nat_tests}
 use Rattle.std.proofs.lemmas.List.{length-take}
 use Rattle.std.proofs.lemmas.List.Sums.{common_prefix_len-le}
 use Rattle.std.specs.Option.{option_map_or}
+use Rattle.cm_lists.proofs.Numbers.{eq_itself}
 use Rattle.cm_text.specs.Text.{ends_in_hyphen, finished, joined}
 use Rattle.cm_text.specs.declared.text.TheConstants.{JOIN, LINE_LIMIT}
 use Rattle.cm_line.specs.declared.key.KeyClass.{KeyClass}
@@ -15,25 +16,21 @@ use Rattle.cm_blocks.specs.Kept.{common}
 use Rattle.cm_state.specs.Edit.{edit}
 use Rattle.cm_state.specs.Front.{front}
 
--- a byte is itself
-same_byte : (byte : ℕ) → (byte == byte) ≡ true
-same_byte byte = grind (arith, nat_tests)
-
 -- a line and what is longer than it begin alike with the whole line
 pub common_longer : (line more : List ℕ) → common line (line ++ more) ≡ length line
 common_longer [] more = refl
-common_longer (byte ∷ line) more = rw (same_byte byte) (let later = common_longer line more in omega (arith, later))
+common_longer (byte ∷ line) more = rw (eq_itself byte) (let later = common_longer line more in omega (arith, later))
 
 common_same : (line : List ℕ) → common line line ≡ length line
 common_same [] = refl
-common_same (byte ∷ line) = rw (same_byte byte) (let later = common_same line in omega (arith, later))
+common_same (byte ∷ line) = rw (eq_itself byte) (let later = common_same line in omega (arith, later))
 
 -- a line and a prefix of it begin alike with the prefix
 common_prefix : (size : ℕ) (line : List ℕ) → common line (take size line) ≡ length (take size line)
 common_prefix zero [] = refl
 common_prefix zero (byte ∷ line) = refl
 common_prefix (suc size) [] = refl
-common_prefix (suc size) (byte ∷ line) = rw (same_byte byte)
+common_prefix (suc size) (byte ∷ line) = rw (eq_itself byte)
     (let later = common_prefix size line in omega (arith, later))
 
 -- the front that stays: what a key leaves of the line
@@ -71,7 +68,7 @@ common_join zero (byte ∷ []) all ends = let differs : (byte == JOIN) ≡ false
 common_join zero (byte ∷ next ∷ line) all ends = absurd (omega (arith, all))
 common_join (suc size) [] all ends = absurd (omega (arith, all))
 common_join (suc size) (byte ∷ line) all ends =
-    rw (same_byte byte) (let later = common_join size line (omega (arith, all)) ends in omega (arith, later))
+    rw (eq_itself byte) (let later = common_join size line (omega (arith, all)) ends in omega (arith, later))
 
 join_stays : (line : List ℕ) → ends_in_hyphen line ≡ true → min (length line - 1) (length (joined line)) ≡ common line (joined line)
 join_stays line ends =

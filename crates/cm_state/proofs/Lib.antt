@@ -1,9 +1,11 @@
-mod Editing
+mod Edits
+pub mod Branches
 mod Fronts
 pub mod Lines
-mod Logging
+mod Logs
 mod Rest
 mod Roles
 mod ScreenLines
-mod Stacking
-mod Starting
+mod Stacks
+mod Starts
+pub mod Ways

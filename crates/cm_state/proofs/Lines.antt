@@ -3,6 +3,7 @@ use Rattle.std.proofs.Common.{◌≡◌, ℕ, zero, suc, ◌-◌, Bool, true, fa
 use Rattle.std.specs.List.{AllByRecursion}
 use Rattle.std.proofs.lemmas.Bool.Decides.{nat_tests}
 use Rattle.std.proofs.lemmas.List.{length-take}
+use Rattle.cm_lists.proofs.Bools.{cond_each}
 use Rattle.cm_text.specs.Bytes.{is_line_byte, is_text}
 use Rattle.cm_text.specs.declared.text.TheConstants.{JOIN, LINE_LIMIT}
 use Rattle.cm_text.specs.Text.{IsLine, joined}
@@ -12,7 +13,6 @@ use Rattle.cm_line.specs.declared.key.KeyClass.TheVariants.{Text, End, Join, Rub
 use Rattle.cm_line.specs.Keys.{class_at, is_end}
 use Rattle.cm_line.specs.Word.{word_start}
 use Rattle.cm_line.proofs.ClassLaws.{text_at}
-use Rattle.cm_fields.proofs.Holding.{of_choice}
 use Rattle.cm_files.specs.Catalogue.{IsCatalogue}
 use Rattle.cm_hooks.specs.Meanings.{IsLawful}
 use Rattle.cm_blocks.specs.declared.field.Ending.{Ending}
@@ -137,7 +137,7 @@ pub edited_restorable_is_line : (s : Setting) → grammar_fault s.graph ≡ None
     → IfSome held.restorable IsLine → IfSome (edited s held key).restorable IsLine
 unfolding edited_as
 edited_restorable_is_line s none named tables lawful held key is restorable =
-    of_choice (λ (restorable : Option (List ℕ)). IfSome restorable IsLine) (is_end (class_at (met_line held) key)) _ None
+    cond_each (λ (restorable : Option (List ℕ)). IfSome restorable IsLine) (is_end (class_at (met_line held) key)) _ None
     (before_is_line (edited s held key).line _ (edited_is_line s none named tables lawful held key is restorable)) tt
 
 -- control-H has a line to bring back behind a finished one alone, so that the next key meets an empty one

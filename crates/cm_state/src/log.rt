@@ -180,7 +180,7 @@ fn make_room<S: Sink>(page: &mut Page, out: &mut Writer<'_, S>)
 }
 
 // Puts the fields behind what the page has. The last of them stay on it.
-#[tactic(auto, using(crate::proofs::Logging::no_fields, crate::proofs::Logging::field_more))]
+#[tactic(auto, using(crate::proofs::Logs::no_fields, crate::proofs::Logs::field_more))]
 pub(crate) fn put_fields<S: Sink>(fields: &Stack, page: &mut Page, out: &mut Writer<'_, S>)
     requires { length page.old < PAGE_LIMIT }
     ensures left { Left S.Sink out.old out.new page.new (page.old ++ fields_log fields.now) }

@@ -461,7 +461,7 @@ impl<R: Rules> Session<R> {
     }
 
     // Puts the line of the log.
-    #[tactic(auto, using(crate::proofs::Logging::line_put))]
+    #[tactic(auto, using(crate::proofs::Logs::line_put))]
     fn put_log<S: Sink>(&self, key: u8, out: &mut Writer<'_, S>)
         ensures { Writes S.Sink out.old out.new (log_line key self.now) }
     {

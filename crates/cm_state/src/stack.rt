@@ -92,7 +92,7 @@ impl Stack {
     }
 
     // The node that follows the last, or the one from which the first is sought.
-    #[tactic(auto, using(crate::proofs::Stacking::node_of_last))]
+    #[tactic(auto, using(crate::proofs::Stacks::node_of_last))]
     pub(crate) fn node_behind(&self, start: u16) -> u16
         ensures { result ≡ node_behind start self.now }
     {
@@ -103,7 +103,7 @@ impl Stack {
     }
 
     // The place behind the last.
-    #[tactic(auto, using(crate::proofs::Stacking::place_of_last))]
+    #[tactic(auto, using(crate::proofs::Stacks::place_of_last))]
     pub(crate) fn place_behind(&self) -> usize
         ensures { result ≡ place_behind 0 self.now }
     {

@@ -18,7 +18,7 @@ pub(crate) struct Judges;
 impl Rules for Judges {
     ghost use Rattle.std.specs.Prelude.{◌==◌, [], ◌∷◌, refl};
     ghost use Rattle.cm_text.specs.Bytes.{is_name, is_word};
-    ghost use Rattle.cm_fields.proofs.Holding.{of_choice};
+    ghost use Rattle.cm_lists.proofs.Bools.{cond_each};
     ghost use Rattle.cm_hooks.specs.declared.answer.Tail.TheVariants as tails;
     ghost use Rattle.cm_hooks.specs.Meanings.{Completes};
     ghost use Rattle.cm_state_tests.specs.Judges.{completion, help, verdict};
@@ -30,7 +30,7 @@ impl Rules for Judges {
     } };
 
     ghost lawful = { unfold is_name in unfold is_word in record {
-      completes = λ id atom short. of_choice (Completes (verdict id) atom) (id == 1) _ _ refl tt;
+      completes = λ id atom short. cond_each (Completes (verdict id) atom) (id == 1) _ _ refl tt;
     } };
 }
 

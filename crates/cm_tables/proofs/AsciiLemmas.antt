@@ -2,11 +2,11 @@
 use Rattle.std.proofs.Common.{◌≡◌, ℕ, zero, suc, ◌+◌, ◌<◌, Bool, true, false, cond, ◌&&◌, List, [], ◌∷◌, length, drop, map, arith}
 use Rattle.std.specs.List.{AllByRecursion, fold, list_all, reduce}
 use Rattle.std.specs.Option.{unwrap_or}
-use Rattle.std.specs.Str.{IsAscii, IsUtf8}
+use Rattle.std.specs.Str.{IsAscii}
 use Rattle.std.proofs.lemmas.Bool.{and_parts}
 use Rattle.std.proofs.lemmas.Bool.Decides.{nat_tests}
 use Rattle.std.proofs.lemmas.Str.Ascii.{IsAscii-nil}
-use Rattle.std.proofs.lemmas.Str.{IsAscii-drop, IsAscii-take, IsUtf8-from_ascii}
+use Rattle.std.proofs.lemmas.Str.{IsAscii-drop, IsAscii-take}
 use Rattle.cm_text.specs.Case.{begins_with}
 use Rattle.cm_tables.specs.Common.{common, rests, shared}
 use Rattle.cm_tables.specs.Look.{is_recognised}
@@ -55,7 +55,3 @@ least_is_ascii (text ∷ others) all = shared_is_ascii text others all.0
 pub common_is_ascii : (table : List Entry) (atom : List ℕ) → Ascends table → IsAscii (common table atom)
 unfolding common
 common_is_ascii table atom up = least_is_ascii (rests table atom) (rests_are_ascii 0 table atom up)
-
--- and ASCII bytes are a text
-pub text_of_ascii : (bytes : List ℕ) → IsAscii bytes → IsUtf8 bytes
-text_of_ascii bytes are = IsUtf8-from_ascii bytes are

@@ -25,15 +25,15 @@ use Rattle.cm_tables.specs.declared.table.TableFault.TheVariants.{TooMany, BadTe
 use Rattle.cm_tables.proofs.WithinLemmas.{both-none, no-targets_fault}
 
 -- texts that are one are the same without the case of their letters
-lower_same : (text other : List ℕ) → equals text other ≡ true → lower text ≡ lower other
+pub lower_same : (text other : List ℕ) → equals text other ≡ true → lower text ≡ lower other
 unfolding equals
 lower_same text other equal = (bytes_eq-Decides _ _).0 equal
 
-same_lower : (text other : List ℕ) → lower text ≡ lower other → equals text other ≡ true
+pub same_lower : (text other : List ℕ) → lower text ≡ lower other → equals text other ≡ true
 unfolding equals
 same_lower text other same = (bytes_eq-Decides _ _).1 same
 
-length_same : (text other : List ℕ) → lower text ≡ lower other → length text ≡ length other
+pub length_same : (text other : List ℕ) → lower text ≡ lower other → length text ≡ length other
 length_same text other same =
     sym (length-map text to_ascii_lowercase) ∙ ap length same ∙ length-map other to_ascii_lowercase
 

@@ -1,9 +1,9 @@
 pub mod AsciiLemmas
 pub mod CommonLemmas
 pub mod FoundLemmas
-pub mod Listing
+pub mod ListedEntries
 pub mod PlaceLaws
 mod SearchLemmas
-pub mod SharingLemmas
+pub mod ShareLemmas
 pub mod StartLaws
 pub mod WithinLemmas

@@ -2,14 +2,17 @@
 use Rattle.std.proofs.Common.{◌≡◌, ℕ, Bool, zero, suc, ◌<◌, ◌≤◌, true, false, List, [], ◌∷◌, length, length-take, get_or, take, drop, arith, refl, sym, subst, ◌∙◌}
 use Rattle.std.specs.Char.{to_ascii_lowercase}
 use Rattle.std.specs.Cmp.Lexicographic.{slice_cmp}
-use Rattle.std.specs.List.{AllByRecursion, AllWithin, list_all}
+use Rattle.std.specs.List.{list_all}
 use Rattle.std.specs.List.Sorted.{IsNonDecreasingBy, IsPartitionedBy, IsPartitionPoint}
-use Rattle.std.specs.Ordering.{is_eq, is_lt, nat_cmp, ordering_index, ordering_then}
+use Rattle.std.specs.Ordering.{is_eq, nat_cmp, ordering_index, ordering_then}
 use Rattle.std.specs.declared.cmp.Ordering.{Ordering}
 use Rattle.std.specs.declared.cmp.Ordering.TheVariants.{Less, Equal, Greater}
 use Rattle.std.proofs.lemmas.Bool.{and_parts}
 use Rattle.std.proofs.lemmas.Bool.Decides.{nat_tests}
 use Rattle.std.proofs.lemmas.List.{take-append-drop}
+use Rattle.cm_lists.proofs.Numbers.{nat_cmp_equal}
+use Rattle.cm_lists.proofs.Orders.{is_lt_by_index, lt_is_not_eq, ordering_index_then_less, ordering_index_then_same}
+use Rattle.cm_lists.proofs.Quantifiers.{AllByRecursion-at, AllByRecursion-drop_within, AllByRecursion-take, AllByRecursion_then}
 use Rattle.cm_text.specs.Case.{begins_with, equals}
 use Rattle.cm_tables.specs.Order.{is_keyword, is_keyword_byte}
 use Rattle.cm_tables.specs.Search.{Ascends, IsFrom, is_below, place}
@@ -19,38 +22,6 @@ use Rattle.cm_tables.specs.declared.entry.Entry.{Entry}
 pub keeps_order : (byte other : ℕ) → is_keyword_byte byte ≡ true → is_keyword_byte other ≡ true
     → nat_cmp (to_ascii_lowercase byte) (to_ascii_lowercase other) ≡ nat_cmp byte other
 keeps_order byte other first second = grind (arith, nat_tests)
-
-up_to : (order : Ordering) → ordering_index order ≤ 2
-up_to Less = omega arith
-up_to Equal = omega arith
-up_to Greater = omega arith
-
--- numbers that are compared with a third
-less_index : (x y z : ℕ) (p q : Ordering) → nat_cmp x y ≡ Less
-    → ordering_index (ordering_then (nat_cmp x z) p) ≤ ordering_index (ordering_then (nat_cmp y z) q)
-less_index x y z p q less = by (nat_cmp x z) refl (nat_cmp y z) refl
-  where
-    by : (first : Ordering) → nat_cmp x z ≡ first → (second : Ordering) → nat_cmp y z ≡ second
-        → ordering_index (ordering_then first p) ≤ ordering_index (ordering_then second q)
-    by Less is second other = omega arith
-    by Equal is Less other = grind (arith, nat_tests)
-    by Equal is Equal other = grind (arith, nat_tests)
-    by Equal is Greater other = up_to p
-    by Greater is Less other = grind (arith, nat_tests)
-    by Greater is Equal other = grind (arith, nat_tests)
-    by Greater is Greater other = omega arith
-
-same_index : (x z : ℕ) (p q : Ordering) → ordering_index p ≤ ordering_index q
-    → ordering_index (ordering_then (nat_cmp x z) p) ≤ ordering_index (ordering_then (nat_cmp x z) q)
-same_index x z p q least = by (nat_cmp x z)
-  where
-    by : (order : Ordering) → ordering_index (ordering_then order p) ≤ ordering_index (ordering_then order q)
-    by Less = omega arith
-    by Equal = least
-    by Greater = omega arith
-
-same_number : (x y : ℕ) → nat_cmp x y ≡ Equal → x ≡ y
-same_number x y same = grind (arith, nat_tests)
 
 -- of two keywords the lower has no higher place
 pub rising : (text other atom : List ℕ) → list_all is_keyword_byte text ≡ true → list_all is_keyword_byte other ≡ true
@@ -70,17 +41,10 @@ rising (byte ∷ text) (its ∷ other) (next ∷ atom) first second less =
         → (slice_cmp nat_cmp text other ≡ Less → ordering_index (place text atom) ≤ ordering_index (place other atom))
         → ordering_index (place (byte ∷ text) (next ∷ atom)) ≤ ordering_index (place (its ∷ other) (next ∷ atom))
     by Less is keeps less later =
-        less_index (to_ascii_lowercase byte) (to_ascii_lowercase its) (to_ascii_lowercase next) _ _ (keeps ∙ is)
+        ordering_index_then_less (to_ascii_lowercase byte) (to_ascii_lowercase its) (to_ascii_lowercase next) _ _ (keeps ∙ is)
     by Equal is keeps less later =
-        rw (same_number byte its is) (same_index (to_ascii_lowercase its) (to_ascii_lowercase next) _ _ (later less))
+        rw (nat_cmp_equal byte its is) (ordering_index_then_same (to_ascii_lowercase its) (to_ascii_lowercase next) _ _ (later less))
     by Greater is keeps less later = cc
-
--- an element of a list of which a fact holds of each
-at : {X : Type 0} (P : X → Type 0) (xs : List X) → AllByRecursion P xs → (i : ℕ) (d : X) → i < length xs
-    → P (get_or xs i d)
-at P [] all i d within = absurd (omega arith)
-at P (x ∷ xs) all zero d within = all.0
-at P (x ∷ xs) all (suc i) d within = at P xs all.1 i d (omega arith)
 
 pub keyword_bytes : (text : List ℕ) → is_keyword text ≡ true → list_all is_keyword_byte text ≡ true
 keyword_bytes text is = (and_parts _ _ is).1
@@ -101,24 +65,15 @@ places_rise atom (x ∷ xs) up zero zero d le within = omega arith
 places_rise atom (x ∷ xs) up zero (suc j) d le within =
     rising x.text (get_or xs j d).text atom (keyword_bytes x.text up.0)
     (keyword_bytes (get_or xs j d).text (is_keyword_at xs up.2 j d (omega arith)))
-    (at (λ later. slice_cmp nat_cmp x.text later.text ≡ Less) xs up.1 j d (omega arith))
+    (AllByRecursion-at (λ later. slice_cmp nat_cmp x.text later.text ≡ Less) xs up.1 j d (omega arith))
 places_rise atom (x ∷ xs) up (suc i) zero d le within = absurd (omega arith)
 places_rise atom (x ∷ xs) up (suc i) (suc j) d le within =
     places_rise atom xs up.2 i j d (omega arith) (omega arith)
 
-below_least : (low high : Ordering) → ordering_index low ≤ ordering_index high → is_lt high ≡ true → is_lt low ≡ true
-below_least Less high le is = refl
-below_least Equal Less le is = absurd (omega arith)
-below_least Equal Equal le is = cc
-below_least Equal Greater le is = cc
-below_least Greater Less le is = absurd (omega arith)
-below_least Greater Equal le is = cc
-below_least Greater Greater le is = cc
-
 -- so the test parts them
 parted : (atom : List ℕ) (entries : List Entry) → IsNonDecreasingBy (index_of atom) entries
     → IsPartitionedBy (λ entry. is_below entry.text atom) entries
-parted atom entries rise i j d le within is = below_least _ _ (rise i j d le within) is
+parted atom entries rise i j d le within is = is_lt_by_index _ _ (rise i j d le within) is
 
 -- an entry begins with the atom exactly where its place is among those that do
 pub begins_at : (text atom : List ℕ) → begins_with text atom ≡ is_eq (place text atom)
@@ -134,36 +89,6 @@ begins_at (byte ∷ text) (next ∷ atom) =
     by Less is later = grind (arith, nat_tests)
     by Equal is later = grind (arith, nat_tests)
     by Greater is later = grind (arith, nat_tests)
-
--- what holds of the elements within a range holds of those that are taken, or dropped
-all_taken : {X : Type 0} (P : X → Type 0) (xs : List X) (n : ℕ) → AllWithin P xs 0 n → n ≤ length xs
-    → AllByRecursion P (take n xs)
-all_taken P [] zero all most = tt
-all_taken P [] (suc n) all most = absurd (omega arith)
-all_taken P (x ∷ xs) zero all most = tt
-all_taken P (x ∷ xs) (suc n) all most = (
-  all 0 x (omega arith) (omega arith),
-  all_taken P xs n (λ k d low high. all (suc k) d (omega arith) (omega arith)) (omega arith),
-)
-
-all_dropped : {X : Type 0} (P : X → Type 0) (xs : List X) (n : ℕ) → AllWithin P xs n (length xs)
-    → AllByRecursion P (drop n xs)
-all_dropped P [] zero all = tt
-all_dropped P [] (suc n) all = tt
-all_dropped P (x ∷ xs) zero all =
-    (all 0 x (omega arith) (omega arith), all_dropped P xs 0 (λ k d low high. all (suc k) d (omega arith) (omega arith)))
-all_dropped P (x ∷ xs) (suc n) all = all_dropped P xs n (λ k d low high. all (suc k) d (omega arith) (omega arith))
-
--- what holds of each holds in other words
-pub all_as : {X : Type 0} (P Q : X → Type 0) → ((x : X) → P x → Q x) → (xs : List X) → AllByRecursion P xs
-    → AllByRecursion Q xs
-all_as P Q change [] all = tt
-all_as P Q change (x ∷ xs) all = (change x all.0, all_as P Q change xs all.1)
-
-not_begins : (order : Ordering) → is_lt order ≡ true → is_eq order ≡ false
-not_begins Less is = refl
-not_begins Equal is = cc
-not_begins Greater is = cc
 
 -- those that a test passes stand before this place, and the others from it on
 abbrev pub IsPoint : (Entry → Bool) → List Entry → ℕ → Type 0
@@ -185,7 +110,7 @@ from_is atom entries behind start up rest most finds =
       before = take start entries;
       parts = sym (take-append-drop start entries);
       at = simp length-take (omega (arith, most));
-      none_before = all_as _ _ (λ e is. begins_at e.text atom ∙ not_begins _ is) _ (all_taken _ entries start point.0 most);
-      above = all_dropped _ entries start point.1;
+      none_before = AllByRecursion_then _ _ (λ e is. begins_at e.text atom ∙ lt_is_not_eq _ is) _ (AllByRecursion-take _ entries start point.0 most);
+      above = AllByRecursion-drop_within _ entries start point.1;
       ascends = ascends_dropped start entries up;
     }

@@ -1,15 +1,17 @@
 -- A filter that only entries pass that begin with an atom looks at those alone that a search finds.
-use Rattle.std.proofs.Common.{◌≡◌, ℕ, ◌+◌, ◌<◌, ◌≤◌, Bool, true, false, cond, ◌&&◌, ◌||◌, nat_eq, List, [], ◌∷◌, ◌++◌, length, get_or, drop, map, Option, Some, None, arith, refl, ap, sym, subst, ◌∙◌}
+use Rattle.std.proofs.Common.{◌≡◌, ℕ, ◌+◌, ◌<◌, Bool, true, false, cond, ◌&&◌, nat_eq, List, [], ◌∷◌, ◌++◌, length, get_or, drop, map, Option, Some, None, arith, refl, ap, sym, subst, ◌∙◌}
 use Rattle.std.specs.Char.{to_ascii_lowercase}
 use Rattle.std.specs.Cmp.Lexicographic.{slice_cmp}
 use Rattle.std.specs.List.{AllByRecursion, enumerate_from, filter, list_all, list_any, position}
-use Rattle.std.specs.Ordering.{is_eq, is_lt, nat_cmp, ordering_index, ordering_then}
+use Rattle.std.specs.Ordering.{is_eq, is_lt, nat_cmp, ordering_then}
 use Rattle.std.specs.declared.cmp.Ordering.{Ordering}
 use Rattle.std.specs.declared.cmp.Ordering.TheVariants.{Less, Equal, Greater}
-use Rattle.std.proofs.lemmas.Bool.{and_parts}
+use Rattle.std.proofs.lemmas.Bool.{and_parts, and_right}
 use Rattle.std.proofs.lemmas.Bool.Decides.{nat_tests}
 use Rattle.std.proofs.lemmas.Cmp.{nat_list_cmp_total}
 use Rattle.std.proofs.lemmas.List.{drop_more}
+use Rattle.cm_lists.proofs.Orders.{not_eq_by_index}
+use Rattle.cm_lists.proofs.Quantifiers.{AllByRecursion_then, any_behind, any_first}
 use Rattle.cm_text.specs.Case.{begins_with, equals}
 use Rattle.cm_tables.specs.Listed.{is_listed, is_plain}
 use Rattle.cm_tables.specs.Look.{abbreviated, by_equal, candidates, equal_entries, exact, has_text, is_recognised, look}
@@ -18,8 +20,8 @@ use Rattle.cm_tables.specs.Search.{AreNotBelow, Ascends, IsFrom, candidates_from
 use Rattle.cm_tables.specs.declared.entry.Entry.{Entry}
 use Rattle.cm_tables.proofs.CommonLemmas.{rests_from}
 use Rattle.cm_tables.proofs.FoundLemmas.{above_of, begins_of_equals, keyword_of, no-texts_fault}
-use Rattle.cm_tables.proofs.PlaceLaws.{all_as, begins_at, keeps_order, keyword_bytes, rising}
-use Rattle.cm_tables.proofs.Listing.{listed_of}
+use Rattle.cm_tables.proofs.PlaceLaws.{begins_at, keeps_order, keyword_bytes, rising}
+use Rattle.cm_tables.proofs.ListedEntries.{listed_of}
 use Rattle.cm_tables.proofs.WithinLemmas.{both-none}
 
 -- the texts of a table ascend
@@ -31,7 +33,7 @@ above_all fault before (first ∷ more) none =
     let text = keyword_of fault (Some before) first.text both.0 in
     let head = above_of fault _ text.1 in (
       head,
-      all_as _ _ (λ (later : Entry) is. nat_list_cmp_total.trans before first.text later.text head is) more
+      AllByRecursion_then _ _ (λ (later : Entry) is. nat_list_cmp_total.trans before first.text later.text head is) more
           (above_all (fault + 1) first.text more both.1),
     )
 
@@ -73,12 +75,8 @@ passing_in : (test : Entry → Bool) (atom : List ℕ) (entries : List Entry) (s
 passing_in test atom entries start behind fails is place =
     sym
     (ap (passing test place) is.parts
-    ∙ passing_behind test place is.before behind (all_as _ _ fails _ is.none_before)
+    ∙ passing_behind test place is.before behind (AllByRecursion_then _ _ fails _ is.none_before)
     ∙ ap (λ n. passing test (place + n) behind) (sym is.at))
-
-neither : (test other : Bool) → other ≡ false → (test && other) ≡ false
-neither true other is = is
-neither false other is = refl
 
 -- so those that the atom may abbreviate
 pub candidates_in : (atom : List ℕ) (entries : List Entry) (start : ℕ) (behind : List Entry)
@@ -86,13 +84,13 @@ pub candidates_in : (atom : List ℕ) (entries : List Entry) (start : ℕ) (behi
 candidates_in atom entries start behind is =
     ap (λ n. candidates_from n behind atom) (omega arith)
     ∙ passing_in (λ entry. is_recognised entry.flag && begins_with entry.text atom) atom entries start behind
-    (λ entry fails. neither (is_recognised entry.flag) _ fails) is 0
+    (λ entry fails. and_right (is_recognised entry.flag) _ fails) is 0
 
 -- and those that a list shows
 pub listed_in : (atom : List ℕ) (entries : List Entry) (start : ℕ) (behind : List Entry) (place : ℕ)
     → IsFrom atom entries start behind → listed_of (place + start) behind atom ≡ listed_of place entries atom
 listed_in atom entries start behind place is =
-    passing_in (is_listed atom) atom entries start behind (λ entry fails. neither (is_plain entry.flag) _ fails) is place
+    passing_in (is_listed atom) atom entries start behind (λ entry fails. and_right (is_plain entry.flag) _ fails) is place
 
 -- what stands behind the atom is the same wherever the entries stand
 rests_anywhere : (place other : ℕ) (entries : List Entry) (atom : List ℕ)
@@ -119,21 +117,13 @@ rests_in atom entries start behind is =
     ∙ ap (map (λ (e : ℕ × Entry). drop (length atom) e.1.text)) (candidates_in atom entries start behind is)
 
 -- behind an entry that does not begin with the atom none does
-not_among : (low high : Ordering) → ordering_index low ≤ ordering_index high → is_lt low ≡ false → is_eq low ≡ false
-    → is_eq high ≡ false
-not_among Less high le below same = cc
-not_among Equal high le below same = cc
-not_among Greater Less le below same = absurd (omega arith)
-not_among Greater Equal le below same = absurd (omega arith)
-not_among Greater Greater le below same = refl
-
 none_later : (text atom : List ℕ) (more : List Entry) → is_keyword text ≡ true → is_below text atom ≡ false
     → begins_with text atom ≡ false → AllByRecursion (λ (later : Entry). slice_cmp nat_cmp text later.text ≡ Less) more
     → Ascends more → AllByRecursion (λ (later : Entry). begins_with later.text atom ≡ false) more
 none_later text atom [] keyword below fails above up = tt
 none_later text atom (first ∷ more) keyword below fails above up = (
   begins_at first.text atom
-      ∙ not_among _ _
+      ∙ not_eq_by_index _ _
       (rising text first.text atom (keyword_bytes text keyword) (keyword_bytes first.text up.0) above.0)
       below (sym (begins_at text atom) ∙ fails),
   none_later text atom more keyword below fails above.1 up.2,
@@ -148,13 +138,13 @@ no_candidates : (position : ℕ) (atom : List ℕ) (entries : List Entry)
     → AllByRecursion (λ (entry : Entry). begins_with entry.text atom ≡ false) entries
     → candidates_from position entries atom ≡ []
 no_candidates position atom entries none =
-    passing_none _ position entries (all_as _ _ (λ (entry : Entry) fails. neither (is_recognised entry.flag) _ fails) entries none)
+    passing_none _ position entries (AllByRecursion_then _ _ (λ (entry : Entry) fails. and_right (is_recognised entry.flag) _ fails) entries none)
 
 none_listed : (position : ℕ) (atom : List ℕ) (entries : List Entry)
     → AllByRecursion (λ (entry : Entry). begins_with entry.text atom ≡ false) entries
     → listed_of position entries atom ≡ []
 none_listed position atom entries none =
-    passing_none _ position entries (all_as _ _ (λ (entry : Entry) fails. neither (is_plain entry.flag) _ fails) entries none)
+    passing_none _ position entries (AllByRecursion_then _ _ (λ (entry : Entry) fails. and_right (is_plain entry.flag) _ fails) entries none)
 
 -- where a walk comes to one that does not begin with the atom, no other does
 stops : (atom : List ℕ) (entries : List Entry) (i : ℕ) (entry : Entry) → i < length entries
@@ -239,7 +229,7 @@ none_behind atom first more up below = by (begins_with first.text atom) refl
         → AllByRecursion (λ (later : Entry). equals later.text atom ≡ false) more
     by true begins = none_equal first.text atom more up.0 begins up.1 up.2
     by false fails =
-        all_as _ _ (λ later fails. unequal later.text atom fails) more
+        AllByRecursion_then _ _ (λ later fails. unequal later.text atom fails) more
         (none_later first.text atom more up.0 below fails up.1 up.2)
 
 equal_in : (atom : List ℕ) (entries : List Entry) (start : ℕ) (behind : List Entry) → IsFrom atom entries start behind
@@ -277,30 +267,12 @@ abbreviated_is_look atom entries start behind is other =
         passing_none (λ entry. equals entry.text atom) start (first ∷ more)
         (other, none_behind atom first more is.ascends is.above.0)
 
--- the text of some entry is the atom exactly where that of the first is
-any_behind : (test : Entry → Bool) (before entries : List Entry) → AllByRecursion (λ entry. test entry ≡ false) before
-    → list_any test (before ++ entries) ≡ list_any test entries
-any_behind test [] entries none = refl
-any_behind test (first ∷ before) entries none = rw none.0 (any_behind test before entries none.1)
-
-any_first : (test : Entry → Bool) (first : Entry) (more : List Entry)
-    → AllByRecursion (λ entry. test entry ≡ false) more → list_any test (first ∷ more) ≡ test first
-any_first test first more none = by (test first) (no_other more none)
-  where
-    no_other : (more : List Entry) → AllByRecursion (λ entry. test entry ≡ false) more → list_any test more ≡ false
-    no_other [] none = refl
-    no_other (next ∷ more) none = rw none.0 (no_other more none.1)
-
-    by : (passes : Bool) → list_any test more ≡ false → (passes || list_any test more) ≡ passes
-    by true other = refl
-    by false other = other
-
 pub has_text_first : (atom : List ℕ) (entries : List Entry) (start : ℕ) (behind : List Entry)
     → IsFrom atom entries start behind → is_first behind atom ≡ has_text entries atom
 has_text_first atom entries start behind is =
     sym
     (ap (list_any (λ entry. equals entry.text atom)) is.parts
-    ∙ any_behind _ is.before behind (all_as _ _ (λ entry fails. unequal entry.text atom fails) _ is.none_before)
+    ∙ any_behind _ is.before behind (AllByRecursion_then _ _ (λ entry fails. unequal entry.text atom fails) _ is.none_before)
     ∙ by behind is.ascends is.above)
   where
     by : (behind : List Entry) → Ascends behind → AreNotBelow atom behind

@@ -58,7 +58,7 @@ fn common_text<'a>(entries: &'a [Entry], atom: &[u8]) -> &'a [u8]
 }
 
 // The name with this text.
-#[tactic(auto, using(crate::proofs::AsciiLemmas::text_of_ascii))]
+#[tactic(auto, using(cm_lists::proofs::Ascii::text_of_ascii))]
 fn name_of(text: &[u8]) -> Name
     requires ascii { IsAscii text.now }
     requires short { length text.now ≤ NAME_LIMIT }

@@ -2,6 +2,7 @@
 use Rattle.std.proofs.Common.{◌≡◌, ℕ, suc, ◌+◌, ◌<◌, ◌≤◌, List, [], ◌∷◌, length, take, drop, get_or, refl, sym, ap, ◌∙◌, subst, arith}
 use Rattle.std.proofs.Math.Seq.{drop-cons, drop-length}
 use Rattle.std.proofs.lemmas.List.{length-take-le, take-take, take_all}
+use Rattle.cm_lists.proofs.Pieces.{some_length}
 use Rattle.cm_text.specs.Lines.{BeginsLine, last_line, lines, lines_behind, without_return}
 use Rattle.cm_text.specs.declared.lines.LineEnd.{LineEnd}
 
@@ -40,10 +41,6 @@ some_line : (bytes : List ℕ) → (length bytes ≡ 0 → ⊥) → last_line by
 some_line [] some = absurd (some refl)
 some_line (byte ∷ bytes) some = refl
 
-some_byte : (bytes : List ℕ) → (length bytes ≡ 0 → ⊥) → 0 < length bytes
-some_byte [] some = absurd (some refl)
-some_byte (byte ∷ bytes) some = omega arith
-
 pub one_left : (bytes : List ℕ) (at : ℕ) → lines_behind (take at bytes) (drop at bytes) ≡ lines_behind [] bytes
     → at ≡ length bytes → (length bytes ≡ 0 → ⊥)
     → BeginsLine bytes (record { end = length bytes; next = length bytes })
@@ -55,6 +52,6 @@ one_left bytes at begun is some =
       line = sym begun ∙ ap (λ it. lines_behind it (drop at bytes)) all ∙ ap (λ it. lines_behind bytes it) none ∙ some_line bytes some
           ∙ ap (λ it. it ∷ []) (sym (take_all (length bytes) bytes (omega arith))) ∙ ap (λ it. take (length bytes) bytes ∷ lines_behind [] it) (sym (drop-length bytes));
       end = omega arith;
-      some = some_byte bytes some;
+      some = some_length bytes some;
       next = omega arith;
     }

@@ -8,7 +8,7 @@ use arrayvec::ArrayString;
 pub const DIGIT_LIMIT: usize = 20;
 
 /// The decimal digits of a number, with no zero before them.
-#[tactic(auto, using(crate::proofs::Decimal::decimal_fits))]
+#[tactic(auto, using(cm_lists::proofs::Digits::decimal_fits))]
 pub fn decimal_digits(number: u64) -> ArrayString<DIGIT_LIMIT>
     ensures digits { result.bytes ≡ decimal number }
     ensures size { length result.bytes ≤ DIGIT_LIMIT }
@@ -19,7 +19,7 @@ pub fn decimal_digits(number: u64) -> ArrayString<DIGIT_LIMIT>
 }
 
 // Puts the digits of a number behind others, where there is room for just these.
-#[tactic(auto, using(std::proofs::lemmas::Fmt::decimal_digit, std::proofs::lemmas::Fmt::decimal_step, crate::proofs::Decimal::length_decimal_step))]
+#[tactic(auto, using(std::proofs::lemmas::Fmt::decimal_digit, std::proofs::lemmas::Fmt::decimal_step, cm_lists::proofs::Digits::length_decimal_step))]
 fn push_decimal(digits: &mut ArrayString<DIGIT_LIMIT>, number: u64)
     requires { length digits.old.bytes + length (decimal number) ≤ DIGIT_LIMIT }
     ensures { digits.new.bytes ≡ digits.old.bytes ++ decimal number }

@@ -1,6 +1,5 @@
-pub mod Changing
-pub mod Ending
+pub mod Changes
+pub mod Ends
 pub mod Faultless
 mod Keys
-pub mod Parts
-pub mod Replying
+pub mod Replies

@@ -86,7 +86,7 @@ fn note_of(text: &[u8], value: Option<Value>) -> Name
 }
 
 // A part of a text.
-#[tactic(auto, using(crate::proofs::Parts::part_is_ascii))]
+#[tactic(auto, using(cm_lists::proofs::Ascii::IsAscii_part))]
 fn part(text: &[u8], span: Span) -> &[u8]
     requires { IsAscii text.now }
     ensures value { result.now ≡ part text.now span }

@@ -82,7 +82,7 @@ pub fn obey<S: Sink>(command: Command, lamps: &mut [Lamp], screen: &mut S) -> Pu
 }
 
 // Changes the lamp of a room, of which there may be none.
-#[tactic(auto, using(crate::proofs::Changing::set_at, crate::proofs::Changing::none_at))]
+#[tactic(auto, using(crate::proofs::Changes::set_at, crate::proofs::Changes::none_at))]
 fn change_lamp(command: Command, lamps: &mut [Lamp])
     ensures { lamps.new ≡ obeyed command lamps.old }
 {

@@ -78,7 +78,7 @@ impl Program {
     /// lamps and shows its reply. It ends where QUIT has acted, no key is left, or keys or screen fail.
     ///
     /// The hooks have one that reads rooms, and `steps` counts the trials.
-    #[tactic(auto, using(crate::proofs::Ending::end_cause))]
+    #[tactic(auto, using(crate::proofs::Ends::end_cause))]
     pub fn run<K: Source, S: Sink, L: Ledger>(
         &mut self,
         grammar: &Grammar,
@@ -152,7 +152,7 @@ impl Application for Program {
         }
     }
 
-    #[tactic(auto, using(cm_run::proofs::Obeying::obeys_done, cm_run::proofs::Obeying::obeys_cut), unfolding(cm_run::specs::Cause::ObeyCause))]
+    #[tactic(auto, using(cm_run::proofs::Acts::obeys_done, cm_run::proofs::Acts::obeys_cut), unfolding(cm_run::specs::Cause::ObeyCause))]
     fn obey_line<S: Sink>(
         &mut self,
         session: &Session<RoomRules>,
@@ -172,12 +172,12 @@ impl Application for Program {
 
     fn abandon(&mut self) {}
 
-    #[tactic(auto, using(cm_io::proofs::Adding::add_none))]
+    #[tactic(auto, using(cm_io::proofs::Additions::add_none))]
     fn echo_raw<S: Sink>(&self, _key: u8, _screen: &mut S) -> Put {
         Put::Done
     }
 
-    #[tactic(auto, using(cm_run::proofs::Obeying::obeys_nothing), unfolding(cm_run::specs::Cause::ObeyCause))]
+    #[tactic(auto, using(cm_run::proofs::Acts::obeys_nothing), unfolding(cm_run::specs::Cause::ObeyCause))]
     fn obey_raw<S: Sink>(&mut self, _key: u8, _screen: &mut S) -> Result<(), Stop> {
         Ok(())
     }
@@ -186,7 +186,7 @@ impl Application for Program {
         None
     }
 
-    #[tactic(auto, using(cm_run::proofs::Obeying::obeys_nothing), unfolding(cm_run::specs::Cause::ObeyCause))]
+    #[tactic(auto, using(cm_run::proofs::Acts::obeys_nothing), unfolding(cm_run::specs::Cause::ObeyCause))]
     fn obey_file_line<S: Sink>(
         &mut self,
         _session: &Session<RoomRules>,

@@ -1,36 +1,21 @@
 -- Names in upper case.
-use Rattle.std.proofs.Common.{◌≡◌, ℕ, ◌≤◌, ◌||◌, ◌&&◌, ◌==◌, Bool, true, false, not, nat_lt, nat_le, cond, List, [], ◌∷◌, length, map, codes, refl, ap, sym, subst, ◌∙◌, arith}
-use Rattle.std.specs.Char.{is_ascii_lowercase, to_ascii_lowercase, to_ascii_uppercase}
+use Rattle.std.proofs.Common.{◌≡◌, ℕ, ◌≤◌, ◌||◌, ◌&&◌, ◌==◌, Bool, true, false, nat_lt, nat_le, cond, List, [], ◌∷◌, length, map, codes, refl, ap, sym, subst, ◌∙◌, arith}
+use Rattle.std.specs.Char.{to_ascii_lowercase, to_ascii_uppercase}
 use Rattle.std.specs.List.{list_all, list_any, onto_first, slice_split}
 use Rattle.std.proofs.lemmas.Bool.{and_from, and_parts}
 use Rattle.std.proofs.lemmas.Bool.Decides.{nat_tests}
 use Rattle.std.proofs.lemmas.List.{length-map}
 use Rattle.std.proofs.lemmas.Slice.Eq.{bytes_eq-Decides}
+use Rattle.cm_lists.proofs.Ascii.{up}
 use Rattle.cm_text.specs.declared.name.TheConstants.{NAME_LIMIT}
-use Rattle.cm_text.specs.Bytes.{is_name, is_word}
+use Rattle.cm_text.specs.Bytes.{is_name}
 use Rattle.cm_text.specs.Case.{equals}
 use Rattle.cm_files.specs.Catalogue.{is_directory_name, is_upper_name}
 use Rattle.cm_files.specs.Fields.{is_plain_path}
 use Rattle.cm_files.specs.Pattern.{is_wild}
 use Rattle.cm_files.specs.Spec.{are_parts, is_path, is_pattern}
 use Rattle.ex_store.specs.Copying.{is_star}
-
--- the bytes in upper case
-abbrev pub up : List ℕ → List ℕ
-up text = map to_ascii_uppercase text
-
-upper_byte : (byte : ℕ) → is_name byte ≡ true
-    → (is_name (to_ascii_uppercase byte) && not (is_ascii_lowercase (to_ascii_uppercase byte))) ≡ true
-unfolding is_name is_word
-upper_byte byte is = grind (arith, nat_tests)
-
--- name bytes stay so
-pub upper_name : (text : List ℕ) → list_all is_name text ≡ true → is_upper_name (up text) ≡ true
-upper_name [] all = refl
-upper_name (byte ∷ text) all =
-    let both = and_parts (is_name byte) (list_all is_name text) all in
-    and_from (is_name (to_ascii_uppercase byte) && not (is_ascii_lowercase (to_ascii_uppercase byte))) (is_upper_name (up text))
-    (upper_byte byte both.0) (upper_name text both.1)
+use Rattle.ex_store.proofs.DefinedLaws.{upper_name}
 
 -- a star alone stays one
 star_byte : (byte : ℕ) → to_ascii_lowercase byte ≡ 42 → byte ≡ 42

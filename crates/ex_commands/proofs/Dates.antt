@@ -3,7 +3,7 @@ use Rattle.std.proofs.Common.{◌≡◌, ℕ, ℤ, pos, negsuc, ◌+◌, ◌<◌
 use Rattle.std.specs.Int.{IsInRange}
 use Rattle.std.specs.List.{after_first, before_first}
 use Rattle.std.specs.Str.Parse.{digits_value}
-use Rattle.std.proofs.lemmas.Bool.{or_parts}
+use Rattle.std.proofs.lemmas.Bool.{cond_both, or_parts}
 use Rattle.std.proofs.lemmas.Bool.Decides.{nat_tests}
 use Rattle.jiff_core.specs.Calendar.{IsBetween, IsCivilDate, day_count, days_from_civil, days_in_month}
 use Rattle.jiff_core.proofs.CalendarLemmas.{day_count-last_of_year, day_count-lt_year, days_from_civil-day_count}
@@ -14,17 +14,14 @@ use Rattle.cm_fields.specs.declared.code.Code.{Code}
 use Rattle.cm_fields.specs.declared.code.Code.TheVariants.{BadDate, YearRange}
 use Rattle.cm_fields.specs.declared.value.Value.{Value}
 use Rattle.cm_fields.specs.declared.value.Value.TheVariants.{Date}
-use Rattle.cm_fields.proofs.Holding.{holds_of_choice}
 use Rattle.cm_dates.specs.Date.{date_of, dated, day_in, is_hyphen, is_number, month_among, month_of, months, year_of}
+use Rattle.cm_dates.proofs.Texts.{behind_last}
 use Rattle.ex_store.specs.WellFormed.{is_day}
 
 before_first_day : day_count (pos 1969) 12 31 ≡ 4_371_952
 before_first_day =
     let first = day_count-early (pos 1969) 11968 1 1 refl (omega arith) (omega arith) (omega arith) in
     omega (arith, day_count-last_of_year (pos 1969), first)
-
-behind_last_day : day_count (pos 2100) 1 1 ≡ 4_419_435
-behind_last_day = day_count-early (pos 2100) 12099 1 1 refl (omega arith) (omega arith) (omega arith)
 
 date_before : IsCivilDate (pos 1969) 12 31
 date_before = search rules
@@ -37,7 +34,7 @@ day_between y m d from to month some fits =
     let civil : IsCivilDate (pos y) m d = ((omega (arith, signed_arith), omega (arith, signed_arith)), month, (some, fits)) in
     let before = day_count-lt_year (pos 1969) 12 31 (pos y) m d date_before some (omega (arith, signed_arith)) in
     let behind = day_count-lt_year (pos y) m d (pos 2100) 1 1 civil (omega arith) (omega (arith, signed_arith)) in
-    (omega (arith, signed_arith, count, before, before_first_day), omega (arith, signed_arith, count, behind, behind_last_day))
+    (omega (arith, signed_arith, count, before, before_first_day), omega (arith, signed_arith, count, behind, behind_last))
 
 day_is : (day : ℤ) → IsBetween (pos 0) (pos 47481) day → is_day (Some day) ≡ true
 day_is (pos n) between = (let most = between.1 in grind (arith, nat_tests))
@@ -52,10 +49,7 @@ IsDayIfOk (Err code) = Unit {0}
 day_in_is : (year month day : ℕ) → IsInRange 1 12 month → 1 ≤ day → IsDayIfOk (day_in year month day)
 unfolding day_in
 day_in_is year month day in_year some =
-    holds_of_choice IsDayIfOk (nat_lt year 1970 || nat_lt 2099 year) (Err YearRange) _ (λ out. tt)
-    (λ years. holds_of_choice IsDayIfOk (nat_lt (days_in_month (pos year) month) day) (Err BadDate)
-    (Ok (Date (days_from_civil (pos year) month day))) (λ over. tt)
-    (λ fits. (
+    cond_both (nat_lt year 1970 || nat_lt 2099 year) (Err YearRange) _ IsDayIfOk (λ out. tt) (λ years. cond_both (nat_lt (days_in_month (pos year) month) day) (Err BadDate) (Ok (Date (days_from_civil (pos year) month day))) IsDayIfOk (λ over. tt) (λ fits. (
     let both = or_parts (nat_lt year 1970) (nat_lt 2099 year) years in
     let early = both.0 in
     let late = both.1 in
@@ -94,8 +88,7 @@ dated_is : (day : List ℕ) (found : Option ℕ) (year : List ℕ) → ((month :
     → IsDayIfOk (dated day found year)
 dated_is day None year in_year = tt
 dated_is day (Some month) year in_year =
-    holds_of_choice IsDayIfOk (not (is_number 1 2 day) || not (is_number 2 4 year) || digits_value 10 day == 0) (Err BadDate) _ (λ bad. tt)
-    (λ good. (
+    cond_both (not (is_number 1 2 day) || not (is_number 2 4 year) || digits_value 10 day == 0) (Err BadDate) _ IsDayIfOk (λ bad. tt) (λ good. (
     let none = (or_parts (not (is_number 1 2 day) || not (is_number 2 4 year)) (digits_value 10 day == 0) good).1 in
     let some : 1 ≤ digits_value 10 day = grind (arith, nat_tests) in
     day_in_is (year_of year) month (digits_value 10 day) (in_year month refl) some

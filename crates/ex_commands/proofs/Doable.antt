@@ -1,8 +1,8 @@
 -- What a line commands can be done.
-use Rattle.std.proofs.Common.{◌≡◌, ℕ, ◌||◌, ◌==◌, Bool, true, false, if◌then◌else◌, List, drop, Option, Some, None, option_and_then, unwrap_or, slice_get, refl, ap, sym, subst, ◌∙◌}
+use Rattle.std.proofs.Common.{◌≡◌, ℕ, ◌==◌, true, if◌then◌else◌, List, drop, Option, Some, None, option_and_then, unwrap_or, slice_get, refl, ap, sym, subst, ◌∙◌}
 use Rattle.std.specs.Option.{option_map_or}
-use Rattle.cm_fields.proofs.Holding.{holds_of_choice}
 use Rattle.std.specs.List.{list_all}
+use Rattle.std.proofs.lemmas.Bool.{cond_both, not-true, or_left, or_right}
 use Rattle.cm_files.specs.Catalogue.{IsCatalogue, is_directory_name}
 use Rattle.cm_blocks.specs.declared.field.Ending.{Ending}
 use Rattle.cm_blocks.specs.declared.function.Role.TheVariants as roles
@@ -29,14 +29,14 @@ use Rattle.ex_commands.specs.Commands.Print.{after_in, copies_in, form_in, job_i
 use Rattle.ex_commands.specs.Commands.Directory.{everything}
 use Rattle.ex_commands.specs.Commands.Set.{set_of}
 use Rattle.ex_commands.specs.Line.{Line, between, count_in, directory_in, flags_of, has_subs, keyword_code, on, place_in}
-use Rattle.ex_commands.proofs.Adding.{IsKept, field_kept}
-use Rattle.ex_commands.proofs.Fitting.{files_names, files_read, names_are_short, reads_files, reads_source, source_names, source_read, value_read}
-use Rattle.ex_commands.proofs.Asking.{is_finished}
+use Rattle.ex_commands.proofs.Subcommands.{IsKept, field_kept}
+use Rattle.ex_commands.proofs.Fits.{files_names, files_read, names_are_short, reads_files, reads_source, source_names, source_read, value_read}
+use Rattle.ex_commands.proofs.Forms.{is_finished}
 use Rattle.ex_commands.proofs.Printable.{logical_named, may_ask}
-use Rattle.ex_commands.proofs.Resolving.{state_has}
+use Rattle.ex_commands.proofs.Resolutions.{state_has}
 use Rattle.ex_commands.proofs.Targets.{directory_formed, directory_there, field_meant, field_one, field_target, place_there, trial_old}
-use Rattle.ex_commands.proofs.Trying.{IsTried}
-use Rattle.ex_commands.proofs.Verbs.{grown_target, made_target, names_grown, names_made, names_old, not_true, old_directory}
+use Rattle.cm_blocks.proofs.Fields.{IsTried}
+use Rattle.ex_commands.proofs.Verbs.{grown_target, made_target, names_grown, names_made, names_old, old_directory}
 
 -- a line of the grammar over the catalogue of a state
 abbrev line_over : State → List ℕ → List FieldView → Line
@@ -140,7 +140,7 @@ old_may state text fields typed verb verb_is old name is =
     let same = same_block (setting exec_graph (catalogue_of state) exec_meanings) text it.0 tried behind.tried in
     let plain = trial_old (catalogue_of state) tried.block.function tried.block.flags (drop tried.at tried.said) tried.at it.0.value tried.looked tried.end
     (files_names tried.block.function read.by_function)
-    (ap (λ (block : Block). block.flags.new) same ∙ not_true behind.tried.block.flags.new behind.read) tried.accepts in
+    (ap (λ (block : Block). block.flags.new) same ∙ not-true behind.tried.block.flags.new behind.read) tried.accepts in
     directory_there state _ it.0.value name plain
     (field_meant (catalogue_of state) typed.lawful text it.0 reads_files files_names read) it.2
 
@@ -164,10 +164,8 @@ copies_may state text fields typed verb verb_is made = by (field_of roles.Source
         → MayAct (copies (line_over state text fields) from (place_in (line_over state text fields) (field_of roles.Target fields))) state
     by None found = tt
     by (Some from) found =
-        holds_of_choice (λ (command : Command). MayAct command state) (is_token from.value) _ _
-        (λ token. on_may state commands.CopyTty (place_in (line_over state text fields) (field_of roles.Target fields))
-        (λ place is. target_there state text fields typed verb verb_is made place is))
-        (λ files. between_may state commands.Copy (place_in (line_over state text fields) (Some from))
+        cond_both (is_token from.value) _ _ (λ (command : Command). MayAct command state) (λ token. on_may state commands.CopyTty (place_in (line_over state text fields) (field_of roles.Target fields))
+        (λ place is. target_there state text fields typed verb verb_is made place is)) (λ files. between_may state commands.Copy (place_in (line_over state text fields) (Some from))
         (place_in (line_over state text fields) (field_of roles.Target fields))
         (λ source target source_is target_is. (
           source_there state text fields typed from source found source_is,
@@ -198,15 +196,6 @@ appends_may state text fields typed verb verb_is grown =
       one_there state text fields typed verb verb_is grown target target_is,
     ))
 
--- one of two codes
-first_named : (a b : Bool) → a ≡ true → (a || b) ≡ true
-first_named true b is = refl
-first_named false b is = cc
-
-second_named : (a b : Bool) → b ≡ true → (a || b) ≡ true
-second_named true b is = refl
-second_named false b is = is
-
 there_may : (state : State) (said : Option (List ℕ)) → ((name : List ℕ) → said ≡ Some name → has_directory name state.directories ≡ true)
     → IsThere said state
 there_may state None may = tt
@@ -227,7 +216,7 @@ defines_may state text fields typed verb verb_is named =
     by (Some directory) is name name_is =
         let it = of_field (field_of roles.Value fields) _ name name_is in (
           logical_named (catalogue_of state) text it.0 (value_read (catalogue_of state) text fields typed.ends typed.parse it.0 it.1) name it.2,
-          old_may state text fields typed verb verb_is (second_named _ _ named) directory is,
+          old_may state text fields typed verb verb_is (or_right _ _ named) directory is,
         )
 
 -- PRINT
@@ -258,17 +247,17 @@ named_may state text fields typed verb verb_is =
     (choose BUILD _ _ (λ is. on_may state (λ directory. commands.Build directory None (has_subs (line_over state text fields))) _
     (λ name is. (build_may state text fields typed name is, tt)))
     (choose CONNECT _ _ (λ is. on_may state commands.Connect _
-    (old_may state text fields typed verb verb_is (first_named _ _ (first_named _ _ is))))
-    (choose COPY _ _ (λ is. copies_may state text fields typed verb verb_is (first_named _ _ is))
+    (old_may state text fields typed verb verb_is (or_left _ _ (or_left _ _ is))))
+    (choose COPY _ _ (λ is. copies_may state text fields typed verb verb_is (or_left _ _ is))
     (choose DEFINE _ _ (λ is. defines_may state text fields typed verb verb_is is)
     (choose DELETE _ _ (λ is. on_may state commands.Delete _ (files_there state text fields typed))
     (choose DIRECTORY _ _ (λ is. all_there state text fields typed)
-    (choose EXPUNGE _ _ (λ is. there_may state _ (old_may state text fields typed verb verb_is (first_named _ _ (second_named _ _ is))))
+    (choose EXPUNGE _ _ (λ is. there_may state _ (old_may state text fields typed verb verb_is (or_left _ _ (or_right _ _ is))))
     (choose INFORMATION _ _ (λ is. tt)
     (choose LOGOUT _ _ (λ is. tt)
     (choose PRINT _ _ (λ is. prints_may state text fields typed)
     (choose REMARK _ _ (λ is. tt)
-    (choose RENAME _ _ (λ is. renames_may state text fields typed verb verb_is (second_named _ _ is))
+    (choose RENAME _ _ (λ is. renames_may state text fields typed verb verb_is (or_right _ _ is))
     (choose SET _ _ (λ is. sets_may state text fields typed)
     (choose TAKE _ _ (λ is. on_may state commands.Take _ (files_there state text fields typed))
     (choose TYPE _ _ (λ is. on_may state commands.TypeOut _ (files_there state text fields typed))
@@ -277,7 +266,7 @@ named_may state text fields typed verb verb_is =
     choose : (wanted : ℕ) (first later : Command) → ((keyword_code verb.value == wanted) ≡ true → MayAct first state) → MayAct later state
         → MayAct (if keyword_code verb.value == wanted then first else later) state
     choose wanted first later may rest =
-        holds_of_choice (λ (command : Command). MayAct command state) (keyword_code verb.value == wanted) first later may (λ other. rest)
+        cond_both (keyword_code verb.value == wanted) first later (λ (command : Command). MayAct command state) may (λ other. rest)
 
 pub line_may_act : (state : State) (text : List ℕ) (fields : List FieldView) (ends : Ending) → list_all is_finished text ≡ true
     → IsCatalogue (catalogue_of state)

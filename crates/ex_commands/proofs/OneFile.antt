@@ -1,12 +1,15 @@
 -- A line of TAKE means one file.
-use Rattle.std.proofs.Common.{◌≡◌, ℕ, zero, suc, ◌<◌, ◌≤◌, ◌||◌, ◌&&◌, ◌==◌, nat_lt, Bool, true, false, not, if◌then◌else◌, List, [], ◌∷◌, length, map, filter, take, drop, Option, Some, None, option_and_then, option_map, slice_get, unwrap_or, Ok, refl, ap, sym, subst, ◌∙◌, arith}
+use Rattle.std.proofs.Common.{◌≡◌, ℕ, zero, suc, ◌<◌, ◌||◌, ◌&&◌, ◌==◌, Bool, true, false, not, if◌then◌else◌, List, [], ◌∷◌, length, map, filter, drop, Option, Some, None, option_and_then, option_map, slice_get, unwrap_or, Ok, refl, ap, sym, subst, ◌∙◌, arith}
 use Rattle.std.specs.List.{list_any, prefix_len}
 use Rattle.std.specs.Option.{option_map_or}
-use Rattle.std.proofs.lemmas.Bool.{or_parts}
+use Rattle.std.proofs.lemmas.Bool.{cond_both, not-true, or_parts}
 use Rattle.std.proofs.lemmas.Bool.Decides.{nat_tests}
 use Rattle.std.proofs.lemmas.List.{length-map}
 use Rattle.std.proofs.lemmas.List.Elements.{filter_agree}
-use Rattle.cm_fields.proofs.Holding.{holds_of_choice}
+use Rattle.cm_lists.proofs.Ascii.{up}
+use Rattle.cm_lists.proofs.Bools.{second_of_not_and}
+use Rattle.cm_lists.proofs.Filters.{filter-map, filter_same}
+use Rattle.cm_lists.proofs.Quantifiers.{all_kept}
 use Rattle.cm_fields.specs.declared.trial.Try.TheVariants.{Accept}
 use Rattle.cm_fields.specs.declared.value.FileKind.TheVariants.{In}
 use Rattle.cm_fields.specs.declared.value.Span.{Span}
@@ -19,7 +22,7 @@ use Rattle.cm_files.specs.Catalogue.{rows_of}
 use Rattle.cm_files.specs.Fields.{file_of, is_file, moved, moved_spec}
 use Rattle.cm_files.specs.Pattern.{is_wild, matches}
 use Rattle.cm_files.specs.Resolve.{has_bad_copy, has_wild, is_all, wanted_by, wanted_kind, wanted_name}
-use Rattle.cm_files.specs.Selection.{Wanted, is_seen, is_selected, name_matches, selected, selects}
+use Rattle.cm_files.specs.Selection.{is_seen, is_selected, name_matches, selected, selects}
 use Rattle.cm_files.specs.Spec.{part, read_spec}
 use Rattle.cm_blocks.specs.declared.field.Ending.{Ending}
 use Rattle.cm_blocks.specs.declared.function.Function.{Function}
@@ -42,28 +45,28 @@ use Rattle.ex_store.specs.declared.place.Place.{Place}
 use Rattle.ex_store.specs.declared.row.Row.{Row}
 use Rattle.ex_store.specs.Plan.{sources}
 use Rattle.ex_store.specs.Rows.{is_in, rows_in}
-use Rattle.ex_store.specs.Selection.{is_meant, wanted_of}
+use Rattle.ex_store.specs.Selection.{is_selected_by, wanted_of}
 use Rattle.ex_store.specs.Selection as selections
-use Rattle.ex_store.specs.State.{State, catalogue_of, file_row, rows_numbered}
+use Rattle.ex_store.specs.State.{State, catalogue_of, file_row}
 use Rattle.ex_store.specs.WellFormed.{IsWellFormed}
 use Rattle.ex_store.proofs.CatalogueLaws.{catalogue_lawful}
-use Rattle.ex_store.proofs.RowsInLaws.{filter_of_map, filter_same, kept_pass, rows_at_number, rows_of_catalogue}
+use Rattle.ex_store.proofs.RowsInLaws.{rows_at_number, rows_of_catalogue}
 use Rattle.ex_commands.specs.declared.command.Command.{Command}
 use Rattle.ex_commands.specs.declared.command.Command.TheVariants as commands
 use Rattle.ex_commands.specs.Command.{command_of, named}
 use Rattle.ex_commands.specs.Commands.Copy.{copies, is_token}
 use Rattle.ex_commands.specs.Commands.Print.{after_in, copies_in, form_in, job_in, note_in}
 use Rattle.ex_commands.specs.Line.{Line, between, count_in, directory_in, directory_name, flags_of, has_subs, keyword_code, on, place_by, place_in, said_of, upper}
-use Rattle.ex_store.proofs.SelectionLaws.{meant_all}
-use Rattle.ex_commands.proofs.Capitals.{up}
-use Rattle.ex_commands.proofs.Fitting.{reads_single}
+use Rattle.ex_store.proofs.SelectionLaws.{selected_all}
+use Rattle.cm_state.proofs.Branches.{IsOf}
+use Rattle.ex_commands.proofs.Fits.{reads_single}
 use Rattle.ex_commands.proofs.Places.{spec_kind, spec_name}
-use Rattle.ex_commands.proofs.Resolving.{resolves}
-use Rattle.ex_commands.proofs.Saying.{file_says, run_of}
-use Rattle.ex_commands.proofs.Single.{IsSingle, selected_same, single, up_matches}
-use Rattle.ex_commands.proofs.Targets.{SaysParts, right_is, run_says, run_text}
-use Rattle.ex_commands.proofs.Trying.{IsTried}
-use Rattle.ex_commands.proofs.Verbs.{IsOf, is_single, names_take, not_true, take_file}
+use Rattle.ex_commands.proofs.Resolutions.{resolves}
+use Rattle.cm_blocks.proofs.Places.{file_says, run_of}
+use Rattle.ex_commands.proofs.Single.{selected_same, single, up_matches}
+use Rattle.ex_commands.proofs.Targets.{SaysParts, run_says, run_text}
+use Rattle.cm_blocks.proofs.Fields.{IsTried}
+use Rattle.ex_commands.proofs.Verbs.{is_single, names_take, take_file}
 
 -- a directory of the catalogue is one of the state
 record IsNumbered (directories : List Directory) (number : ℕ) : Type 0 where
@@ -81,10 +84,10 @@ numbered (first ∷ more) (suc number) below =
 
 -- as many files are meant as rows of the catalogue are selected
 meant_inside : (deleted : Bool) (place : Place) (state : State) (row : Row) → is_in place.directory row ≡ true
-    → is_meant deleted place state row
+    → is_selected_by deleted place state row
     ≡ is_selected (wanted_of deleted place) (map (file_row state.directories) (rows_in place.directory state.rows))
     (file_row state.directories row)
-unfolding is_meant
+unfolding is_selected_by
 meant_inside deleted place state row is =
     ap (λ inside. inside && is_selected (wanted_of deleted place) (map (file_row state.directories) (rows_in place.directory state.rows)) (file_row state.directories row)) is
 
@@ -95,12 +98,12 @@ meant_count place state =
     let inside = rows_in place.directory state.rows in
     let f = file_row state.directories in
     let test = is_selected (wanted_of place.flags.deleted place) (map f inside) in
-    let same = filter_same (is_in place.directory) (is_meant place.flags.deleted place state) (λ row. test (f row))
-    (meant_inside place.flags.deleted place state) inside (kept_pass (is_in place.directory) state.rows) in
-    ap length (sym (meant_all place.flags.deleted place state))
+    let same = filter_same (is_in place.directory) (is_selected_by place.flags.deleted place state) (λ row. test (f row))
+    (meant_inside place.flags.deleted place state) inside (all_kept (is_in place.directory) state.rows) in
+    ap length (sym (selected_all place.flags.deleted place state))
     ∙ ap length same
     ∙ sym (length-map (filter (λ row. test (f row)) inside) f)
-    ∙ ap length (sym (filter_of_map test f inside))
+    ∙ ap length (sym (filter-map test f inside))
 
 rows_meant : (state : State) → IsWellFormed state → (number : ℕ) → number < length (catalogue_of state).directories
     → map (file_row state.directories) (rows_in (directory_name (catalogue_of state) number) state.rows)
@@ -183,10 +186,10 @@ file_single state well flags text run at value place few is says placed =
     let lawful = catalogue_lawful state well in
     let of = file_says (catalogue_of state) In flags at run value is in
     let it = resolves (catalogue_of state) lawful In flags run of.spec of.directory of.resolved in
-    let none = or_parts (flags.wild || flags.all_generations) flags.default_all (not_true _ few) in
+    let none = or_parts (flags.wild || flags.all_generations) flags.default_all (not-true _ few) in
     let both = or_parts flags.wild flags.all_generations none.0 in
     let kept = or_parts (has_wild run of.spec.directory) _ (or_parts _ (has_bad_copy In run of.spec) it.wild).0 in
-    let plain = right_is flags.wild _ both.0 kept.1 in
+    let plain = second_of_not_and flags.wild _ both.0 kept.1 in
     let parts = or_parts (has_wild run of.spec.name || has_wild run of.spec.kind) (is_all of.spec.generation) plain in
     let names = or_parts (has_wild run of.spec.name) (has_wild run of.spec.kind) parts.0 in
     let made : place_by (catalogue_of state) flags text (values.File In (moved_spec at of.spec) of.directory) ≡ Some place =
@@ -230,7 +233,7 @@ flags_are state text field tried =
     ∙ ap (λ (block : Option Block). option_map_or (λ (block : Block). block.flags) block no_flags) tried.block_is
 
 field_single : (state : State) → IsWellFormed state → (text : List ℕ) (field : FieldView) (place : Place)
-    → IsOf (catalogue_of state) text is_single field
+    → IsOf (setting exec_graph (catalogue_of state) exec_meanings) text is_single field
     → place_by (catalogue_of state) (flags_of exec_graph field) (said_of exec_graph text field) field.value ≡ Some place
     → length (sources place state) ≡ 1
 field_single state well text field place read placed =
@@ -266,8 +269,7 @@ between_means state command (Some source) (Some target) means = means source tar
 copies_means : (state : State) (line : Line) (from : Option FieldView) (to : Option Place) → MeansOne state (copies line from to)
 copies_means state line None to = tt
 copies_means state line (Some from) to =
-    holds_of_choice (MeansOne state) (is_token from.value) _ _ (λ token. on_means state commands.CopyTty to (λ place is. tt))
-    (λ files. between_means state commands.Copy (place_in line (Some from)) to (λ source target. tt))
+    cond_both (is_token from.value) _ _ (MeansOne state) (λ token. on_means state commands.CopyTty to (λ place is. tt)) (λ files. between_means state commands.Copy (place_in line (Some from)) to (λ source target. tt))
 
 -- the line that stands in a session
 abbrev line_over : State → List ℕ → List FieldView → Line
@@ -317,7 +319,7 @@ named_means state well text fields ends verb parse verb_is =
     choose : (wanted : ℕ) (first later : Command) → ((keyword_code verb.value == wanted) ≡ true → MeansOne state first)
         → MeansOne state later → MeansOne state (if keyword_code verb.value == wanted then first else later)
     choose wanted first later means rest =
-        holds_of_choice (MeansOne state) (keyword_code verb.value == wanted) first later means (λ other. rest)
+        cond_both (keyword_code verb.value == wanted) first later (MeansOne state) means (λ other. rest)
 
 line_means : (state : State) → IsWellFormed state → (text : List ℕ) (fields : List FieldView) (ends : Ending)
     → IsParse (setting exec_graph (catalogue_of state) exec_meanings) COMMANDS text fields ends

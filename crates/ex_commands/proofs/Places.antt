@@ -1,33 +1,22 @@
 -- The parts of a specification, and the same parts of the text that it stands in.
-use Rattle.std.proofs.Common.{◌≡◌, ℕ, zero, suc, ◌+◌, ◌-◌, ◌<◌, ◌≤◌, ◌&&◌, ◌==◌, Bool, true, false, nat_lt, if◌then◌else◌, List, [], ◌∷◌, length, take, drop, Option, Some, None, option_map, option_and_then, slice_get, unwrap_or, Ok, refl, ap, sym, subst, ◌∙◌, arith, length-drop, length-append}
+use Rattle.std.proofs.Common.{◌≡◌, ℕ, ◌+◌, ◌-◌, ◌<◌, ◌≤◌, ◌&&◌, ◌==◌, Bool, true, false, nat_lt, if◌then◌else◌, List, [], ◌∷◌, length, take, drop, Option, Some, None, option_map, option_and_then, slice_get, unwrap_or, Ok, refl, ap, sym, subst, ◌∙◌, arith, length-drop, length-append}
 use Rattle.std.specs.List.{list_all, prefix_len}
 use Rattle.std.proofs.lemmas.Bool.Decides.{nat_tests}
 use Rattle.std.proofs.lemmas.List.{drop-drop, drop-take, length-take, take-take}
 use Rattle.std.proofs.lemmas.List.Sums.{prefix_len-le-length}
+use Rattle.cm_lists.proofs.Prefixes.{all_of_prefix}
 use Rattle.cm_text.specs.Text.{finished}
 use Rattle.cm_fields.specs.declared.value.Span.{Span}
 use Rattle.cm_fields.specs.declared.value.Spec.{Spec}
 use Rattle.cm_fields.specs.Try.{span}
 use Rattle.cm_files.specs.Fields.{moved}
 use Rattle.cm_files.specs.Spec.{are_parts, directory_read, is_path, is_pattern, name_read, nothing_read, part, part_read, pointed_read, read_spec, stands_at}
-use Rattle.cm_files.proofs.Fronts.{part_more}
-use Rattle.cm_files.proofs.Typed.{read_of}
+use Rattle.cm_files.proofs.Fronts.{part_more, stands_within}
+use Rattle.cm_files.proofs.TypedFiles.{read_of}
 use Rattle.cm_blocks.specs.Setting.{Setting}
 use Rattle.cm_blocks.specs.FieldView.{FieldView}
 use Rattle.ex_commands.specs.Line.{said_of}
-use Rattle.ex_commands.proofs.Trying.{IsTried, StandsIn}
-
--- a run has bytes of its class alone
-pub run_all : (p : ℕ → Bool) (text : List ℕ) → list_all p (take (prefix_len p text) text) ≡ true
-run_all p [] = refl
-run_all p (byte ∷ text) = by (p byte) refl (run_all p text)
-  where
-    by : (test : Bool) → p byte ≡ test → list_all p (take (prefix_len p text) text) ≡ true
-        → list_all p (take (if test then 1 + prefix_len p text else 0) (byte ∷ text)) ≡ true
-    by true is all =
-        let size : 1 + prefix_len p text ≡ suc (prefix_len p text) = omega arith in
-        subst (λ (n : ℕ). list_all p (take n (byte ∷ text)) ≡ true) (sym size) (rw is all)
-    by false is all = refl
+use Rattle.cm_blocks.proofs.Fields.{IsTried, StandsIn}
 
 -- a run from a place on, as a part
 pub record IsRunPart (p : ℕ → Bool) (atom : List ℕ) (place : Span) : Type 0 where
@@ -45,15 +34,9 @@ run_part p atom at within =
     record {
       order = omega arith;
       within = within;
-      all = subst (λ (n : ℕ). list_all p (take n (drop at atom)) ≡ true) (sym size) (run_all p (drop at atom));
+      all = subst (λ (n : ℕ). list_all p (take n (drop at atom)) ≡ true) (sym size) (all_of_prefix p (drop at atom));
       size = ap (λ (n : ℕ). length (take n (drop at atom))) size ∙ (let e : length (take (prefix_len p (drop at atom)) (drop at atom)) ≡ prefix_len p (drop at atom) = omega arith in e) ∙ sym size;
     }
-
--- a byte that stands at a place is within
-stands_within : (atom : List ℕ) (at mark : ℕ) → stands_at atom at mark ≡ true → at < length atom
-stands_within [] at mark stands = cc
-stands_within (byte ∷ atom) zero mark stands = omega arith
-stands_within (byte ∷ atom) (suc at) mark stands = let rest = stands_within atom at mark stands in omega arith
 
 -- the name of a file
 name_run : (atom : List ℕ) (at : ℕ) (place : Span)

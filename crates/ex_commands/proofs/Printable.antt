@@ -3,13 +3,14 @@ use Rattle.std.proofs.Common.{◌≡◌, ℕ, ◌-◌, ◌<◌, ◌||◌, ◌&&�
 use Rattle.std.specs.List.{list_all, prefix_len}
 use Rattle.std.specs.Option.{option_map_or}
 use Rattle.std.proofs.lemmas.Bool.Decides.{nat_tests}
+use Rattle.cm_lists.proofs.Ascii.{up}
+use Rattle.std.proofs.lemmas.Bool.{cond_both}
 use Rattle.cm_text.specs.Bytes.{is_name, is_text}
 use Rattle.cm_text.specs.declared.name.TheConstants.{NAME_LIMIT}
 use Rattle.cm_fields.specs.declared.code.Code.TheVariants.{NoField}
 use Rattle.cm_fields.specs.declared.trial.Try.TheVariants.{Accept}
 use Rattle.cm_fields.specs.declared.value.Value.{Value}
 use Rattle.cm_fields.specs.declared.value.Value.TheVariants as values
-use Rattle.cm_fields.proofs.Holding.{holds_of_choice}
 use Rattle.cm_files.specs.declared.flags.Flags.{Flags}
 use Rattle.cm_files.specs.Catalogue.{Catalogue}
 use Rattle.cm_files.specs.LogicalName.{is_logical_name}
@@ -24,6 +25,8 @@ use Rattle.cm_blocks.specs.Parse.{IsParse}
 use Rattle.cm_blocks.specs.Setting.{setting}
 use Rattle.cm_blocks.specs.FieldView.{FieldView}
 use Rattle.cm_blocks.specs.Trial.{table_of, trial}
+use Rattle.cm_blocks.proofs.Values.{hook_says}
+use Rattle.cm_state.proofs.Branches.{all_pass_at}
 use Rattle.ex_grammar.specs.ExecRules.{exec_meanings, logical_verdict, rule_verdict}
 use Rattle.ex_grammar.specs.Graph.{append_blocks, build_blocks, define_blocks, delete_blocks, directory_nodes, exec_graph, exec_nodes, first_nodes, last_nodes, listing_nodes, print_blocks, retention_nodes, set_blocks, source_nodes, switch_blocks, target_blocks, type_blocks}
 use Rattle.ex_grammar.specs.Words.{value}
@@ -37,13 +40,12 @@ use Rattle.ex_commands.specs.Commands.Define.{logical_by}
 use Rattle.ex_commands.specs.Commands.Print.{after_in, form_by, form_in, job_in, note_in, quoted_by, word_by}
 use Rattle.ex_commands.specs.Line.{day_by, last_at, said_of, upper}
 use Rattle.ex_commands.specs.Said.{IsSaid, IsSaidIn}
-use Rattle.ex_commands.proofs.Asking.{is_finished, note_formed}
-use Rattle.ex_commands.proofs.Capitals.{up}
-use Rattle.ex_commands.proofs.Fitting.{IsAtNode, IsRead, after_node, all_pass_at, at_node, hook_id, job_node, names_are_short, note_node, reads_value, switches, value_at_node}
-use Rattle.ex_commands.proofs.Judging.{accepted_plain, date_is_plain, number_is_plain, quoted_plain, switch_plain, word_is_plain}
-use Rattle.ex_commands.proofs.Naming.{job_formed, logical_up}
-use Rattle.ex_commands.proofs.Saying.{run_of}
-use Rattle.ex_commands.proofs.Trying.{StandsIn}
+use Rattle.ex_commands.proofs.Forms.{is_finished, note_formed}
+use Rattle.ex_commands.proofs.Fits.{IsAtNode, IsRead, after_node, at_node, job_node, names_are_short, note_node, reads_value, switches, value_at_node}
+use Rattle.ex_commands.proofs.Judgements.{accepted_plain, date_is_plain, number_is_plain, quoted_plain, switch_plain, word_is_plain}
+use Rattle.ex_commands.proofs.UpperNames.{job_formed, logical_up}
+use Rattle.cm_blocks.proofs.Places.{run_of}
+use Rattle.cm_blocks.proofs.Fields.{StandsIn}
 
 -- where no default can stand, a field is said in the line
 record IsPlainly (text : List ℕ) (field : FieldView) (said : List ℕ) (at end : ℕ) : Type 0 where
@@ -71,7 +73,7 @@ form_may (Some field) said = by field.value said
   where
     by : (value : Value) → IsSaid value → unwrap_or (form_by value) NORMAL < FORMS
     by (values.Hook id form) said =
-        holds_of_choice (λ (it : Option ℕ). unwrap_or it NORMAL < FORMS) (id == FORM_RULE) (Some form) None said.form (λ other. omega arith)
+        cond_both (id == FORM_RULE) (Some form) None (λ (it : Option ℕ). unwrap_or it NORMAL < FORMS) said.form (λ other. omega arith)
     by value said = omega arith
 
 -- the day
@@ -177,7 +179,7 @@ hook_function c functions.Quoted flags rest at id size looked end reads is = abs
 hook_function c functions.Date flags rest at id size looked end reads is = absurd (accepted_plain _ _ _ _ (date_is_plain rest at) is)
 hook_function c (functions.Hook other) flags rest at id size looked end reads is =
     let run = run_of is_name (hook_of rule_verdict other) rest at (values.Hook id size) looked end is in
-    let it = hook_id other (take (prefix_len is_name rest) rest) (values.Hook id size) run.decided in
+    let it = hook_says rule_verdict other (take (prefix_len is_name rest) rest) (values.Hook id size) run.decided in
     let same : values.Hook id size ≡ values.Hook other it.0 = it.1 in
     let ids : other ≡ id = cc in
     ap functions.Hook ids

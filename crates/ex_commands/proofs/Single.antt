@@ -1,33 +1,27 @@
 -- A name without wildcards selects at most one file, unless all generations are meant.
-use Rattle.std.proofs.Common.{◌≡◌, ℕ, zero, suc, ◌<◌, ◌≤◌, ◌==◌, ◌||◌, ◌&&◌, nat_le, Bool, true, false, not, cond, List, [], ◌∷◌, length, map, filter, slice_get, Option, Some, None, refl, ap, sym, subst, ◌∙◌, arith}
+use Rattle.std.proofs.Common.{◌≡◌, ℕ, ◌<◌, ◌≤◌, ◌==◌, ◌||◌, ◌&&◌, nat_le, Bool, true, false, not, cond, List, [], ◌∷◌, length, slice_get, Option, Some, None, refl, ap, sym, ◌∙◌, arith}
 use Rattle.std.specs.Char.{is_ascii_lowercase, to_ascii_lowercase, to_ascii_uppercase}
-use Rattle.std.specs.List.{list_all, list_any}
+use Rattle.std.specs.List.{list_any}
 use Rattle.std.specs.Option.{option_map_or}
-use Rattle.std.specs.Str.{bytes_eq}
 use Rattle.std.proofs.lemmas.Bool.{and_from, and_parts, eqb-true, leb-true, or_parts}
-use Rattle.std.proofs.lemmas.Bool.Decides.{nat_tests}
 use Rattle.std.proofs.lemmas.List.Elements.{filter_agree}
-use Rattle.std.proofs.lemmas.Slice.Eq.{bytes_eq-Decides}
 use Rattle.std.proofs.lemmas.Str.Ascii.{lowercase-uppercase}
+use Rattle.cm_lists.proofs.Ascii.{same_from_lowercase, up, uppercase_is_no_mark}
+use Rattle.cm_lists.proofs.Filters.{filter_at_most_one}
+use Rattle.cm_lists.proofs.Quantifiers.{all_at, all_filter, all_kept_at}
 use Rattle.cm_text.specs.Bytes.{is_name}
 use Rattle.cm_fields.specs.declared.value.Gen.{Gen}
 use Rattle.cm_fields.specs.declared.value.Gen.TheVariants.{Missing, Highest, Next, Lowest, All, Number}
 use Rattle.cm_fields.specs.Phrase.{same_letter}
 use Rattle.cm_files.specs.declared.row.FileRow.{FileRow}
 use Rattle.cm_files.specs.Catalogue.{Catalogue, IsCatalogue, is_row, is_upper_name, rows_of}
-use Rattle.cm_files.specs.Pattern.{is_nothing, is_wild, matches, one_and, some_end, stands_for}
+use Rattle.cm_files.specs.Pattern.{is_wild, matches, one_and, some_end, stands_for}
 use Rattle.cm_files.specs.Resolve.{is_all}
 use Rattle.cm_files.specs.Selection.{Wanted, is_highest, is_lowest, is_same_file, is_seen, is_selected, name_matches, seen_with, selected, takes}
-use Rattle.cm_files.proofs.Ordered.{all_at, lower_generation, rows_ascend}
-use Rattle.ex_commands.proofs.Capitals.{up}
+use Rattle.cm_files.proofs.RowOrder.{lower_generation, rows_ascend}
+use Rattle.cm_files.proofs.Beside.{texts_same}
 
 -- a byte of a pattern that is no wildcard stands for one byte of names
-from_lower : (a b : ℕ) → to_ascii_lowercase a ≡ to_ascii_lowercase b → is_ascii_lowercase a ≡ false → is_ascii_lowercase b ≡ false
-    → a ≡ b
-from_lower a b same first second = grind (arith, nat_tests)
-
-upper_mark : (mark sign : ℕ) → sign < 65 → (mark == sign) ≡ false → (to_ascii_uppercase mark == sign) ≡ false
-upper_mark mark sign low other = grind (arith, nat_tests)
 
 -- what a plain byte at the head of a pattern comes to
 plain_step : (mark : ℕ) (more name : List ℕ) → (mark == 42) ≡ false → matches (mark ∷ more) name ≡ one_and (matches more) mark name
@@ -55,7 +49,7 @@ stands_once : (mark a b : ℕ) → (mark == 37) ≡ false → stands_for mark a 
 stands_once mark a b other first second up_a up_b =
     let to_a : same_letter mark a ≡ true = ap (λ (any : Bool). any || same_letter mark a) (sym other) ∙ first in
     let to_b : same_letter mark b ≡ true = ap (λ (any : Bool). any || same_letter mark b) (sym other) ∙ second in
-    from_lower a b (sym (eqb-true _ _ to_a) ∙ eqb-true _ _ to_b) up_a up_b
+    same_from_lowercase a b (sym (eqb-true _ _ to_a) ∙ eqb-true _ _ to_b) up_a up_b
 
 not_lower : (byte : ℕ) → (is_name byte && not (is_ascii_lowercase byte)) ≡ true → is_ascii_lowercase byte ≡ false
 not_lower byte is = by (is_ascii_lowercase byte) (and_parts (is_name byte) (not (is_ascii_lowercase byte)) is).1
@@ -91,14 +85,14 @@ one_name (mark ∷ more) a b fixed first second up_a up_b =
 -- in capitals it means the same names
 stands_upper : (mark byte : ℕ) → (mark == 37) ≡ false → stands_for (to_ascii_uppercase mark) byte ≡ stands_for mark byte
 stands_upper mark byte other =
-    rw (upper_mark mark 37 (omega arith) other, other)
+    rw (uppercase_is_no_mark mark 37 (omega arith) other, other)
     (ap (λ (low : ℕ). low == to_ascii_lowercase byte) (lowercase-uppercase mark))
 
 pub up_matches : (pattern name : List ℕ) → list_any is_wild pattern ≡ false → matches (up pattern) name ≡ matches pattern name
 up_matches [] name fixed = refl
 up_matches (mark ∷ more) name fixed =
     let parts = fixed_parts mark more fixed in
-    plain_step (to_ascii_uppercase mark) (up more) name (upper_mark mark 42 (omega arith) parts.star)
+    plain_step (to_ascii_uppercase mark) (up more) name (uppercase_is_no_mark mark 42 (omega arith) parts.star)
     ∙ by name parts (λ rest. up_matches more rest parts.rest)
     ∙ sym (plain_step mark more name parts.star)
   where
@@ -122,28 +116,6 @@ selected_same w v seen generation all rows row =
     ∙ ap (λ (each : Bool). is_seen v row && takes v.generation each (seen_with w rows row) row.generation) all
     ∙ ap (λ (found : List FileRow). is_seen v row && takes v.generation v.all_generations found row.generation) others
 
--- what all that is kept passes, an element passes that is kept
-kept_at : (test keep : FileRow → Bool) (rows : List FileRow) (i : ℕ) (row : FileRow) → list_all test (filter keep rows) ≡ true
-    → slice_get rows i ≡ Some row → keep row ≡ true → test row ≡ true
-kept_at test keep [] i row all is kept = absurd (cc)
-kept_at test keep (first ∷ rows) zero row all is kept =
-    let same : first ≡ row = cc in
-    let here : keep first ≡ true = ap keep same ∙ kept in
-    let whole : (test first && list_all test (filter keep rows)) ≡ true =
-    subst (λ (passes : Bool). list_all test (cond passes (first ∷ filter keep rows) (filter keep rows)) ≡ true) here all in
-    subst (λ (each : FileRow). test each ≡ true) same (and_parts (test first) _ whole).0
-kept_at test keep (first ∷ rows) (suc i) row all is kept = kept_at test keep rows i row (by (keep first) all) is kept
-  where
-    by : (passes : Bool) → list_all test (cond passes (first ∷ filter keep rows) (filter keep rows)) ≡ true
-        → list_all test (filter keep rows) ≡ true
-    by true all = (and_parts (test first) _ all).1
-    by false all = all
-
-same_file : (row other : FileRow) → row.name ≡ other.name → row.kind ≡ other.kind → is_same_file row other ≡ true
-same_file row other name kind =
-    and_from (bytes_eq row.name other.name) (bytes_eq row.kind other.kind) ((bytes_eq-Decides row.name other.name).1 name)
-    ((bytes_eq-Decides row.kind other.kind).1 kind)
-
 -- of two files of one name and type that are selected, none has the higher generation
 not_above : (w : Wanted) (rows : List FileRow) (i j : ℕ) (row other : FileRow) → w.all_generations ≡ false
     → is_all w.generation ≡ false → slice_get rows i ≡ Some row → slice_get rows j ≡ Some other
@@ -158,14 +130,14 @@ not_above w rows i j row other one plain is is_other first second name kind =
     highest : is_seen w other ≡ true → is_highest (seen_with w rows row) row.generation ≡ true → other.generation ≤ row.generation
     highest seen top =
         leb-true other.generation row.generation
-        (kept_at (λ each. nat_le each.generation row.generation) (λ each. is_seen w each && is_same_file each row) rows j other top
-        is_other (and_from (is_seen w other) (is_same_file other row) seen (same_file other row (sym name) (sym kind))))
+        (all_kept_at (λ each. nat_le each.generation row.generation) (λ each. is_seen w each && is_same_file each row) rows j other top
+        is_other (and_from (is_seen w other) (is_same_file other row) seen (texts_same other row (sym name) (sym kind))))
 
     lowest : is_seen w row ≡ true → is_lowest (seen_with w rows other) other.generation ≡ true → other.generation ≤ row.generation
     lowest seen bottom =
         leb-true other.generation row.generation
-        (kept_at (λ each. nat_le other.generation each.generation) (λ each. is_seen w each && is_same_file each other) rows i row bottom
-        is (and_from (is_seen w row) (is_same_file row other) seen (same_file row other name kind)))
+        (all_kept_at (λ each. nat_le other.generation each.generation) (λ each. is_seen w each && is_same_file each other) rows i row bottom
+        is (and_from (is_seen w row) (is_same_file row other) seen (texts_same row other name kind)))
 
     by : (generation : Gen) (all : Bool) → all ≡ false → is_all generation ≡ false
         → takes generation all (seen_with w rows row) row.generation ≡ true
@@ -183,31 +155,6 @@ not_above w rows i j row other one plain is is_other first second name kind =
         let first = eqb-true row.generation number takes_row in
         let second = eqb-true other.generation number takes_other in
         omega arith
-
--- of elements of which no two pass at most one does
-none_pass : {X : Type 0} (test : X → Bool) (xs : List X) → ((j : ℕ) (y : X) → slice_get xs j ≡ Some y → test y ≡ true → ⊥)
-    → filter test xs ≡ []
-none_pass test [] never = refl
-none_pass {X} test (x ∷ xs) never = by (test x) refl (none_pass test xs (λ j y is. never (suc j) y is))
-  where
-    by : (passes : Bool) → test x ≡ passes → filter test xs ≡ [] → cond passes (x ∷ filter test xs) (filter test xs) ≡ []
-    by true passes rest = absurd (never 0 x refl passes)
-    by false passes rest = rest
-
-at_most_one : {X : Type 0} (test : X → Bool) (xs : List X)
-    → ((i j : ℕ) (x y : X) → i < j → slice_get xs i ≡ Some x → slice_get xs j ≡ Some y → test x ≡ true → test y ≡ true → ⊥)
-    → length (filter test xs) ≤ 1
-at_most_one test [] never = omega arith
-at_most_one {X} test (x ∷ xs) never =
-    by (test x) refl (at_most_one test xs (λ i j a b less is is_other. never (suc i) (suc j) a b (omega arith) is is_other))
-  where
-    by : (passes : Bool) → test x ≡ passes → length (filter test xs) ≤ 1
-        → length (cond passes (x ∷ filter test xs) (filter test xs)) ≤ 1
-    by true passes rest =
-        let none = none_pass test xs (λ j y is. never 0 (suc j) x y (omega arith) refl is passes) in
-        let size = ap length none in
-        omega arith
-    by false passes rest = rest
 
 -- a name and a type that are looked for are given without wildcards
 pub record IsSingle (w : Wanted) : Type 0 where
@@ -228,15 +175,6 @@ row_upper directories row is =
     let c = and_parts _ _ b.0 in
     let d = and_parts _ _ c.0 in
     record { name = (and_parts _ _ d.0).1; kind = c.1 }
-
-all_kept : (test keep : FileRow → Bool) (rows : List FileRow) → list_all test rows ≡ true → list_all test (filter keep rows) ≡ true
-all_kept test keep [] all = refl
-all_kept test keep (row ∷ rows) all = by (keep row) (and_parts _ _ all).0 (all_kept test keep rows (and_parts _ _ all).1)
-  where
-    by : (kept : Bool) → test row ≡ true → list_all test (filter keep rows) ≡ true
-        → list_all test (cond kept (row ∷ filter keep rows) (filter keep rows)) ≡ true
-    by true here rest = and_from _ _ here rest
-    by false here rest = rest
 
 fixed_name : (name : Option (List ℕ)) (a b : List ℕ) → option_map_or is_fixed name true ≡ true → name_matches name a ≡ true
     → name_matches name b ≡ true → is_upper_name a ≡ true → is_upper_name b ≡ true → a ≡ b
@@ -261,14 +199,14 @@ seen_parts w rows row is =
 -- at most one file of a directory is selected
 pub single : (c : Catalogue) → IsCatalogue c → (directory : ℕ) (w : Wanted) → IsSingle w → length (selected w (rows_of c directory)) ≤ 1
 single c lawful directory w one =
-    at_most_one (is_selected w (rows_of c directory)) (rows_of c directory)
+    filter_at_most_one (is_selected w (rows_of c directory)) (rows_of c directory)
     (λ i j row other below is is_other first second. never i j row other below is is_other first second)
   where
     upper : (i : ℕ) (row : FileRow) → slice_get (rows_of c directory) i ≡ Some row → IsUpper row
     upper i row is =
         row_upper (length c.directories) row
         (all_at (is_row (length c.directories)) (rows_of c directory) i row
-        (all_kept (is_row (length c.directories)) (λ each. each.directory == directory) c.rows lawful.rows_within) is)
+        (all_filter (is_row (length c.directories)) (λ each. each.directory == directory) c.rows lawful.rows_within) is)
 
     never : (i j : ℕ) (row other : FileRow) → i < j → slice_get (rows_of c directory) i ≡ Some row
         → slice_get (rows_of c directory) j ≡ Some other → is_selected w (rows_of c directory) row ≡ true

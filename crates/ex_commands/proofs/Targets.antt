@@ -2,11 +2,13 @@
 use Rattle.std.proofs.Common.{◌≡◌, ℕ, ◌<◌, ◌≤◌, ◌||◌, ◌&&◌, ◌==◌, Bool, true, false, not, nat_lt, nat_le, List, codes, length, take, drop, Option, Some, None, option_map, is_none, Ok, refl, ap, sym, subst, ◌∙◌, arith}
 use Rattle.std.specs.Char.{to_ascii_uppercase}
 use Rattle.std.specs.List.{list_any, prefix_len}
-use Rattle.std.proofs.lemmas.Bool.{and_from, or_parts}
+use Rattle.std.proofs.lemmas.Bool.{and_from, not-true, or_parts}
 use Rattle.std.proofs.lemmas.Bool.Decides.{nat_tests}
 use Rattle.std.proofs.lemmas.List.{length-map}
 use Rattle.std.proofs.lemmas.List.Folds.{length-prefix_len}
 use Rattle.std.proofs.lemmas.List.Sums.{prefix_len-le-length}
+use Rattle.cm_lists.proofs.Ascii.{up}
+use Rattle.cm_lists.proofs.Bools.{first_of_and_not, second_of_not_and}
 use Rattle.cm_text.specs.declared.name.TheConstants.{NAME_LIMIT}
 use Rattle.cm_text.specs.Case.{equals}
 use Rattle.cm_fields.specs.declared.trial.Try.TheVariants.{Accept}
@@ -36,14 +38,16 @@ use Rattle.ex_store.specs.Copying.{is_star}
 use Rattle.ex_store.specs.Plan.{IsOneFile, IsTarget, has_plain_kind, has_plain_name, may_be, may_grow, may_number}
 use Rattle.ex_store.specs.State.{State, catalogue_of, has_directory}
 use Rattle.ex_store.specs.WellFormed.{is_file_name, is_file_type}
+use Rattle.ex_store.proofs.DefinedLaws.{upper_name}
 use Rattle.ex_commands.specs.Line.{directory_by, directory_name, place_by, said_of, upper}
-use Rattle.ex_commands.proofs.Capitals.{plain_names, plain_paths, star_stays, up, upper_directory, upper_name}
-use Rattle.ex_commands.proofs.Fitting.{IsRead, reads_made, reads_one, reads_places}
+use Rattle.ex_commands.proofs.Capitals.{plain_names, plain_paths, star_stays, upper_directory}
+use Rattle.cm_state.proofs.Branches.{IsOf}
+use Rattle.ex_commands.proofs.Fits.{IsRead, reads_made, reads_one, reads_places}
 use Rattle.ex_commands.proofs.Places.{said_part, spec_directory, spec_kind, spec_name}
-use Rattle.ex_commands.proofs.Resolving.{device_directory_within, name_of_directory, resolves, state_has, user_within}
-use Rattle.ex_commands.proofs.Saying.{SaysDirectory, directory_says, file_says, fits_number, parts_are_short, run_of, token_says, user_says}
-use Rattle.ex_commands.proofs.Trying.{IsTried}
-use Rattle.ex_commands.proofs.Verbs.{IsOf, is_made, is_one, not_true}
+use Rattle.ex_commands.proofs.Resolutions.{device_directory_within, name_of_directory, resolves, state_has, user_within}
+use Rattle.cm_blocks.proofs.Places.{SaysDirectory, directory_says, file_says, fits_number, parts_are_short, run_of, token_says, user_says}
+use Rattle.cm_blocks.proofs.Fields.{IsTried}
+use Rattle.ex_commands.proofs.Verbs.{is_made, is_one}
 
 -- the bytes that a run of a field's text has, and its parts as parts of the text that the field is said in
 abbrev pub run_text : (is_part : ℕ → Bool) → List ℕ → List ℕ
@@ -332,7 +336,7 @@ trial_target state is_catalogue functions.OutFile flags own rest at text value l
 trial_target state is_catalogue function flags own rest at text value looked end place reads says is placed = cc
 
 pub field_target : (state : State) → IsCatalogue (catalogue_of state) → (text : List ℕ) (field : FieldView) (own : Flags) (place : Place)
-    → IsOf (catalogue_of state) text is_made field
+    → IsOf (setting exec_graph (catalogue_of state) exec_meanings) text is_made field
     → place_by (catalogue_of state) own (said_of exec_graph text field) field.value ≡ Some place → IsTarget place state.directories
 field_target state is_catalogue text field own place read placed =
     let tried = read.tried in
@@ -374,13 +378,6 @@ one_number All all fits = cc
 one_number (Number number) all fits = fits
 
 -- what a name is asked for, and no wildcard is allowed
-pub right_is : (first second : Bool) → first ≡ false → (not first && second) ≡ false → second ≡ false
-right_is true second is both = cc
-right_is false second is both = both
-
-left_is : (first second : Bool) → second ≡ false → (first && not second) ≡ false → first ≡ false
-left_is false second is both = refl
-left_is true second is both = let never = ap not is in cc
 
 file_one : (state : State) → IsCatalogue (catalogue_of state) → (flags own : Flags) (text run : List ℕ) (at : ℕ)
     (value : Value) (place : Place)
@@ -390,12 +387,12 @@ file_one : (state : State) → IsCatalogue (catalogue_of state) → (flags own :
 file_one state is_catalogue flags own text run at value place few is says placed =
     let of = file_says (catalogue_of state) Any flags at run value is in
     let it = resolves (catalogue_of state) is_catalogue Any flags run of.spec of.directory of.resolved in
-    let none = or_parts (flags.wild || flags.default_all) flags.from_source (not_true _ few) in
+    let none = or_parts (flags.wild || flags.default_all) flags.from_source (not-true _ few) in
     let both = or_parts flags.wild flags.default_all none.0 in
-    let stands = left_is (is_none of.spec.name) (flags.default_all || flags.from_source) (rw (both.1, none.1) refl) in
+    let stands = first_of_and_not (is_none of.spec.name) (flags.default_all || flags.from_source) (rw (both.1, none.1) refl) in
     let named = stands it.named in
     let kept = or_parts (has_wild run of.spec.directory) _ (or_parts _ (has_bad_copy Any run of.spec) it.wild).0 in
-    let plain = right_is flags.wild _ both.0 kept.1 in
+    let plain = second_of_not_and flags.wild _ both.0 kept.1 in
     let parts = or_parts (has_wild run of.spec.name || has_wild run of.spec.kind) (is_all of.spec.generation) plain in
     let names = or_parts (has_wild run of.spec.name) (has_wild run of.spec.kind) parts.0 in
     let there = state_has state of.directory it.within in
@@ -431,7 +428,7 @@ trial_one state is_catalogue functions.AnyFile flags own rest at text value look
 trial_one state is_catalogue function flags own rest at text value looked end place reads says is placed = cc
 
 pub field_one : (state : State) → IsCatalogue (catalogue_of state) → (text : List ℕ) (field : FieldView) (own : Flags)
-    (place : Place) → IsOf (catalogue_of state) text is_one field
+    (place : Place) → IsOf (setting exec_graph (catalogue_of state) exec_meanings) text is_one field
     → place_by (catalogue_of state) own (said_of exec_graph text field) field.value ≡ Some place
     → IsOneFile place state.directories
 field_one state is_catalogue text field own place read placed =

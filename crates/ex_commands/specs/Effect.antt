@@ -8,7 +8,7 @@ use Rattle.ex_store.specs.declared.key.NamePair.{NamePair}
 use Rattle.ex_store.specs.declared.place.Place.{Place}
 use Rattle.ex_store.specs.Plan.{Planned, sources}
 use Rattle.ex_store.specs.Rows.{expunged}
-use Rattle.ex_store.specs.Selection.{remarked}
+use Rattle.ex_store.specs.Selection.{rows_with_remark}
 use Rattle.ex_store.specs.State.{State}
 use Rattle.ex_commands.specs.declared.acted.Acted.{Acted}
 use Rattle.ex_commands.specs.declared.acted.Acted.TheVariants as answers
@@ -48,7 +48,8 @@ plays origin made state = plays_by (pair_lines origin) made state
 -- one thing is changed of files, with a line for each
 abbrev pub changes : Remark → Place → State → Act
 changes remark files state =
-    does (flat_map (line_of Changed) (sources files state)) (record state { rows = remarked remark files state })
+    does (flat_map (line_of Changed) (sources files state))
+    (record state { rows = rows_with_remark remark files state })
 
 -- the marked files of a directory are removed
 abbrev pub without_marked : List ℕ → State → State

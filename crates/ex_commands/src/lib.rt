@@ -26,6 +26,6 @@ pub use commands::take::file_bytes;
 pub use data::{Data, DataTurn};
 pub use lines::{put_day, put_held};
 pub use names::{full_of, put_directory, put_file, put_full};
-pub use place::directory_name;
+pub use place::{directory_name, place_by};
 pub use plans::write_data;
 pub use replies::{put_done, put_refusal};

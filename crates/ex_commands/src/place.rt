@@ -89,7 +89,7 @@ pub(crate) fn part(text: &[u8], place: Span) -> &[u8]
 }
 
 // A part of a text, in upper case.
-#[tactic(auto, using(crate::proofs::Uppercase::upper_more, crate::proofs::Uppercase::upper_all, crate::proofs::Uppercase::upper_is_ascii, crate::proofs::Uppercase::part_within))]
+#[tactic(auto, using(cm_lists::proofs::Ascii::up_more, cm_lists::proofs::Ascii::up_all, std::proofs::lemmas::Str::Ascii::uppercase_ascii, crate::proofs::Uppercase::part_within))]
 pub(crate) fn upper(text: &[u8], place: Span) -> Name
     requires ascii { IsAscii text.now }
     requires short { place.end ≤ place.start + NAME_LIMIT }
@@ -125,13 +125,8 @@ pub fn directory_name<N: Names>(names: &N, number: u16) -> Name
     }
 }
 
-// The files that a value means: those of the directory that it was resolved to.
-pub(crate) fn place_by<N: Names>(
-    names: &N,
-    flags: Flags,
-    text: &[u8],
-    value: &Value,
-) -> Option<Place>
+/// The files that a value means: those of the directory that it was resolved to.
+pub fn place_by<N: Names>(names: &N, flags: Flags, text: &[u8], value: &Value) -> Option<Place>
     requires ascii { IsAscii text.now }
     requires said { IsSaid value.now }
     ensures { result ≡ place_by (N.catalogue names.now) flags text.now value.now }

@@ -1,28 +1,17 @@
 -- The lowest and the highest of files whose generations ascend: the first and the last.
-use Rattle.std.proofs.Common.{◌≡◌, ℕ, ◌+◌, ◌-◌, ◌<◌, ◌≤◌, suc, zero, max, min, Bool, true, false, not, List, [], ◌∷◌, length, get_or, drop, Option, Some, None, unwrap_or, refl, sym, ap, subst, ◌∙◌, arith}
+use Rattle.std.proofs.Common.{◌≡◌, ℕ, ◌+◌, ◌-◌, ◌<◌, ◌≤◌, suc, zero, max, min, Bool, true, false, not, List, [], ◌∷◌, length, get_or, drop, Option, Some, unwrap_or, refl, sym, ap, subst, ◌∙◌, arith}
 use Rattle.std.proofs.lemmas.Bool.{ne_eqb, or_from}
 use Rattle.std.proofs.lemmas.List.{at_drop_more}
 use Rattle.std.proofs.lemmas.Option.{get_or_from_slice_get, slice_get_within}
 use Rattle.std.specs.List.{slice_get}
 use Rattle.std.specs.Bool.{beq}
 use Rattle.std.specs.Option.{option_map_or, option_or}
+use Rattle.cm_lists.proofs.Bools.{beq-false}
+use Rattle.cm_lists.proofs.Options.{max_parts, max_within}
 use Rattle.ex_generations.specs.declared.file.File.{File}
 use Rattle.ex_generations.specs.declared.file.TheConstants.{GENERATION_LIMIT}
 use Rattle.ex_generations.specs.Generations.{IsAscending, has, highest, lowest, marked, unmarked, with_mark}
-use Rattle.ex_generations.proofs.Ascending.{IsAscending-at, IsAscending-filter, limit_at}
-
--- what a comparison of marks says
-pub beq-same : (a b : Bool) → beq a b ≡ true → a ≡ b
-beq-same true true e = refl
-beq-same true false e = absurd (cc)
-beq-same false true e = absurd (cc)
-beq-same false false e = refl
-
-beq-other : (a b : Bool) → beq a b ≡ false → a ≡ not b
-beq-other true true e = absurd (cc)
-beq-other true false e = refl
-beq-other false true e = refl
-beq-other false false e = absurd (cc)
+use Rattle.ex_generations.proofs.Ascents.{IsAscending-at, IsAscending-filter, limit_at}
 
 -- the first file is the lowest
 lowest-cons : (file : File) (more : List File) (low : ℕ) → IsAscending low (file ∷ more) → lowest (file ∷ more) ≡ Some file.generation
@@ -43,15 +32,11 @@ lowest_at deleted files i file a lt is e =
     at_drop_more (λ rest. lowest (with_mark deleted rest)) files i file lt
     ∙ subst (λ other. lowest (with_mark deleted (other ∷ drop (i + 1) files)) ≡ Some file.generation) is (lowest-marked deleted file (drop (i + 1) files) (subst (λ other. IsAscending 0 (other ∷ drop (i + 1) files)) (sym is) (IsAscending-at files i file a lt)) e)
 
-max-within : (number : ℕ) (more : Option ℕ) → number ≤ option_map_or (max number) more number
-max-within number None = omega arith
-max-within number (Some other) = omega arith
-
 -- the last file is the highest
 highest-cons : (file : File) (more : List File) (low : ℕ) → IsAscending low (file ∷ more) → highest (file ∷ more) ≡ option_or (highest more) (Some file.generation)
 highest-cons file [] low a = refl
 highest-cons file (next ∷ more) low a =
-    ap Some (omega (arith, a.3.0, max-within next.generation (highest more)))
+    ap Some (omega (arith, a.3.0, max_within next.generation (highest more)))
 
 highest-marked : (deleted : Bool) (file : File) (more : List File) (last : Option ℕ) → IsAscending 0 (file ∷ more) → file.deleted ≡ deleted → option_or (highest (with_mark deleted more)) (Some file.generation) ≡ option_or (highest (with_mark deleted (file ∷ more))) last
 highest-marked true file more last a e =
@@ -67,8 +52,8 @@ highest_more deleted files i file last a lt is e =
 
 -- a file without the mark counts for nothing
 highest-other : (deleted : Bool) (file : File) (more : List File) (last : Option ℕ) → beq file.deleted deleted ≡ false → option_or (highest (with_mark deleted more)) last ≡ option_or (highest (with_mark deleted (file ∷ more))) last
-highest-other true file more last e = rw (beq-other file.deleted true e)
-highest-other false file more last e = rw (beq-other file.deleted false e)
+highest-other true file more last e = rw (beq-false file.deleted true e)
+highest-other false file more last e = rw (beq-false file.deleted false e)
 
 pub highest_skip : (deleted : Bool) (files : List File) (i : ℕ) (file : File) (last : Option ℕ) → i < length files → file ≡ get_or files i file → beq file.deleted deleted ≡ false → option_or (highest (with_mark deleted (drop (i + 1) files))) last ≡ option_or (highest (with_mark deleted (drop i files))) last
 highest_skip deleted files i file last lt is e =
@@ -95,13 +80,9 @@ highest-within files file a e =
     let within : length files - 1 < length files = slice_get_within files (length files - 1) file e in
     subst (λ (last : File). last.generation ≤ GENERATION_LIMIT) (get_or_from_slice_get files (length files - 1) file file e) (limit_at files 0 (length files - 1) file a within)
 
-pub max-parts : (number : ℕ) (more : Option ℕ) → (number ≤ option_map_or (max number) more number) × (unwrap_or more 0 ≤ option_map_or (max number) more number)
-max-parts number None = (omega arith, omega arith)
-max-parts number (Some other) = (omega arith, omega arith)
-
 -- no file is above the highest
 pub has-above : (files : List File) (generation : ℕ) → unwrap_or (highest files) 0 < generation → has generation files ≡ false
 has-above [] generation lt = refl
 has-above (file ∷ more) generation lt =
-    let parts : (file.generation ≤ option_map_or (max file.generation) (highest more) file.generation) × (unwrap_or (highest more) 0 ≤ option_map_or (max file.generation) (highest more) file.generation) = max-parts file.generation (highest more) in
+    let parts : (file.generation ≤ option_map_or (max file.generation) (highest more) file.generation) × (unwrap_or (highest more) 0 ≤ option_map_or (max file.generation) (highest more) file.generation) = max_parts file.generation (highest more) in
     or_from _ _ (ne_eqb file.generation generation (omega (arith, parts.0))) (has-above more generation (omega (arith, parts.1)))

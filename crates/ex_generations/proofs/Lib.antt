@@ -1,6 +1,6 @@
-pub mod Ascending
+pub mod Ascents
 pub mod Extremes
-pub mod Halving
-pub mod Keeping
-pub mod Placing
-pub mod Retaining
+pub mod Halves
+pub mod KeptFiles
+pub mod Places
+pub mod Retention

@@ -14,10 +14,10 @@ use Rattle.ex_image.specs.Decoding.{IsBadAt, IsStore, Tells}
 use Rattle.ex_image.specs.Grammar.{FirstBad, IsImage, IsImageIn, Makes, MayStand, state_in}
 use Rattle.ex_image.specs.Reading.{Reading, record_at, with_entry}
 use Rattle.ex_image.specs.Record.{Entry, Connected}
-use Rattle.ex_image.proofs.Drafting.{draft_more, makes_sound}
+use Rattle.ex_image.proofs.Drafts.{draft_more, makes_sound}
 use Rattle.ex_image.proofs.Endings.{image_here, never_bad, one_bad, one_state, whole}
 use Rattle.ex_image.proofs.RecordLaws.{record_takes}
-use Rattle.ex_image.proofs.Standing.{IsConnected, Stands, faultless_of}
+use Rattle.ex_image.proofs.Stands.{IsConnected, Stands, faultless_of}
 
 -- and with a record more that may stand there
 pub drafted_more : (bytes : List ℕ) (reading : Reading) (rest : List ℕ) (entry : Entry) (content : List ℕ)

@@ -3,6 +3,7 @@ use Rattle.std.proofs.Common.{◌≡◌, ◌⊎◌, ◌<◌, ◌≤◌, ◌-◌,
 use Rattle.std.specs.List.{flat_map}
 use Rattle.std.proofs.lemmas.Bool.{and_parts, false≢true}
 use Rattle.std.proofs.lemmas.List.{append-nil}
+use Rattle.cm_lists.proofs.Pieces.{nil_of_length}
 use Rattle.ex_store.specs.State.{State}
 use Rattle.cm_io.specs.declared.status.Kind.{Kind}
 use Rattle.cm_io.specs.declared.status.Kind.TheVariants.{Form}
@@ -12,10 +13,9 @@ use Rattle.ex_image.specs.declared.version.Version.{Version}
 use Rattle.ex_image.specs.Grammar.{FirstBad, IsImage, IsImageIn, Leads, Makes, MayStand, state_in}
 use Rattle.ex_image.specs.Reading.{Reading, is_ended, record_at, start, with_record}
 use Rattle.ex_image.specs.Record.{Entry, record_text}
-use Rattle.ex_image.proofs.Leading.{makes_more, makes_start}
-use Rattle.ex_image.proofs.LineLaws.{no_bytes}
+use Rattle.ex_image.proofs.Leads.{makes_more, makes_start}
 use Rattle.ex_image.proofs.RecordLaws.{record_again, record_shorter}
-use Rattle.ex_image.proofs.Spelling.{done}
+use Rattle.ex_image.proofs.Spellings.{done}
 
 -- no record is read here
 pub record IsStuck (reading : Reading) (rest : List ℕ) : Type 0 where
@@ -173,7 +173,7 @@ whole_here bytes reading rest made ends =
     let both = and_parts (is_ended reading.last) (length rest == 0) ends in
     let last = ended_is reading.last both.0 in
     subst (λ at. Makes bytes at []) (ap (reading_at reading.version reading.state) last)
-    (subst (λ left. Makes bytes reading left) (no_bytes rest both.1) made)
+    (subst (λ left. Makes bytes reading left) (nil_of_length rest both.1) made)
 
 pub image_here : (bytes : List ℕ) (version : Version) (said : State) → IsImageIn version bytes said
     → IsImage bytes (state_in version said)

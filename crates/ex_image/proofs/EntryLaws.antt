@@ -3,6 +3,7 @@ use Rattle.std.proofs.Common.{◌≡◌, ℕ, true, List, ◌∷◌, ◌++◌, c
 use Rattle.std.specs.Fmt.{decimal}
 use Rattle.std.specs.List.{list_all}
 use Rattle.std.proofs.lemmas.Bool.{and_parts}
+use Rattle.cm_lists.proofs.Texts.{by_word}
 use Rattle.cm_files.specs.Catalogue.{is_directory_name}
 use Rattle.ex_store.specs.declared.row.Row.{Row}
 use Rattle.ex_store.specs.Forms.{form_text}
@@ -14,12 +15,12 @@ use Rattle.ex_image.specs.Fields.{is_logical}
 use Rattle.ex_image.specs.Grammar.{IsWrittenIn, is_shaped, is_short}
 use Rattle.ex_image.specs.Lines.{entry_of, lettered}
 use Rattle.ex_image.specs.Record.{Entry, Head, Directory, Connected, Logical, File, Request, End, after_text, file_text, head_text, line_text, mark_text, stamp_of, stamp_text}
-use Rattle.ex_image.proofs.Cutting.{cut_again, cut_takes}
+use Rattle.ex_image.proofs.Cuts.{cut_again, cut_takes}
 use Rattle.ex_image.proofs.FieldLaws.{directory_spelling, field_more, is_inside, job_spelling, logical_spelling, note_spelling, number_spelling, within}
 use Rattle.ex_image.proofs.FileLaws.{after_spelling, file_spelling, form_spelling, mark_spelling}
 use Rattle.ex_image.proofs.LineLaws.{IsFileShape, IsLine, connected_again, connected_takes, directory_again, directory_takes, file_again, file_shape, file_takes, logical_again, logical_takes}
 use Rattle.ex_image.proofs.RequestLaws.{late_fields, request_again, request_shape, request_takes}
-use Rattle.ex_image.proofs.Spelling.{IsSpelling, by_word, done, steps_of}
+use Rattle.ex_image.proofs.Spellings.{IsSpelling, done, steps_of}
 use Rattle.ex_image.proofs.StampLaws.{stamp_only}
 
 -- an entry that may be read in a version

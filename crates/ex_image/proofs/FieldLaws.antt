@@ -1,5 +1,5 @@
 -- Each field of an image: its reader and its writer.
-use Rattle.std.proofs.Common.{◌≡◌, ℕ, zero, suc, ◌<◌, ◌≤◌, ◌^◌, ◌==◌, Bool, true, false, not, ◌&&◌, ◌||◌, nat_lt, cond, List, [], ◌∷◌, ◌++◌, length, get_or, Result, Ok, Err, refl, ap, subst, sym, ◌∙◌, arith, rules}
+use Rattle.std.proofs.Common.{◌≡◌, ℕ, zero, suc, ◌<◌, ◌≤◌, ◌^◌, ◌==◌, Bool, true, false, not, ◌&&◌, ◌||◌, nat_lt, cond, List, [], ◌∷◌, ◌++◌, length, get_or, Result, Ok, Err, refl, ap, subst, sym, ◌∙◌, arith}
 use Rattle.std.specs.Char.{is_ascii_digit, is_ascii_lowercase}
 use Rattle.std.specs.Fmt.{decimal}
 use Rattle.std.specs.List.{join_with_byte, list_all, slice_split}
@@ -8,7 +8,9 @@ use Rattle.std.proofs.lemmas.Bool.{and_from, and_parts, leb-true, le-leb, lt-ltb
 use Rattle.std.proofs.lemmas.Bool.Decides.{nat_tests}
 use Rattle.std.proofs.lemmas.Fmt.{decimal-digits_value, decimal_digit, decimal_nonempty, digits_decimal, digits_value-decimal, first_decimal, length-decimal-le}
 use Rattle.std.proofs.lemmas.List.Splits.{join_with_byte-slice_split}
-use Rattle.std.proofs.lemmas.Str.Parse.{IsNumeralModel, digits_value_short, numerals_by_value}
+use Rattle.std.proofs.lemmas.Str.Parse.{digits_value_short}
+use Rattle.cm_lists.proofs.Digits.{numerals}
+use Rattle.cm_lists.proofs.Quantifiers.{all_joined, all_weaker}
 use Rattle.cm_text.specs.Bytes.{is_name, is_text, is_word}
 use Rattle.cm_files.specs.Catalogue.{is_directory_name, is_upper_name}
 use Rattle.ex_store.specs.WellFormed.{is_file_name, is_file_type}
@@ -16,7 +18,7 @@ use Rattle.cm_io.specs.declared.status.Kind.{Kind}
 use Rattle.cm_io.specs.declared.status.Kind.TheVariants.{Form}
 use Rattle.ex_image.specs.Fields.{directory_of, formed, is_logical, is_note, is_numeral, job_of, logical_of, note_of, number_of}
 use Rattle.ex_image.specs.Grammar.{is_short}
-use Rattle.ex_image.proofs.Spelling.{IsSpelling, all_joined, all_weaker, done, tested}
+use Rattle.ex_image.proofs.Spellings.{IsSpelling, done, tested}
 
 -- a byte of a field: one above the space
 abbrev pub is_dark : ℕ → Bool
@@ -43,9 +45,6 @@ text_inside byte text = grind (arith, nat_tests)
 pub point_no_name : is_name 46 ≡ false
 unfolding is_name is_word
 point_no_name = refl
-
-numerals : IsNumeralModel (λ digits. list_all is_ascii_digit digits ≡ true) (digits_value 10)
-numerals = numerals_by_value (λ digits. list_all is_ascii_digit digits ≡ true) (search rules)
 
 -- what a numeral is
 record IsNumber (digits : List ℕ) : Type 0 where

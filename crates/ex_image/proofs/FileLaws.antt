@@ -7,6 +7,8 @@ use Rattle.std.specs.Option.{option_map}
 use Rattle.std.specs.Str.{bytes_eq}
 use Rattle.std.proofs.lemmas.Bool.{and_from, and_parts, le-leb, ltb-true}
 use Rattle.std.proofs.lemmas.Slice.Eq.{bytes_eq-Decides}
+use Rattle.cm_lists.proofs.Quantifiers.{all_joined, all_weaker}
+use Rattle.cm_lists.proofs.Texts.{by_word}
 use Rattle.cm_text.specs.Bytes.{is_name}
 use Rattle.ex_store.specs.declared.key.FullName.{FullName}
 use Rattle.ex_store.specs.declared.limits.TheConstants.{FORMS}
@@ -18,7 +20,7 @@ use Rattle.ex_image.specs.Fields.{◌>>=◌, after_of, file_of, form_of, mark_of
 use Rattle.ex_image.specs.Grammar.{is_short, is_short_day, is_short_optional}
 use Rattle.ex_image.specs.Record.{after_text, file_text, mark_text, optional_text}
 use Rattle.ex_image.proofs.FieldLaws.{file_name_names, file_type_names, is_dark, name_dark, kind_spelling, name_spelling, number_digits, number_spelling, point_no_name}
-use Rattle.ex_image.proofs.Spelling.{IsSpelling, all_joined, all_weaker, by_part, by_rest, by_word, done, part_again}
+use Rattle.ex_image.proofs.Spellings.{IsSpelling, by_part, by_rest, done, part_again}
 
 -- a full name by its parts
 abbrev full_name : List ℕ → List ℕ → List ℕ → ℕ → FullName

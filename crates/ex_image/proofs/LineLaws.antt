@@ -1,7 +1,8 @@
 -- The lines of an image: what is read of a line is what it was written for, and what is written is read.
-use Rattle.std.proofs.Common.{◌≡◌, ℕ, ◌==◌, Bool, true, List, [], ◌∷◌, ◌++◌, codes, length, Ok, refl, subst}
+use Rattle.std.proofs.Common.{◌≡◌, ℕ, Bool, true, List, [], ◌∷◌, ◌++◌, codes, Ok, refl, subst}
 use Rattle.std.specs.Fmt.{decimal}
-use Rattle.std.proofs.lemmas.Bool.{and_from, and_parts, eqb-true}
+use Rattle.std.proofs.lemmas.Bool.{and_from, and_parts}
+use Rattle.cm_lists.proofs.Pieces.{nil_of_length}
 use Rattle.cm_files.specs.Catalogue.{is_directory_name}
 use Rattle.ex_store.specs.declared.key.FullName.{FullName}
 use Rattle.ex_store.specs.declared.row.Row.{Row}
@@ -15,7 +16,7 @@ use Rattle.ex_image.specs.Record.{Entry, Directory, Connected, Logical, File, St
 use Rattle.ex_image.proofs.FieldLaws.{directory_spelling, logical_spelling, number_spelling}
 use Rattle.ex_image.proofs.FileLaws.{IsFile, file_spelling, mark_spelling}
 use Rattle.ex_image.proofs.StampLaws.{by_stamp, stamp_again}
-use Rattle.ex_image.proofs.Spelling.{by_part, by_rest, done, part_again}
+use Rattle.ex_image.proofs.Spellings.{by_part, by_rest, done, part_again}
 
 -- behind a letter these bytes are the line of an entry, in a version
 pub record IsLine (version : Version) (letter bytes : List ℕ) (entry : Entry) : Type 0 where
@@ -87,11 +88,6 @@ pub record IsFileShape (version : Version) (row : Row) (size : ℕ) : Type 0 whe
   pub size_short : is_short size ≡ true
   pub blank : row.file.bytes ≡ []
 
--- no byte at all
-pub no_bytes : (bytes : List ℕ) → (length bytes == 0) ≡ true → bytes ≡ []
-no_bytes [] none = refl
-no_bytes (byte ∷ bytes) none = let size = eqb-true (length (byte ∷ bytes)) 0 none in absurd (cc)
-
 pub file_shape : (version : Version) (row : Row) (size : ℕ) → is_shaped (File version row size) ≡ true
     → IsFileShape version row size
 file_shape version row size shape =
@@ -106,7 +102,7 @@ file_shape version row size shape =
       file = record { directory_is = refl; name = name.1; kind = kind.1; generation = generation.1 };
       stamp = stamp.1;
       size_short = short.1;
-      blank = no_bytes row.file.bytes blank.1;
+      blank = nil_of_length row.file.bytes blank.1;
     }
 
 file_shaped : (version : Version) (directory : List ℕ) (full : FullName) (mark : Bool) (stamp : Stamp) (size : ℕ)

@@ -1,5 +1,5 @@
 -- Where a part of a line is cut off, and what a numeral writes.
-use Rattle.std.proofs.Common.{◌≡◌, ℕ, suc, ◌+◌, ◌-◌, ◌<◌, ◌≤◌, ◌==◌, Bool, true, false, not, ◌||◌, nat_le, nat_lt, cond, get_or, List, [], ◌∷◌, length, take, drop, Ok, Err, refl, sym, ap, ◌∙◌, length-drop, arith, rules}
+use Rattle.std.proofs.Common.{◌≡◌, ℕ, ◌+◌, ◌-◌, ◌<◌, ◌≤◌, ◌==◌, Bool, true, not, ◌||◌, nat_le, nat_lt, get_or, List, length, take, drop, Ok, Err, sym, ap, ◌∙◌, length-drop, arith}
 use Rattle.std.specs.Char.{is_ascii_digit}
 use Rattle.std.specs.List.{before_first, list_all, list_any, position_or_len}
 use Rattle.std.specs.Str.Parse.{digits_value}
@@ -8,21 +8,12 @@ use Rattle.std.proofs.lemmas.Bool.Decides.{nat_tests}
 use Rattle.std.proofs.lemmas.List.{drop-drop, take_rest}
 use Rattle.std.proofs.lemmas.List.Folds.{list_any_at}
 use Rattle.std.proofs.lemmas.List.Sums.{passes_at_first}
-use Rattle.std.proofs.lemmas.Str.Parse.{IsNumeralModel, digits_value_short, numerals_by_value}
+use Rattle.std.proofs.lemmas.Str.Parse.{digits_value_short}
+use Rattle.cm_lists.proofs.Digits.{numerals}
+use Rattle.cm_lists.proofs.Positions.{none_any}
 use Rattle.cm_fields.specs.declared.digits.TheConstants.{NUMBER_LIMIT}
 use Rattle.cm_io.specs.declared.status.Kind.{Kind}
 use Rattle.ex_image.specs.Fields.{cut, is_numeral}
-
--- where no place comes before the end, no element passes
-none_passes : (test : ℕ → Bool) (xs : List ℕ) → length xs ≤ position_or_len test xs → list_any test xs ≡ false
-none_passes test [] all = refl
-none_passes test (x ∷ xs) all =
-    by (test x) (list_any test xs) (length xs) (position_or_len test xs) (none_passes test xs) all
-  where
-    by : (first later : Bool) (size at : ℕ) → (size ≤ at → later ≡ false) → suc size ≤ cond (not first) (1 + at) 0
-        → (first || later) ≡ false
-    by true later size at more all = absurd (omega arith)
-    by false later size at more all = more (omega arith)
 
 -- nothing is cut off where nothing is left from the first such byte on
 pub cut_none : (byte : ℕ) (kind : Kind) (bytes rest : List ℕ)
@@ -32,7 +23,7 @@ cut_none byte kind bytes rest is none =
     let test : ℕ → Bool = λ b. b == byte in
     let size : length rest ≡ length bytes - position_or_len test bytes =
     ap length is ∙ length-drop (position_or_len test bytes) bytes in
-    rw (none_passes test bytes (omega arith))
+    rw (none_any test bytes (omega arith))
 
 -- what is cut off where that byte and more is left
 pub cut_some : (byte : ℕ) (kind : Kind) (bytes front rest : List ℕ) → front ≡ before_first (λ b. b == byte) bytes
@@ -48,13 +39,6 @@ cut_some byte kind bytes front rest before is some =
     let behind : drop (at + 1) bytes ≡ take (length rest - 1) (drop 1 rest) =
     sym (take_rest rest 1 ∙ ap (drop 1) is ∙ drop-drop 1 at bytes) in
     rw (found, ← before, behind)
-
--- list_all is_ascii_digit, as a fact
-abbrev AreDigits : List ℕ → Type 0
-AreDigits digits = list_all is_ascii_digit digits ≡ true
-
-numerals : IsNumeralModel AreDigits (digits_value 10)
-numerals = numerals_by_value AreDigits (search rules)
 
 -- ten digits write a number that fits
 pub numeral_within : (digits : List ℕ) → is_numeral digits ≡ true → digits_value 10 digits ≤ NUMBER_LIMIT

@@ -2,35 +2,20 @@
 use Rattle.std.proofs.Common.{◌≡◌, ℕ, zero, suc, ◌<◌, ◌==◌, Bool, true, ◌&&◌, not, nat_lt, nat_le, List, [], ◌∷◌, length, refl, arith}
 use Rattle.std.specs.Char.{is_ascii_lowercase}
 use Rattle.std.specs.List.{list_all, onto_first, slice_split}
-use Rattle.std.specs.Str.{IsAscii, IsUtf8}
+use Rattle.std.specs.Str.{IsAscii}
 use Rattle.std.proofs.lemmas.Bool.{and_from, and_parts, eqb-true}
 use Rattle.std.proofs.lemmas.Bool.Decides.{nat_tests}
 use Rattle.std.proofs.lemmas.List.Splits.{slice_split-cons_no, slice_split-cons_yes}
-use Rattle.std.proofs.lemmas.Str.{IsUtf8-from_ascii}
-use Rattle.cm_fields.proofs.Holding.{by_test}
+use Rattle.cm_lists.proofs.Ascii.{IsAscii_of_all}
+use Rattle.cm_lists.proofs.Bools.{by_test}
+use Rattle.cm_lists.proofs.Quantifiers.{all_weaker}
 use Rattle.cm_text.specs.declared.name.TheConstants.{NAME_LIMIT}
-use Rattle.cm_text.specs.Bytes.{is_name, is_text, is_word}
+use Rattle.cm_text.specs.Bytes.{is_name, is_text}
+use Rattle.cm_text.proofs.Ascii.{name_byte_is_ascii}
 use Rattle.cm_files.specs.Catalogue.{is_directory_name, is_upper_name}
 use Rattle.cm_files.specs.LogicalName.{is_logical_name}
-use Rattle.cm_files.proofs.Sections.{all_implies}
 use Rattle.ex_image.specs.Fields.{is_logical, is_note}
 use Rattle.ex_store.specs.WellFormed.{is_file_name, is_file_type}
-
--- ASCII bytes are a text
-pub text_of_ascii : (bytes : List ℕ) → IsAscii bytes → IsUtf8 bytes
-text_of_ascii bytes are = IsUtf8-from_ascii bytes are
-
--- bytes that all pass a test of ASCII bytes alone are ASCII
-passing_is_ascii : (test : ℕ → Bool) → ((byte : ℕ) → test byte ≡ true → byte < 128) → (bytes : List ℕ)
-    → list_all test bytes ≡ true → IsAscii bytes
-passing_is_ascii test low [] all i = omega arith
-passing_is_ascii test low (byte ∷ more) all zero = low byte (and_parts (test byte) (list_all test more) all).0
-passing_is_ascii test low (byte ∷ more) all (suc i) =
-    passing_is_ascii test low more (and_parts (test byte) (list_all test more) all).1 i
-
-name_byte_is_ascii : (byte : ℕ) → is_name byte ≡ true → byte < 128
-unfolding is_name is_word
-name_byte_is_ascii byte is = grind (arith, nat_tests)
 
 text_byte_is_ascii : (byte : ℕ) → is_text byte ≡ true → byte < 128
 unfolding is_text
@@ -38,7 +23,7 @@ text_byte_is_ascii byte is = grind (arith, nat_tests)
 
 upper_is_ascii : (name : List ℕ) → is_upper_name name ≡ true → IsAscii name
 upper_is_ascii name is =
-    passing_is_ascii (λ byte. is_name byte && not (is_ascii_lowercase byte))
+    IsAscii_of_all (λ byte. is_name byte && not (is_ascii_lowercase byte))
     (λ byte one. name_byte_is_ascii byte (and_parts (is_name byte) (not (is_ascii_lowercase byte)) one).0) name is
 
 pub file_name_is_ascii : (name : List ℕ) → is_file_name name ≡ true → IsAscii name
@@ -54,7 +39,7 @@ logical_is_ascii name is = upper_is_ascii name (and_parts (is_logical_name name)
 
 pub note_is_ascii : (note : List ℕ) → is_note note ≡ true → IsAscii note
 note_is_ascii note is =
-    passing_is_ascii is_text text_byte_is_ascii note
+    IsAscii_of_all is_text text_byte_is_ascii note
     (and_parts (nat_le (length note) NAME_LIMIT) (list_all is_text note) is).1
 
 -- the first byte of a part, and those behind it
@@ -95,5 +80,5 @@ directory_is_ascii name is =
     let parts =
     (and_parts (nat_le (length name) NAME_LIMIT) (list_all is_part (slice_split (λ b. b == 46) name)) is).1 in
     parts_are_ascii name
-    (all_implies is_part is_upper_name (λ part one. (and_parts (nat_lt 0 (length part)) (is_upper_name part) one).1)
+    (all_weaker is_part is_upper_name (λ part one. (and_parts (nat_lt 0 (length part)) (is_upper_name part) one).1)
     (slice_split (λ b. b == 46) name) parts)

@@ -13,7 +13,7 @@ use Rattle.ex_image.specs.Reading.{Reading, behind, fault_of, is_ended, may_foll
 use Rattle.ex_image.specs.Record.{Entry, File, content_text, line_text, record_text}
 use Rattle.ex_image.proofs.EntryLaws.{IsEntry, entry_spelling}
 use Rattle.ex_image.proofs.FieldLaws.{is_inside}
-use Rattle.ex_image.proofs.Spelling.{IsSpelling, by_part, by_rest, done, part_again, steps_of}
+use Rattle.ex_image.proofs.Spellings.{IsSpelling, by_part, by_rest, done, part_again, steps_of}
 
 -- an entry that may stand behind a record, in an image of a version
 pub record IsPlaced (version : Version) (last : Tag) (entry : Entry) : Type 0 where

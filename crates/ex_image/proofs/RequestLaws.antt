@@ -16,7 +16,7 @@ use Rattle.ex_image.specs.Record.{Entry, Request, after_text, file_text}
 use Rattle.ex_image.proofs.FieldLaws.{directory_spelling, job_spelling, note_spelling, number_spelling}
 use Rattle.ex_image.proofs.FileLaws.{IsFile, after_spelling, file_spelling, form_spelling, is_form}
 use Rattle.ex_image.proofs.LineLaws.{IsLine, line_end}
-use Rattle.ex_image.proofs.Spelling.{by_part, by_rest, part_again}
+use Rattle.ex_image.proofs.Spellings.{by_part, by_rest, part_again}
 
 -- the entry that a line of the queue tells
 abbrev entry_told : FullName → ℕ → ℕ → Option ℤ → List ℕ → List ℕ → QueueEntry

@@ -1,9 +1,6 @@
 -- The records of a list, one behind the other.
-use Rattle.std.proofs.Common.{◌≡◌, ℕ, ◌≤◌, nat_lt, Bool, true, List, [], ◌∷◌, ◌++◌, length, map, refl, ap, subst, sym, ◌∙◌, arith, append_assoc, length-append}
-use Rattle.std.specs.List.{list_all}
-use Rattle.std.proofs.lemmas.Bool.{and_parts, lt-ltb}
+use Rattle.std.proofs.Common.{◌≡◌, ℕ, true, List, [], ◌∷◌, ◌++◌, map, refl, ap, subst, sym, ◌∙◌, append_assoc}
 use Rattle.std.proofs.lemmas.List.{append-nil}
-use Rattle.std.proofs.lemmas.List.Folds.{list_all-append}
 use Rattle.ex_image.specs.declared.tag.Tag.{Tag}
 use Rattle.ex_image.specs.Grammar.{Leads, MayStand}
 use Rattle.ex_image.specs.Reading.{Reading, may_follow, with_record}
@@ -45,20 +42,3 @@ pub run_leads : {X : Type 0} (all : List X) (at : Tag → List X → Reading) (w
     → IsRun all at written own → (last : Tag) → may_follow last own ≡ true
     → Leads (at last []) (map written all) (at (behind_all last own all) all)
 run_leads all at written own run last place = run_from all at written own run last [] all refl place
-
--- an element of a list all of which pass
-pub all_there : {X : Type 0} (test : X → Bool) (all before : List X) (x : X) (more : List X) → all ≡ before ++ x ∷ more
-    → list_all test all ≡ true → test x ≡ true
-all_there test all before x more same passes =
-    let whole : list_all test (before ++ x ∷ more) ≡ true = subst (λ xs. list_all test xs ≡ true) same passes in
-    let both = and_parts (list_all test before) (list_all test (x ∷ more))
-    (sym (list_all-append test before (x ∷ more)) ∙ whole) in
-    (and_parts (test x) (list_all test more) both.1).0
-
--- before an element of a list with few there are fewer
-pub fewer : {X : Type 0} (all before : List X) (x : X) (more : List X) (limit : ℕ) → all ≡ before ++ x ∷ more
-    → length all ≤ limit → nat_lt (length before) limit ≡ true
-fewer all before x more limit same few =
-    let size = ap length same in
-    let parts = length-append before (x ∷ more) in
-    lt-ltb (length before) limit (omega arith)

@@ -23,13 +23,13 @@ use Rattle.ex_image.specs.Grammar.{IsImage, IsImageIn, Leads, Makes, is_shaped, 
 use Rattle.ex_image.specs.Image.{directory_record, file_record, logical_record, request_record}
 use Rattle.ex_image.specs.Reading.{Reading, start, with_record}
 use Rattle.ex_image.specs.Record.{Entry, Head, Directory, Connected, Logical, File, Request, End, Stamp, after_text, content_text, file_text, line_text, mark_text, optional_text, record_text, stamp_of, stamp_text}
-use Rattle.ex_image.proofs.Drafting.{makes_sound, start_sound}
+use Rattle.ex_image.proofs.Drafts.{makes_sound, start_sound}
 use Rattle.ex_image.proofs.Endings.{whole}
 use Rattle.ex_image.proofs.FileLaws.{IsFile, day_short}
 use Rattle.ex_image.proofs.LineLaws.{file_shape}
 use Rattle.ex_image.proofs.RequestLaws.{request_shape}
 use Rattle.ex_image.proofs.StampLaws.{stamp_shape}
-use Rattle.ex_image.proofs.Written.{leads_written, written}
+use Rattle.ex_image.proofs.WrittenStates.{leads_written, written}
 
 -- pieces, each with one byte more
 abbrev pieces : List (List ℕ) → ℕ

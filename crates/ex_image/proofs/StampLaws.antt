@@ -1,10 +1,11 @@
 -- How many generations a file keeps, when it was written and when it was last read, in either version: what is read was
 -- written, and what is written is read.
-use Rattle.std.proofs.Common.{◌≡◌, ℕ, ◌==◌, ◌^◌, Bool, true, not, ◌&&◌, List, ◌∷◌, ◌++◌, Option, Some, None, Result, Ok, refl, ap, subst, sym, ◌∙◌, append_assoc, arith}
+use Rattle.std.proofs.Common.{◌≡◌, ℕ, ◌==◌, ◌^◌, true, not, ◌&&◌, List, ◌∷◌, ◌++◌, Option, None, Result, Ok, refl, ap, subst, sym, ◌∙◌, append_assoc, arith}
 use Rattle.std.specs.Fmt.{decimal}
 use Rattle.std.specs.List.{list_all}
 use Rattle.std.specs.Option.{is_some}
 use Rattle.std.proofs.lemmas.Bool.{and_from, and_parts, eqb-true, lt-ltb}
+use Rattle.cm_lists.proofs.Options.{none_of_not_some}
 use Rattle.cm_io.specs.declared.status.Kind.{Kind}
 use Rattle.cm_io.specs.declared.status.Kind.TheVariants.{Form}
 use Rattle.ex_image.specs.declared.version.Version.{Version}
@@ -15,7 +16,7 @@ use Rattle.ex_image.specs.Lines.{first_stamp, second_stamp, stamp_at}
 use Rattle.ex_image.specs.Record.{Stamp, optional_text, stamp_text}
 use Rattle.ex_image.proofs.FieldLaws.{field_more, is_inside, number_spelling, within}
 use Rattle.ex_image.proofs.FileLaws.{optional_spelling}
-use Rattle.ex_image.proofs.Spelling.{by_part, done, part_again, steps_of}
+use Rattle.ex_image.proofs.Spellings.{by_part, done, part_again, steps_of}
 
 -- what a stamp must be
 pub record IsStampShape (version : Version) (stamp : Stamp) : Type 0 where
@@ -84,10 +85,6 @@ by_stamp version bytes next end P is later =
     later step.value.0 step.value.1 taken.joined taken.good step.then
 
 -- version 1 tells 0 and none
-no_read : (read : Option ℕ) → not (is_some read) ≡ true → read ≡ None
-no_read None none = refl
-no_read (Some moment) none = absurd (cc)
-
 abbrev stamped : ℕ → ℕ → Option ℕ → Stamp
 stamped keep moment read = record { keep = keep; moment = moment; read = read }
 
@@ -95,7 +92,7 @@ first_is : (keep moment : ℕ) (read : Option ℕ) (rest : List ℕ) → (keep =
     → done {A = Stamp × List ℕ} (stamped 0 moment None, rest) ≡ done (stamped keep moment read, rest)
 first_is keep moment read rest told =
     let both = and_parts (keep == 0) (not (is_some read)) told in
-    rw (eqb-true keep 0 both.0, no_read read both.1) refl
+    rw (eqb-true keep 0 both.0, none_of_not_some read both.1) refl
 
 pub stamp_again : (version : Version) (stamp : Stamp) (rest : List ℕ) → is_stamp version stamp ≡ true
     → stamp_at version (stamp_text version stamp ++ 32 ∷ rest) ≡ Ok (stamp, rest)

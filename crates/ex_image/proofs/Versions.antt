@@ -1,24 +1,25 @@
 -- What a version tells of the files that were read in it, and which images are of which state.
 use Rattle.std.proofs.Common.{◌≡◌, ◌⊎◌, ◌↔◌, inl, inr, ℕ, true, List, [], ◌∷◌, Option, Some, refl, subst, sym}
+use Rattle.cm_lists.proofs.Quantifiers.{all_none, all_push}
 use Rattle.cm_io.specs.declared.sink.Put.TheVariants.{Done}
 use Rattle.ex_store.specs.declared.row.Row.{Row}
 use Rattle.ex_store.specs.Draft.{kept_by_directories}
 use Rattle.ex_store.specs.State.{State}
 use Rattle.ex_store.specs.WellFormed.{IsWellFormed}
-use Rattle.ex_store.proofs.RemarkedLaws.{rows_kept_by}
+use Rattle.ex_store.proofs.RemarkLaws.{rows_kept_by}
 use Rattle.ex_image.specs.declared.version.Version.{Version}
 use Rattle.ex_image.specs.declared.version.Version.TheVariants as versions
 use Rattle.ex_image.specs.Grammar.{IsImage, IsImageIn, Leads, Makes, MayStand, are_told_in, is_told_in, state_in}
 use Rattle.ex_image.specs.Image.{Saves, image_text, text_in}
 use Rattle.ex_image.specs.Reading.{Reading, start, with_record}
 use Rattle.ex_image.specs.Record.{Entry, Head, Directory, Connected, Logical, File, Request, End, stamp_of}
-use Rattle.ex_image.proofs.Drafting.{IsSound, all_more, all_none, sound_more, start_sound}
+use Rattle.ex_image.proofs.Drafts.{IsSound, sound_more, start_sound}
 use Rattle.ex_image.proofs.Endings.{one_state, whole}
-use Rattle.ex_image.proofs.Imaging.{image_told}
+use Rattle.ex_image.proofs.Images.{image_told}
 use Rattle.ex_image.proofs.LineLaws.{file_shape}
 use Rattle.ex_image.proofs.StampLaws.{stamp_shape}
-use Rattle.ex_image.proofs.Standing.{nothing_there}
-use Rattle.ex_image.proofs.Written.{image_of}
+use Rattle.ex_image.proofs.Stands.{nothing_there}
+use Rattle.ex_image.proofs.WrittenStates.{image_of}
 
 -- the files that were read so far are told in the version of the image
 abbrev AreTold : Reading → Type 0
@@ -34,7 +35,7 @@ told_more reading (Connected name, bytes) sound told may = told
 told_more reading (Logical name directory, bytes) sound told may = told
 told_more reading (File written row size, bytes) sound told may =
     let stamp = (stamp_shape written (stamp_of row) (file_shape written row size may.shape).stamp).told in
-    all_more (λ (each : Row). is_told_in reading.version (stamp_of each)) reading.state.rows
+    all_push (λ (each : Row). is_told_in reading.version (stamp_of each)) reading.state.rows
     (record row { file = record row.file { bytes = bytes } }) told
     (subst (λ version. is_told_in version (stamp_of row) ≡ true) may.written stamp)
 told_more reading (Request entry, bytes) sound told may = told

@@ -17,7 +17,7 @@ use cm_io::{Host, Put};
 use ex_store::{Parts, Store};
 
 // Appends a line and the records of some parts.
-#[tactic(auto, using(crate::proofs::Appending::pieces))]
+#[tactic(auto, using(crate::proofs::Appends::pieces))]
 fn put_behind<S: Series, T: Target>(line: &[u8], parts: &S, target: &mut T) -> Put
     requires opened { IsTrue (T.outside target.old).is_open }
     requires sound { S.is_sound parts.now ≡ true }
@@ -47,7 +47,7 @@ fn put_names<T: Target>(parts: &Parts<'_>, target: &mut T) -> Put
 }
 
 // Appends the files, the entries of the print queue and the end.
-#[tactic(auto, using(crate::proofs::Appending::pieces))]
+#[tactic(auto, using(crate::proofs::Appends::pieces))]
 fn put_files<T: Target>(parts: &Parts<'_>, target: &mut T) -> Put
     requires opened { IsTrue (T.outside target.old).is_open }
     requires forms { list_all (λ entry. nat_lt entry.form FORMS) parts.now.queue ≡ true }
@@ -82,7 +82,7 @@ pub(crate) fn put_all<T: Target>(parts: &Parts<'_>, target: &mut T) -> Put
 /// one, for each logical name, for each file, with its bytes behind it, and for each entry of the print queue, and an
 /// end. It takes no memory. The file is created once. Where the host fails, the file is absent, as before, or holds a
 /// prefix of the image. No file is open afterwards.
-#[tactic(auto, using(cm_io::proofs::Adding::rose_early, cm_io::proofs::Adding::rose_late, crate::proofs::Sounding::forms_of_state,))]
+#[tactic(auto, using(cm_io::proofs::Additions::rose_early, cm_io::proofs::Additions::rose_late, crate::proofs::Soundness::forms_of_state,))]
 pub fn encode<H: Host>(store: &Store, host: &mut H, name: &str) -> Put
     ensures saved { IsTrue H.tells
         → Saves (image_text store.now.state) (H.files host.old name.now) (H.files host.new name.now) result }

@@ -74,7 +74,7 @@ pub(crate) fn is_note(note: &[u8]) -> bool
 }
 
 /// The text of ASCII bytes.
-#[tactic(auto, using(crate::proofs::ReaderTexts::text_of_ascii))]
+#[tactic(auto, using(cm_lists::proofs::Ascii::text_of_ascii))]
 pub(crate) fn text_of(bytes: &[u8]) -> &str
     requires { IsAscii bytes.now }
     ensures { result.now ≡ bytes.now }

@@ -115,7 +115,7 @@ impl Series for Requests<'_> {
 }
 
 // Appends the line of a file, its bytes and a line feed.
-#[tactic(auto, using(crate::proofs::Appending::pieces))]
+#[tactic(auto, using(crate::proofs::Appends::pieces))]
 fn put_file<T: Target>(line: &[u8], bytes: &[u8], target: &mut T) -> Put
     requires { IsTrue (T.outside target.old).is_open }
     ensures { Appends T.tells (T.outside target.old) (T.outside target.new)

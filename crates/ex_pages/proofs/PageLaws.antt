@@ -1,9 +1,9 @@
 -- The pages of rows, and the rows with the ends of the pages between them.
-use Rattle.std.proofs.Common.{◌≡◌, ℕ, suc, ◌+◌, ◌==◌, Bool, true, false, not, List, [], ◌∷◌, ◌++◌, length, refl, sym, ap, ap₂, ◌∙◌, subst, arith, append_assoc, length-append}
+use Rattle.std.proofs.Common.{◌≡◌, ℕ, ◌+◌, ◌==◌, Bool, true, false, not, List, [], ◌∷◌, ◌++◌, length, refl, sym, ap, ap₂, ◌∙◌, subst, append_assoc, length-append}
 use Rattle.std.specs.List.{flat_map}
-use Rattle.std.proofs.lemmas.Bool.Decides.{nat_tests}
 use Rattle.std.proofs.lemmas.Grind.{flat_map-append}
 use Rattle.std.proofs.lemmas.List.{append-nil}
+use Rattle.cm_lists.proofs.Numbers.{suc_is_not_zero}
 use Rattle.cm_io.specs.Writer.{Writes}
 use Rattle.cm_io.specs.declared.sink.Sink.{Ghosts}
 use Rattle.cm_io.specs.declared.writer.Writer.{Writer}
@@ -13,9 +13,6 @@ use Rattle.ex_pages.specs.Parts.{last_part, parts, parts_behind}
 use Rattle.ex_pages.specs.Walk.{count_behind, feed_if, rows_behind}
 use Rattle.ex_pages.specs.declared.body.TheConstants.{PAGE_ROWS}
 
-some_count : (n : ℕ) → (suc n == 0) ≡ false
-some_count n = grind (arith, nat_tests)
-
 -- the rows that are left at the end are a page, where there are any
 end_text : (begun : List (List ℕ))
     → flat_map page_text (last_part begun) ≡ flat_map row_text begun ++ feed_if (not (length begun == 0))
@@ -23,7 +20,7 @@ unfolding page_text
 end_text [] = refl
 end_text (row ∷ begun) =
     append-nil (flat_map row_text (row ∷ begun) ++ form_feed)
-    ∙ ap (λ (test : Bool). flat_map row_text (row ∷ begun) ++ feed_if (not test)) (sym (some_count (length begun)))
+    ∙ ap (λ (test : Bool). flat_map row_text (row ∷ begun) ++ feed_if (not test)) (sym (suc_is_not_zero (length begun)))
 
 -- one row more
 row_text_more : (begun : List (List ℕ)) (row : List ℕ)

@@ -1,15 +1,9 @@
 -- The first part of a list, and what is left of it.
 use Rattle.std.proofs.Common.{◌≡◌, ℕ, ◌+◌, ◌==◌, ◌<◌, true, false, List, [], ◌∷◌, ◌++◌, length, refl, sym, ap, ◌∙◌, arith, append_assoc, length-append}
-use Rattle.std.proofs.lemmas.Bool.Decides.{nat_tests}
 use Rattle.std.proofs.lemmas.List.{append-nil}
+use Rattle.cm_lists.proofs.Numbers.{lt_is_not_eq}
+use Rattle.std.proofs.lemmas.Bool.{eq-eqb}
 use Rattle.ex_pages.specs.Parts.{last_part, parts_behind}
-
--- two numbers are the same, or one is less
-pub same_count : (a b : ℕ) → a ≡ b → (a == b) ≡ true
-same_count a b is = grind (arith, nat_tests)
-
-pub lower_count : (a b : ℕ) → a < b → (a == b) ≡ false
-lower_count a b less = grind (arith, nat_tests)
 
 module _ {X : Type 0} where
   -- as many elements as fill a part are one
@@ -17,10 +11,10 @@ module _ {X : Type 0} where
       → parts_behind size begun (front ++ rest) ≡ (begun ++ front) ∷ parts_behind size [] rest
   part_full size begun [] rest some full = absurd (omega (arith, some))
   part_full size begun (x ∷ []) rest some full =
-      let test : (length begun + 1 == size) ≡ true = same_count (length begun + 1) size (omega (arith, full)) in
+      let test : (length begun + 1 == size) ≡ true = eq-eqb (length begun + 1) size (omega (arith, full)) in
       rw test refl
   part_full size begun (x ∷ y ∷ more) rest some full =
-      let test : (length begun + 1 == size) ≡ false = lower_count (length begun + 1) size (omega (arith, full)) in
+      let test : (length begun + 1 == size) ≡ false = lt_is_not_eq (length begun + 1) size (omega (arith, full)) in
       let longer : length (begun ++ x ∷ []) ≡ length begun + 1 = length-append begun (x ∷ []) in
       rw test (part_full size (begun ++ x ∷ []) (y ∷ more) rest (omega arith) (omega (arith, full, longer))
       ∙ ap (λ (first : List X). first ∷ parts_behind size [] rest) (append_assoc begun (x ∷ []) (y ∷ more)))
@@ -30,7 +24,7 @@ module _ {X : Type 0} where
       → parts_behind size begun xs ≡ last_part (begun ++ xs)
   part_short size begun [] short = ap last_part (sym (append-nil begun))
   part_short size begun (x ∷ xs) short =
-      let test : (length begun + 1 == size) ≡ false = lower_count (length begun + 1) size (omega (arith, short)) in
+      let test : (length begun + 1 == size) ≡ false = lt_is_not_eq (length begun + 1) size (omega (arith, short)) in
       let longer : length (begun ++ x ∷ []) ≡ length begun + 1 = length-append begun (x ∷ []) in
       rw test (part_short size (begun ++ x ∷ []) xs (omega (arith, short, longer))
       ∙ ap last_part (append_assoc begun (x ∷ []) xs))

@@ -5,4 +5,5 @@ pub mod Generates
 pub mod Progress
 pub mod Stands
 pub mod Summary
+pub mod TakesMemory
 pub mod Waiting

@@ -7,7 +7,7 @@ use Rattle.cm_text.specs.Shown.{end_of_line}
 use Rattle.ex_system.specs.Disk.{Disk}
 use Rattle.ex_system.specs.Form.{Form}
 use Rattle.ex_run.specs.Course.{Shown, StandsBy}
-use Rattle.ex_run.specs.Scene.{Scene, with_screen}
+use Rattle.ex_run.specs.Scene.{Scene, Telling, with_screen}
 use Rattle.ex_program.specs.ExecRun.{exec_over}
 use Rattle.ex_program.specs.Form.{usage}
 use Rattle.ex_program.specs.Generates.{Rises, Sums}
@@ -27,7 +27,7 @@ abbrev pub StandsApart : Option ℕ → Scene → Scene → Status → Type 0
 StandsApart None a b result = (result ≡ status.Usage) × Shown a b (usage ++ end_of_line)
 StandsApart (Some lines) a b result = Generated lines a b result
 
--- what stands at the end, with what keys and clock have told
-abbrev pub Stands : Type 0 → Option Form → Option ℕ → Scene → Scene → Disk → Disk → Status → Type 0
+-- what stands at the end, by whether keys and clock tell
+abbrev pub Stands : Telling → Option Form → Option ℕ → Scene → Scene → Disk → Disk → Status → Type 0
 Stands told None lines a b before now result = StandsApart lines a b result × (now ≡ before)
 Stands told (Some form) lines a b before now result = StandsBy told exec_over form a b before now result

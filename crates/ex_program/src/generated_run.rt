@@ -31,7 +31,7 @@ fn error_of(_why: Stop) -> NoMemory
 }
 
 // Ends the line that is open, where LOGOUT has not ended the run.
-#[tactic(auto, using(cm_io::proofs::Adding::add_none))]
+#[tactic(auto, using(cm_io::proofs::Additions::add_none))]
 fn end_line(ended: bool, screen: &mut CountSink)
     ensures { Number screen.new ≡ add (Number screen.old) (closing ended) }
 {
@@ -42,7 +42,7 @@ fn end_line(ended: bool, screen: &mut CountSink)
 
 /// Runs the EXEC over the keys of so many generated lines, from the first store, without a log, at the moment 0 for
 /// each line, and sums up what came of it. `steps` counts the trials. NoMemory where memory is wanting.
-#[tactic(auto, using(crate::proofs::Hooking::serves_exec))]
+#[tactic(auto, using(crate::proofs::Hooks::serves_exec))]
 pub fn summarize<L: Ledger>(
     alloc: Global,
     lines: u32,

@@ -19,7 +19,7 @@ ghost use Rattle.ex_system.specs.Quiet.{IsQuiet};
 ghost use Rattle.ex_system.specs.Saving.{HostCause};
 ghost use Rattle.ex_run.specs.Cause.{StatusCause};
 ghost use Rattle.ex_run.specs.Course.{Asks, Course, StartCause, logs};
-ghost use Rattle.ex_run.specs.Scene.{scene};
+ghost use Rattle.ex_run.specs.Scene.{scene, telling};
 ghost use Rattle.ex_run.specs.declared.program.TheConstants.{KEY_LIMIT};
 ghost use Rattle.ex_program.specs.declared.progress.TheConstants.{GENERATED_LINES};
 ghost use Rattle.ex_program.specs.ExecRun.{exec_left, exec_over, exec_trace, run_shown};
@@ -47,7 +47,7 @@ pub struct ExecProgram;
 
 impl Program<Exec> for ExecProgram {
     ghost use Rattle.ex_take.specs.ExecState.{exec_start};
-    ghost use Rattle.ex_take.proofs.LineKeeping.{exec_keeps_lines};
+    ghost use Rattle.ex_take.proofs.KeptLines.{exec_keeps_lines};
 
     ghost begins = { exec_start };
 
@@ -69,7 +69,7 @@ impl Program<Exec> for ExecProgram {
 }
 
 // Runs the EXEC over the keys, as a form asks.
-#[tactic(auto, using(crate::proofs::Hooking::served_exec))]
+#[tactic(auto, using(crate::proofs::Hooks::served_exec))]
 fn run_form<H: Host, K: Source, S: Sink, W: Sink, C: Clock, L: Ledger>(
     alloc: Global,
     form: &ex_system::Form<'_>,
@@ -83,7 +83,7 @@ fn run_form<H: Host, K: Source, S: Sink, W: Sink, C: Clock, L: Ledger>(
 ) -> Status
     requires hooks { Ties exec_meanings hooks.now }
     requires three { 3 ≤ count hooks.now }
-    ensures { Course (IsTrue K.tells × IsTrue C.tells) exec_over (form_view form.now)
+    ensures { Course (telling K.tells C.tells) exec_over (form_view form.now)
         (scene S.Sink screen.old W.Sink log.old K.Source keys.old C.Clock clock.old steps.old)
         (scene S.Sink screen.new W.Sink log.new K.Source keys.new C.Clock clock.new steps.new)
         (disk_of H.Host host.old) (disk_of H.Host host.new) result }
@@ -187,7 +187,7 @@ pub fn exec20<H: Host, K: Source, S: Sink, W: Sink, C: Clock, L: Ledger>(
     // Before the first prompt of a run over `keys` the message alone is shown, IN is loaded once, if there is one, and
     // OUT is not created. Past it the trace of the run stands, or a cut of it, and then how it was closed;
     // OUT is created once, is closed, and holds the image of the state that the run left. No other file changes.
-    ensures stands { Stands (IsTrue K.tells × IsTrue C.tells) (form_of words.now) (lines_of words.now)
+    ensures stands { Stands (telling K.tells C.tells) (form_of words.now) (lines_of words.now)
         (scene S.Sink screen.old W.Sink log.old K.Source keys.old C.Clock clock.old steps.old)
         (scene S.Sink screen.new W.Sink log.new K.Source keys.new C.Clock clock.new steps.new)
         (disk_of H.Host host.old) (disk_of H.Host host.new) result }
@@ -208,17 +208,19 @@ pub fn exec20<H: Host, K: Source, S: Sink, W: Sink, C: Clock, L: Ledger>(
 
     // With words of a form, an image where they name one, fewer keys than a run takes, and nothing outside that fails,
     // the run is Done.
-    ensures complete { IsTrue K.tells → IsTrue C.tells → (form : Form) → (start : State)
+    ensures complete { IsTrue K.tells → (form : Form) → (start : State)
         → Asks (form_of words.now) (disk_of H.Host host.old) form start
         → length (K.left keys.old) < KEY_LIMIT
         → IsQuiet (S.faults screen.old) (S.faults screen.new) → IsQuiet (W.faults log.old) (W.faults log.new)
         → IsQuiet (K.faults keys.old) (K.faults keys.new) → IsQuiet (H.faults host.old) (H.faults host.new)
         → (result ≡ Status.Done) ⊎ (result ≡ Status.NoMemory) }
-    // With as many keys as a run takes, in which LOGOUT does not act, it is KeyLimit.
-    ensures limit { IsTrue K.tells → IsTrue C.tells → (form : Form) → (start : State)
+    // With as many keys as a run takes, in which LOGOUT does not act, it is KeyLimit. LOGOUT is not to act at the
+    // moments that the clock tells, or where it tells none, whatever they are.
+    ensures limit { IsTrue K.tells → (form : Form) → (start : State)
         → Asks (form_of words.now) (disk_of H.Host host.old) form start
         → (taken rest : List ℕ) → taken ++ rest ≡ K.left keys.old → length taken ≡ KEY_LIMIT
-        → (exec_left form.logs start (C.left clock.old) taken).interpreter.ended ≡ false
+        → ((moments : List ℕ) → (IsTrue C.tells → moments ≡ C.left clock.old)
+        → (exec_left form.logs start moments taken).interpreter.ended ≡ false)
         → IsQuiet (S.faults screen.old) (S.faults screen.new) → IsQuiet (W.faults log.old) (W.faults log.new)
         → IsQuiet (K.faults keys.old) (K.faults keys.new) → IsQuiet (H.faults host.old) (H.faults host.new)
         → (result ≡ Status.KeyLimit) ⊎ (result ≡ Status.NoMemory) }

@@ -44,7 +44,7 @@ impl Sink for LateScreen {
 
     ghost faults = { λ screen. screen.late.faults };
 
-    #[tactic(auto, using(cm_io::proofs::Adding::adds_nothing), unfolding(cm_io::specs::Told::add))]
+    #[tactic(auto, using(cm_io::proofs::Additions::adds_nothing), unfolding(cm_io::specs::Told::add))]
     fn put(&mut self, bytes: &[u8]) -> Put {
         if self.puts > 0 {
             self.puts -= 1;

@@ -1,7 +1,7 @@
-pub mod Asking
-pub mod Causing
-pub mod Coming
-pub mod Coursing
-pub mod Ending
-pub mod Quieting
-mod Serving
+pub mod Causes
+pub mod Courses
+pub mod Ends
+mod Hooks
+pub mod Outcomes
+pub mod QuietEnds
+pub mod Words

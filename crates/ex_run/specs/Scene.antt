@@ -1,5 +1,5 @@
 -- What the objects outside tell at one moment, and the counter of trials.
-use Rattle.std.specs.Prelude.{ℕ, List}
+use Rattle.std.specs.Prelude.{ℕ, Bool, List, IsTrue}
 use Rattle.cm_io.specs.Told.{Nothing, Told}
 use Rattle.cm_io.specs.declared.clock.Clock
 use Rattle.cm_io.specs.declared.sink.Sink
@@ -41,6 +41,18 @@ unlogged_scene s screen k keys c clock trials = record {
   trials = trials;
   faults = counts (s.faults screen) 0 (k.faults keys);
 }
+
+-- whether the keys tell what is left of them, and the clock the moments to come
+pub record Telling : Type 0 where
+  pub keys : Bool
+  pub clock : Bool
+
+abbrev pub telling : Bool → Bool → Telling
+telling keys clock = record { keys = keys; clock = clock }
+
+-- both do
+abbrev pub Tell : Telling → Type 0
+Tell told = IsTrue told.keys × IsTrue told.clock
 
 -- what is observed where an application is in this state
 abbrev pub seen : {S : Type 0} → Scene → S → Observed S

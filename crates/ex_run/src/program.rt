@@ -1,5 +1,5 @@
 // A run over a store, from image to image.
-ghost use Rattle.std.specs.Prelude.{◌≡◌, IsTrue};
+ghost use Rattle.std.specs.Prelude.{◌≡◌};
 ghost use Rattle.cm_run.specs.Ready.{Serves};
 ghost use Rattle.cm_run.specs.Trace.{is_ended};
 ghost use Rattle.ex_store.specs.State.{State};
@@ -8,7 +8,7 @@ ghost use Rattle.ex_system.specs.Disk.{disk_of};
 ghost use Rattle.ex_run.specs.Course.{Comes, Course};
 ghost use Rattle.ex_run.specs.Over.{over};
 ghost use Rattle.ex_run.specs.Runs.{Runs};
-ghost use Rattle.ex_run.specs.Scene.{scene};
+ghost use Rattle.ex_run.specs.Scene.{scene, telling};
 ghost use Rattle.ex_run.specs.Served.{IsServed};
 
 use crate::closing::close;
@@ -79,7 +79,7 @@ fn run_application<A: Application, K: Source, S: Sink, W: Sink, C: Clock, L: Led
     steps: &mut Steps<L>,
 ) -> Result<(), Stop>
     requires { Serves A.means grammar.now A.Rules.meanings hooks.now }
-    ensures { Runs A.means logging (IsTrue K.tells × IsTrue C.tells) app.old app.new
+    ensures { Runs A.means logging (telling K.tells C.tells) app.old app.new
         (scene S.Sink screen.old W.Sink log.old K.Source keys.old C.Clock clock.old steps.old)
         (scene S.Sink screen.new W.Sink log.new K.Source keys.new C.Clock clock.new steps.new)
         result }
@@ -113,7 +113,7 @@ fn run_store<
 ) -> Status
     requires { Serves A.means grammar.now A.Rules.meanings hooks.now }
     ensures { (start : State) → app.old ≡ P.begins start
-        → Comes (IsTrue K.tells × IsTrue C.tells) (over A.means P.begins P.store_of) (form_view form.now) start
+        → Comes (telling K.tells C.tells) (over A.means P.begins P.store_of) (form_view form.now) start
         (scene S.Sink screen.old W.Sink log.old K.Source keys.old C.Clock clock.old steps.old)
         (scene S.Sink screen.new W.Sink log.new K.Source keys.new C.Clock clock.new steps.new)
         (disk_of H.Host host.old) (disk_of H.Host host.new) result }
@@ -131,7 +131,7 @@ fn run_store<
 /// Before the first prompt the message of a status is shown alone, IN is loaded once, if there is one, and OUT is not
 /// created. Past it the trace of the run stands, or a cut of it, and then how it was closed; OUT is created once, is
 /// closed, and holds the image of the state that the run left. No other file changes.
-#[tactic(auto, using(crate::proofs::Serving::serves))]
+#[tactic(auto, using(crate::proofs::Hooks::serves))]
 pub fn run_program<
     A: Application + Drop,
     P: Program<A>,
@@ -153,7 +153,7 @@ pub fn run_program<
     steps: &mut Steps<L>,
 ) -> Status
     requires { IsServed A.means A.Rules.meanings hooks.now }
-    ensures { Course (IsTrue K.tells × IsTrue C.tells) (over A.means P.begins P.store_of) (form_view form.now)
+    ensures { Course (telling K.tells C.tells) (over A.means P.begins P.store_of) (form_view form.now)
         (scene S.Sink screen.old W.Sink log.old K.Source keys.old C.Clock clock.old steps.old)
         (scene S.Sink screen.new W.Sink log.new K.Source keys.new C.Clock clock.new steps.new)
         (disk_of H.Host host.old) (disk_of H.Host host.new) result }

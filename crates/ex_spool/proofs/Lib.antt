@@ -1,7 +1,7 @@
-mod Asking
 mod Banners
 mod Copies
-mod Dropping
+mod Drops
 mod DueLaws
-mod Printing
+mod Prints
 mod Queues
+mod WordCases

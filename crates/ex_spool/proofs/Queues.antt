@@ -2,7 +2,7 @@
 use Rattle.std.proofs.Common.{◌≡◌, ◌⊎◌, ℕ, Bool, true, false, not, List, [], ◌∷◌, ◌++◌, filter, refl, sym, ap, ◌∙◌, inl, inr, append_assoc}
 use Rattle.std.specs.List.{flat_map}
 use Rattle.std.proofs.lemmas.Grind.{flat_map-append}
-use Rattle.std.proofs.lemmas.List.Elements.{filter-append}
+use Rattle.cm_lists.proofs.Filters.{filter_stands}
 use Rattle.cm_io.specs.Told.{Told, add}
 use Rattle.cm_io.specs.declared.status.Status.{Status}
 use Rattle.ex_store.specs.State.{State}
@@ -11,11 +11,6 @@ use Rattle.ex_system.specs.Disk.{Disk}
 use Rattle.ex_spool.specs.Among.{StandsIn, WasShown}
 use Rattle.ex_spool.specs.Spool.{is_due, pages, pages_of, without_due}
 use Rattle.ex_spool.specs.Stands.{Printed}
-
--- an element that passes a test stands among those that do
-pub filter_stands : {X : Type 0} (test : X → Bool) (front back : List X) (x : X) → test x ≡ true
-    → filter test (front ++ x ∷ back) ≡ filter test front ++ x ∷ filter test back
-filter_stands test front back x passes = filter-append test front (x ∷ back) ∙ rw passes refl
 
 -- the pages of an entry that is due stand among those of all
 pages_stand : (moment : ℕ) (state : State) (entry : QueueEntry) (front back : List QueueEntry) → state.queue ≡ front ++ entry ∷ back

@@ -14,11 +14,11 @@ use Rattle.ex_store.specs.Adding.{admitted, and_then, keep_at, limited, new_row,
 use Rattle.ex_store.specs.Appending.{bytes_at, found, opened, opening_of}
 use Rattle.ex_store.specs.Copying.{moment_of}
 use Rattle.ex_store.specs.Ready.{Change, IsFor, rows_read}
-use Rattle.ex_store.specs.Selection.{is_meant}
+use Rattle.ex_store.specs.Selection.{is_selected_by}
 use Rattle.ex_store.specs.State.{State, StoreWithRoom}
 use Rattle.ex_store.specs.Rows.{AreAlike, blank, files_of, full_of, is_full, is_in_either, row_at, rows_in_either, total, unread, with_remark}
 use Rattle.ex_store.proofs.BlankLaws.{found_blank, keep_blank, numbered_blank, size_blank}
-use Rattle.ex_store.proofs.RemarkedLaws.{where_passing}
+use Rattle.ex_store.proofs.RemarkLaws.{where_passing}
 use Rattle.ex_store.proofs.TotalLaws.{total_cons}
 
 -- rows that are read are the same rows
@@ -144,7 +144,7 @@ size_alike key rows other alike =
 -- the rows, when they are read
 all_read : (reading : Option Reading) (state : State) → AreAlike state.rows (rows_read reading state)
 all_read None state = refl
-all_read (Some reading) state = alike_read (is_meant reading.files.flags.deleted reading.files state) reading.moment state.rows
+all_read (Some reading) state = alike_read (is_selected_by reading.files.flags.deleted reading.files state) reading.moment state.rows
 
 -- when the reading is done, what is left can be done
 pub left_to_do : (change : Change) (held : StoreWithRoom) → IsFor change held

@@ -1,12 +1,15 @@
 -- Files are given other names one after the other: where the walk over the sources stands.
-use Rattle.std.proofs.Common.{◌≡◌, ℕ, zero, suc, ◌+◌, ◌==◌, ◌&&◌, nat_le, Bool, true, false, not, cond, List, [], ◌∷◌, ◌++◌, length, slice_get, filter, find, Option, Some, None, refl, ap, arith, ◌∙◌, subst}
+use Rattle.std.proofs.Common.{◌≡◌, ℕ, zero, suc, ◌+◌, ◌==◌, ◌&&◌, nat_le, Bool, true, false, not, cond, List, [], ◌∷◌, ◌++◌, length, slice_get, filter, Option, Some, None, refl, ap, arith, ◌∙◌, subst}
 use Rattle.std.specs.List.{list_all}
 use Rattle.std.specs.Option.{option_map, option_to_list}
-use Rattle.std.specs.Ordering.{is_eq, is_lt, ordering_reverse}
-use Rattle.std.specs.declared.cmp.Ordering.{Ordering}
-use Rattle.std.specs.declared.cmp.Ordering.TheVariants.{Less, Equal, Greater}
+use Rattle.std.specs.Ordering.{is_eq, is_lt}
+use Rattle.std.specs.declared.cmp.Ordering.TheVariants.{Equal}
 use Rattle.std.proofs.lemmas.Bool.{and_from, and_parts, not-true, not_from_false}
 use Rattle.std.proofs.lemmas.Cmp.{tied_back, tied_itself}
+use Rattle.cm_lists.proofs.Ascents.{all_above, is_sorted}
+use Rattle.cm_lists.proofs.Orders.{is_eq-true, is_eq_from_equal, lt_is_not_eq, reverse_is_not_eq}
+use Rattle.cm_lists.proofs.Positions.{find_among, find_found}
+use Rattle.cm_lists.proofs.Quantifiers.{all_at}
 use Rattle.cm_files.specs.Catalogue.{ascends}
 use Rattle.ex_generations.specs.Retention.{live}
 use Rattle.ex_store.specs.declared.directory.Directory.{Directory}
@@ -17,10 +20,9 @@ use Rattle.ex_store.specs.Positions.{elements_at}
 use Rattle.ex_store.specs.Renaming.{AreDistinct}
 use Rattle.ex_store.specs.Rows.{added, by_full, by_row, files_of, full_of, inserted, is_full, is_of, kept_newest, row_at, total, with_mark, without}
 use Rattle.ex_store.specs.WellFormed.{AreRows, is_row_among}
-use Rattle.ex_store.proofs.AscendsLaws.{all_above, ascends_filter, ascends_sorted, is_sorted, sorted_ascends}
+use Rattle.ex_store.proofs.AscendsLaws.{ascends_filter, ascends_sorted, sorted_ascends}
 use Rattle.ex_store.proofs.TotalLaws.{total_cons}
 use Rattle.ex_store.proofs.AreRowsLaws.{by_full_total, by_row_total, is_absent}
-use Rattle.ex_store.proofs.ElementsLaws.{all_at}
 
 -- a row as it is, but for its mark
 abbrev pub plain : Row → Row
@@ -35,48 +37,8 @@ abbrev pub AreThere : List Row → List Row → Type 0
 AreThere rows [] = Unit
 AreThere rows (row ∷ more) = IsHere rows row × AreThere rows more
 
-pub equal_is : (o : Ordering) → is_eq o ≡ true → o ≡ Equal
-equal_is Less is = absurd (cc)
-equal_is Equal is = refl
-equal_is Greater is = absurd (cc)
-
-is_equal : (o : Ordering) → o ≡ Equal → is_eq o ≡ true
-is_equal o is = rw is refl
-
--- what stands below is not the same
-below_differs : (o : Ordering) → is_lt o ≡ true → is_eq o ≡ false
-below_differs Less is = refl
-below_differs Equal is = absurd (cc)
-below_differs Greater is = absurd (cc)
-
-above_differs : (o p : Ordering) → o ≡ ordering_reverse p → is_lt p ≡ true → is_eq o ≡ false
-above_differs o Less turned is = rw turned refl
-above_differs o Equal turned is = absurd (cc)
-above_differs o Greater turned is = absurd (cc)
-
 itself : (row : Row) → is_full (full_of row) row ≡ true
-itself row = is_equal (by_full (full_of row) (full_of row)) (tied_itself by_full_total (full_of row))
-
-find_passes : (test found : Row → Bool) (rows : List Row) (row : Row) → list_all test rows ≡ true → find found rows ≡ Some row
-    → test row ≡ true
-find_passes test found [] row all is = absurd (cc)
-find_passes test found (first ∷ rows) row all is =
-    by (found first) (λ rest. find_passes test found rows row (and_parts _ _ all).1 rest) is
-  where
-    by : (b : Bool) → (find found rows ≡ Some row → test row ≡ true) → cond b (Some first) (find found rows) ≡ Some row → test row ≡ true
-    by true rest is =
-        let same : first ≡ row = cc in subst (λ (each : Row). test each ≡ true) same (and_parts _ _ all).0
-    by false rest is = rest is
-
-find_found : (found : Row → Bool) (rows : List Row) (row : Row) → find found rows ≡ Some row → found row ≡ true
-find_found found [] row is = absurd (cc)
-find_found found (first ∷ rows) row is = by (found first) refl (find_found found rows row) is
-  where
-    by : (b : Bool) → found first ≡ b → (find found rows ≡ Some row → found row ≡ true)
-        → cond b (Some first) (find found rows) ≡ Some row → found row ≡ true
-    by true here rest is =
-        let same : first ≡ row = cc in subst (λ (each : Row). found each ≡ true) same here
-    by false here rest is = rest is
+itself row = is_eq_from_equal (by_full (full_of row) (full_of row)) (tied_itself by_full_total (full_of row))
 
 -- a row at a place of rows that ascend is found there
 here_at : (rows : List Row) (at : ℕ) (row : Row) → is_sorted by_row rows ≡ true → slice_get rows at ≡ Some row
@@ -88,7 +50,7 @@ here_at (first ∷ rows) zero row sorted is =
 here_at (first ∷ rows) (suc at) row sorted is =
     let parts = and_parts _ _ sorted in
     let less = all_at (λ other. is_lt (by_row first other)) rows at row parts.0 is in
-    rw (below_differs (by_row first row) less) (here_at rows at row parts.1 is)
+    rw (lt_is_not_eq (by_row first row) less) (here_at rows at row parts.1 is)
 
 pub there_elements : (rows : List Row) (positions : List ℕ) → is_sorted by_row rows ≡ true → AreThere rows (elements_at rows positions)
 there_elements rows [] sorted = tt
@@ -110,7 +72,7 @@ distinct_sorted (row ∷ rows) sorted =
     differ [] above = refl
     differ (other ∷ others) above =
         let parts = and_parts _ _ above in
-        and_from _ _ (not_from_false _ (above_differs (by_row other row) (by_row row other) (by_row_total.antisymm other row) parts.0)) (differ others parts.1)
+        and_from _ _ (not_from_false _ (reverse_is_not_eq (by_row other row) (by_row row other) (by_row_total.antisymm other row) parts.0)) (differ others parts.1)
 
 -- of two names that are not one, no row has both
 apart : (full : FullName) (row other : Row) → is_full full row ≡ true → is_full full other ≡ false → is_full (full_of other) row ≡ false
@@ -120,7 +82,7 @@ apart full row other one not_other = by (is_full (full_of other) row) refl
     by false is = refl
     by true is =
         let same : by_full (full_of row) full ≡ by_full (full_of other) full =
-        by_full_total.congr (full_of row) (full_of other) full (equal_is _ is) in
+        by_full_total.congr (full_of row) (full_of other) full (is_eq-true _ is) in
         let both : is_full full row ≡ is_full full other = ap is_eq same in
         absurd (cc)
 
@@ -178,7 +140,7 @@ fresh : (full : FullName) (new : Row) (rows : List Row) (row : Row) → is_absen
 fresh full new rows row absent there = by (is_full full new) refl
   where
     differs : is_full (full_of new) row ≡ false
-    differs = not-true _ (find_passes (λ other. not (is_full (full_of new) other)) (is_full full) rows row absent there)
+    differs = not-true _ (find_among (λ other. not (is_full (full_of new) other)) (is_full full) rows row absent there)
 
     has : is_full full row ≡ true
     has = find_found (is_full full) rows row there
@@ -187,9 +149,9 @@ fresh full new rows row absent there = by (is_full full new) refl
     by false is = refl
     by true is =
         let first : by_full (full_of row) (full_of new) ≡ by_full full (full_of new) =
-        by_full_total.congr (full_of row) full (full_of new) (equal_is _ has) in
-        let second : by_full full (full_of new) ≡ Equal = tied_back by_full_total (full_of new) full (equal_is _ is) in
-        let both : is_full (full_of new) row ≡ true = is_equal _ (first ∙ second) in
+        by_full_total.congr (full_of row) full (full_of new) (is_eq-true _ has) in
+        let second : by_full full (full_of new) ≡ Equal = tied_back by_full_total (full_of new) full (is_eq-true _ is) in
+        let both : is_full (full_of new) row ≡ true = is_eq_from_equal _ (first ∙ second) in
         let neither : is_full (full_of new) row ≡ false = differs in
         absurd (cc)
 
@@ -278,7 +240,7 @@ rows_without directories full rows row are is =
     }
 
 -- no two of those rows that pass a test have one name
-pub distinct_meant : (test : Row → Bool) (rows : List Row) → ascends by_row rows ≡ true → AreDistinct (filter test rows)
-distinct_meant test rows ascend =
+pub distinct_selected : (test : Row → Bool) (rows : List Row) → ascends by_row rows ≡ true → AreDistinct (filter test rows)
+distinct_selected test rows ascend =
     distinct_sorted (filter test rows)
     (sorted_ascends by_row by_row_total (filter test rows) (ascends_filter by_row by_row_total test rows ascend))

@@ -5,6 +5,7 @@ use Rattle.std.specs.Option.{option_map_or}
 use Rattle.std.specs.Ordering.{is_lt}
 use Rattle.std.proofs.lemmas.Bool.{and_from, and_parts, le-leb, leb-true, not-true}
 use Rattle.std.proofs.lemmas.List.{length-map}
+use Rattle.cm_lists.proofs.Ascents.{all_above, is_sorted}
 use Rattle.cm_fields.specs.declared.code.Code.{Code}
 use Rattle.ex_generations.specs.declared.file.File.{File}
 use Rattle.ex_generations.specs.declared.file.TheConstants.{FILE_LIMIT}
@@ -19,7 +20,7 @@ use Rattle.ex_store.specs.declared.place.Place.{Place}
 use Rattle.ex_store.specs.declared.ready.RowChange.{RowChange}
 use Rattle.ex_store.specs.declared.row.Row.{Row}
 use Rattle.ex_store.specs.Adding.{admitted, keep_at, new_row}
-use Rattle.ex_store.specs.Appending.{appended, bytes_at, found, opened, opening_of, pairs_to, poured, row_changes_of, with_opened}
+use Rattle.ex_store.specs.Appending.{appended, bytes_at, found, opened, opening_of, pairs_to, concatenation, row_changes_of, with_opened}
 use Rattle.ex_store.specs.Copying.{moment_of, own_key}
 use Rattle.ex_store.specs.declared.plan.Refusal.{Refusal}
 use Rattle.ex_store.specs.declared.plan.Refusal.TheVariants as refusals
@@ -30,10 +31,10 @@ use Rattle.ex_store.specs.Ready.{are_doable, is_lawful, rows_after_all}
 use Rattle.ex_store.specs.Rows.{added, by_row, files_of, filled, full_of, is_full, row_at, total}
 use Rattle.ex_store.specs.WellFormed.{AreRows, is_file_name, is_file_type, is_row_among, is_stamped}
 use Rattle.ex_store.proofs.AdmittedLaws.{admitted_is, and_then_ok, counted_file, rows_added}
-use Rattle.ex_store.proofs.AscendsLaws.{all_above, ascends_sorted, is_sorted, sorted_ascends}
+use Rattle.ex_store.proofs.AscendsLaws.{ascends_sorted, sorted_ascends}
 use Rattle.ex_store.proofs.AllCopiedLaws.{formed, formed_is, keep_within, moment_within, new_stamped}
 use Rattle.ex_store.proofs.ElementsLaws.{length_elements}
-use Rattle.ex_store.proofs.PouredLaws.{poured_within}
+use Rattle.ex_store.proofs.ConcatenationLaws.{concatenation_within}
 use Rattle.ex_store.proofs.TotalLaws.{total_added, total_cons}
 use Rattle.ex_store.proofs.AreRowsLaws.{absent_has, by_row_total, is_absent}
 
@@ -266,22 +267,22 @@ lawful_opened target (Some row) moment bytes is short = and_from _ _ is (and_fro
 pub append_lawful : (directories : List Directory) (retention moment : ℕ) (to : Place) (rows sources : List Row) (there : Opening) (bytes : List ℕ) (done : List RowChange)
     → AreRows directories rows → IsOneFile to directories → nat_le retention RETENTION_LIMIT ≡ true
     → opened retention moment (own_key to) to.generation rows ≡ Ok there
-    → poured (total rows) (bytes_at there.target rows) sources ≡ Ok bytes → done ≡ row_changes_of there (moment_of moment) bytes
+    → concatenation (total rows) (bytes_at there.target rows) sources ≡ Ok bytes → done ≡ row_changes_of there (moment_of moment) bytes
     → list_all is_lawful done ≡ true
 append_lawful directories retention moment to rows sources there bytes done are one few opens pours is =
     let known = opened_is directories retention moment to rows there are one few opens in
-    let limits = poured_within (total rows) (bytes_at there.target rows) sources bytes pours (bytes_short directories there.target rows are.within) are.small in
+    let limits = concatenation_within (total rows) (bytes_at there.target rows) sources bytes pours (bytes_short directories there.target rows are.within) are.small in
     rw is (lawful_opened there.target there.new (moment_of moment) bytes known.lawful (le-leb (length bytes) FILE_LIMIT limits.0))
 
 -- the rows behind the changes are those of a store
 pub append_sound : (directories : List Directory) (retention moment : ℕ) (to : Place) (rows sources : List Row) (there : Opening) (bytes : List ℕ) (done : List RowChange)
     → AreRows directories rows → IsOneFile to directories → nat_le retention RETENTION_LIMIT ≡ true
     → opened retention moment (own_key to) to.generation rows ≡ Ok there
-    → poured (total rows) (bytes_at there.target rows) sources ≡ Ok bytes → done ≡ row_changes_of there (moment_of moment) bytes
+    → concatenation (total rows) (bytes_at there.target rows) sources ≡ Ok bytes → done ≡ row_changes_of there (moment_of moment) bytes
     → AreRows directories (rows_after_all rows done)
 append_sound directories retention moment to rows sources there bytes done are one few opens pours is =
     let known = opened_is directories retention moment to rows there are one few opens in
-    let limits = poured_within (total rows) (bytes_at there.target rows) sources bytes pours (bytes_short directories there.target rows are.within) are.small in
+    let limits = concatenation_within (total rows) (bytes_at there.target rows) sources bytes pours (bytes_short directories there.target rows are.within) are.small in
     let grows = total_filled there.target (moment_of moment) bytes (with_opened rows there.new) in
     let small : total (filled there.target (moment_of moment) bytes (with_opened rows there.new)) ≤ STORE_LIMIT =
     omega (arith, known.room, limits.1, grows) in
@@ -290,7 +291,7 @@ append_sound directories retention moment to rows sources there bytes done are o
 
 -- what the plan comes to
 pub append_ready : (retention moment : ℕ) (to : Place) (rows sources : List Row) (there : Opening) (bytes : List ℕ) (done : List RowChange) (pairs : List NamePair)
-    → opened retention moment (own_key to) to.generation rows ≡ Ok there → poured (total rows) (bytes_at there.target rows) sources ≡ Ok bytes
+    → opened retention moment (own_key to) to.generation rows ≡ Ok there → concatenation (total rows) (bytes_at there.target rows) sources ≡ Ok bytes
     → done ≡ row_changes_of there (moment_of moment) bytes → pairs ≡ pairs_to there.target sources
     → appended retention moment to sources rows ≡ Ok (record { rows = rows_after_all rows done; pairs = pairs })
 append_ready retention moment to rows sources there bytes done pairs opens pours is told =
@@ -303,7 +304,7 @@ append_refused retention moment to rows sources code opens = rw opens refl
 
 pub pour_refused : (retention moment : ℕ) (to : Place) (rows sources : List Row) (there : Opening) (refusal : Refusal)
     → opened retention moment (own_key to) to.generation rows ≡ Ok there
-    → IsRefused (poured (total rows) (bytes_at there.target rows) sources) refusal
+    → IsRefused (concatenation (total rows) (bytes_at there.target rows) sources) refusal
     → IsRefused (appended retention moment to sources rows) refusal
 pour_refused retention moment to rows sources there (refusals.Code code) opens refused = rw (opens, refused) refl
 pour_refused retention moment to rows sources there refusals.NoMemory opens refused = tt

@@ -1,5 +1,5 @@
 -- With a row added that is admitted, the rows are still those of a store.
-use Rattle.std.proofs.Common.{◌≡◌, ℕ, ◌==◌, ◌&&◌, nat_le, Bool, true, false, not, cond, List, [], ◌∷◌, filter, map, refl, ap, arith, ◌∙◌}
+use Rattle.std.proofs.Common.{◌≡◌, ℕ, ◌==◌, ◌&&◌, nat_le, Bool, true, false, not, cond, List, [], ◌∷◌, filter, map, refl, ap, ◌∙◌}
 use Rattle.std.specs.Cmp.{IsTotalOrder}
 use Rattle.std.specs.Cmp.Lexicographic.{on_texts}
 use Rattle.std.specs.List.{list_all, list_any}
@@ -7,8 +7,9 @@ use Rattle.std.specs.Ordering.{is_eq, is_lt, nat_cmp, ordering_then}
 use Rattle.std.specs.declared.cmp.Ordering.{Ordering}
 use Rattle.std.specs.declared.cmp.Ordering.TheVariants.{Less, Equal, Greater}
 use Rattle.std.proofs.lemmas.Bool.{and_from, and_parts, not-true, not_from_false, or_parts}
-use Rattle.std.proofs.lemmas.Bool.Decides.{nat_tests}
 use Rattle.std.proofs.lemmas.Cmp.{nat_cmp_total, on_total, then_total}
+use Rattle.cm_lists.proofs.Ascents.{above_chain, all_above, is_lt_turned, is_sorted}
+use Rattle.cm_lists.proofs.Numbers.{is_eq-nat_cmp}
 use Rattle.cm_files.specs.Catalogue.{ascends}
 use Rattle.ex_generations.specs.Generations.{has, is_generation}
 use Rattle.ex_generations.specs.Retention.{live}
@@ -16,7 +17,7 @@ use Rattle.ex_store.specs.declared.key.FullName.{FullName}
 use Rattle.ex_store.specs.declared.key.Key.{Key}
 use Rattle.ex_store.specs.declared.row.Row.{Row}
 use Rattle.ex_store.specs.Rows.{added, by_full, by_key, by_row, files_of, full_of, inserted, is_full, is_of, kept_newest, with_mark}
-use Rattle.ex_store.proofs.AscendsLaws.{above_chain, all_above, ascends_sorted, is_sorted, sorted_ascends, turned}
+use Rattle.ex_store.proofs.AscendsLaws.{ascends_sorted, sorted_ascends}
 
 pub by_key_total : IsTotalOrder by_key
 by_key_total =
@@ -63,7 +64,7 @@ sorted_inserted row (other ∷ rows) absent sorted =
     by true less rest =
         and_from _ _ (all_inserted (λ each. is_lt (by_row other each)) row rows less behind.0) rest
     by false less rest =
-        let above = turned by_row by_row_total other row less (not-true _ parts.0) in
+        let above = is_lt_turned by_row by_row_total other row less (not-true _ parts.0) in
         and_from _ _ (and_from _ _ above (above_chain by_row by_row_total row other rows above behind.0)) sorted
 
 -- a test that does not look at marks
@@ -109,9 +110,6 @@ ascends_added retention row rows absent ascend = ascends_sorted by_row (added re
     by true = sorted
     by false = sorted_kept retention row.key (inserted row rows) ∙ sorted
 
-same_number : (a b : ℕ) → is_eq (nat_cmp a b) ≡ (a == b)
-same_number a b = grind (arith, nat_tests)
-
 pub full_parts : (key : Key) (number : ℕ) (row : Row)
     → is_full (record { key = key; generation = number }) row ≡ (is_of key row && is_generation number row.file)
 full_parts key number row = by (by_key row.key key)
@@ -119,7 +117,7 @@ full_parts key number row = by (by_key row.key key)
     by : (o : Ordering) → is_eq (ordering_then o (nat_cmp row.file.generation number))
         ≡ (is_eq o && (row.file.generation == number))
     by Less = refl
-    by Equal = same_number row.file.generation number
+    by Equal = is_eq-nat_cmp row.file.generation number
     by Greater = refl
 
 -- a generation that is not there

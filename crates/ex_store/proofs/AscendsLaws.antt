@@ -1,37 +1,11 @@
 -- Lists that ascend under a total order.
-use Rattle.std.proofs.Common.{◌≡◌, Bool, true, false, ◌&&◌, cond, List, [], ◌∷◌, filter, map, refl, ap}
+use Rattle.std.proofs.Common.{◌≡◌, Bool, true, ◌&&◌, List, [], ◌∷◌, filter, map, refl, ap}
 use Rattle.std.specs.Cmp.{IsTotalOrder}
-use Rattle.std.specs.List.{list_all}
-use Rattle.std.specs.Ordering.{is_eq, is_lt, ordering_reverse}
+use Rattle.std.specs.Ordering.{is_lt}
 use Rattle.std.specs.declared.cmp.Ordering.{Ordering}
-use Rattle.std.specs.declared.cmp.Ordering.TheVariants.{Less, Equal, Greater}
 use Rattle.std.proofs.lemmas.Bool.{and_from, and_parts}
+use Rattle.cm_lists.proofs.Ascents.{above_chain, is_sorted, sorted_filter}
 use Rattle.cm_files.specs.Catalogue.{ascends}
-
-pub is_less : (o : Ordering) → is_lt o ≡ true → o ≡ Less
-is_less Less is = refl
-is_less Equal is = absurd (cc)
-is_less Greater is = absurd (cc)
-
-pub less_is : (o : Ordering) → o ≡ Less → is_lt o ≡ true
-less_is o is = rw is refl
-
--- each of these stands above the one
-abbrev pub all_above : {X : Type 0} → (X → X → Ordering) → X → List X → Bool
-all_above compare x xs = list_all (λ other. is_lt (compare x other)) xs
-
--- each stands below all behind it
-abbrev pub is_sorted : {X : Type 0} → (X → X → Ordering) → List X → Bool
-is_sorted compare [] = true
-is_sorted compare (x ∷ xs) = all_above compare x xs && is_sorted compare xs
-
-pub above_chain : {X : Type 0} (compare : X → X → Ordering) → IsTotalOrder compare → (x y : X) (xs : List X)
-    → is_lt (compare x y) ≡ true → all_above compare y xs ≡ true → all_above compare x xs ≡ true
-above_chain compare total x y [] less above = refl
-above_chain compare total x y (z ∷ xs) less above =
-    let parts = and_parts _ _ above in
-    and_from _ _ (less_is _ (total.trans x y z (is_less _ less) (is_less _ parts.0)))
-    (above_chain compare total x y xs less parts.1)
 
 pub sorted_ascends : {X : Type 0} (compare : X → X → Ordering) → IsTotalOrder compare → (xs : List X)
     → ascends compare xs ≡ true → is_sorted compare xs ≡ true
@@ -51,27 +25,6 @@ ascends_sorted compare (x ∷ y ∷ xs) sorted =
     let parts = and_parts _ _ sorted in
     and_from _ _ (and_parts _ _ parts.0).0 (ascends_sorted compare (y ∷ xs) parts.1)
 
--- what all elements pass, those that are kept pass
-pub all_filter : {X : Type 0} (test keep : X → Bool) (xs : List X) → list_all test xs ≡ true
-    → list_all test (filter keep xs) ≡ true
-all_filter test keep [] all = refl
-all_filter test keep (x ∷ xs) all = by (keep x) (all_filter test keep xs (and_parts _ _ all).1)
-  where
-    by : (kept : Bool) → list_all test (filter keep xs) ≡ true
-        → list_all test (cond kept (x ∷ filter keep xs) (filter keep xs)) ≡ true
-    by true rest = and_from _ _ (and_parts _ _ all).0 rest
-    by false rest = rest
-
-sorted_filter : {X : Type 0} (compare : X → X → Ordering) (keep : X → Bool) (xs : List X)
-    → is_sorted compare xs ≡ true → is_sorted compare (filter keep xs) ≡ true
-sorted_filter compare keep [] sorted = refl
-sorted_filter compare keep (x ∷ xs) sorted = by (keep x) (sorted_filter compare keep xs (and_parts _ _ sorted).1)
-  where
-    by : (kept : Bool) → is_sorted compare (filter keep xs) ≡ true
-        → is_sorted compare (cond kept (x ∷ filter keep xs) (filter keep xs)) ≡ true
-    by true rest = and_from _ _ (all_filter _ keep xs (and_parts _ _ sorted).0) rest
-    by false rest = rest
-
 -- elements that are kept still ascend
 pub ascends_filter : {X : Type 0} (compare : X → X → Ordering) → IsTotalOrder compare → (keep : X → Bool) (xs : List X)
     → ascends compare xs ≡ true → ascends compare (filter keep xs) ≡ true
@@ -85,15 +38,3 @@ ascends_map compare under f same [] = refl
 ascends_map compare under f same (x ∷ []) = refl
 ascends_map compare under f same (x ∷ y ∷ xs) =
     rw (same x y) (ap (λ rest. is_lt (under x y) && rest) (ascends_map compare under f same (y ∷ xs)))
-
--- which of two stands first, turned round
-pub turned : {X : Type 0} (compare : X → X → Ordering) → IsTotalOrder compare → (x y : X)
-    → is_lt (compare x y) ≡ false → is_eq (compare x y) ≡ false → is_lt (compare y x) ≡ true
-turned compare total x y not_less not_same = by (compare x y) (compare y x) (total.antisymm x y) not_less not_same
-  where
-    by : (o p : Ordering) → o ≡ ordering_reverse p → is_lt o ≡ false → is_eq o ≡ false → is_lt p ≡ true
-    by Less p is first second = absurd (cc)
-    by Equal p is first second = absurd (cc)
-    by Greater Less is first second = refl
-    by Greater Equal is first second = absurd (cc)
-    by Greater Greater is first second = absurd (cc)

@@ -1,5 +1,5 @@
 -- A directory is made, or keeps another number of generations: what is well formed stays so.
-use Rattle.std.proofs.Common.{◌≡◌, ℕ, ◌<◌, ◌≤◌, Bool, true, false, cond, ◌&&◌, ◌||◌, nat_le, List, [], ◌∷◌, length, map, find, is_some, Option, Some, None, unwrap_or, Ok, Err, IfSome, refl, ap, sym, subst, ◌∙◌, arith}
+use Rattle.std.proofs.Common.{◌≡◌, ℕ, ◌<◌, ◌≤◌, Bool, true, false, cond, ◌||◌, nat_le, List, [], ◌∷◌, length, map, find, is_some, Option, Some, None, unwrap_or, Ok, Err, IfSome, refl, ap, sym, subst, ◌∙◌, arith}
 use Rattle.std.specs.Cmp.{IsTotalOrder}
 use Rattle.std.specs.Cmp.Lexicographic.{on_texts, texts_ties}
 use Rattle.std.specs.List.{list_all, list_any}
@@ -8,6 +8,9 @@ use Rattle.std.specs.Ordering.{is_eq, is_lt}
 use Rattle.std.specs.Str.{bytes_eq}
 use Rattle.std.proofs.lemmas.Bool.{and_from, and_parts, both_ways, le-leb, leb-false, leb-true, lt-leb, or_parts, or_right}
 use Rattle.std.proofs.lemmas.List.{append-nil, length-map}
+use Rattle.cm_lists.proofs.Bools.{and_weaker}
+use Rattle.cm_lists.proofs.Positions.{find_any}
+use Rattle.cm_lists.proofs.Quantifiers.{all_weaker}
 use Rattle.cm_fields.specs.declared.code.Code.{Code}
 use Rattle.cm_fields.specs.declared.code.Code.TheVariants.{DirLimit}
 use Rattle.cm_files.specs.Catalogue.{ascends, by_bytes, is_directory_name}
@@ -24,7 +27,6 @@ use Rattle.ex_store.specs.Ready.{Change, applied, done_on, of_directory}
 use Rattle.ex_store.specs.State.{State, has_directory, is_named, retention_of}
 use Rattle.ex_store.specs.WellFormed.{IsWellFormed, is_definition_among, is_directory, is_entry_among, is_row_among}
 use Rattle.ex_store.proofs.AscendsLaws.{ascends_map}
-use Rattle.ex_store.proofs.ElementsLaws.{found_any}
 use Rattle.ex_store.proofs.InsertionLaws.{inserted_all, inserted_ascends, inserted_length}
 
 -- the directory of a name keeps as many generations
@@ -151,7 +153,7 @@ with_more made directories are is room = by (has_directory made.name directories
 has_found : (name : List ℕ) (directories : List Directory)
     → has_directory name directories
     ≡ is_some (option_map (λ (directory : Directory). directory.retention) (find (is_named name) directories))
-has_found name directories = sym (found_any (λ (directory : Directory). directory.retention) (is_named name) directories)
+has_found name directories = sym (find_any (λ (directory : Directory). directory.retention) (is_named name) directories)
 
 pub built_kept : (name : List ℕ) (retention : Option ℕ) (directories : List Directory) (kept : ℕ)
     → option_map (λ (directory : Directory). directory.retention) (find (is_named name) directories) ≡ Some kept
@@ -183,30 +185,19 @@ built_parts name retention directories made is = by (has_directory name director
     by false true known limit is = absurd (cc)
     by false false known limit is = (cc, λ absent. leb-false DIRECTORY_LIMIT (length directories) limit)
 
--- what is so of all, and what follows from it
-pub all_more : {X : Type 0} (test other : X → Bool) (xs : List X) → ((x : X) → test x ≡ true → other x ≡ true) → list_all test xs ≡ true
-    → list_all other xs ≡ true
-all_more test other [] more all = refl
-all_more test other (x ∷ xs) more all =
-    and_from _ _ (more x (and_parts _ _ all).0) (all_more test other xs more (and_parts _ _ all).1)
-
--- another test in the place of the first
-onto : (x y rest : Bool) → (x ≡ true → y ≡ true) → (x && rest) ≡ true → (y && rest) ≡ true
-onto x y rest more all = and_from _ _ (more (and_parts _ _ all).0) (and_parts _ _ all).1
-
 definition_more : (before after : List Directory) → ((x : List ℕ) → has_directory x before ≡ true → has_directory x after ≡ true)
     → (entry : Definition) → is_definition_among before entry ≡ true → is_definition_among after entry ≡ true
-definition_more before after there entry = onto _ _ _ (onto _ _ _ (there entry.directory))
+definition_more before after there entry = and_weaker _ _ _ (and_weaker _ _ _ (there entry.directory))
 
 row_more : (before after : List Directory) → ((x : List ℕ) → has_directory x before ≡ true → has_directory x after ≡ true)
     → (row : Row) → is_row_among before row ≡ true → is_row_among after row ≡ true
-row_more before after there row = onto _ _ _ (onto _ _ _ (onto _ _ _ (onto _ _ _ (onto _ _ _ (there row.key.directory)))))
+row_more before after there row = and_weaker _ _ _ (and_weaker _ _ _ (and_weaker _ _ _ (and_weaker _ _ _ (and_weaker _ _ _ (there row.key.directory)))))
 
 entry_more : (before after : List Directory) → ((x : List ℕ) → has_directory x before ≡ true → has_directory x after ≡ true)
     → (entry : QueueEntry) → is_entry_among before entry ≡ true → is_entry_among after entry ≡ true
 entry_more before after there entry =
-    onto _ _ _ (onto _ _ _ (onto _ _ _ (onto _ _ _ (onto _ _ _
-    (onto _ _ _ (onto _ _ _ (onto _ _ _ (onto _ _ _ (onto _ _ _ (there entry.file.key.directory))))))))))
+    and_weaker _ _ _ (and_weaker _ _ _ (and_weaker _ _ _ (and_weaker _ _ _ (and_weaker _ _ _
+    (and_weaker _ _ _ (and_weaker _ _ _ (and_weaker _ _ _ (and_weaker _ _ _ (and_weaker _ _ _ (there entry.file.key.directory))))))))))
 
 well_formed_with_more : (state : State) (after : List Directory) → IsWellFormed state → AreMore state.directories after
     → IsWellFormed (record state { directories = after })
@@ -216,18 +207,15 @@ well_formed_with_more state after well more = record {
     directories_within = more.are.within;
     few_directories = more.are.few;
     logical_ascend = well.draft.logical_ascend;
-    logical_within = all_more (is_definition_among state.directories) (is_definition_among after) state.logical
-        (definition_more state.directories after more.there) well.draft.logical_within;
+    logical_within = all_weaker (is_definition_among state.directories) (is_definition_among after) (definition_more state.directories after more.there) state.logical well.draft.logical_within;
     few_logical = well.draft.few_logical;
     rows = record {
       ascend = well.draft.rows.ascend;
-      within = all_more (is_row_among state.directories) (is_row_among after) state.rows
-          (row_more state.directories after more.there) well.draft.rows.within;
+      within = all_weaker (is_row_among state.directories) (is_row_among after) (row_more state.directories after more.there) state.rows well.draft.rows.within;
       few = well.draft.rows.few;
       small = well.draft.rows.small;
     };
-    queue_within = all_more (is_entry_among state.directories) (is_entry_among after) state.queue
-        (entry_more state.directories after more.there) well.draft.queue_within;
+    queue_within = all_weaker (is_entry_among state.directories) (is_entry_among after) (entry_more state.directories after more.there) state.queue well.draft.queue_within;
     few_entries = well.draft.few_entries;
   };
   connected_there = more.there state.connected well.connected_there;

@@ -3,14 +3,18 @@ use Rattle.std.proofs.Common.{◌≡◌, ℕ, suc, ◌+◌, ◌<◌, Bool, true,
 use Rattle.std.specs.List.{list_all}
 use Rattle.std.specs.Ordering.{is_lt, nat_cmp, ordering_reverse, ordering_then}
 use Rattle.std.specs.declared.cmp.Ordering.{Ordering}
-use Rattle.std.specs.declared.cmp.Ordering.TheVariants.{Less, Equal, Greater}
+use Rattle.std.specs.declared.cmp.Ordering.TheVariants.{Less}
 use Rattle.std.proofs.lemmas.Bool.{and_from, and_parts, le-leb, lt-ltb}
-use Rattle.std.proofs.lemmas.Bool.Decides.{nat_tests}
 use Rattle.std.proofs.lemmas.Cmp.{nat_list_cmp_total}
 use Rattle.std.proofs.lemmas.List.{length-map}
 use Rattle.std.proofs.lemmas.Slice.Eq.{bytes_eq-Decides}
+use Rattle.cm_lists.proofs.Ascents.{all_above, is_sorted}
+use Rattle.cm_lists.proofs.Numbers.{nat_cmp-one_add, nat_cmp_one_add_zero, nat_cmp_zero_one_add}
+use Rattle.cm_lists.proofs.Orders.{is_lt-true, then_grouped}
+use Rattle.cm_lists.proofs.Quantifiers.{all_map}
 use Rattle.cm_files.specs.Catalogue.{IsCatalogue, ascends, by_bytes, by_file, is_directory_name, is_logical, is_row}
 use Rattle.cm_files.proofs.LogicalNames.{short_name}
+use Rattle.cm_files.proofs.RowOrder.{text_itself}
 use Rattle.ex_store.specs.declared.directory.Definition.{Definition}
 use Rattle.ex_store.specs.declared.directory.Directory.{Directory}
 use Rattle.ex_store.specs.declared.row.Row.{Row}
@@ -18,19 +22,11 @@ use Rattle.ex_store.specs.Building.{by_directory}
 use Rattle.ex_store.specs.Rows.{by_row}
 use Rattle.ex_store.specs.State.{State, catalogue_of, file_row, has_directory, is_named, logical_name, number_of}
 use Rattle.ex_store.specs.WellFormed.{IsWellFormed, is_definition_among, is_directory, is_row_among}
-use Rattle.ex_store.proofs.AscendsLaws.{all_above, ascends_map, is_less, is_sorted, sorted_ascends}
+use Rattle.ex_store.proofs.AscendsLaws.{ascends_map, sorted_ascends}
 use Rattle.ex_store.proofs.BuiltLaws.{by_directory_total}
 
 pub named : (name : List ℕ) (directory : Directory) → is_named name directory ≡ true → directory.name ≡ name
 named name directory is = (bytes_eq-Decides directory.name name).0 is
-
-itself : (o : Ordering) → o ≡ ordering_reverse o → o ≡ Equal
-itself Less is = absurd (cc)
-itself Equal is = refl
-itself Greater is = absurd (cc)
-
-pub text_itself : (text : List ℕ) → by_bytes text text ≡ Equal
-text_itself text = itself (by_bytes text text) (nat_list_cmp_total.antisymm text text)
 
 -- a directory that stands below others, and the name of one of them
 pub below_name : (directory : Directory) (directories : List Directory) (name : List ℕ)
@@ -45,18 +41,10 @@ below_name directory (first ∷ directories) name above there =
         → (has_directory name directories ≡ true → by_bytes directory.name name ≡ Less)
         → (is || has_directory name directories) ≡ true → by_bytes directory.name name ≡ Less
     by true is less rest there =
-        subst (λ text. by_bytes directory.name text ≡ Less) (named name first is) (is_less _ less)
+        subst (λ text. by_bytes directory.name text ≡ Less) (named name first is) (is_lt-true _ less)
     by false is less rest there = rest there
 
 -- numbers of directories stand as their names do
-next_numbers : (m n : ℕ) → nat_cmp (1 + m) (1 + n) ≡ nat_cmp m n
-next_numbers m n = grind (arith, nat_tests)
-
-above_first : (n : ℕ) → nat_cmp (1 + n) 0 ≡ Greater
-above_first n = grind (arith, nat_tests)
-
-below_next : (n : ℕ) → nat_cmp 0 (1 + n) ≡ Less
-below_next n = grind (arith, nat_tests)
 
 pub number_order : (directories : List Directory) (a b : List ℕ) → is_sorted by_directory directories ≡ true
     → has_directory a directories ≡ true → has_directory b directories ≡ true
@@ -77,14 +65,14 @@ number_order (first ∷ directories) a b sorted has_a has_b =
         let same : a ≡ b = sym (named a first same_a) ∙ named b first same_b in
         sym (ap (by_bytes a) (sym same) ∙ text_itself a)
     by true false same_a other_b above rest has_a has_b =
-        below_next (number_of b directories)
+        nat_cmp_zero_one_add (number_of b directories)
         ∙ sym (subst (λ text. by_bytes text b ≡ Less) (named a first same_a) (below_name first directories b above has_b))
     by false true other_a same_b above rest has_a has_b =
         let less = subst (λ text. by_bytes text a ≡ Less) (named b first same_b) (below_name first directories a above has_a) in
-        above_first (number_of a directories)
+        nat_cmp_one_add_zero (number_of a directories)
         ∙ sym (nat_list_cmp_total.antisymm a b ∙ ap ordering_reverse less)
     by false false other_a other_b above rest has_a has_b =
-        next_numbers (number_of a directories) (number_of b directories)
+        nat_cmp-one_add (number_of a directories) (number_of b directories)
         ∙ rest has_a has_b
 
 pub number_within : (directories : List Directory) (name : List ℕ) → has_directory name directories ≡ true
@@ -99,22 +87,13 @@ number_within (first ∷ directories) name there =
     by false rest there = let below = rest there in omega arith
 
 -- rows of directories that are there stand as their rows in the catalogue do
-grouped : (directory name kind generation : Ordering)
-    → ordering_then directory (ordering_then name (ordering_then kind generation))
-    ≡ ordering_then (ordering_then directory (ordering_then name kind)) generation
-grouped Less name kind generation = refl
-grouped Equal Less kind generation = refl
-grouped Equal Equal kind generation = refl
-grouped Equal Greater kind generation = refl
-grouped Greater name kind generation = refl
-
 pub row_order : (directories : List Directory) (row other : Row) → is_sorted by_directory directories ≡ true
     → has_directory row.key.directory directories ≡ true → has_directory other.key.directory directories ≡ true
     → by_file (file_row directories row) (file_row directories other) ≡ by_row row other
 row_order directories row other sorted there other_there =
     ap (λ (o : Ordering). ordering_then o (ordering_then (by_bytes row.key.name other.key.name) (ordering_then (by_bytes row.key.kind other.key.kind) (nat_cmp row.file.generation other.file.generation))))
     (number_order directories row.key.directory other.key.directory sorted there other_there)
-    ∙ grouped (by_bytes row.key.directory other.key.directory) (by_bytes row.key.name other.key.name)
+    ∙ then_grouped (by_bytes row.key.directory other.key.directory) (by_bytes row.key.name other.key.name)
     (by_bytes row.key.kind other.key.kind) (nat_cmp row.file.generation other.file.generation)
 
 -- what a row of one of these directories is
@@ -134,13 +113,6 @@ rows_ascend directories (row ∷ other ∷ rows) sorted within ascend =
     let same = row_order directories row other sorted (directory_there directories row all.0)
     (directory_there directories other (and_parts _ _ all.1).0) in
     and_from _ _ (ap is_lt same ∙ parts.0) (rows_ascend directories (other ∷ rows) sorted all.1 parts.1)
-
-pub all_map : {X Y : Type 0} (test : X → Bool) (other : Y → Bool) (f : X → Y)
-    → ((x : X) → test x ≡ true → other (f x) ≡ true) → (xs : List X) → list_all test xs ≡ true
-    → list_all other (map f xs) ≡ true
-all_map test other f each [] all = refl
-all_map test other f each (x ∷ xs) all =
-    let parts = and_parts _ _ all in and_from _ _ (each x parts.0) (all_map test other f each xs parts.1)
 
 row_within : (directories : List Directory) (row : Row) → is_row_among directories row ≡ true
     → is_row (length directories) (file_row directories row) ≡ true

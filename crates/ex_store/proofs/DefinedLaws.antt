@@ -1,6 +1,6 @@
 -- A logical name is defined: what is well formed stays so, and what the plan comes to.
-use Rattle.std.proofs.Common.{◌≡◌, ℕ, zero, suc, ◌+◌, ◌<◌, ◌≤◌, nat_le, Bool, true, false, not, cond, ◌&&◌, List, [], ◌∷◌, ◌++◌, length, map, take, get_or, slice_index, codes, Ok, Err, refl, ap, sym, subst, ◌∙◌, arith}
-use Rattle.std.specs.Char.{is_ascii_alphabetic, is_ascii_lowercase, to_ascii_lowercase, to_ascii_uppercase}
+use Rattle.std.proofs.Common.{◌≡◌, ℕ, ◌<◌, ◌≤◌, nat_le, Bool, true, false, not, cond, ◌&&◌, List, [], ◌∷◌, length, map, codes, Ok, Err, refl, ap, sym, subst, ◌∙◌, arith}
+use Rattle.std.specs.Char.{is_ascii_lowercase, to_ascii_lowercase, to_ascii_uppercase}
 use Rattle.std.specs.Cmp.{Equal-is, IsTotalOrder}
 use Rattle.std.specs.Cmp.Lexicographic.{on_texts}
 use Rattle.std.specs.List.{list_all, list_any}
@@ -8,15 +8,16 @@ use Rattle.std.specs.Ordering.{is_eq}
 use Rattle.std.specs.Str.{IsAscii}
 use Rattle.std.proofs.lemmas.Bool.{and_from, and_parts, both_ways, leb-false, or_parts}
 use Rattle.std.proofs.lemmas.Bool.Decides.{nat_tests}
-use Rattle.std.proofs.lemmas.List.{append-nil, length-map, take_all}
+use Rattle.std.proofs.lemmas.List.{append-nil, length-map}
 use Rattle.std.proofs.lemmas.Map.Lookups.{exact_bytes}
 use Rattle.std.proofs.lemmas.Slice.Eq.{bytes_eq-Decides}
-use Rattle.std.proofs.lemmas.Str.Ascii.{lowercase-uppercase}
+use Rattle.cm_lists.proofs.Ascii.{lowercase-up, up, uppercase_alphabetic}
 use Rattle.cm_fields.specs.declared.code.Code.{Code}
 use Rattle.cm_fields.specs.declared.code.Code.TheVariants.{LogicalLimit}
 use Rattle.cm_text.specs.Bytes.{is_name, is_word}
 use Rattle.cm_text.specs.Case.{equals}
 use Rattle.cm_text.specs.declared.name.TheConstants.{NAME_LIMIT}
+use Rattle.cm_text.proofs.Ascii.{name_bytes_are_ascii}
 use Rattle.cm_files.specs.Catalogue.{ascends, by_bytes, is_upper_name}
 use Rattle.cm_files.specs.LogicalName.{begins_with_letter, is_logical_name}
 use Rattle.ex_store.specs.declared.directory.Definition.{Definition}
@@ -33,30 +34,6 @@ use Rattle.ex_store.specs.State.{State, has_definition, has_directory}
 use Rattle.ex_store.specs.WellFormed.{IsWellFormed, is_definition_among}
 use Rattle.ex_store.proofs.AscendsLaws.{ascends_map}
 use Rattle.ex_store.proofs.InsertionLaws.{inserted_all, inserted_ascends, inserted_length}
-
--- the bytes in upper case
-abbrev pub up : List ℕ → List ℕ
-up text = map to_ascii_uppercase text
-
--- the upper case of an ASCII byte is one
-upper_is_ascii : (byte : ℕ) → byte < 128 → to_ascii_uppercase byte < 128
-upper_is_ascii byte is = grind (arith, nat_tests)
-
-pub upper_fits : (text : List ℕ) (i : ℕ) → IsAscii text → to_ascii_uppercase (get_or text i 0) < 128
-upper_fits text i ascii = upper_is_ascii (get_or text i 0) (ascii i)
-
--- a name is ASCII
-name_is_ascii : (byte : ℕ) → is_name byte ≡ true → byte < 128
-unfolding is_name is_word
-name_is_ascii byte is = grind (arith, nat_tests)
-
-all_ascii : (text : List ℕ) → list_all is_name text ≡ true → IsAscii text
-all_ascii [] all = λ i. omega arith
-all_ascii (first ∷ more) all = λ i. at i (all_ascii more (and_parts _ _ all).1)
-  where
-    at : (i : ℕ) → IsAscii more → slice_index (first ∷ more) i < 128
-    at zero rest = name_is_ascii first (and_parts _ _ all).0
-    at (suc i) rest = rest i
 
 -- the parts of what a logical name is
 record IsLogical (name : List ℕ) : Type 0 where
@@ -90,45 +67,28 @@ logical_from name is =
     and_from _ _ (and_from _ _ (and_from _ _ (and_from _ _ (and_from _ _ is.short is.begins) is.names) is.no_ps) is.no_dsk) is.no_tty
 
 pub logical_is_ascii : (name : List ℕ) → is_logical_name name ≡ true → IsAscii name
-logical_is_ascii name logical = all_ascii name (logical_parts name logical).names
-
--- one byte more of a text in upper case
-pub upper_more : (text : List ℕ) (i byte : ℕ) → i < length text → byte ≡ get_or text i byte
-    → up (take (i + 1) text) ≡ up (take i text) ++ to_ascii_uppercase byte ∷ []
-upper_more [] i byte below is = absurd (omega arith)
-upper_more (first ∷ more) zero byte below is = ap (λ (b : ℕ). to_ascii_uppercase b ∷ []) (sym is)
-upper_more (first ∷ more) (suc i) byte below is =
-    let step : suc i + 1 ≡ suc (i + 1) = omega arith in
-    ap (λ (n : ℕ). up (take n (first ∷ more))) step
-    ∙ ap (λ (rest : List ℕ). to_ascii_uppercase first ∷ rest) (upper_more more i byte (omega arith) is)
-
-pub upper_all : (text : List ℕ) (i : ℕ) → length text ≤ i → up (take i text) ≡ up text
-upper_all text i all = ap up (take_all i text all)
+logical_is_ascii name logical = name_bytes_are_ascii name (logical_parts name logical).names
 
 -- a text in upper case is equal to what the text is equal to
-pub lower_up : (text : List ℕ) → map to_ascii_lowercase (up text) ≡ map to_ascii_lowercase text
-lower_up [] = refl
-lower_up (byte ∷ text) = rw (lowercase-uppercase byte, lower_up text) refl
-
-up_equals : (text other : List ℕ) → equals (up text) other ≡ equals text other
+pub up_equals : (text other : List ℕ) → equals (up text) other ≡ equals text other
 unfolding equals
-up_equals text other = rw (lower_up text) refl
+up_equals text other = rw (lowercase-up text) refl
 
 equals_up : (text other : List ℕ) → equals text (up other) ≡ equals text other
 unfolding equals
-equals_up text other = rw (lower_up other) refl
+equals_up text other = rw (lowercase-up other) refl
 
 equals_itself : (text : List ℕ) → equals text text ≡ true
 unfolding equals
 equals_itself text = (bytes_eq-Decides (map to_ascii_lowercase text) (map to_ascii_lowercase text)).1 refl
 
 -- a logical name in upper case is one
-upper_byte : (byte : ℕ) → is_name byte ≡ true
+pub upper_byte : (byte : ℕ) → is_name byte ≡ true
     → (is_name (to_ascii_uppercase byte) && not (is_ascii_lowercase (to_ascii_uppercase byte))) ≡ true
 unfolding is_name is_word
 upper_byte byte is = grind (arith, nat_tests)
 
-upper_name : (text : List ℕ) → list_all is_name text ≡ true → is_upper_name (up text) ≡ true
+pub upper_name : (text : List ℕ) → list_all is_name text ≡ true → is_upper_name (up text) ≡ true
 upper_name [] all = refl
 upper_name (byte ∷ text) all =
     let both = and_parts (is_name byte) (list_all is_name text) all in
@@ -140,12 +100,9 @@ upper_names (byte ∷ text) all =
     let both = and_parts (is_name byte) (list_all is_name text) all in
     and_from _ _ (and_parts _ _ (upper_byte byte both.0)).0 (upper_names text both.1)
 
-upper_letter : (byte : ℕ) → is_ascii_alphabetic byte ≡ true → is_ascii_alphabetic (to_ascii_uppercase byte) ≡ true
-upper_letter byte is = grind (arith, nat_tests)
-
 upper_begins : (text : List ℕ) → begins_with_letter text ≡ true → begins_with_letter (up text) ≡ true
 upper_begins [] begins = absurd (cc)
-upper_begins (byte ∷ text) begins = upper_letter byte begins
+upper_begins (byte ∷ text) begins = uppercase_alphabetic byte begins
 
 upper_logical : (name : List ℕ) → is_logical_name name ≡ true → is_logical_name (up name) ≡ true
 upper_logical name logical =

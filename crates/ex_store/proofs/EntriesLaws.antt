@@ -1,16 +1,16 @@
 -- Directories and logical names as the entries of maps.
-use Rattle.std.proofs.Common.{◌≡◌, ℕ, ◌+◌, ◌<◌, Bool, Option, true, false, not, ◌||◌, cond, nat_lt, List, [], ◌∷◌, ◌++◌, length, map, find, position, Some, None, is_some, unwrap_or, refl, ap, arith, sym, ◌∙◌}
+use Rattle.std.proofs.Common.{◌≡◌, ℕ, ◌+◌, ◌<◌, Bool, true, false, not, ◌||◌, cond, nat_lt, List, [], ◌∷◌, ◌++◌, length, map, find, position, Some, None, is_some, unwrap_or, refl, ap, arith, sym, ◌∙◌}
 use Rattle.std.specs.List.{list_all, list_any, position_or_len}
 use Rattle.std.specs.Map.{keys_of, lookup}
 use Rattle.std.specs.Option.{option_map}
 use Rattle.std.specs.Ordering.{is_lt}
 use Rattle.std.specs.Str.{bytes_eq}
 use Rattle.std.specs.declared.cmp.Ordering.{Ordering}
-use Rattle.std.specs.Cmp.Lexicographic.{nat_list_eq_equiv}
 use Rattle.std.proofs.lemmas.Bool.{and_from, and_parts, leb-true, or_parts}
 use Rattle.std.proofs.lemmas.Slice.Eq.{bytes_eq-Decides}
 use Rattle.cm_text.specs.declared.name.TheConstants.{NAME_LIMIT}
 use Rattle.std.proofs.lemmas.List.{map-append}
+use Rattle.cm_lists.proofs.Quantifiers.{all_true}
 use Rattle.cm_files.specs.Catalogue.{ascends}
 use Rattle.indexmap.proofs.MapLemmas.{some_index}
 use Rattle.ex_store.specs.declared.directory.Directory.{Directory}
@@ -85,16 +85,12 @@ module _ {V X : Type 0} (f : List ℕ × V → X) (compare : X → X → Orderin
       by true = refl
       by false = refl
 
-all_pass : {X : Type 0} (xs : List X) → list_all (λ _. true) xs ≡ true
-all_pass [] = refl
-all_pass (x ∷ xs) = all_pass xs
-
 -- a directory that is made, among the entries
 pub directory_made : (new : Directory) (entries : List (List ℕ × ℕ))
     → directories_of (entries_with new.name new.retention entries) ≡ with_directory new (directories_of entries)
 directory_made new entries =
     made_map directory_entry by_directory (is_named new.name) (λ (other : Directory). record other { retention = new.retention })
-    new.name new.retention (λ _. true) (λ entry other. refl) (λ entry all. refl) (λ entry. refl) entries (all_pass entries)
+    new.name new.retention (λ _. true) (λ entry other. refl) (λ entry all. refl) (λ entry. refl) entries (all_true entries)
 
 -- directories looked up among the entries
 pub has_entry : (name : List ℕ) (entries : List (List ℕ × ℕ))
@@ -158,26 +154,6 @@ number_or_all name directories = by (has_directory name directories) refl
         → unwrap_or (cond there (Some (number_of name directories)) None) (length directories) ≡ number_of name directories
     by true is = refl
     by false is = sym (number_absent name directories is)
-
--- a name is looked up by itself, so the test has it first
-pub lookup_turned : {V : Type 0} (name : List ℕ) (entries : List (List ℕ × V))
-    → lookup (bytes_eq name) entries ≡ lookup (λ other. bytes_eq other name) entries
-lookup_turned name [] = refl
-lookup_turned {V = V} name (entry ∷ entries) =
-    ap (λ (b : Bool). cond b (Some entry.1) (lookup (bytes_eq name) entries)) (nat_list_eq_equiv.symm name entry.0)
-    ∙ ap (λ (rest : Option V). cond (bytes_eq entry.0 name) (Some entry.1) rest) (lookup_turned name entries)
-
-place_turned : {V : Type 0} (name : List ℕ) (entries : List (List ℕ × V))
-    → position_or_len (bytes_eq name) (keys_of entries) ≡ position_or_len (λ other. bytes_eq other name) (keys_of entries)
-place_turned name [] = refl
-place_turned name (entry ∷ entries) =
-    ap (λ (n : ℕ). cond (not (bytes_eq name entry.0)) (1 + n) 0) (place_turned name entries)
-    ∙ ap (λ (b : Bool). cond (not b) (1 + position_or_len (λ other. bytes_eq other name) (keys_of entries)) 0) (nat_list_eq_equiv.symm name entry.0)
-
-pub position_turned : {V : Type 0} (name : List ℕ) (entries : List (List ℕ × V))
-    → position (bytes_eq name) (keys_of entries) ≡ position (λ other. bytes_eq other name) (keys_of entries)
-position_turned name entries =
-    ap (λ (n : ℕ). cond (nat_lt n (length (keys_of entries))) (Some n) None) (place_turned name entries)
 
 -- no directory has a name that is too long
 long_apart : (name : List ℕ) (other : Directory) → NAME_LIMIT < length name → is_short other ≡ true → is_named name other ≡ false

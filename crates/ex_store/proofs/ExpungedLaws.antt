@@ -1,6 +1,7 @@
 -- What stays: the rows that are not expunged, and the directories under every plan.
-use Rattle.std.proofs.Common.{◌≡◌, ℕ, ◌<◌, ◌&&◌, suc, zero, Bool, true, false, not, cond, List, [], ◌∷◌, ◌++◌, length, get_or, filter, map, Contains, Result, Ok, Err, refl, ap, arith, ◌∙◌, sym, subst}
+use Rattle.std.proofs.Common.{◌≡◌, ℕ, ◌&&◌, Bool, true, false, not, cond, List, [], ◌++◌, map, Contains, Result, Ok, Err, refl, ap, ◌∙◌, subst}
 use Rattle.std.proofs.lemmas.Bool.{not-true, not_from_false}
+use Rattle.cm_lists.proofs.Filters.{Contains-filter, Contains_of_filter}
 use Rattle.cm_fields.specs.declared.code.Code.{Code}
 use Rattle.ex_store.specs.declared.directory.Definition.{Definition}
 use Rattle.ex_store.specs.declared.directory.Directory.{Directory}
@@ -18,38 +19,6 @@ use Rattle.ex_store.specs.Rows.{expunged, is_in}
 use Rattle.ex_store.specs.State.{State, has_directory}
 use Rattle.ex_store.proofs.BuiltLaws.{inserted_has, kept_as, kept_has}
 
-contains_more : {X : Type 0} (first x : X) (xs : List X) → Contains xs x → Contains (first ∷ xs) x
-contains_more first x xs there = (suc there.0, omega (arith, there.1), there.2)
-
-from_kept : {X : Type 0} (test : X → Bool) (first x : X) (xs rest : List X) (b : Bool) (k : ℕ) → test first ≡ b
-    → k < length (cond b (first ∷ rest) rest) → get_or (cond b (first ∷ rest) rest) k x ≡ x
-    → (Contains rest x → Contains xs x × (test x ≡ true)) → Contains (first ∷ xs) x × (test x ≡ true)
-from_kept test first x xs rest true zero is lt at more = ((0, omega arith, at), subst (λ other. test other ≡ true) at is)
-from_kept test first x xs rest true (suc k) is lt at more =
-    let found : Contains xs x × (test x ≡ true) = more (k, omega arith, at) in
-    (contains_more first x xs found.0, found.1)
-from_kept test first x xs rest false k is lt at more =
-    let found : Contains xs x × (test x ≡ true) = more (k, lt, at) in
-    (contains_more first x xs found.0, found.1)
-
-from_filter : {X : Type 0} (test : X → Bool) (x : X) (xs : List X) → Contains (filter test xs) x → Contains xs x × (test x ≡ true)
-from_filter test x [] there = absurd (omega (arith, there.1))
-from_filter test x (first ∷ xs) there =
-    from_kept test first x xs (filter test xs) _ there.0 refl there.1 there.2 (from_filter test x xs)
-
-contains_cond : {X : Type 0} (b : Bool) (first x : X) (rest : List X) → Contains rest x → Contains (cond b (first ∷ rest) rest) x
-contains_cond true first x rest there = contains_more first x rest there
-contains_cond false first x rest there = there
-
-into_filter : {X : Type 0} (test : X → Bool) (x : X) (xs : List X) (k : ℕ) → k < length xs → get_or xs k x ≡ x → test x ≡ true
-    → Contains (filter test xs) x
-into_filter test x [] k lt at is = absurd (omega arith)
-into_filter test x (first ∷ xs) zero lt at is =
-    let here : test first ≡ true = subst (λ other. test other ≡ true) (sym at) is in
-    rw here (0, omega arith, at)
-into_filter test x (first ∷ xs) (suc k) lt at is =
-    contains_cond (test first) first x (filter test xs) (into_filter test x xs k (omega arith) at is)
-
 pub expunged_rows : (directory : List ℕ) (row : Row) (rows : List Row)
     → (Contains (expunged directory rows) row → Contains rows row × ((is_in directory row && row.file.deleted) ≡ false))
     × (Contains rows row × ((is_in directory row && row.file.deleted) ≡ false) → Contains (expunged directory rows) row)
@@ -60,11 +29,11 @@ expunged_rows directory row rows = (there, back)
 
     there : Contains (expunged directory rows) row → Contains rows row × ((is_in directory row && row.file.deleted) ≡ false)
     there stays =
-        let found : Contains rows row × (left row ≡ true) = from_filter left row rows stays in
+        let found : Contains rows row × (left row ≡ true) = Contains_of_filter left row rows stays in
         (found.0, not-true (is_in directory row && row.file.deleted) found.1)
 
     back : Contains rows row × ((is_in directory row && row.file.deleted) ≡ false) → Contains (expunged directory rows) row
-    back stands = into_filter left row rows stands.0.0 stands.0.1 stands.0.2 (not_from_false (is_in directory row && row.file.deleted) stands.1)
+    back stands = Contains-filter left row rows stands.0.0 stands.0.1 stands.0.2 (not_from_false (is_in directory row && row.file.deleted) stands.1)
 
 with_there : (made : Directory) (directories : List Directory) (name : List ℕ) → has_directory name directories ≡ true
     → has_directory name (with_directory made directories) ≡ true

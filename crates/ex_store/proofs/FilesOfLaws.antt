@@ -5,7 +5,9 @@ use Rattle.std.specs.Ordering.{is_eq, is_lt, nat_cmp, ordering_reverse, ordering
 use Rattle.std.specs.declared.cmp.Ordering.{Ordering}
 use Rattle.std.specs.declared.cmp.Ordering.TheVariants.{Less, Equal, Greater}
 use Rattle.std.proofs.lemmas.Bool.{and_from, and_parts, le-ltb, ltb-true, not-true}
-use Rattle.std.proofs.lemmas.Bool.Decides.{nat_tests}
+use Rattle.cm_lists.proofs.Ascents.{above_chain, all_above, is_lt_turned, is_sorted}
+use Rattle.cm_lists.proofs.Numbers.{is_lt-nat_cmp}
+use Rattle.cm_lists.proofs.Orders.{is_eq-true, is_eq_from_reverse}
 use Rattle.cm_files.specs.Catalogue.{ascends}
 use Rattle.ex_generations.specs.declared.file.File.{File}
 use Rattle.ex_generations.specs.Generations.{has, marked_as}
@@ -15,20 +17,12 @@ use Rattle.ex_generations.specs.Retention as retaining
 use Rattle.ex_store.specs.declared.key.Key.{Key}
 use Rattle.ex_store.specs.declared.row.Row.{Row}
 use Rattle.ex_store.specs.Rows.{added, by_key, by_row, files_of, full_of, inserted, is_full, is_of, kept_newest, retained, with_mark}
-use Rattle.ex_store.proofs.AscendsLaws.{above_chain, all_above, is_sorted, sorted_ascends, turned}
+use Rattle.ex_store.proofs.AscendsLaws.{sorted_ascends}
 use Rattle.ex_store.proofs.AreRowsLaws.{absent_has, by_key_total, by_row_total, is_absent}
 
 -- a key is its own
-own_key_is : (o : Ordering) → o ≡ ordering_reverse o → is_eq o ≡ true
-own_key_is Less is = absurd (cc)
-own_key_is Equal is = refl
-own_key_is Greater is = absurd (cc)
-
 is_own : (row : Row) → is_of row.key row ≡ true
-is_own row = own_key_is (by_key row.key row.key) (by_key_total.antisymm row.key row.key)
-
-number_less : (a b : ℕ) → is_lt (nat_cmp a b) ≡ nat_lt a b
-number_less a b = grind (arith, nat_tests)
+is_own row = is_eq_from_reverse (by_key row.key row.key) (by_key_total.antisymm row.key row.key)
 
 -- of two rows of one key, the lower one has the lower generation
 below_of : (other row : Row) → is_of row.key other ≡ true
@@ -38,7 +32,7 @@ below_of other row is = by (by_key other.key row.key) is
     by : (o : Ordering) → is_eq o ≡ true
         → is_lt (ordering_then o (nat_cmp other.file.generation row.file.generation)) ≡ nat_lt other.file.generation row.file.generation
     by Less is = absurd (cc)
-    by Equal is = number_less other.file.generation row.file.generation
+    by Equal is = is_lt-nat_cmp other.file.generation row.file.generation
     by Greater is = absurd (cc)
 
 above_of : (row other : Row) → is_of row.key other ≡ true
@@ -48,7 +42,7 @@ above_of row other is = by (by_key row.key other.key) (by_key other.key row.key)
     by : (o p : Ordering) → o ≡ ordering_reverse p → is_eq p ≡ true
         → is_lt (ordering_then o (nat_cmp row.file.generation other.file.generation)) ≡ nat_lt row.file.generation other.file.generation
     by o Less turn is = absurd (cc)
-    by o Equal turn is = rw turn (number_less row.file.generation other.file.generation)
+    by o Equal turn is = rw turn (is_lt-nat_cmp row.file.generation other.file.generation)
     by o Greater turn is = absurd (cc)
 
 -- files above a generation
@@ -128,7 +122,7 @@ files_inserted row (other ∷ rows) absent sorted =
         → files_of row.key (cond b (other ∷ inserted row rows) (row ∷ other ∷ rows)) ≡ generations.inserted row.file (files_of row.key (other ∷ rows))
     by true less rest = step (is_of row.key other) refl less rest
     by false less rest =
-        let above : is_lt (by_row row other) ≡ true = turned by_row by_row_total other row less (not-true _ parts.0) in
+        let above : is_lt (by_row row other) ≡ true = is_lt_turned by_row by_row_total other row less (not-true _ parts.0) in
         files_front row (other ∷ rows) (and_from _ _ above (above_chain by_row by_row_total row other rows above behind.0))
 
 files_kept : (retention : ℕ) (key : Key) (rows : List Row)
@@ -183,15 +177,10 @@ others_inserted key row (other ∷ rows) apart = by (is_lt (by_row other row)) (
     by true rest = files_more key other (inserted row rows) rows rest
     by false rest = rw apart
 
-is_equal : (o : Ordering) → is_eq o ≡ true → o ≡ Equal
-is_equal Less is = absurd (cc)
-is_equal Equal is = refl
-is_equal Greater is = absurd (cc)
-
 -- a row of one key is of no other
 of_no_other : (key own : Key) (row : Row) → is_of own row ≡ true → is_eq (by_key own key) ≡ false → is_of key row ≡ false
 of_no_other key own row is apart =
-    ap is_eq (by_key_total.congr row.key own key (is_equal (by_key row.key own) is)) ∙ apart
+    ap is_eq (by_key_total.congr row.key own key (is_eq-true (by_key row.key own) is)) ∙ apart
 
 others_kept : (retention : ℕ) (key own : Key) (rows : List Row) → is_eq (by_key own key) ≡ false
     → files_of key (kept_newest retention own rows) ≡ files_of key rows

@@ -1,20 +1,14 @@
 -- An element is inserted at its place: what ascends does so still.
-use Rattle.std.proofs.Common.{◌≡◌, ℕ, ◌+◌, suc, Bool, true, false, cond, List, [], ◌∷◌, length, insert, refl, ap, arith}
+use Rattle.std.proofs.Common.{◌≡◌, ◌+◌, Bool, true, false, cond, List, [], ◌∷◌, length, insert, refl, ap, arith}
 use Rattle.std.specs.Cmp.{IsTotalOrder}
-use Rattle.std.specs.List.{list_all, list_any, prefix_len}
+use Rattle.std.specs.List.{list_all, list_any}
 use Rattle.std.specs.Ordering.{is_eq, is_lt}
 use Rattle.std.specs.declared.cmp.Ordering.{Ordering}
 use Rattle.std.proofs.lemmas.Bool.{and_from, and_parts, or_parts}
+use Rattle.cm_lists.proofs.Ascents.{is_lt_turned, place_by}
+use Rattle.cm_lists.proofs.Numbers.{one_add}
 use Rattle.cm_files.specs.Catalogue.{ascends}
 use Rattle.ex_store.specs.Insertion.{insertion}
-use Rattle.ex_store.proofs.AscendsLaws.{turned}
-
--- how many stand before its place
-abbrev pub place_by : {X : Type 0} → (X → X → Ordering) → X → List X → ℕ
-place_by compare new xs = prefix_len (λ other. is_lt (compare other new)) xs
-
-one-add : (n : ℕ) → 1 + n ≡ suc n
-one-add n = omega arith
 
 pub inserted_there : {X : Type 0} (compare : X → X → Ordering) (new : X) (xs : List X)
     → insert xs (place_by compare new xs) new ≡ insertion compare new xs
@@ -24,7 +18,7 @@ inserted_there compare new (other ∷ more) = by (is_lt (compare other new)) (in
     by : (below : Bool) → insert more (place_by compare new more) new ≡ insertion compare new more
         → insert (other ∷ more) (cond below (1 + place_by compare new more) 0) new
         ≡ cond below (other ∷ insertion compare new more) (new ∷ other ∷ more)
-    by true rest = rw (one-add (place_by compare new more)) (ap (λ others. other ∷ others) rest)
+    by true rest = rw (one_add (place_by compare new more)) (ap (λ others. other ∷ others) rest)
     by false rest = refl
 
 -- among others that differ from it
@@ -37,7 +31,7 @@ inserted_ascends compare total new (other ∷ []) ascend apart = by (is_lt (comp
     by : (below : Bool) → is_lt (compare other new) ≡ below
         → ascends compare (cond below (other ∷ new ∷ []) (new ∷ other ∷ [])) ≡ true
     by true is = and_from _ _ is refl
-    by false is = and_from _ _ (turned compare total other new is (or_parts _ _ apart).0) refl
+    by false is = and_from _ _ (is_lt_turned compare total other new is (or_parts _ _ apart).0) refl
 inserted_ascends compare total new (other ∷ next ∷ more) ascend apart =
     by (is_lt (compare other new)) (is_lt (compare next new)) refl
     (inserted_ascends compare total new (next ∷ more) (and_parts _ _ ascend).1 (or_parts _ _ apart).1)
@@ -47,7 +41,7 @@ inserted_ascends compare total new (other ∷ next ∷ more) ascend apart =
         → ascends compare (cond below (other ∷ cond under (next ∷ insertion compare new more) (new ∷ next ∷ more)) (new ∷ other ∷ next ∷ more)) ≡ true
     by true true is rest = and_from _ _ (and_parts _ _ ascend).0 rest
     by true false is rest = and_from _ _ is rest
-    by false under is rest = and_from _ _ (turned compare total other new is (or_parts _ _ apart).0) ascend
+    by false under is rest = and_from _ _ (is_lt_turned compare total other new is (or_parts _ _ apart).0) ascend
 
 pub inserted_all : {X : Type 0} (compare : X → X → Ordering) (test : X → Bool) (new : X) (xs : List X) → test new ≡ true
     → list_all test xs ≡ true → list_all test (insertion compare new xs) ≡ true

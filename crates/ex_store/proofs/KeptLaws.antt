@@ -5,7 +5,7 @@ use Rattle.std.proofs.lemmas.Bool.{and_parts, not-true}
 use Rattle.ex_generations.specs.Retention.{live}
 use Rattle.ex_store.specs.declared.key.Key.{Key}
 use Rattle.ex_store.specs.declared.row.Row.{Row}
-use Rattle.ex_store.specs.Rows.{files, files_of, is_of, kept_newest, older_marked, with_mark}
+use Rattle.ex_store.specs.Rows.{files_of, is_of, kept_newest, with_mark}
 
 -- none of these rows is of the key
 abbrev pub none_of : Key → List Row → Bool

@@ -1,17 +1,19 @@
 -- Logical names as the entries of a map, in upper case: what a text in any case finds there.
-use Rattle.std.proofs.Common.{◌≡◌, ℕ, zero, suc, ◌<◌, ◌≤◌, Bool, true, false, not, ◌&&◌, cond, List, [], ◌∷◌, ◌++◌, length, map, filter, find, slice_index, Option, Some, None, is_some, refl, ap, arith, sym, ◌∙◌}
+use Rattle.std.proofs.Common.{◌≡◌, ℕ, zero, suc, ◌<◌, ◌≤◌, Bool, true, false, not, ◌&&◌, cond, List, [], ◌∷◌, ◌++◌, length, map, filter, find, slice_index, Some, None, is_some, refl, ap, arith, sym, ◌∙◌}
 use Rattle.std.specs.Char.{is_ascii_lowercase, to_ascii_lowercase, to_ascii_uppercase}
 use Rattle.std.specs.Cmp as cmp
 use Rattle.std.specs.Cmp.Lexicographic.{nat_list_eq_equiv}
 use Rattle.std.specs.List.{list_all}
 use Rattle.std.specs.Map.{lookup, remove_entry}
-use Rattle.std.specs.Borrow.{Bor}
-use Rattle.std.specs.Option.{option_copied, option_map}
+use Rattle.std.specs.Option.{option_map}
 use Rattle.std.specs.Str.{IsAscii, bytes_eq}
 use Rattle.std.proofs.lemmas.Bool.{and_from, and_parts, leb-true}
 use Rattle.std.proofs.lemmas.Bool.Decides.{nat_tests}
 use Rattle.std.proofs.lemmas.List.{length-map, map-append}
 use Rattle.std.proofs.lemmas.Slice.Eq.{bytes_eq-Decides}
+use Rattle.cm_lists.proofs.Ascents.{all_above, is_sorted}
+use Rattle.cm_lists.proofs.Ascii.{lowercase-up, up, up-lowercase}
+use Rattle.cm_lists.proofs.Positions.{find_any}
 use Rattle.cm_text.specs.Bytes.{is_name, is_word}
 use Rattle.cm_text.specs.Case.{equals}
 use Rattle.cm_text.specs.declared.name.TheConstants.{NAME_LIMIT}
@@ -21,20 +23,11 @@ use Rattle.ex_store.specs.Defining.{by_definition, redirection, with_definition}
 use Rattle.ex_store.specs.Entries.{definition_entry, definitions_of, directory_for, is_kept, is_kept_name}
 use Rattle.ex_store.specs.Insertion.{insertion}
 use Rattle.ex_store.specs.State.{has_definition}
-use Rattle.ex_store.proofs.AscendsLaws.{all_above, ascends_map, is_sorted, sorted_ascends}
-use Rattle.ex_store.proofs.DefinedLaws.{lower_up, redirected_name, up}
-use Rattle.ex_store.proofs.ElementsLaws.{found_any}
+use Rattle.ex_store.proofs.AscendsLaws.{ascends_map, sorted_ascends}
+use Rattle.ex_store.proofs.DefinedLaws.{redirected_name}
 use Rattle.ex_store.proofs.EntriesLaws.{made_map}
 use Rattle.ex_store.proofs.InsertionLaws.{inserted_all}
 use Rattle.ex_store.proofs.SortedEntriesLaws.{added_is_new, apart_back, by_key, by_key_total, entries_with}
-
--- upper case of a lower case
-up_lower_byte : (byte : ℕ) → to_ascii_uppercase (to_ascii_lowercase byte) ≡ to_ascii_uppercase byte
-up_lower_byte byte = grind (arith, nat_tests)
-
-up_lower : (text : List ℕ) → up (map to_ascii_lowercase text) ≡ up text
-up_lower [] = refl
-up_lower (byte ∷ text) = rw (up_lower_byte byte, up_lower text) refl
 
 up_byte : (byte : ℕ) → (is_name byte && not (is_ascii_lowercase byte)) ≡ true → to_ascii_uppercase byte ≡ byte
 unfolding is_name is_word
@@ -53,10 +46,10 @@ unfolding equals
 upper_equals name text is =
     cmp.both_ways (bytes_eq (map to_ascii_lowercase name) (map to_ascii_lowercase text)) (bytes_eq name (up text))
     (λ same. (bytes_eq-Decides name (up text)).1
-    (sym (up_itself name is) ∙ sym (up_lower name)
-    ∙ (ap up ((bytes_eq-Decides (map to_ascii_lowercase name) (map to_ascii_lowercase text)).0 same) ∙ up_lower text)))
+    (sym (up_itself name is) ∙ sym (up-lowercase name)
+    ∙ (ap up ((bytes_eq-Decides (map to_ascii_lowercase name) (map to_ascii_lowercase text)).0 same) ∙ up-lowercase text)))
     (λ same. (bytes_eq-Decides (map to_ascii_lowercase name) (map to_ascii_lowercase text)).1
-    (ap (map to_ascii_lowercase) ((bytes_eq-Decides name (up text)).0 same) ∙ lower_up text))
+    (ap (map to_ascii_lowercase) ((bytes_eq-Decides name (up text)).0 same) ∙ lowercase-up text))
 
 -- no text that is too long, or no ASCII, is equal to a name that is kept
 lower_ascii : (byte other : ℕ) → is_name byte ≡ true → to_ascii_lowercase byte ≡ to_ascii_lowercase other → other < 128
@@ -130,12 +123,8 @@ find_entry text (entry ∷ entries) kept =
     by true rest = refl
     by false rest = rest
 
-pub copied_some : {T : Type 0} (told : Option (Bor T)) → is_some told ≡ is_some (option_copied told)
-copied_some None = refl
-copied_some (Some x) = refl
-
 pub has_found : (text : List ℕ) (logical : List Definition) → is_some (directory_for text logical) ≡ has_definition text logical
-has_found text logical = found_any (λ (entry : Definition). entry.directory) (λ entry. equals entry.name text) logical
+has_found text logical = find_any (λ (entry : Definition). entry.directory) (λ entry. equals entry.name text) logical
 
 -- what is added at the end
 pub definitions_ascend : (entries : List (List ℕ × List ℕ)) → ascends by_definition (definitions_of entries) ≡ true

@@ -3,20 +3,19 @@ use Rattle.std.proofs.Common.{◌≡◌, ◌&&◌, Bool, true, false, cond, List
 use Rattle.std.specs.List.{list_all, list_any}
 use Rattle.std.specs.Ordering.{is_eq, is_lt}
 use Rattle.std.proofs.lemmas.Bool.{and_from, and_parts}
+use Rattle.cm_lists.proofs.Ascents.{all_above, is_sorted}
+use Rattle.cm_lists.proofs.Bools.{second_of_no_and}
+use Rattle.cm_lists.proofs.Orders.{is_lt-true}
 use Rattle.cm_files.specs.Catalogue.{ascends}
 use Rattle.ex_generations.specs.Generations.{has, is_generation}
 use Rattle.ex_store.specs.declared.row.Row.{Row}
 use Rattle.ex_store.specs.Rows.{added, by_row, files_of, full_of, inserted, is_full, is_of}
-use Rattle.ex_store.proofs.AscendsLaws.{all_above, is_less, is_sorted, sorted_ascends}
+use Rattle.ex_store.proofs.AscendsLaws.{sorted_ascends}
 use Rattle.ex_store.proofs.AreRowsLaws.{by_row_total, full_parts}
 
 -- a row behind all others is added there
 none_full : (row other : Row) → is_lt (by_row other row) ≡ true → is_full (full_of row) other ≡ false
-none_full row other less = ap is_eq (is_less (by_row other row) less)
-
-alone : (of own : Bool) → (of && own) ≡ false → of ≡ true → own ≡ false
-alone true own none is = none
-alone false own none is = absurd (cc)
+none_full row other less = ap is_eq (is_lt-true (by_row other row) less)
 
 none_below_row : (row : Row) (rows : List Row) → list_all (λ other. is_lt (by_row other row)) rows ≡ true
     → has row.file.generation (files_of row.key rows) ≡ false
@@ -29,7 +28,7 @@ none_below_row row (other ∷ rows) below =
     by : (b : Bool) → is_of row.key other ≡ b → (is_of row.key other && is_generation row.file.generation other.file) ≡ false
         → has row.file.generation (files_of row.key rows) ≡ false
         → list_any (is_generation row.file.generation) (map (λ (each : Row). each.file) (cond b (other ∷ filter (is_of row.key) rows) (filter (is_of row.key) rows))) ≡ false
-    by true is none rest = rw (alone (is_of row.key other) (is_generation row.file.generation other.file) none is) rest
+    by true is none rest = rw (second_of_no_and (is_of row.key other) (is_generation row.file.generation other.file) none is) rest
     by false is none rest = rest
 
 inserted_last : (row : Row) (rows : List Row) → list_all (λ other. is_lt (by_row other row)) rows ≡ true

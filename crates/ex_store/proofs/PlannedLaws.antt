@@ -15,11 +15,11 @@ use Rattle.ex_store.specs.Adding.{Outcome}
 use Rattle.ex_store.specs.Plan.{IsRefused, sources, with_rows}
 use Rattle.ex_store.specs.Positions.{elements_at, positions_from}
 use Rattle.ex_store.specs.Ready.{Change, IsMade, applied, are_doable, done_on, of_files, outcome_of, rows_after_all, rows_read}
-use Rattle.ex_store.specs.Selection.{is_meant}
+use Rattle.ex_store.specs.Selection.{is_selected_by}
 use Rattle.ex_store.specs.State.{State}
 use Rattle.ex_store.specs.WellFormed.{AreRows, IsWellFormed}
 use Rattle.ex_store.proofs.PositionsLaws.{elements_filter}
-use Rattle.ex_store.proofs.RemarkedLaws.{well_formed_with_rows}
+use Rattle.ex_store.proofs.RemarkLaws.{well_formed_with_rows}
 
 -- the directories, sources and rows that a plan is made of are those of the state
 pub record IsOver (state : State) (from : Place) (directories : List Directory) (taken rows : List Row) : Type 0 where
@@ -30,11 +30,11 @@ pub record IsOver (state : State) (from : Place) (directories : List Directory) 
 -- the sources are taken by the places that the code walks
 pub is_over : (state : State) (from : Place) (directories : List Directory) (rows : List Row) (given positions : List ℕ)
     → directories ≡ state.directories → rows ≡ state.rows → given ≡ positions
-    → positions ≡ positions_from (is_meant from.flags.deleted from state) 0 state.rows
+    → positions ≡ positions_from (is_selected_by from.flags.deleted from state) 0 state.rows
     → IsOver state from directories (elements_at rows given) rows
 is_over state from directories rows given positions same_directories same_rows told found = record {
   directories_are = same_directories;
-  sources_are = rw (same_rows, told, found) (elements_filter (is_meant from.flags.deleted from state) state.rows);
+  sources_are = rw (same_rows, told, found) (elements_filter (is_selected_by from.flags.deleted from state) state.rows);
   rows_are = same_rows;
 }
 

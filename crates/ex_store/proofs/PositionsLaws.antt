@@ -1,9 +1,11 @@
 -- The sources that a plan takes one after the other, by their places among the rows.
 use Rattle.std.proofs.Common.{◌≡◌, ℕ, ◌+◌, ◌<◌, nat_lt, Bool, true, false, cond, List, [], ◌∷◌, ◌++◌, drop, filter, get_or, slice_get, length, length-append, append_assoc, Some, refl, ap, ◌∙◌, sym}
 use Rattle.std.specs.List.{list_all}
+use Rattle.cm_lists.proofs.Elements.{slice_get_at, slice_get_some}
+use Rattle.cm_lists.proofs.Quantifiers.{all_below}
 use Rattle.ex_store.specs.declared.row.Row.{Row}
 use Rattle.ex_store.specs.Positions.{elements_at, positions_from}
-use Rattle.ex_store.proofs.ElementsLaws.{elements_more, get_some, place_within}
+use Rattle.ex_store.proofs.ElementsLaws.{elements_more}
 
 -- the source that a walk over places comes to
 pub record IsSource (rows : List Row) (positions : List ℕ) (i : ℕ) (row : Row) : Type 0 where
@@ -14,17 +16,12 @@ pub source_at : (rows : List Row) (positions : List ℕ) (i at : ℕ) (row : Row
     → i < length positions → at ≡ get_or positions i 0 → row ≡ get_or rows at row
     → IsSource rows positions i row
 source_at rows positions i at row all within is_at is_row =
-    let inside = place_within positions (length rows) i at all within is_at in
+    let inside = all_below positions (length rows) i at all within is_at in
     record {
-      there = (at, get_some rows at row inside is_row);
+      there = (at, slice_get_some rows at row inside is_row);
       more = elements_more rows positions i at row within is_at inside
           ∙ ap (λ (first : Row). first ∷ elements_at rows (drop (i + 1) positions)) (sym is_row);
     }
-
--- the element behind a front
-at_length : {X : Type 0} (x : X) (xs front : List X) → slice_get (front ++ x ∷ xs) (length front) ≡ Some x
-at_length x xs [] = refl
-at_length x xs (first ∷ front) = at_length x xs front
 
 -- the elements at the places of those that pass are those that pass
 elements_behind : {X : Type 0} (test : X → Bool) (front : List X) (xs : List X)
@@ -40,7 +37,7 @@ elements_behind test front (x ∷ xs) =
     longer = length-append front (x ∷ [])
 
     here : slice_get (front ++ x ∷ xs) (length front) ≡ Some x
-    here = at_length x xs front
+    here = slice_get_at x xs front
 
     by : (b : Bool) → elements_at (front ++ x ∷ xs) (positions_from test (length front + 1) xs) ≡ filter test xs
         → elements_at (front ++ x ∷ xs) (cond b (length front ∷ positions_from test (length front + 1) xs) (positions_from test (length front + 1) xs))

@@ -4,6 +4,7 @@ use Rattle.std.specs.List.{list_all}
 use Rattle.std.proofs.lemmas.Bool.{and_from, and_parts, le-leb, lt-ltb, ltb-false}
 use Rattle.std.proofs.lemmas.List.{length-map}
 use Rattle.std.proofs.lemmas.List.Folds.{list_all-append}
+use Rattle.cm_lists.proofs.Quantifiers.{all_filter}
 use Rattle.cm_text.specs.Bytes.{is_text}
 use Rattle.cm_text.specs.declared.name.TheConstants.{NAME_LIMIT}
 use Rattle.cm_fields.specs.declared.code.Code.{Code}
@@ -21,14 +22,13 @@ use Rattle.ex_store.specs.Positions.{elements_at, positions_from}
 use Rattle.ex_store.specs.Printing.{entries_for, entry_for, limit_check, own_pairs}
 use Rattle.ex_store.specs.Ready.{Change, applied, done_on, of_entries}
 use Rattle.ex_store.specs.Rows.{full_of}
-use Rattle.ex_store.specs.Selection.{is_meant}
+use Rattle.ex_store.specs.Selection.{is_selected_by}
 use Rattle.ex_store.specs.State.{State}
 use Rattle.ex_store.specs.WellFormed.{IsWellFormed, is_entry_among, is_file_name, is_row_among}
 use Rattle.ex_store.proofs.AdmittedLaws.{and_then_ok, ok_same}
-use Rattle.ex_store.proofs.AscendsLaws.{all_filter}
 use Rattle.ex_store.proofs.ElementsLaws.{length_elements}
 use Rattle.ex_store.proofs.PositionsLaws.{elements_filter}
-use Rattle.ex_store.proofs.RemarkedLaws.{length-positions_from}
+use Rattle.ex_store.proofs.RemarkLaws.{length-positions_from}
 
 -- one more of some files in a walk
 pub made_more : {X : Type 0} (make : Row → X) (row : Row) (files rest : List Row) (made : X) (before after whole : List X)
@@ -119,10 +119,10 @@ pub well_formed_printed : (state : State) (files : Place) (request : Request) (e
     → IsWellFormed (record state { queue = state.queue ++ entries })
 well_formed_printed state files request entries well asked is =
     let parts = queued_parts request (sources files state) state.queue entries is in
-    let meant = all_filter (is_row_among state.directories) (is_meant files.flags.deleted files state) state.rows well.draft.rows.within in
+    let selected = all_filter (is_row_among state.directories) (is_selected_by files.flags.deleted files state) state.rows well.draft.rows.within in
     let all : list_all (is_entry_among state.directories) entries ≡ true =
     subst (λ each. list_all (is_entry_among state.directories) each ≡ true) parts.is
-    (entries_within state.directories request (sources files state) asked meant) in
+    (entries_within state.directories request (sources files state) asked selected) in
     let count : length entries ≡ length (sources files state) =
     ap length (sym parts.is) ∙ length-map (sources files state) (entry_for request) in
     let room = parts.room in
@@ -133,17 +133,17 @@ well_formed_printed state files request entries well asked is =
 
 -- there are as many places as files
 pub count_is : (state : State) (files : Place) (positions : List ℕ) (count : ℕ) → count ≡ length positions
-    → positions ≡ positions_from (is_meant files.flags.deleted files state) 0 state.rows
+    → positions ≡ positions_from (is_selected_by files.flags.deleted files state) 0 state.rows
     → count ≡ length (sources files state)
 count_is state files positions count counted found =
-    counted ∙ ap length found ∙ length-positions_from (is_meant files.flags.deleted files state) 0 state.rows
+    counted ∙ ap length found ∙ length-positions_from (is_selected_by files.flags.deleted files state) 0 state.rows
 
 -- the files are found by the places that the code walks
 pub files_are : (state : State) (files : Place) (rows : List Row) (given positions : List ℕ) → rows ≡ state.rows → given ≡ positions
-    → positions ≡ positions_from (is_meant files.flags.deleted files state) 0 state.rows
+    → positions ≡ positions_from (is_selected_by files.flags.deleted files state) 0 state.rows
     → elements_at rows given ≡ sources files state
 files_are state files rows given positions same told found =
-    rw (same, told, found) (elements_filter (is_meant files.flags.deleted files state) state.rows)
+    rw (same, told, found) (elements_filter (is_selected_by files.flags.deleted files state) state.rows)
 
 -- whether there is room for one entry more for each file
 pub asked_is : (state : State) (files : Place) (rows : List Row) (queue count : ℕ) (answer plan : Result (Unit {0}) Code)

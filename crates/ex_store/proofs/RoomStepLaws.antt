@@ -9,10 +9,10 @@ use Rattle.ex_store.specs.declared.key.Key.{Key}
 use Rattle.ex_store.specs.declared.ready.RowChange.{RowChange}
 use Rattle.ex_store.specs.declared.ready.RowChange.TheVariants as changes
 use Rattle.ex_store.specs.declared.row.Row.{Row}
-use Rattle.ex_store.specs.FileNames.{room_at}
+use Rattle.ex_store.specs.Families.{room_at}
 use Rattle.ex_store.specs.Ready.{count_under, puts_under, reinserted, rows_after, rows_after_all}
 use Rattle.ex_store.specs.Rows.{added, by_key, by_row, filled, files_of, inserted, is_full, is_of, kept_newest, row_at, with_mark, with_name, without}
-use Rattle.ex_store.specs.State.{NameRoom}
+use Rattle.ex_store.specs.State.{FamilyRoom}
 use Rattle.ex_store.proofs.DoableLaws.{split_at}
 
 -- how many files there are under a key
@@ -99,30 +99,30 @@ size_after key rows (changes.Move pair) =
 size_after key rows (changes.Fill target moment bytes) = omega (arith, size_filled target moment bytes key rows)
 
 -- there is room under each key for what some changes put there
-abbrev pub RoomFor : List NameRoom → List Row → List RowChange → Type 0
+abbrev pub RoomFor : List FamilyRoom → List Row → List RowChange → Type 0
 RoomFor rooms rows changes = (key : Key) → 0 < count_under key changes → length (files_of key rows) + count_under key changes ≤ room_at key rooms
 
-pub room_after : (rooms : List NameRoom) (rows : List Row) (change : RowChange) (more : List RowChange)
+pub room_after : (rooms : List FamilyRoom) (rows : List Row) (change : RowChange) (more : List RowChange)
     → RoomFor rooms rows (change ∷ more) → RoomFor rooms (rows_after rows change) more
 room_after rooms rows change more room key some =
     let step = size_after key rows change in
     let counted = count_more key change more in
     omega (arith, step, some, counted, room key (omega (arith, some, counted)))
 
-pub room_now : (rooms : List NameRoom) (rows : List Row) (change : RowChange) (more : List RowChange) (key : Key)
+pub room_now : (rooms : List FamilyRoom) (rows : List Row) (change : RowChange) (more : List RowChange) (key : Key)
     → RoomFor rooms rows (change ∷ more) → puts_under key change ≡ true → length (files_of key rows) < room_at key rooms
 room_now rooms rows change more key room puts =
     let first : count_under key (change ∷ more) ≡ 1 + count_under key more =
     count_more key change more ∙ ap (λ (b : Bool). cond b 1 0 + count_under key more) puts in
     omega (arith, first, room key (omega (arith, first)))
 
-room_behind : (rooms : List NameRoom) (rows : List Row) (done more : List RowChange)
+room_behind : (rooms : List FamilyRoom) (rows : List Row) (done more : List RowChange)
     → RoomFor rooms rows (done ++ more) → RoomFor rooms (rows_after_all rows done) more
 room_behind rooms rows [] more room = room
 room_behind rooms rows (first ∷ done) more room =
     room_behind rooms (rows_after rows first) done more (room_after rooms rows first (done ++ more) room)
 
-pub room_turn : (rooms : List NameRoom) (rows : List Row) (items done : List RowChange) (change : RowChange)
+pub room_turn : (rooms : List FamilyRoom) (rows : List Row) (items done : List RowChange) (change : RowChange)
     → RoomFor rooms rows items
     → map (λ (each : RowChange). each) done ≡ take (length done) items → length done < length items
     → change ≡ get_or items (length done) change

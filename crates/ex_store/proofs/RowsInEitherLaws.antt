@@ -1,22 +1,24 @@
 -- Of the rows of two directories, those of one are found, added and taken out as among all rows.
-use Rattle.std.proofs.Common.{◌≡◌, ℕ, ◌==◌, ◌&&◌, ◌||◌, nat_le, Bool, true, false, not, cond, List, [], ◌∷◌, filter, find, map, Option, Some, None, refl, ap, ◌∙◌}
+use Rattle.std.proofs.Common.{◌≡◌, ℕ, ◌==◌, ◌&&◌, ◌||◌, nat_le, Bool, true, false, not, cond, List, [], ◌∷◌, filter, map, Option, Some, None, refl, ap, ◌∙◌}
 use Rattle.std.specs.Cmp.{Equal-is}
 use Rattle.std.specs.List.{list_all}
-use Rattle.std.specs.Ordering.{is_eq, is_lt, nat_cmp, ordering_then}
-use Rattle.std.specs.declared.cmp.Ordering.{Ordering}
-use Rattle.std.specs.declared.cmp.Ordering.TheVariants.{Less, Equal, Greater}
+use Rattle.std.specs.Ordering.{is_eq, is_lt, nat_cmp}
 use Rattle.std.proofs.lemmas.Bool.{and_from, and_parts, or_left, or_right}
 use Rattle.std.proofs.lemmas.Map.Lookups.{exact_bytes}
+use Rattle.cm_lists.proofs.Ascents.{all_above, is_sorted}
+use Rattle.cm_lists.proofs.Filters.{filter_within, find_within}
+use Rattle.cm_lists.proofs.Orders.{is_eq_then_first, is_lt-true, is_lt_from_less}
+use Rattle.cm_lists.proofs.Quantifiers.{all_filter}
 use Rattle.cm_files.specs.Catalogue.{ascends, by_bytes}
+use Rattle.cm_files.proofs.RowOrder.{text_itself}
 use Rattle.ex_generations.specs.Retention.{live}
 use Rattle.ex_store.specs.declared.key.FullName.{FullName}
 use Rattle.ex_store.specs.declared.key.Key.{Key}
 use Rattle.ex_store.specs.declared.row.Row.{Row}
 use Rattle.ex_store.specs.Ready.{reinserted}
 use Rattle.ex_store.specs.Rows.{added, by_key, by_row, files_of, inserted, is_full, is_in_either, is_of, kept_newest, row_at, rows_in_either, with_mark, with_name, without}
-use Rattle.ex_store.proofs.AscendsLaws.{all_above, all_filter, is_less, is_sorted, less_is, sorted_ascends}
+use Rattle.ex_store.proofs.AscendsLaws.{sorted_ascends}
 use Rattle.ex_store.proofs.AreRowsLaws.{by_row_total}
-use Rattle.ex_store.proofs.CatalogueLaws.{text_itself}
 
 -- a directory is one of two
 abbrev pub is_either : List ℕ → List ℕ → List ℕ → Bool
@@ -30,11 +32,6 @@ either_target from to = or_right (is_eq (by_bytes to from)) (is_eq (by_bytes to 
 pub either_source : (from to name : List ℕ) → is_eq (by_bytes name from) ≡ true → is_either from to name ≡ true
 either_source from to name is = or_left (is_eq (by_bytes name from)) (is_eq (by_bytes name to)) is
 
-first_equal : (o p : Ordering) → is_eq (ordering_then o p) ≡ true → o ≡ Equal
-first_equal Less p is = absurd (cc)
-first_equal Equal p is = refl
-first_equal Greater p is = absurd (cc)
-
 -- what all rows of a name and type pass, marked or not
 record Covers (keep : Row → Bool) (key : Key) : Type 0 where
   pub own : (row : Row) → is_of key row ≡ true → keep row ≡ true
@@ -42,7 +39,7 @@ record Covers (keep : Row → Bool) (key : Key) : Type 0 where
 
 covers : (from to : List ℕ) (key : Key) → is_either from to key.directory ≡ true → Covers (is_in_either from to) key
 covers from to key here = record {
-  own = λ row is. ap (is_either from to) (exact_bytes row.key.directory key.directory (first_equal (by_bytes row.key.directory key.directory) _ is)) ∙ here;
+  own = λ row is. ap (is_either from to) (exact_bytes row.key.directory key.directory (is_eq_then_first (by_bytes row.key.directory key.directory) _ is)) ∙ here;
   mark = λ row. refl;
 }
 
@@ -50,32 +47,7 @@ covers from to key here = record {
 full_own : (full : FullName) (row : Row) → is_full full row ≡ true → is_of full.key row ≡ true
 full_own full row is =
     (Equal-is (by_key row.key full.key)).1
-    (first_equal (by_key row.key full.key) (nat_cmp row.file.generation full.generation) is)
-
--- elements that pass one test are found among those that pass another
-filter_within : {X : Type 0} (test keep : X → Bool) → ((x : X) → test x ≡ true → keep x ≡ true) → (xs : List X)
-    → filter test (filter keep xs) ≡ filter test xs
-filter_within test keep within [] = refl
-filter_within {X} test keep within (x ∷ xs) = by (test x) (keep x) refl (within x) (filter_within test keep within xs)
-  where
-    by : (passes kept : Bool) → test x ≡ passes → (test x ≡ true → kept ≡ true) → filter test (filter keep xs) ≡ filter test xs
-        → filter test (cond kept (x ∷ filter keep xs) (filter keep xs)) ≡ cond passes (x ∷ filter test xs) (filter test xs)
-    by true true is here rest = rw is (ap (λ more. x ∷ more) rest)
-    by true false is here rest = let never : false ≡ true = here is in absurd (cc)
-    by false true is here rest = rw is rest
-    by false false is here rest = rest
-
-find_within : {X : Type 0} (test keep : X → Bool) → ((x : X) → test x ≡ true → keep x ≡ true) → (xs : List X)
-    → find test (filter keep xs) ≡ find test xs
-find_within test keep within [] = refl
-find_within {X} test keep within (x ∷ xs) = by (test x) (keep x) refl (within x) (find_within test keep within xs)
-  where
-    by : (passes kept : Bool) → test x ≡ passes → (test x ≡ true → kept ≡ true) → find test (filter keep xs) ≡ find test xs
-        → find test (cond kept (x ∷ filter keep xs) (filter keep xs)) ≡ cond passes (Some x) (find test xs)
-    by true true is here rest = rw is refl
-    by true false is here rest = let never : false ≡ true = here is in absurd (cc)
-    by false true is here rest = rw is rest
-    by false false is here rest = rest
+    (is_eq_then_first (by_key row.key full.key) (nat_cmp row.file.generation full.generation) is)
 
 files_filter : (keep : Row → Bool) (key : Key) (rows : List Row) → Covers keep key → files_of key (filter keep rows) ≡ files_of key rows
 files_filter keep key rows all = ap (map (λ (row : Row). row.file)) (filter_within (is_of key) keep all.own rows)
@@ -114,7 +86,7 @@ none_below row other (each ∷ rows) not_below above =
     by : (b : Bool) → is_lt (by_row each row) ≡ b → is_lt (by_row other each) ≡ true → not b ≡ true
     by true below behind =
         let chain : is_lt (by_row other row) ≡ true =
-        less_is _ (by_row_total.trans other each row (is_less _ behind) (is_less _ below)) in
+        is_lt_from_less _ (by_row_total.trans other each row (is_lt-true _ behind) (is_lt-true _ below)) in
         absurd (cc)
     by false below behind = refl
 

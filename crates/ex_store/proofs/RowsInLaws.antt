@@ -1,19 +1,24 @@
 -- The rows of one directory stand together.
-use Rattle.std.proofs.Common.{◌≡◌, ℕ, zero, suc, ◌+◌, ◌<◌, ◌≤◌, Bool, true, false, not, ◌&&◌, ◌||◌, ◌==◌, cond, List, [], ◌∷◌, ◌++◌, length, map, filter, get_or, slice_get, Some, None, Option, option_map, refl, ap, arith, ◌∙◌, sym, subst}
-use Rattle.std.specs.List.{list_all, prefix_len}
-use Rattle.std.specs.Ordering.{is_eq, is_gt, is_le, is_lt, nat_cmp, ordering_reverse, ordering_then}
+use Rattle.std.proofs.Common.{◌≡◌, ℕ, zero, suc, ◌+◌, ◌<◌, ◌≤◌, Bool, true, false, not, ◌||◌, ◌==◌, cond, List, [], ◌∷◌, ◌++◌, length, map, slice_get, Some, None, Option, option_map, refl, ap, arith, ◌∙◌, sym, subst}
+use Rattle.std.specs.List.{list_all}
+use Rattle.std.specs.Ordering.{is_eq, is_gt, is_lt, nat_cmp, ordering_reverse}
 use Rattle.std.specs.declared.cmp.Ordering.{Ordering}
 use Rattle.std.specs.declared.cmp.Ordering.TheVariants.{Less, Equal, Greater}
 use Rattle.std.proofs.lemmas.Bool.{and_from, and_parts, eqb-true}
-use Rattle.std.proofs.lemmas.Bool.Decides.{nat_tests}
 use Rattle.std.proofs.lemmas.Cmp.{nat_list_cmp_total}
-use Rattle.std.proofs.lemmas.List.{append-nil, length-append, length-map}
-use Rattle.std.proofs.lemmas.List.Sums.{prefix_len_is}
+use Rattle.std.proofs.lemmas.List.{append-nil, length-map}
 use Rattle.std.proofs.lemmas.Option.{slice_get-map}
 use Rattle.std.proofs.lemmas.Slice.Eq.{bytes_eq-Decides}
 use Rattle.std.proofs.lemmas.Map.Lookups.{exact_bytes}
+use Rattle.cm_lists.proofs.Ascents.{all_above, is_sorted}
+use Rattle.cm_lists.proofs.Filters.{filter-map, filter_same}
+use Rattle.cm_lists.proofs.Numbers.{eq-nat_cmp}
+use Rattle.cm_lists.proofs.Orders.{is_lt-true, then_not_gt}
+use Rattle.cm_lists.proofs.Places.{Parts, block_at, block_within, follows_itself, may_follow, parts_of, rises}
+use Rattle.cm_lists.proofs.Quantifiers.{all_at, all_kept}
 use Rattle.cm_files.specs.declared.row.FileRow.{FileRow}
 use Rattle.cm_files.specs.Catalogue.{ascends, by_bytes, rows_of}
+use Rattle.cm_files.proofs.RowOrder.{text_itself}
 use Rattle.ex_store.specs.declared.directory.Directory.{Directory}
 use Rattle.ex_store.specs.declared.row.Row.{Row}
 use Rattle.ex_store.specs.Positions.{positions_from}
@@ -21,169 +26,12 @@ use Rattle.ex_store.specs.Building.{by_directory}
 use Rattle.ex_store.specs.Rows.{by_row, end_in, first_in, is_in, rows_in}
 use Rattle.ex_store.specs.State.{State, catalogue_of, file_row, has_directory, is_named, number_of, rows_numbered}
 use Rattle.ex_store.specs.WellFormed.{IsWellFormed, is_row_among}
-use Rattle.ex_store.proofs.AscendsLaws.{all_above, is_less, is_sorted, sorted_ascends}
-use Rattle.ex_store.proofs.ElementsLaws.{all_at}
+use Rattle.ex_store.proofs.AscendsLaws.{sorted_ascends}
 use Rattle.ex_store.proofs.BuiltLaws.{by_directory_total}
-use Rattle.ex_store.proofs.CatalogueLaws.{below_name, directory_there, named, number_order, text_itself}
+use Rattle.ex_store.proofs.CatalogueLaws.{below_name, directory_there, named, number_order}
 use Rattle.ex_store.proofs.AreRowsLaws.{by_row_total}
 
--- what may stand behind an element of this place
-abbrev pub may_follow : Ordering → Ordering → Bool
-may_follow Less behind = true
-may_follow Equal behind = not (is_lt behind)
-may_follow Greater behind = is_gt behind
-
--- places that never fall
-abbrev pub rises : {X : Type 0} → (X → Ordering) → List X → Bool
-rises place [] = true
-rises place (x ∷ xs) = list_all (λ y. may_follow (place x) (place y)) xs && rises place xs
-
--- a list in three parts, where what passes a test is the middle one
-pub record Parts {X : Type 0} (test : X → Bool) (xs middle : List X) (first behind : ℕ) : Type 0 where
-  pub lower : List X
-  pub upper : List X
-  pub whole : xs ≡ lower ++ (middle ++ upper)
-  pub starts : first ≡ length lower
-  pub ends : behind ≡ length lower + length middle
-  pub below : list_all (λ x. not (test x)) lower ≡ true
-  pub above : list_all (λ x. not (test x)) upper ≡ true
-
-none_below : {X : Type 0} (place : X → Ordering) (xs : List X) → list_all (λ y. not (is_lt (place y))) xs ≡ true
-    → prefix_len (λ x. is_lt (place x)) xs ≡ 0
-none_below place [] all = refl
-none_below place (x ∷ xs) all = by (place x) (and_parts _ _ all).0
-  where
-    by : (o : Ordering) → not (is_lt o) ≡ true → cond (is_lt o) (1 + prefix_len (λ x. is_lt (place x)) xs) 0 ≡ 0
-    by Less is = absurd (cc)
-    by Equal is = refl
-    by Greater is = refl
-
-none_at : {X : Type 0} (place : X → Ordering) (xs : List X) → list_all (λ y. is_gt (place y)) xs ≡ true
-    → (filter (λ x. is_eq (place x)) xs ≡ []) × (list_all (λ x. not (is_eq (place x))) xs ≡ true)
-none_at place [] all = (refl, refl)
-none_at {X} place (x ∷ xs) all = by (place x) (and_parts _ _ all).0 (none_at place xs (and_parts _ _ all).1)
-  where
-    by : (o : Ordering) → is_gt o ≡ true
-        → (filter (λ x. is_eq (place x)) xs ≡ []) × (list_all (λ x. not (is_eq (place x))) xs ≡ true)
-        → (cond (is_eq o) (x ∷ filter (λ x. is_eq (place x)) xs) (filter (λ x. is_eq (place x)) xs) ≡ [])
-        × ((not (is_eq o) && list_all (λ x. not (is_eq (place x))) xs) ≡ true)
-    by Less is rest = absurd (cc)
-    by Equal is rest = absurd (cc)
-    by Greater is rest = rest
-
-no_length : {X : Type 0} (xs : List X) → length xs ≡ 0 → xs ≡ []
-no_length [] is = refl
-no_length (x ∷ xs) is = absurd (omega arith)
-
-abbrev parts_at : {X : Type 0} → (X → Ordering) → List X → Type 0
-parts_at place xs =
-    Parts (λ x. is_eq (place x)) xs (filter (λ x. is_eq (place x)) xs) (prefix_len (λ x. is_lt (place x)) xs)
-    (prefix_len (λ x. is_le (place x)) xs)
-
-pub parts_of : {X : Type 0} (place : X → Ordering) (xs : List X) → rises place xs ≡ true
-    → Parts (λ x. is_eq (place x)) xs (filter (λ x. is_eq (place x)) xs) (prefix_len (λ x. is_lt (place x)) xs)
-    (prefix_len (λ x. is_le (place x)) xs)
-parts_of place [] rise =
-    record { lower = []; upper = []; whole = refl; starts = refl; ends = refl; below = refl; above = refl }
-parts_of {X} place (x ∷ xs) rise = by (place x) refl (and_parts _ _ rise).0 (parts_of place xs (and_parts _ _ rise).1)
-  where
-    by : (o : Ordering) → place x ≡ o → list_all (λ y. may_follow o (place y)) xs ≡ true → parts_at place xs
-        → Parts (λ y. is_eq (place y)) (x ∷ xs)
-        (cond (is_eq o) (x ∷ filter (λ y. is_eq (place y)) xs) (filter (λ y. is_eq (place y)) xs))
-        (cond (is_lt o) (1 + prefix_len (λ y. is_lt (place y)) xs) 0)
-        (cond (is_le o) (1 + prefix_len (λ y. is_le (place y)) xs) 0)
-    by Less is follow rest =
-        let starts = rest.starts in
-        let ends = rest.ends in
-        let here : not (is_eq (place x)) ≡ true = ap (λ (o : Ordering). not (is_eq o)) is in
-        record {
-          lower = x ∷ rest.lower;
-          upper = rest.upper;
-          whole = ap (λ more. x ∷ more) rest.whole;
-          starts = omega arith;
-          ends = omega arith;
-          below = and_from _ _ here rest.below;
-          above = rest.above;
-        }
-    by Equal is follow rest =
-        let none = none_below place xs follow in
-        let starts = rest.starts in
-        let size : length rest.lower ≡ 0 = omega arith in
-        let empty = no_length rest.lower size in
-        let ends = rest.ends in
-        record {
-          lower = [];
-          upper = rest.upper;
-          whole = ap (λ more. x ∷ more) (rest.whole ∙ ap (λ front. front ++ (filter (λ y. is_eq (place y)) xs ++ rest.upper)) empty);
-          starts = refl;
-          ends = omega arith;
-          below = refl;
-          above = rest.above;
-        }
-    by Greater is follow rest =
-        let none = none_at place xs follow in
-        let here : not (is_eq (place x)) ≡ true = ap (λ (o : Ordering). not (is_eq o)) is in
-        let empty : filter (λ y. is_eq (place y)) xs ≡ [] = none.0 in
-        let size : length (filter (λ y. is_eq (place y)) xs) ≡ 0 = ap length empty in
-        record {
-          lower = [];
-          upper = x ∷ xs;
-          whole = sym (ap (λ front. front ++ (x ∷ xs)) empty);
-          starts = refl;
-          ends = omega arith;
-          below = refl;
-          above = and_from _ _ here none.1;
-        }
-
--- what passes a test that falls with the places stands before what does not
-follows_part : (test : Ordering → Bool) → ((a b : Ordering) → may_follow a b ≡ true → test b ≡ true → test a ≡ true)
-    → {X : Type 0} (place : X → Ordering) (x d : X) (xs : List X) (j : ℕ) → j < length xs
-    → list_all (λ y. may_follow (place x) (place y)) xs ≡ true → test (place (get_or xs j d)) ≡ true → test (place x) ≡ true
-follows_part test falls place x d [] j within follow passes = absurd (omega arith)
-follows_part test falls place x d (y ∷ xs) zero within follow passes =
-    falls (place x) (place y) (and_parts _ _ follow).0 passes
-follows_part test falls place x d (y ∷ xs) (suc j) within follow passes =
-    follows_part test falls place x d xs j (omega arith) (and_parts _ _ follow).1 passes
-
-pub parted : (test : Ordering → Bool) → ((a b : Ordering) → may_follow a b ≡ true → test b ≡ true → test a ≡ true)
-    → {X : Type 0} (place : X → Ordering) (xs : List X) → rises place xs ≡ true → (i j : ℕ) (d : X) → i ≤ j → j < length xs
-    → test (place (get_or xs j d)) ≡ true → test (place (get_or xs i d)) ≡ true
-parted test falls place [] rise i j d low within passes = absurd (omega arith)
-parted test falls place (x ∷ xs) rise zero zero d low within passes = passes
-parted test falls place (x ∷ xs) rise zero (suc j) d low within passes =
-    follows_part test falls place x d xs j (omega arith) (and_parts _ _ rise).0 passes
-parted test falls place (x ∷ xs) rise (suc i) zero d low within passes = absurd (omega arith)
-parted test falls place (x ∷ xs) rise (suc i) (suc j) d low within passes =
-    parted test falls place xs (and_parts _ _ rise).1 i j d (omega arith) (omega arith) passes
-
-pub lower_falls : (a b : Ordering) → may_follow a b ≡ true → is_lt b ≡ true → is_lt a ≡ true
-lower_falls Less b follow is = refl
-lower_falls Equal Less follow is = absurd (cc)
-lower_falls Equal Equal follow is = absurd (cc)
-lower_falls Equal Greater follow is = absurd (cc)
-lower_falls Greater Less follow is = absurd (cc)
-lower_falls Greater Equal follow is = absurd (cc)
-lower_falls Greater Greater follow is = absurd (cc)
-
-pub upper_falls : (a b : Ordering) → may_follow a b ≡ true → is_le b ≡ true → is_le a ≡ true
-upper_falls Less b follow is = refl
-upper_falls Equal b follow is = refl
-upper_falls Greater Less follow is = absurd (cc)
-upper_falls Greater Equal follow is = absurd (cc)
-upper_falls Greater Greater follow is = absurd (cc)
-
--- directories of rows that ascend never fall
-follows_itself : (o : Ordering) → may_follow o o ≡ true
-follows_itself Less = refl
-follows_itself Equal = refl
-follows_itself Greater = refl
-
 -- the order of directories in that of rows
-falls_not : (a b c d : Ordering) → ordering_then (ordering_then a (ordering_then b c)) d ≡ Less → is_gt a ≡ false
-falls_not Less b c d less = refl
-falls_not Equal b c d less = refl
-falls_not Greater b c d less = absurd (cc)
-
 text_follows : (text first second : List ℕ) → is_gt (by_bytes first second) ≡ false
     → may_follow (by_bytes first text) (by_bytes second text) ≡ true
 text_follows text first second not_above =
@@ -215,8 +63,8 @@ follows_rows directory row (other ∷ rows) above =
     let parts = and_parts _ _ above in
     and_from _ _
     (text_follows directory row.key.directory other.key.directory
-    (falls_not (by_bytes row.key.directory other.key.directory) (by_bytes row.key.name other.key.name)
-    (by_bytes row.key.kind other.key.kind) (nat_cmp row.file.generation other.file.generation) (is_less _ parts.0)))
+    (then_not_gt (by_bytes row.key.directory other.key.directory) (by_bytes row.key.name other.key.name)
+    (by_bytes row.key.kind other.key.kind) (nat_cmp row.file.generation other.file.generation) (is_lt-true _ parts.0)))
     (follows_rows directory row rows parts.1)
 
 sorted_rises : (directory : List ℕ) (rows : List Row) → is_sorted by_row rows ≡ true
@@ -234,14 +82,6 @@ directories_rise directory rows ascend = sorted_rises directory rows (sorted_asc
 pub block : (directory : List ℕ) (rows : List Row) → ascends by_row rows ≡ true
     → Parts (is_in directory) rows (rows_in directory rows) (first_in directory rows) (end_in directory rows)
 block directory rows ascend = parts_of (λ row. by_bytes row.key.directory directory) rows (directories_rise directory rows ascend)
-
--- a point that all before it pass, and none behind
-pub prefix_from_point : {X : Type 0} (test : X → Bool) (xs : List X) (at : ℕ) → at ≤ length xs
-    → ((k : ℕ) (d : X) → 0 ≤ k → k < at → test (get_or xs k d) ≡ true)
-    → ((k : ℕ) (d : X) → at ≤ k → k < length xs → test (get_or xs k d) ≡ false) → prefix_len test xs ≡ at
-prefix_from_point test [] at bound before behind = omega arith
-prefix_from_point test (x ∷ xs) at bound before behind =
-    prefix_len_is test (x ∷ xs) at x bound (λ k below. before k x (omega arith) below) (λ below. behind at x (omega arith) below)
 
 -- a directory by its number
 pub number_at : (directories : List Directory) (n : ℕ) (directory : Directory) → is_sorted by_directory directories ≡ true
@@ -274,17 +114,6 @@ number_at (first ∷ directories) (suc n) directory sorted is =
         absurd (cc)
     by false is below rest = let last = rest.1 in (rest.0, omega arith)
 
-same_numbers : (m n : ℕ) → (m == n) ≡ is_eq (nat_cmp m n)
-same_numbers m n = grind (arith, nat_tests)
-
-pub filter_same : {X : Type 0} (all test other : X → Bool) → ((x : X) → all x ≡ true → test x ≡ other x) → (xs : List X)
-    → list_all all xs ≡ true → filter test xs ≡ filter other xs
-filter_same all test other same [] pass = refl
-filter_same all test other same (x ∷ xs) pass =
-    let parts = and_parts _ _ pass in
-    ap (λ is. cond is (x ∷ filter test xs) (filter test xs)) (same x parts.0)
-    ∙ ap (λ more. cond (other x) (x ∷ more) more) (filter_same all test other same xs parts.1)
-
 -- the rows of a directory's number are those of its name
 pub rows_by_number : (state : State) → IsWellFormed state → (name : List ℕ)
     → has_directory name state.directories ≡ true
@@ -294,7 +123,7 @@ rows_by_number state well name there =
     filter_same (is_row_among state.directories)
     (λ row. number_of row.key.directory state.directories == number_of name state.directories) (is_in name)
     (λ row is.
-    same_numbers (number_of row.key.directory state.directories) (number_of name state.directories)
+    eq-nat_cmp (number_of row.key.directory state.directories) (number_of name state.directories)
     ∙ ap is_eq (number_order state.directories row.key.directory name sorted (directory_there state.directories row is) there))
     state.rows well.draft.rows.within
 
@@ -306,50 +135,9 @@ rows_at_number state well n directory is =
     subst (λ (k : ℕ). rows_numbered k state ≡ rows_in directory.name state.rows) number.1
     (rows_by_number state well directory.name number.0)
 
-pub filter_of_map : {X Y : Type 0} (test : Y → Bool) (f : X → Y) (xs : List X)
-    → filter test (map f xs) ≡ map f (filter (λ x. test (f x)) xs)
-filter_of_map test f [] = refl
-filter_of_map {X} {Y} test f (x ∷ xs) = by (test (f x)) (filter_of_map test f xs)
-  where
-    by : (is : Bool) → filter test (map f xs) ≡ map f (filter (λ x. test (f x)) xs)
-        → cond is (f x ∷ filter test (map f xs)) (filter test (map f xs))
-        ≡ map f (cond is (x ∷ filter (λ x. test (f x)) xs) (filter (λ x. test (f x)) xs))
-    by true rest = ap (λ more. f x ∷ more) rest
-    by false rest = rest
-
 pub rows_of_catalogue : (state : State) (n : ℕ)
     → rows_of (catalogue_of state) n ≡ map (file_row state.directories) (rows_numbered n state)
-rows_of_catalogue state n = filter_of_map (λ row. row.directory == n) (file_row state.directories) state.rows
-
-get_behind : {X : Type 0} (front more : List X) (i : ℕ) → slice_get (front ++ more) (length front + i) ≡ slice_get more i
-get_behind [] more i = ap (slice_get more) (omega arith)
-get_behind (x ∷ front) more i =
-    let next : length (x ∷ front) + i ≡ suc (length front + i) = omega arith in
-    ap (slice_get (x ∷ (front ++ more))) next ∙ get_behind front more i
-
-get_before : {X : Type 0} (front more : List X) (i : ℕ) → i < length front → slice_get (front ++ more) i ≡ slice_get front i
-get_before [] more i within = absurd (omega arith)
-get_before (x ∷ front) more zero within = refl
-get_before (x ∷ front) more (suc i) within = get_before front more i (omega arith)
-
--- how many rows a directory has, and where each stands
-pub block_at : {X : Type 0} (test : X → Bool) (xs middle : List X) (first behind : ℕ) → Parts test xs middle first behind
-    → (i : ℕ) → i < length middle → slice_get middle i ≡ slice_get xs (first + i)
-block_at test xs middle first behind parts i within =
-    let start = parts.starts in
-    sym (ap (λ (k : ℕ). slice_get xs (k + i)) start
-    ∙ ap (λ each. slice_get each (length parts.lower + i)) parts.whole
-    ∙ get_behind parts.lower (middle ++ parts.upper) i ∙ get_before middle parts.upper i within)
-
-pub block_within : {X : Type 0} (test : X → Bool) (xs middle : List X) (first behind : ℕ) → Parts test xs middle first behind
-    → (behind ≡ first + length middle) × (behind ≤ length xs)
-block_within test xs middle first behind parts =
-    let start = parts.starts in
-    let end = parts.ends in
-    let whole = ap length parts.whole in
-    let outer = length-append parts.lower (middle ++ parts.upper) in
-    let inner = length-append middle parts.upper in
-    (omega arith, omega arith)
+rows_of_catalogue state n = filter-map (λ row. row.directory == n) (file_row state.directories) state.rows
 
 -- the positions of what passes, among the rows of a directory
 positions_append : {X : Type 0} (test : X → Bool) (at : ℕ) (front more : List X)
@@ -424,20 +212,6 @@ row_in_stands state well i at name rows within first items =
       omega arith,
     )
 
--- where the files of the directory with a number begin, by its name
-pub first_named : (directories : List Directory) (rows : List Row) (n at : ℕ) (name : List ℕ)
-    → option_map (λ directory. first_in directory.name rows) (slice_get directories n) ≡ Some at
-    → option_map (λ directory. directory.name) (slice_get directories n) ≡ Some name → at ≡ first_in name rows
-first_named directories rows n at name first is = by (slice_get directories n) first is
-  where
-    by : (found : Option Directory) → option_map (λ directory. first_in directory.name rows) found ≡ Some at
-        → option_map (λ directory. directory.name) found ≡ Some name → at ≡ first_in name rows
-    by None first is = absurd (cc)
-    by (Some directory) first is =
-        let here : first_in directory.name rows ≡ at = cc in
-        let same : directory.name ≡ name = cc in
-        sym here ∙ ap (λ each. first_in each rows) same
-
 -- the same by the number of the directory
 pub row_stands : (state : State) → IsWellFormed state → (n i at : ℕ) (rows : List Row)
     → option_map (λ directory. first_in directory.name state.rows) (slice_get state.directories n) ≡ Some at
@@ -473,15 +247,6 @@ rows_counted state well n name is =
     let mapped = length-map (rows_numbered n state) (file_row state.directories) in
     (omega arith, omega arith)
 
-pub kept_pass : {X : Type 0} (keep : X → Bool) (xs : List X) → list_all keep (filter keep xs) ≡ true
-kept_pass keep [] = refl
-kept_pass {X} keep (x ∷ xs) = by (keep x) refl (kept_pass keep xs)
-  where
-    by : (kept : Bool) → keep x ≡ kept → list_all keep (filter keep xs) ≡ true
-        → list_all keep (cond kept (x ∷ filter keep xs) (filter keep xs)) ≡ true
-    by true is rest = and_from _ _ is rest
-    by false is rest = rest
-
 -- a row by its number, as the catalogue has it
 pub catalogue_row : (state : State) (n i : ℕ) (row : Row) → slice_get (rows_numbered n state) i ≡ Some row
     → (name kind : List ℕ) → name ≡ row.key.name → kind ≡ row.key.kind
@@ -490,7 +255,7 @@ pub catalogue_row : (state : State) (n i : ℕ) (row : Row) → slice_get (rows_
 catalogue_row state n i row at name kind names kinds =
     let keep = λ (each : Row). number_of each.key.directory state.directories == n in
     let number : number_of row.key.directory state.directories ≡ n =
-    eqb-true _ _ (all_at keep (rows_numbered n state) i row (kept_pass keep state.rows) at) in
+    eqb-true _ _ (all_at keep (rows_numbered n state) i row (all_kept keep state.rows) at) in
     let first = λ (k : ℕ). let made : FileRow = record { directory = k; name = row.key.name; kind = row.key.kind; generation = row.file.generation; deleted = row.file.deleted } in Some made in
     let second = λ (text : List ℕ). let made : FileRow = record { directory = n; name = text; kind = row.key.kind; generation = row.file.generation; deleted = row.file.deleted } in Some made in
     let third = λ (text : List ℕ). let made : FileRow = record { directory = n; name = name; kind = text; generation = row.file.generation; deleted = row.file.deleted } in Some made in
@@ -504,16 +269,22 @@ pub catalogue_rows : (state : State) (n : ℕ) → length (rows_of (catalogue_of
 catalogue_rows state n =
     ap length (rows_of_catalogue state n) ∙ length-map (rows_numbered n state) (file_row state.directories)
 
--- the same, as a search and the beginning tell them
-pub rows_between : (state : State) → IsWellFormed state → (n : ℕ) (name : List ℕ)
-    → option_map (λ directory. directory.name) (slice_get state.directories n) ≡ Some name
-    → (first end : ℕ) (rows : List Row) → rows ≡ state.rows → end ≡ end_in name rows
+-- the same, by where its files begin and end
+pub rows_between : (state : State) → IsWellFormed state → (n first end : ℕ)
     → option_map (λ directory. first_in directory.name state.rows) (slice_get state.directories n) ≡ Some first
+    → option_map (λ directory. end_in directory.name state.rows) (slice_get state.directories n) ≡ Some end
     → (end ≡ first + length (rows_of (catalogue_of state) n)) × (end ≤ 4096)
-rows_between state well n name is first end rows same ends starts =
-    let counts = rows_counted state well n name is in
-    let whole = counts.0 in
-    let few = counts.1 in
-    let last : end ≡ end_in name state.rows = ends ∙ ap (end_in name) same in
-    let start = first_named state.directories state.rows n first name starts is in
-    (omega arith, omega arith)
+rows_between state well n first end starts ends = by (slice_get state.directories n) refl starts ends
+  where
+    by : (found : Option Directory) → slice_get state.directories n ≡ found
+        → option_map (λ directory. first_in directory.name state.rows) found ≡ Some first
+        → option_map (λ directory. end_in directory.name state.rows) found ≡ Some end
+        → (end ≡ first + length (rows_of (catalogue_of state) n)) × (end ≤ 4096)
+    by None there starts ends = absurd (cc)
+    by (Some directory) there starts ends =
+        let counts = rows_counted state well n directory.name (ap (option_map (λ (each : Directory). each.name)) there) in
+        let whole = counts.0 in
+        let few = counts.1 in
+        let start : first_in directory.name state.rows ≡ first = cc in
+        let last : end_in directory.name state.rows ≡ end = cc in
+        (omega arith, omega arith)

@@ -1,51 +1,41 @@
--- The files that a place means are found one after the other.
+-- The files that a place selects are found one after the other.
 use Rattle.std.proofs.Common.{◌≡◌, ℕ, zero, suc, ◌+◌, ◌<◌, ◌≤◌, Bool, true, false, cond, List, [], ◌∷◌, length, drop, filter, slice_get, Option, Some, None, refl, ap, arith, ◌∙◌, sym}
 use Rattle.std.specs.List.{list_all, position_from}
 use Rattle.std.proofs.lemmas.List.{drop-drop}
 use Rattle.std.proofs.lemmas.List.Sums.{count_by-le-length, length-filter}
 use Rattle.std.proofs.lemmas.Option.{slice_get_within}
+use Rattle.cm_lists.proofs.Elements.{slice_get-drop}
+use Rattle.cm_lists.proofs.Filters.{filter_within}
+use Rattle.cm_lists.proofs.Positions.{filter_of_no_position}
+use Rattle.cm_lists.proofs.Quantifiers.{all_filter}
 use Rattle.ex_store.specs.declared.limits.TheConstants.{ROW_LIMIT}
 use Rattle.ex_store.specs.declared.place.Place.{Place}
 use Rattle.ex_store.specs.declared.row.Row.{Row}
 use Rattle.ex_store.specs.Rows.{is_in, rows_in}
-use Rattle.ex_store.specs.Selection.{IsNumber, is_meant, meant, meant_from}
+use Rattle.ex_store.specs.Selection.{IsNumber, is_selected_by, selected, selected_from}
 use Rattle.ex_store.specs.State.{State, has_directory, number_of, rows_numbered}
 use Rattle.ex_store.specs.WellFormed.{IsWellFormed, is_row_among}
-use Rattle.ex_store.proofs.AscendsLaws.{all_filter}
-use Rattle.ex_store.proofs.MeantLaws.{block_few, found_there, lacks_rows, meant_in, not_there}
+use Rattle.ex_store.proofs.WalkLaws.{block_few, found_there, lacks_rows, selected_in, not_there}
 use Rattle.ex_store.proofs.RowsInLaws.{rows_by_number}
 
--- what passes a test is looked for among what passes a wider one
-filter_inside : {X : Type 0} (inside test : X → Bool) → ((x : X) → test x ≡ true → inside x ≡ true) → (xs : List X)
-    → filter test (filter inside xs) ≡ filter test xs
-filter_inside inside test wider [] = refl
-filter_inside {X} inside test wider (x ∷ xs) = by (inside x) (test x) refl refl (filter_inside inside test wider xs)
-  where
-    by : (within passes : Bool) → inside x ≡ within → test x ≡ passes → filter test (filter inside xs) ≡ filter test xs
-        → filter test (cond within (x ∷ filter inside xs) (filter inside xs)) ≡ cond passes (x ∷ filter test xs) (filter test xs)
-    by true true within passes rest = rw passes (ap (λ more. x ∷ more) rest)
-    by true false within passes rest = rw passes rest
-    by false true within passes rest = let inside_too = wider x passes in absurd (cc)
-    by false false within passes rest = rest
-
--- from the first on they are all that a place means
-pub meant_all : (deleted : Bool) (place : Place) (state : State) → meant_from deleted place state 0 ≡ meant deleted place state
-meant_all deleted place state =
-    filter_inside (is_in place.directory) (is_meant deleted place state) (meant_in deleted place state) state.rows
+-- from the first on they are all that a place selects
+pub selected_all : (deleted : Bool) (place : Place) (state : State) → selected_from deleted place state 0 ≡ selected deleted place state
+selected_all deleted place state =
+    filter_within (is_selected_by deleted place state) (is_in place.directory) (selected_in deleted place state) state.rows
 
 -- they are rows of the store, and not more than all
-pub meant_lawful : (deleted : Bool) (place : Place) (state : State) → IsWellFormed state
-    → list_all (is_row_among state.directories) (meant_from deleted place state 0) ≡ true
-meant_lawful deleted place state well =
-    ap (list_all (is_row_among state.directories)) (meant_all deleted place state)
-    ∙ all_filter (is_row_among state.directories) (is_meant deleted place state) state.rows well.draft.rows.within
+pub selected_lawful : (deleted : Bool) (place : Place) (state : State) → IsWellFormed state
+    → list_all (is_row_among state.directories) (selected_from deleted place state 0) ≡ true
+selected_lawful deleted place state well =
+    ap (list_all (is_row_among state.directories)) (selected_all deleted place state)
+    ∙ all_filter (is_row_among state.directories) (is_selected_by deleted place state) state.rows well.draft.rows.within
 
-pub meant_few : (deleted : Bool) (place : Place) (state : State) → IsWellFormed state
-    → length (meant_from deleted place state 0) ≤ ROW_LIMIT
-meant_few deleted place state well =
-    let all = ap length (meant_all deleted place state) in
-    let size = length-filter (is_meant deleted place state) state.rows in
-    let fewer = count_by-le-length (is_meant deleted place state) state.rows in
+pub selected_few : (deleted : Bool) (place : Place) (state : State) → IsWellFormed state
+    → length (selected_from deleted place state 0) ≤ ROW_LIMIT
+selected_few deleted place state well =
+    let all = ap length (selected_all deleted place state) in
+    let size = length-filter (is_selected_by deleted place state) state.rows in
+    let fewer = count_by-le-length (is_selected_by deleted place state) state.rows in
     let few = well.draft.rows.few in
     omega arith
 
@@ -78,55 +68,38 @@ first {X} test at (x ∷ xs) i is = by (test x) refl is (λ later. first test (a
           rest = rw passes (later.rest ∙ ap (λ (k : ℕ). later.x ∷ filter test (drop k (x ∷ xs))) next);
         }
 
-none : {X : Type 0} (test : X → Bool) (at : ℕ) (xs : List X) → position_from test at xs ≡ None → filter test xs ≡ []
-none test at [] is = refl
-none {X} test at (x ∷ xs) is = by (test x) is (λ later. none test (at + 1) xs later)
-  where
-    by : (passes : Bool) → cond passes (Some at) (position_from test (at + 1) xs) ≡ None
-        → (position_from test (at + 1) xs ≡ None → filter test xs ≡ []) → cond passes (x ∷ filter test xs) (filter test xs) ≡ []
-    by true is rest = absurd (cc)
-    by false is rest = rest is
-
--- an element behind others
-get_dropped : {X : Type 0} (n : ℕ) (xs : List X) (i : ℕ) → slice_get (drop n xs) i ≡ slice_get xs (n + i)
-get_dropped zero xs i = ap (slice_get xs) (omega arith)
-get_dropped (suc n) [] i = refl
-get_dropped (suc n) (x ∷ xs) i =
-    let next : suc n + i ≡ suc (n + i) = omega arith in
-    get_dropped n xs i ∙ sym (ap (slice_get (x ∷ xs)) next)
-
--- what a walk over the rows finds is the first of them, or there is none
+-- what a walk over the rows finds is the first of them, or there is filter_of_no_position
 pub next_none : (deleted : Bool) (place : Place) (state : State) (from : ℕ)
-    → None ≡ position_from (is_meant deleted place state) from (drop from (rows_in place.directory state.rows))
-    → meant_from deleted place state from ≡ []
-next_none deleted place state from is = none (is_meant deleted place state) from _ (sym is)
+    → None ≡ position_from (is_selected_by deleted place state) from (drop from (rows_in place.directory state.rows))
+    → selected_from deleted place state from ≡ []
+next_none deleted place state from is = filter_of_no_position (is_selected_by deleted place state) from _ (sym is)
 
 -- where the first of them stands, among the rows of its directory
 pub next_within : (deleted : Bool) (place : Place) (state : State) → IsWellFormed state → (from at n : ℕ)
-    → Some at ≡ position_from (is_meant deleted place state) from (drop from (rows_in place.directory state.rows))
+    → Some at ≡ position_from (is_selected_by deleted place state) from (drop from (rows_in place.directory state.rows))
     → has_directory place.directory state.directories ≡ true → n ≡ number_of place.directory state.directories
     → at < length (rows_numbered n state)
 next_within deleted place state well from at n is there number =
     let rows = rows_in place.directory state.rows in
-    let next = first (is_meant deleted place state) from (drop from rows) at (sym is) in
+    let next = first (is_selected_by deleted place state) from (drop from rows) at (sym is) in
     let within = slice_get_within rows at next.x
-    (ap (slice_get rows) next.is ∙ sym (get_dropped from rows next.passed) ∙ next.there) in
+    (ap (slice_get rows) next.is ∙ sym (slice_get-drop from rows next.passed) ∙ next.there) in
     let same = ap length (ap (λ k. rows_numbered k state) number ∙ rows_by_number state well place.directory there) in
     omega arith
 
 pub next_some : (deleted : Bool) (place : Place) (state : State) → IsWellFormed state → (from at n : ℕ) (row : Row)
-    → Some at ≡ position_from (is_meant deleted place state) from (drop from (rows_in place.directory state.rows))
+    → Some at ≡ position_from (is_selected_by deleted place state) from (drop from (rows_in place.directory state.rows))
     → has_directory place.directory state.directories ≡ true → n ≡ number_of place.directory state.directories
     → slice_get (rows_numbered n state) at ≡ Some row
-    → (meant_from deleted place state from ≡ row ∷ meant_from deleted place state (at + 1)) × (at < ROW_LIMIT)
+    → (selected_from deleted place state from ≡ row ∷ selected_from deleted place state (at + 1)) × (at < ROW_LIMIT)
 next_some deleted place state well from at n row is there number read =
-    let test = is_meant deleted place state in
+    let test = is_selected_by deleted place state in
     let rows = rows_in place.directory state.rows in
     let next = first test from (drop from rows) at (sym is) in
     let place_is = next.is in
     let same : from + (next.passed + 1) ≡ at + 1 = omega arith in
     let found : slice_get rows at ≡ Some next.x =
-    ap (slice_get rows) place_is ∙ sym (get_dropped from rows next.passed) ∙ next.there in
+    ap (slice_get rows) place_is ∙ sym (slice_get-drop from rows next.passed) ∙ next.there in
     let numbered : rows_numbered n state ≡ rows =
     ap (λ k. rows_numbered k state) number ∙ rows_by_number state well place.directory there in
     let told : slice_get rows at ≡ Some row = ap (λ each. slice_get each at) (sym numbered) ∙ read in
@@ -136,7 +109,7 @@ next_some deleted place state well from at n row is there number read =
       next.rest
           ∙ ap (λ more. next.x ∷ filter test more)
           (drop-drop (next.passed + 1) from rows ∙ ap (λ (k : ℕ). drop k rows) same)
-          ∙ ap (λ x. x ∷ meant_from deleted place state (at + 1)) row_is,
+          ∙ ap (λ x. x ∷ selected_from deleted place state (at + 1)) row_is,
       omega arith,
     )
 
@@ -149,22 +122,22 @@ is_number state well name None is =
     state.rows well.draft.rows.within
 is_number state well name (Some n) is = found_there name state.directories n is
 
--- a walk without rows has none left
+-- a walk without rows has filter_of_no_position left
 pub none_left : (deleted : Bool) (place : Place) (state : State) (from : ℕ) → rows_in place.directory state.rows ≡ []
-    → meant_from deleted place state from ≡ []
+    → selected_from deleted place state from ≡ []
 none_left deleted place state from none =
-    ap (λ (rows : List Row). filter (is_meant deleted place state) (drop from rows)) none ∙ nothing from
+    ap (λ (rows : List Row). filter (is_selected_by deleted place state) (drop from rows)) none ∙ nothing from
   where
-    nothing : (n : ℕ) → filter (is_meant deleted place state) (drop {A = Row} n []) ≡ []
+    nothing : (n : ℕ) → filter (is_selected_by deleted place state) (drop {A = Row} n []) ≡ []
     nothing zero = refl
     nothing (suc n) = refl
 
--- and none is found
+-- and filter_of_no_position is found
 pub none_found : (deleted : Bool) (place : Place) (state : State) (from : ℕ) → rows_in place.directory state.rows ≡ []
-    → None ≡ position_from (is_meant deleted place state) from (drop from (rows_in place.directory state.rows))
+    → None ≡ position_from (is_selected_by deleted place state) from (drop from (rows_in place.directory state.rows))
 none_found deleted place state from none =
-    sym (ap (λ (rows : List Row). position_from (is_meant deleted place state) from (drop from rows)) none ∙ nowhere from)
+    sym (ap (λ (rows : List Row). position_from (is_selected_by deleted place state) from (drop from rows)) none ∙ nowhere from)
   where
-    nowhere : (n : ℕ) → position_from (is_meant deleted place state) from (drop {A = Row} n []) ≡ None
+    nowhere : (n : ℕ) → position_from (is_selected_by deleted place state) from (drop {A = Row} n []) ≡ None
     nowhere zero = refl
     nowhere (suc n) = refl

@@ -14,14 +14,16 @@ use Rattle.std.proofs.lemmas.List.{get_or_past, length-map}
 use Rattle.std.proofs.lemmas.List.Sums.{fails_before_first, prefix_len-le-length}
 use Rattle.std.proofs.lemmas.List.Sorted.{searchable_from_sorted}
 use Rattle.std.proofs.lemmas.Slice.Eq.{bytes_eq-Decides}
+use Rattle.cm_lists.proofs.Ascents.{all_above, is_sorted, place_by}
+use Rattle.cm_lists.proofs.Orders.{is_lt-true}
 use Rattle.cm_files.specs.Catalogue.{ascends, by_bytes}
 use Rattle.indexmap.specs.Calls.{IsSearchIndex}
 use Rattle.indexmap.specs.IndexMap.{index_before, insert_entry, move_index}
 use Rattle.indexmap.proofs.MoveLemmas.{push_moved}
 use Rattle.indexmap.proofs.SortedLemmas.{absent_pushes, found_stays, move_same}
 use Rattle.ex_store.specs.Insertion.{insertion}
-use Rattle.ex_store.proofs.AscendsLaws.{all_above, is_less, is_sorted, sorted_ascends}
-use Rattle.ex_store.proofs.InsertionLaws.{inserted_there, place_by}
+use Rattle.ex_store.proofs.AscendsLaws.{sorted_ascends}
+use Rattle.ex_store.proofs.InsertionLaws.{inserted_there}
 
 -- of two names that stand one below the other, neither is the other
 apart : (name other : List ℕ) → is_lt (by_bytes name other) ≡ true → bytes_eq name other ≡ false
@@ -30,7 +32,7 @@ apart name other below = by (bytes_eq name other) refl
     by : (same : Bool) → bytes_eq name other ≡ same → bytes_eq name other ≡ false
     by true is =
         let equal : is_eq (by_bytes name other) ≡ true = sym (texts_ties name other) ∙ is in
-        let less : by_bytes name other ≡ Less = is_less (by_bytes name other) below in
+        let less : by_bytes name other ≡ Less = is_lt-true (by_bytes name other) below in
         absurd (true≢false (sym equal ∙ ap is_eq less))
     by false is = is
 
@@ -94,7 +96,7 @@ module _ {V : Type 0} where
         where
           by : (o : Ordering) → by_bytes other name ≡ o → is_lt o ≡ false
           by Less is =
-              let chain : by_bytes name name ≡ Less = nat_list_cmp_total.trans name other name (is_less _ below) is in
+              let chain : by_bytes name name ≡ Less = nat_list_cmp_total.trans name other name (is_lt-true _ below) is in
               let same : is_eq (by_bytes name name) ≡ true = sym (texts_ties name name) ∙ nat_list_eq_equiv.refl name in
               absurd (true≢false (sym same ∙ ap is_eq chain))
           by Equal is = refl

@@ -2,6 +2,7 @@
 use Rattle.std.proofs.Common.{◌≡◌, ℕ, nat_le, Bool, true, false, cond, List, [], ◌∷◌, ◌++◌, length, Result, Ok, Err, Option, Some, None, refl, ap, subst}
 use Rattle.std.specs.List.{list_all}
 use Rattle.std.proofs.lemmas.Bool.{and_parts}
+use Rattle.cm_lists.proofs.Quantifiers.{all_filter}
 use Rattle.cm_fields.specs.declared.code.Code.{Code}
 use Rattle.cm_fields.specs.declared.code.Code.TheVariants.{NameNeeded}
 use Rattle.ex_generations.specs.declared.file.Remark.TheVariants as remarks
@@ -15,7 +16,7 @@ use Rattle.ex_store.specs.declared.plan.Plan.TheVariants as plans
 use Rattle.ex_store.specs.declared.queue.QueueEntry.{QueueEntry}
 use Rattle.ex_store.specs.declared.row.Row.{Row}
 use Rattle.ex_store.specs.Adding.{Outcome, admitted, and_then, each_in_turn, keep_at, new_row, placed}
-use Rattle.ex_store.specs.Appending.{appended, bytes_at, opened, pairs_to, poured, row_changes_of}
+use Rattle.ex_store.specs.Appending.{appended, bytes_at, opened, pairs_to, concatenation, row_changes_of}
 use Rattle.ex_store.specs.Building.{built, with_directory}
 use Rattle.ex_store.specs.Copying.{all_copied, copied, key_from, lacks_name, moment_of, own_key, written}
 use Rattle.ex_store.specs.Defining.{definition_of, with_definition}
@@ -24,18 +25,17 @@ use Rattle.ex_store.specs.Printing.{entries_for, own_pairs}
 use Rattle.ex_store.specs.Ready.{rows_after_all}
 use Rattle.ex_store.specs.Renaming.{all_renamed, renamed}
 use Rattle.ex_store.specs.Rows.{full_of, is_full, row_at, total, with_name, without}
-use Rattle.ex_store.specs.Selection.{is_meant}
+use Rattle.ex_store.specs.Selection.{is_selected_by}
 use Rattle.ex_store.specs.State.{State}
 use Rattle.ex_store.specs.WellFormed.{AreRows, IsWellFormed, is_row_among}
 use Rattle.ex_store.proofs.AdmittedLaws.{admitted_is, and_then_ok, counted_target, ok_same, rows_added}
 use Rattle.ex_store.proofs.AllCopiedLaws.{from_formed, keep_within, moment_within, renamed_formed}
 use Rattle.ex_store.proofs.AllRenamedLaws.{rows_without}
 use Rattle.ex_store.proofs.AppendedLaws.{append_ready, append_sound}
-use Rattle.ex_store.proofs.AscendsLaws.{all_filter}
 use Rattle.ex_store.proofs.BuiltLaws.{retention_within, well_formed_built}
 use Rattle.ex_store.proofs.DefinedLaws.{well_formed_defined}
 use Rattle.ex_store.proofs.PrintedLaws.{well_formed_printed}
-use Rattle.ex_store.proofs.RemarkedLaws.{rows_remarked, well_formed_with_rows}
+use Rattle.ex_store.proofs.RemarkLaws.{rows_of_remark, well_formed_with_rows}
 use Rattle.ex_store.proofs.WrittenLaws.{rows_written, written_row}
 
 -- a step for one source, behind which the rows are those of a store
@@ -110,7 +110,7 @@ appended_sound : (directories : List Directory) (retention moment : ℕ) (to : P
     → appended retention moment to taken rows ≡ Ok after → AreRows directories after.rows
 appended_sound directories retention moment to taken rows after are one few is =
     let opens = and_then_ok _ (opened retention moment (own_key to) to.generation rows) after is in
-    let pours = and_then_ok _ (poured (total rows) (bytes_at opens.0.target rows) taken) after opens.2 in
+    let pours = and_then_ok _ (concatenation (total rows) (bytes_at opens.0.target rows) taken) after opens.2 in
     let done = row_changes_of opens.0 (moment_of moment) pours.0 in
     let pairs = pairs_to opens.0.target taken in
     let comes = append_ready retention moment to rows taken opens.0 pours.0 done pairs opens.1 pours.1 refl refl in
@@ -151,12 +151,12 @@ rows_sound state (Err code) made well sound is = absurd (cc)
 -- the sources are files of the store
 sources_within : (state : State) (from : Place) → IsWellFormed state → list_all (is_row_among state.directories) (sources from state) ≡ true
 sources_within state from well =
-    all_filter (is_row_among state.directories) (is_meant from.flags.deleted from state) state.rows well.draft.rows.within
+    all_filter (is_row_among state.directories) (is_selected_by from.flags.deleted from state) state.rows well.draft.rows.within
 
 -- when they are read, the rows are those of a store
 rows_read_at : (moment : ℕ) (from : Place) (state : State) → IsWellFormed state → AreRows state.directories (read_at moment from state)
 rows_read_at moment from state well =
-    rows_remarked state.directories state.rows (is_meant from.flags.deleted from state) (remarks.Read (moment_of moment)) (moment_within moment) well.draft.rows
+    rows_of_remark state.directories state.rows (is_selected_by from.flags.deleted from state) (remarks.Read (moment_of moment)) (moment_within moment) well.draft.rows
 
 -- a directory keeps no more generations than one may
 few_kept : (state : State) (to : Place) → IsWellFormed state → nat_le (retention_at to state) RETENTION_LIMIT ≡ true

@@ -5,6 +5,7 @@ use Rattle.std.specs.List.{list_all, list_any}
 use Rattle.std.proofs.lemmas.Bool.{and_parts, leb-true, or_parts}
 use Rattle.std.proofs.lemmas.List.Sums.{count_by-le-length, length-filter}
 use Rattle.std.proofs.lemmas.Slice.Eq.{bytes_eq-Decides}
+use Rattle.cm_lists.proofs.Quantifiers.{all_filter}
 use Rattle.cm_text.specs.Bytes.{is_name, is_word}
 use Rattle.cm_text.specs.Case.{equals}
 use Rattle.cm_text.specs.declared.name.TheConstants.{NAME_LIMIT}
@@ -12,7 +13,7 @@ use Rattle.ex_store.specs.declared.directory.Definition.{Definition}
 use Rattle.ex_store.specs.declared.directory.Directory.{Directory}
 use Rattle.ex_store.specs.State.{State, first_state, has_directory, is_named}
 use Rattle.ex_store.specs.WellFormed.{IsWellFormed, is_definition_among, is_directory}
-use Rattle.ex_store.proofs.AscendsLaws.{all_filter, ascends_filter}
+use Rattle.ex_store.proofs.AscendsLaws.{ascends_filter}
 
 -- the first state is well formed
 pub first_well_formed : IsWellFormed first_state

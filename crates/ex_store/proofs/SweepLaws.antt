@@ -1,25 +1,26 @@
--- What is told of all files, name by name, and what is done with those of one directory.
-use Rattle.std.proofs.Common.{◌≡◌, ℕ, ◌+◌, ◌*◌, ◌<◌, ◌≤◌, ◌==◌, ◌&&◌, nat_le, Bool, true, false, not, cond, zero, suc, List, [], ◌∷◌, ◌++◌, length, drop, filter, get_or, map, set, take, refl, ap, sym, ◌∙◌, arith, append_assoc}
+-- What is told of all files, family by family, and what is done with those of one directory.
+use Rattle.std.proofs.Common.{◌≡◌, ℕ, ◌+◌, ◌*◌, ◌<◌, ◌≤◌, ◌==◌, ◌&&◌, nat_le, Bool, true, false, not, cond, zero, suc, List, [], ◌∷◌, ◌++◌, length, drop, filter, get_or, map, refl, ap, sym, ◌∙◌, arith}
 use Rattle.std.proofs.lemmas.List.{map-append}
 use Rattle.std.proofs.lemmas.List.Elements.{filter-append}
 use Rattle.std.specs.List.{list_all}
 use Rattle.std.specs.Ordering.{is_eq}
 use Rattle.std.proofs.lemmas.Bool.{and_from, and_parts, leb-true}
-use Rattle.std.proofs.lemmas.List.{drop-set-lt, drop_more, take_more_set}
+use Rattle.std.proofs.lemmas.List.{drop_more}
 use Rattle.std.proofs.lemmas.Bool.Decides.{nat_tests}
 use Rattle.std.proofs.lemmas.List.Sums.{count_by-le-length, length-filter, sum_by-append, sum_by-cons}
+use Rattle.cm_lists.proofs.Numbers.{suc_is_not_zero}
 use Rattle.cm_files.specs.Catalogue.{ascends, by_bytes}
 use Rattle.ex_generations.specs.declared.file.File.{File}
 use Rattle.ex_generations.specs.declared.file.TheConstants.{FILE_LIMIT}
 use Rattle.ex_generations.specs.Generations.{marked, page_count, pages, unmarked}
-use Rattle.ex_store.specs.declared.file_name.FileName.{FileName}
+use Rattle.ex_store.specs.declared.family.Family.{Family}
 use Rattle.ex_store.specs.declared.key.Key.{Key}
 use Rattle.ex_store.specs.declared.limits.TheConstants.{ROW_LIMIT}
 use Rattle.ex_store.specs.declared.row.Row.{Row}
-use Rattle.ex_store.specs.FileNames.{by_name, bytes_of, is_under_directory, rooms_of, row_under, rows_of, rows_under}
+use Rattle.ex_store.specs.Families.{by_family, bytes_of, is_under_directory, rooms_of, row_under, rows_of, rows_under}
 use Rattle.ex_store.specs.Rows.{by_key, expunged, is_in, is_short, pages_in, pages_marked, total}
 use Rattle.ex_store.proofs.AscendsLaws.{ascends_filter, ascends_map}
-use Rattle.ex_store.proofs.FileNamesLaws.{by_name_total}
+use Rattle.ex_store.proofs.FamiliesLaws.{by_name_total}
 use Rattle.ex_store.proofs.FileNumbersLaws.{length_more}
 
 -- bytes
@@ -30,46 +31,43 @@ total_own key (file ∷ own) =
     ∙ ap (λ n. length file.bytes + n) (total_own key own)
     ∙ sym (sum_by-cons (λ (it : File). length it.bytes) file own)
 
-pub total_more : (name : FileName) (names : List FileName) → total (rows_of (name ∷ names)) ≡ bytes_of name.gens.files + total (rows_of names)
-total_more name names =
-    sum_by-append (λ (row : Row). length row.file.bytes) (rows_under name) (rows_of names)
-    ∙ ap (λ n. n + total (rows_of names)) (total_own name.key name.gens.files)
+pub total_more : (family : Family) (families : List Family) → total (rows_of (family ∷ families)) ≡ bytes_of family.gens.files + total (rows_of families)
+total_more family families =
+    sum_by-append (λ (row : Row). length row.file.bytes) (rows_under family) (rows_of families)
+    ∙ ap (λ n. n + total (rows_of families)) (total_own family.key family.gens.files)
 
--- names without files
-abbrev pub has_files : FileName → Bool
-has_files name = not (length name.gens.files == 0)
+-- families without files
+abbrev pub has_files : Family → Bool
+has_files family = not (length family.gens.files == 0)
 
-some_files : (n : ℕ) → (suc n == 0) ≡ false
-some_files n = grind (arith, nat_tests)
-
-pub rows_filled : (names : List FileName) → rows_of (filter has_files names) ≡ rows_of names
+pub rows_filled : (families : List Family) → rows_of (filter has_files families) ≡ rows_of families
 rows_filled [] = refl
-rows_filled (name ∷ names) = by name.gens.files refl (rows_filled names)
+rows_filled (family ∷ families) = by family.gens.files refl (rows_filled families)
   where
-    by : (own : List File) → name.gens.files ≡ own → rows_of (filter has_files names) ≡ rows_of names
-        → rows_of (cond (not (length name.gens.files == 0)) (name ∷ filter has_files names) (filter has_files names)) ≡ rows_under name ++ rows_of names
+    by : (own : List File) → family.gens.files ≡ own → rows_of (filter has_files families) ≡ rows_of families
+        → rows_of (cond (not (length family.gens.files == 0)) (family ∷ filter has_files families) (filter has_files families)) ≡ rows_under family ++ rows_of families
     by [] is rest = rw is rest
-    by (file ∷ own) is rest = rw (is, some_files (length own)) (ap (λ more. map (row_under name.key) (file ∷ own) ++ more) rest)
+    by (file ∷ own) is rest = rw (is, suc_is_not_zero (length own)) (ap (λ more. map (row_under family.key) (file ∷ own) ++ more) rest)
 
--- each name that is left has a file
-pub few_filled : (names : List FileName) → length (filter has_files names) ≤ length (rows_of names)
+-- each family that is left has a file
+pub few_filled : (families : List Family) → length (filter has_files families) ≤ length (rows_of families)
 few_filled [] = omega arith
-few_filled (name ∷ names) = by (has_files name) refl (few_filled names)
+few_filled (family ∷ families) = by (has_files family) refl (few_filled families)
   where
-    by : (b : Bool) → has_files name ≡ b → length (filter has_files names) ≤ length (rows_of names)
-        → length (cond b (name ∷ filter has_files names) (filter has_files names)) ≤ length (rows_of (name ∷ names))
+    by : (b : Bool) → has_files family ≡ b → length (filter has_files families) ≤ length (rows_of families)
+        → length (cond b (family ∷ filter has_files families) (filter has_files families)) ≤ length (rows_of (family ∷ families))
     by true is rest =
-        let some : 1 ≤ length name.gens.files = grind (arith, nat_tests) in
-        omega (arith, rest, some, length_more name names)
-    by false is rest = omega (arith, rest, length_more name names)
+        let some : 1 ≤ length family.gens.files = grind (arith, nat_tests) in
+        omega (arith, rest, some, length_more family families)
+    by false is rest = omega (arith, rest, length_more family families)
 
-pub ascends_filled : (names : List FileName) → ascends by_name names ≡ true → ascends by_name (filter has_files names) ≡ true
-ascends_filled names ascend = ascends_filter by_name by_name_total has_files names ascend
+pub ascends_filled : (families : List Family) → ascends by_family families ≡ true → ascends by_family (filter has_files families) ≡ true
+ascends_filled families ascend = ascends_filter by_family by_name_total has_files families ascend
 
 -- the files of a directory are expunged
-abbrev pub swept : List ℕ → FileName → FileName
-swept directory name =
-    cond (is_under_directory directory name) (record name { gens = record name.gens { files = unmarked name.gens.files } }) name
+abbrev pub swept : List ℕ → Family → Family
+swept directory family =
+    cond (is_under_directory directory family) (record family { gens = record family.gens { files = unmarked family.gens.files } }) family
 
 own_kept : (directory : List ℕ) (key : Key) (own : List File) → is_eq (by_bytes key.directory directory) ≡ true
     → map (row_under key) (unmarked own) ≡ expunged directory (map (row_under key) own)
@@ -87,29 +85,29 @@ own_apart : (directory : List ℕ) (key : Key) (own : List File) → is_eq (by_b
 own_apart directory key [] is = refl
 own_apart directory key (file ∷ own) is = rw is (ap (λ more. row_under key file ∷ more) (own_apart directory key own is))
 
-pub rows_swept : (directory : List ℕ) (names : List FileName) → rows_of (map (swept directory) names) ≡ expunged directory (rows_of names)
+pub rows_swept : (directory : List ℕ) (families : List Family) → rows_of (map (swept directory) families) ≡ expunged directory (rows_of families)
 rows_swept directory [] = refl
-rows_swept directory (name ∷ names) =
-    ap (λ own. own ++ rows_of (map (swept directory) names)) (by (is_under_directory directory name) refl)
-    ∙ ap (λ rest. expunged directory (rows_under name) ++ rest) (rows_swept directory names)
-    ∙ sym (filter-append (λ (row : Row). not (is_in directory row && row.file.deleted)) (rows_under name) (rows_of names))
+rows_swept directory (family ∷ families) =
+    ap (λ own. own ++ rows_of (map (swept directory) families)) (by (is_under_directory directory family) refl)
+    ∙ ap (λ rest. expunged directory (rows_under family) ++ rest) (rows_swept directory families)
+    ∙ sym (filter-append (λ (row : Row). not (is_in directory row && row.file.deleted)) (rows_under family) (rows_of families))
   where
-    by : (b : Bool) → is_under_directory directory name ≡ b
-        → rows_under (cond b (record name { gens = record name.gens { files = unmarked name.gens.files } }) name)
-        ≡ expunged directory (rows_under name)
-    by true is = own_kept directory name.key name.gens.files is
-    by false is = own_apart directory name.key name.gens.files is
+    by : (b : Bool) → is_under_directory directory family ≡ b
+        → rows_under (cond b (record family { gens = record family.gens { files = unmarked family.gens.files } }) family)
+        ≡ expunged directory (rows_under family)
+    by true is = own_kept directory family.key family.gens.files is
+    by false is = own_apart directory family.key family.gens.files is
 
-pub keys_swept : (directory : List ℕ) (names : List FileName)
-    → map (λ (name : FileName). name.key) (map (swept directory) names) ≡ map (λ (name : FileName). name.key) names
+pub keys_swept : (directory : List ℕ) (families : List Family)
+    → map (λ (family : Family). family.key) (map (swept directory) families) ≡ map (λ (family : Family). family.key) families
 keys_swept directory [] = refl
-keys_swept directory (name ∷ names) = ap (λ rest. rest) (by (is_under_directory directory name) (keys_swept directory names))
+keys_swept directory (family ∷ families) = ap (λ rest. rest) (by (is_under_directory directory family) (keys_swept directory families))
   where
-    by : (b : Bool) → map (λ (name : FileName). name.key) (map (swept directory) names) ≡ map (λ (name : FileName). name.key) names
-        → (cond b (record name { gens = record name.gens { files = unmarked name.gens.files } }) name).key
-        ∷ map (λ (name : FileName). name.key) (map (swept directory) names) ≡ name.key ∷ map (λ (name : FileName). name.key) names
-    by true rest = ap (λ more. name.key ∷ more) rest
-    by false rest = ap (λ more. name.key ∷ more) rest
+    by : (b : Bool) → map (λ (family : Family). family.key) (map (swept directory) families) ≡ map (λ (family : Family). family.key) families
+        → (cond b (record family { gens = record family.gens { files = unmarked family.gens.files } }) family).key
+        ∷ map (λ (family : Family). family.key) (map (swept directory) families) ≡ family.key ∷ map (λ (family : Family). family.key) families
+    by true rest = ap (λ more. family.key ∷ more) rest
+    by false rest = ap (λ more. family.key ∷ more) rest
 
 -- pages
 few_pages : (bytes : ℕ) → bytes ≤ FILE_LIMIT → page_count bytes ≤ 26
@@ -146,18 +144,18 @@ own_no_pages : (directory : List ℕ) (key : Key) (own : List File) → is_eq (b
 own_no_pages directory key [] is = refl
 own_no_pages directory key (file ∷ own) is = rw is (own_no_pages directory key own is)
 
--- what a name of the directory counts for, and another
-pub pages_own : (directory : List ℕ) (name : FileName) (names : List FileName) → is_under_directory directory name ≡ true
-    → pages_marked directory (rows_of (name ∷ names)) ≡ pages (marked name.gens.files) + pages_marked directory (rows_of names)
-pages_own directory name names is =
-    pages_marked_join directory (rows_under name) (rows_of names)
-    ∙ ap (λ n. n + pages_marked directory (rows_of names)) (own_pages directory name.key name.gens.files is)
+-- what a family of the directory counts for, and another
+pub pages_own : (directory : List ℕ) (family : Family) (families : List Family) → is_under_directory directory family ≡ true
+    → pages_marked directory (rows_of (family ∷ families)) ≡ pages (marked family.gens.files) + pages_marked directory (rows_of families)
+pages_own directory family families is =
+    pages_marked_join directory (rows_under family) (rows_of families)
+    ∙ ap (λ n. n + pages_marked directory (rows_of families)) (own_pages directory family.key family.gens.files is)
 
-pub pages_other : (directory : List ℕ) (name : FileName) (names : List FileName) → is_under_directory directory name ≡ false
-    → pages_marked directory (rows_of (name ∷ names)) ≡ pages_marked directory (rows_of names)
-pages_other directory name names is =
-    pages_marked_join directory (rows_under name) (rows_of names)
-    ∙ ap (λ n. n + pages_marked directory (rows_of names)) (own_no_pages directory name.key name.gens.files is)
+pub pages_other : (directory : List ℕ) (family : Family) (families : List Family) → is_under_directory directory family ≡ false
+    → pages_marked directory (rows_of (family ∷ families)) ≡ pages_marked directory (rows_of families)
+pages_other directory family families is =
+    pages_marked_join directory (rows_under family) (rows_of families)
+    ∙ ap (λ n. n + pages_marked directory (rows_of families)) (own_no_pages directory family.key family.gens.files is)
     ∙ omega arith
 
 pub pages_within : (directory : List ℕ) (rows : List Row) → list_all is_short rows ≡ true → pages_marked directory rows ≤ 26 * length rows
@@ -173,7 +171,7 @@ pages_within directory (row ∷ rows) short =
         omega (arith, few, rest, sum_by-cons (λ (it : File). page_count (length it.bytes)) row.file (map (λ (it : Row). it.file) (filter (λ (it : Row). is_in directory it && it.file.deleted) rows)))
     by false few rest = omega (arith, rest)
 
--- the pages of a directory, name by name
+-- the pages of a directory, family by family
 pages_in_join : (directory : List ℕ) (xs ys : List Row) → pages_in directory (xs ++ ys) ≡ pages_in directory xs + pages_in directory ys
 pages_in_join directory xs ys =
     ap (λ (it : List Row). pages (map (λ (row : Row). row.file) it)) (filter-append (is_in directory) xs ys)
@@ -214,61 +212,49 @@ short_own key (file ∷ own) more short =
     let rest = short_own key own more parts.1 in
     (and_from _ _ parts.0 rest.0, rest.1)
 
-short_at : (names : List FileName) (i : ℕ) (d : FileName) → i < length names → list_all is_short (rows_of names) ≡ true
-    → list_all (λ file. nat_le (length file.bytes) FILE_LIMIT) (get_or names i d).gens.files ≡ true
+short_at : (families : List Family) (i : ℕ) (d : Family) → i < length families → list_all is_short (rows_of families) ≡ true
+    → list_all (λ file. nat_le (length file.bytes) FILE_LIMIT) (get_or families i d).gens.files ≡ true
 short_at [] i d within short = absurd (omega arith)
-short_at (name ∷ names) zero d within short = (short_own name.key name.gens.files (rows_of names) short).0
-short_at (name ∷ names) (suc i) d within short =
-    short_at names i d (omega arith) (short_own name.key name.gens.files (rows_of names) short).1
+short_at (family ∷ families) zero d within short = (short_own family.key family.gens.files (rows_of families) short).0
+short_at (family ∷ families) (suc i) d within short =
+    short_at families i d (omega arith) (short_own family.key family.gens.files (rows_of families) short).1
 
--- one turn over the names
-pub record IsTurn (directory : List ℕ) (names : List FileName) (i : ℕ) (item : FileName) : Type 0 where
+-- one turn over the families
+pub record IsTurn (directory : List ℕ) (families : List Family) (i : ℕ) (item : Family) : Type 0 where
   pub passed : is_under_directory directory item ≡ false
-      → pages_in directory (rows_of (drop i names)) ≡ pages_in directory (rows_of (drop (i + 1) names))
+      → pages_in directory (rows_of (drop i families)) ≡ pages_in directory (rows_of (drop (i + 1) families))
   pub counted : is_under_directory directory item ≡ true
-      → pages_in directory (rows_of (drop i names)) ≡ pages item.gens.files + pages_in directory (rows_of (drop (i + 1) names))
+      → pages_in directory (rows_of (drop i families)) ≡ pages item.gens.files + pages_in directory (rows_of (drop (i + 1) families))
   pub short : list_all (λ file. nat_le (length file.bytes) FILE_LIMIT) item.gens.files ≡ true
-  pub most : pages_in directory (rows_of names) ≤ 26 * length (rows_of names)
+  pub most : pages_in directory (rows_of families) ≤ 26 * length (rows_of families)
 
-pub is_turn : (directory : List ℕ) (names : List FileName) (i : ℕ) (item : FileName) → i < length names → item ≡ get_or names i item
-    → list_all is_short (rows_of names) ≡ true → IsTurn directory names i item
-is_turn directory names i item within is short =
-    let split = ap (λ (it : List FileName). pages_in directory (rows_of it))
-    (drop_more names i item within ∙ ap (λ (it : FileName). it ∷ drop (i + 1) names) (sym is))
-    ∙ pages_in_join directory (rows_under item) (rows_of (drop (i + 1) names)) in
+pub is_turn : (directory : List ℕ) (families : List Family) (i : ℕ) (item : Family) → i < length families → item ≡ get_or families i item
+    → list_all is_short (rows_of families) ≡ true → IsTurn directory families i item
+is_turn directory families i item within is short =
+    let split = ap (λ (it : List Family). pages_in directory (rows_of it))
+    (drop_more families i item within ∙ ap (λ (it : Family). it ∷ drop (i + 1) families) (sym is))
+    ∙ pages_in_join directory (rows_under item) (rows_of (drop (i + 1) families)) in
     record {
-      passed = λ other. split ∙ ap (λ n. n + pages_in directory (rows_of (drop (i + 1) names))) (own_not_in directory item.key item.gens.files other) ∙ omega arith;
-      counted = λ own. split ∙ ap (λ n. n + pages_in directory (rows_of (drop (i + 1) names))) (own_in directory item.key item.gens.files own);
-      short = ap (λ (it : FileName). list_all (λ (file : File). nat_le (length file.bytes) FILE_LIMIT) it.gens.files) is ∙ short_at names i item within short;
-      most = in_within directory (rows_of names) short;
+      passed = λ other. split ∙ ap (λ n. n + pages_in directory (rows_of (drop (i + 1) families))) (own_not_in directory item.key item.gens.files other) ∙ omega arith;
+      counted = λ own. split ∙ ap (λ n. n + pages_in directory (rows_of (drop (i + 1) families))) (own_in directory item.key item.gens.files own);
+      short = ap (λ (it : Family). list_all (λ (file : File). nat_le (length file.bytes) FILE_LIMIT) it.gens.files) is ∙ short_at families i item within short;
+      most = in_within directory (rows_of families) short;
     }
 
-pub rooms_swept : (directory : List ℕ) (names : List FileName) → rooms_of (map (swept directory) names) ≡ rooms_of names
+pub rooms_swept : (directory : List ℕ) (families : List Family) → rooms_of (map (swept directory) families) ≡ rooms_of families
 rooms_swept directory [] = refl
-rooms_swept directory (name ∷ names) = by (is_under_directory directory name) (rooms_swept directory names)
+rooms_swept directory (family ∷ families) = by (is_under_directory directory family) (rooms_swept directory families)
   where
-    by : (b : Bool) → rooms_of (map (swept directory) names) ≡ rooms_of names
-        → rooms_of (cond b (record name { gens = record name.gens { files = unmarked name.gens.files } }) name ∷ map (swept directory) names) ≡ rooms_of (name ∷ names)
-    by true rest = ap (λ more. record { key = name.key; room = name.gens.room } ∷ more) rest
-    by false rest = ap (λ more. record { key = name.key; room = name.gens.room } ∷ more) rest
+    by : (b : Bool) → rooms_of (map (swept directory) families) ≡ rooms_of families
+        → rooms_of (cond b (record family { gens = record family.gens { files = unmarked family.gens.files } }) family ∷ map (swept directory) families) ≡ rooms_of (family ∷ families)
+    by true rest = ap (λ more. record { key = family.key; room = family.gens.room } ∷ more) rest
+    by false rest = ap (λ more. record { key = family.key; room = family.gens.room } ∷ more) rest
 
--- one turn of a loop that changes each element in place
-pub turn_done : {X : Type 0} (f : X → X) (xs whole : List X) (i : ℕ) (item new : X) → i < length xs → item ≡ get_or xs i item → new ≡ f item
-    → take i xs ++ map f (drop i xs) ≡ whole → take (i + 1) (set xs i new) ++ map f (drop (i + 1) (set xs i new)) ≡ whole
-turn_done {X} f xs whole i item new within is made so_far =
-    let split : drop i xs ≡ item ∷ drop (i + 1) xs = drop_more xs i item within ∙ ap (λ (it : X). it ∷ drop (i + 1) xs) (sym is) in
-    ap (λ (front : List X). front ++ map f (drop (i + 1) (set xs i new))) (take_more_set xs i new within)
-    ∙ ap (λ (rest : List X). (take i xs ++ new ∷ []) ++ map f rest) (drop-set-lt (i + 1) xs i new (omega arith))
-    ∙ ap (λ (it : X). (take i xs ++ it ∷ []) ++ map f (drop (i + 1) xs)) made
-    ∙ append_assoc (take i xs) (f item ∷ []) (map f (drop (i + 1) xs))
-    ∙ sym (ap (λ (rest : List X). take i xs ++ map f rest) split)
-    ∙ so_far
-
-pub ascends_swept : (directory : List ℕ) (names : List FileName) → ascends by_name names ≡ true → ascends by_name (map (swept directory) names) ≡ true
-ascends_swept directory names ascend =
-    sym (ascends_map by_key by_name (λ (name : FileName). name.key) (λ x y. refl) (map (swept directory) names))
-    ∙ ap (ascends by_key) (keys_swept directory names)
-    ∙ ascends_map by_key by_name (λ (name : FileName). name.key) (λ x y. refl) names
+pub ascends_swept : (directory : List ℕ) (families : List Family) → ascends by_family families ≡ true → ascends by_family (map (swept directory) families) ≡ true
+ascends_swept directory families ascend =
+    sym (ascends_map by_key by_family (λ (family : Family). family.key) (λ x y. refl) (map (swept directory) families))
+    ∙ ap (ascends by_key) (keys_swept directory families)
+    ∙ ascends_map by_key by_family (λ (family : Family). family.key) (λ x y. refl) families
     ∙ ascend
 
 -- what is left is no more than there was

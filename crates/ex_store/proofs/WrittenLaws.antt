@@ -1,6 +1,7 @@
 -- A file is written: the row that is added, and what the plan comes to.
-use Rattle.std.proofs.Common.{◌≡◌, ◌||◌, ℕ, nat_le, Bool, true, false, not, cond, List, [], ◌∷◌, length, unwrap_or, Result, Ok, Err, Option, Some, None, refl, ap, sym, subst, ◌∙◌}
+use Rattle.std.proofs.Common.{◌≡◌, ℕ, nat_le, Bool, true, false, not, cond, List, [], ◌∷◌, length, unwrap_or, Result, Ok, Err, Option, Some, None, refl, ap, sym, subst, ◌∙◌}
 use Rattle.std.proofs.lemmas.Bool.{and_from, le-leb, or_parts}
+use Rattle.cm_lists.proofs.Bools.{second_of_or}
 use Rattle.cm_fields.specs.declared.code.Code.{Code}
 use Rattle.cm_fields.specs.declared.code.Code.TheVariants.{NameNeeded}
 use Rattle.cm_fields.specs.declared.value.Gen.{Gen}
@@ -22,7 +23,7 @@ use Rattle.ex_store.specs.WellFormed.{AreRows, IsWellFormed, is_file_name, is_fi
 use Rattle.ex_store.proofs.AdmittedLaws.{admitted_is, counted_target, rows_added}
 use Rattle.ex_store.proofs.AllCopiedLaws.{formed_is, moment_within, new_stamped}
 use Rattle.ex_store.proofs.PlannedLaws.{changes_files}
-use Rattle.ex_store.proofs.RemarkedLaws.{well_formed_with_rows}
+use Rattle.ex_store.proofs.RemarkLaws.{well_formed_with_rows}
 
 -- what is asked of the rows that the code has is what is asked of those of the state
 pub asked_is : (key given : Key) (generation : Gen) (size count files all : ℕ) (rows before : List Row) (answer : Result ℕ Code) → given ≡ key → before ≡ rows
@@ -83,10 +84,6 @@ write_doable state to bytes moment keep generation change target admits is =
     let known = admitted_is (own_key to) to.generation (length bytes) state.rows generation (counted_target to.generation target.generation) admits in
     rw is (and_from _ _ (ap not known.free.absent) refl)
 
-plain : (star own : Bool) → star ≡ false → (star || own) ≡ true → own ≡ true
-plain true own no_star may = absurd (cc)
-plain false own no_star may = may
-
 -- name and type of a target that has a name have their forms
 own_forms : (to : Place) (name kind : Option (List ℕ)) → lacks_name (record to { name = name; kind = kind }) ≡ false
     → may_be is_file_name name ≡ true → may_be is_file_type kind ≡ true
@@ -94,10 +91,10 @@ own_forms : (to : Place) (name kind : Option (List ℕ)) → lacks_name (record 
 own_forms to None kind has may_name may_kind = absurd (cc)
 own_forms to (Some name) None has may_name may_kind =
     let parts = or_parts (is_star name) false has in
-    (plain (is_star name) (is_file_name name) parts.0 may_name, refl)
+    (second_of_or (is_star name) (is_file_name name) parts.0 may_name, refl)
 own_forms to (Some name) (Some kind) has may_name may_kind =
     let parts = or_parts (is_star name) (is_star kind) has in
-    (plain (is_star name) (is_file_name name) parts.0 may_name, plain (is_star kind) (is_file_type kind) parts.1 may_kind)
+    (second_of_or (is_star name) (is_file_name name) parts.0 may_name, second_of_or (is_star kind) (is_file_type kind) parts.1 may_kind)
 
 -- the rows with the one that is written are those of a store
 pub rows_written : (directories : List Directory) (keep moment : ℕ) (to : Place) (bytes : List ℕ) (rows : List Row) (generation : ℕ)

@@ -62,10 +62,10 @@ fitting all size more =
     else (if nat_lt STORE_LIMIT (all + more) then Err StoreSize else Ok tt)
 
 -- the bytes of each source in turn, behind these
-abbrev pub poured : ℕ → List ℕ → List Row → Result (List ℕ) Code
-poured all bytes [] = Ok bytes
-poured all bytes (source ∷ more) =
-    and_then (λ _. poured (all + length source.file.bytes) (bytes ++ source.file.bytes) more)
+abbrev pub concatenation : ℕ → List ℕ → List Row → Result (List ℕ) Code
+concatenation all bytes [] = Ok bytes
+concatenation all bytes (source ∷ more) =
+    and_then (λ _. concatenation (all + length source.file.bytes) (bytes ++ source.file.bytes) more)
     (fitting all (length bytes) (length source.file.bytes))
 
 -- each source went to the target
@@ -81,7 +81,7 @@ appended retention moment to sources rows =
       rows = filled there.target (moment_of moment) bytes (with_opened rows there.new);
       pairs = pairs_to there.target sources;
     }))
-    (poured (total rows) (bytes_at there.target rows) sources))
+    (concatenation (total rows) (bytes_at there.target rows) sources))
     (opened retention moment (own_key to) to.generation rows)
 
 -- what is to be done for it: the empty row is added, and then the bytes are filled in

@@ -5,6 +5,7 @@ pub mod Copying
 pub mod Defining
 pub mod Draft
 pub mod Entries
+pub mod Families
 pub mod Forms
 pub mod Insertion
 pub mod Lent
@@ -17,4 +18,3 @@ pub mod Rows
 pub mod Selection
 pub mod State
 pub mod WellFormed
-pub mod FileNames

@@ -25,7 +25,7 @@ use Rattle.ex_store.specs.Copying.{all_copied, is_star, moment_of, written}
 use Rattle.ex_store.specs.Defining.{definition_of, with_definition}
 use Rattle.ex_store.specs.Printing.{entries_for, own_pairs}
 use Rattle.ex_store.specs.Renaming.{all_renamed}
-use Rattle.ex_store.specs.Selection.{meant, touched}
+use Rattle.ex_store.specs.Selection.{selected, touched}
 use Rattle.ex_store.specs.State.{State, has_directory, retention_of}
 use Rattle.ex_store.specs.WellFormed.{is_day, is_file_name, is_file_type, is_numbered}
 
@@ -34,9 +34,9 @@ pub record Planned : Type 0 where
   pub state : State
   pub pairs : List NamePair
 
--- the rows that a place means by its own flag
+-- the rows that a place selects by its own flag
 abbrev pub sources : Place → State → List Row
-sources from state = meant from.flags.deleted from state
+sources from state = selected from.flags.deleted from state
 
 -- the state with these rows
 abbrev pub with_rows : State → Result Outcome Code → Result Planned Code

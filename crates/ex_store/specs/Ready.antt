@@ -21,7 +21,7 @@ use Rattle.ex_store.specs.Building.{with_directory}
 use Rattle.ex_store.specs.Adding.{Outcome}
 use Rattle.ex_store.specs.Defining.{with_definition}
 use Rattle.ex_store.specs.Entries.{is_kept}
-use Rattle.ex_store.specs.FileNames.{room_at}
+use Rattle.ex_store.specs.Families.{room_at}
 use Rattle.ex_store.specs.Plan.{Planned}
 use Rattle.ex_store.specs.Rows.{added, by_key, filled, files_of, row_at, with_name, without}
 use Rattle.ex_store.specs.Selection.{touched}
@@ -183,5 +183,5 @@ pub record IsFor (change : Change) (held : StoreWithRoom) : Type 0 where
   pub directories : count_made change.directory ≤ held.spare_directories
   pub logical : count_made change.definition ≤ held.spare_logical
   pub names : (key : Key) → 0 < count_under key change.row_changes
-      → length (files_of key held.state.rows) + count_under key change.row_changes ≤ room_at key held.name_rooms
+      → length (files_of key held.state.rows) + count_under key change.row_changes ≤ room_at key held.family_rooms
   pub queue : length held.state.queue + length change.entries ≤ held.queue_room

@@ -1,4 +1,4 @@
--- Which files a place means (GTJFN).
+-- Which files a place selects (GTJFN).
 use Rattle.std.specs.Prelude.{ℕ, ◌≡◌, ◌+◌, ◌<◌, ◌≤◌, Bool, true, ◌&&◌, if◌then◌else◌, List, [], ◌∷◌, drop, map, filter, codes, Option, None, Some}
 use Rattle.std.specs.Option.{MatchOption}
 use Rattle.cm_files.specs.Selection.{Wanted, is_selected}
@@ -31,36 +31,36 @@ wanted_of deleted place =
       deleted = deleted;
     }
 
--- a row is one of those that a place means, with this mark
-unfoldable pub is_meant : Bool → Place → State → Row → Bool
-is_meant deleted place state row =
+-- a row is one of those that a place selects, with this mark
+unfoldable pub is_selected_by : Bool → Place → State → Row → Bool
+is_selected_by deleted place state row =
     is_in place.directory row
     && is_selected (wanted_of deleted place) (map (file_row state.directories) (rows_in place.directory state.rows))
     (file_row state.directories row)
 
--- the rows that a place means, with this mark
-abbrev pub meant : Bool → Place → State → List Row
-meant deleted place state = filter (is_meant deleted place state) state.rows
+-- the rows that a place selects, with this mark
+abbrev pub selected : Bool → Place → State → List Row
+selected deleted place state = filter (is_selected_by deleted place state) state.rows
 
 -- those of them from a number on, among the rows of its directory
-abbrev pub meant_from : Bool → Place → State → ℕ → List Row
-meant_from deleted place state from =
-    filter (is_meant deleted place state) (drop from (rows_in place.directory state.rows))
+abbrev pub selected_from : Bool → Place → State → ℕ → List Row
+selected_from deleted place state from =
+    filter (is_selected_by deleted place state) (drop from (rows_in place.directory state.rows))
 
 -- the first of them, with its number, or there is none
 abbrev pub IsNext : Bool → Place → State → ℕ → Option (ℕ × Row) → Type 0
 IsNext deleted place state from found =
-    let left = meant_from deleted place state in
+    let left = selected_from deleted place state in
     MatchOption found (left from ≡ []) (λ next. (left from ≡ next.1 ∷ left (next.0 + 1)) × (next.0 < ROW_LIMIT))
 
--- the rows, where one thing is changed of those that a place means
-abbrev pub remarked : Remark → Place → State → List Row
-remarked remark place state =
-    map (λ row. if is_meant place.flags.deleted place state row then with_remark remark row else row) state.rows
+-- the rows, where one thing is changed of those that a place selects
+abbrev pub rows_with_remark : Remark → Place → State → List Row
+rows_with_remark remark place state =
+    map (λ row. if is_selected_by place.flags.deleted place state row then with_remark remark row else row) state.rows
 
--- the rows, where those that a place means are read at this moment
+-- the rows, where those that a place selects are read at this moment
 abbrev pub touched : ℕ → Place → State → List Row
-touched moment place state = remarked (remarks.Read moment) place state
+touched moment place state = rows_with_remark (remarks.Read moment) place state
 
 -- the number of the directory of this name; without one it has no rows
 abbrev pub IsNumber : List ℕ → State → Option ℕ → Type 0

@@ -23,14 +23,14 @@ pub record State : Type 0 where
   pub queue : List QueueEntry
 
 -- for how many files of a directory, name and type there is room
-pub record NameRoom : Type 0 where
+pub record FamilyRoom : Type 0 where
   pub key : Key
   pub room : ℕ
 
 -- files, and for how many of each name there is room
 pub record FilesWithRoom : Type 0 where
   pub rows : List Row
-  pub rooms : List NameRoom
+  pub rooms : List FamilyRoom
 
 -- the elements of a list, and for how many more there is room
 pub record WithSpare (X : Type 0) : Type 0 where
@@ -43,7 +43,7 @@ pub record StoreWithRoom : Type 0 where
   pub state : State
   pub spare_directories : ℕ
   pub spare_logical : ℕ
-  pub name_rooms : List NameRoom
+  pub family_rooms : List FamilyRoom
   pub queue_room : ℕ
 
 -- a directory has this name

@@ -6,7 +6,7 @@ ghost use Rattle.ex_store.specs.declared.limits.TheConstants.{RETENTION_LIMIT, R
 ghost use Rattle.ex_generations.specs.declared.file.TheConstants.{FILE_LIMIT};
 ghost use Rattle.ex_store.specs.declared.plan.Plan.TheVariants as plans;
 ghost use Rattle.ex_store.specs.declared.row.Row.{Row as Filed};
-ghost use Rattle.ex_store.specs.Appending.{appended, fitting, opened, pairs_to, poured, row_changes_of};
+ghost use Rattle.ex_store.specs.Appending.{appended, fitting, opened, pairs_to, concatenation, row_changes_of};
 ghost use Rattle.ex_store.specs.Copying.{moment_of};
 ghost use Rattle.ex_store.specs.Plan.{IsOneFile, IsRefused, MayPlan, planned};
 ghost use Rattle.ex_store.specs.Positions.{elements_at};
@@ -43,14 +43,14 @@ fn fits(all: usize, size: usize, more: usize) -> Result<(), Code>
 }
 
 // The bytes of the sources at these places, behind those.
-fn poured(files: &Files, positions: &[u16], bytes: Vec<u8>) -> Result<Bytes, Refusal>
+fn concatenate(files: &Files, positions: &[u16], bytes: Vec<u8>) -> Result<Bytes, Refusal>
     requires within { list_all (λ at. nat_lt at (length files.now.rows)) positions.now ≡ true }
     requires all { total files.now.rows ≤ STORE_LIMIT }
     requires short { length bytes.items ≤ FILE_LIMIT }
     ensures ok { IfOk result (λ out.
-        poured (total files.now.rows) bytes.items (elements_at files.now.rows positions.now) ≡ Ok out) }
+        concatenation (total files.now.rows) bytes.items (elements_at files.now.rows positions.now) ≡ Ok out) }
     ensures refused { IfErr result (IsRefused
-        (poured (total files.now.rows) bytes.items (elements_at files.now.rows positions.now))) }
+        (concatenation (total files.now.rows) bytes.items (elements_at files.now.rows positions.now))) }
 {
     let mut bytes = bytes;
     let mut all = files.total();
@@ -192,7 +192,7 @@ fn appends(
         Ok(old) => old,
         Err(_) => return Err(Refusal::NoMemory),
     };
-    let bytes = match poured(files, positions, old) {
+    let bytes = match concatenate(files, positions, old) {
         Ok(bytes) => bytes,
         Err(refusal) => return Err(refusal),
     };

@@ -10,7 +10,7 @@ ghost use Rattle.ex_store.specs.declared.ready.RowChange.TheVariants as changes;
 ghost use Rattle.ex_store.specs.declared.row.Row.{Row as Filed};
 ghost use Rattle.ex_store.specs.Adding.{new_row};
 ghost use Rattle.ex_store.specs.Copying.{all_copied, moment_of};
-ghost use Rattle.ex_store.specs.FileNames.{by_name, rows_of};
+ghost use Rattle.ex_store.specs.Families.{by_family, rows_of};
 ghost use Rattle.ex_store.specs.Plan.{IsRefused, IsTarget, MayPlan, planned};
 ghost use Rattle.ex_store.specs.Positions.{elements_at};
 ghost use Rattle.ex_store.specs.Ready.{IsMade, applied, are_doable, done_on, is_reading_within, rows_read};
@@ -20,7 +20,7 @@ ghost use Rattle.ex_store.specs.WellFormed.{AreRows, IsWellFormed, is_numbered};
 
 use crate::adding::admitted;
 use crate::directories::Directories;
-use crate::file_name::{add, keep_at, numbered};
+use crate::family::{add, keep_at, numbered};
 use crate::files::Files;
 use crate::limits::MOMENT_LIMIT;
 use crate::ready::Reading;
@@ -47,9 +47,9 @@ impl Simulation {
         moment: u64,
         keep: u8,
     ) -> Result<(), NoMemory>
-        requires names { ascends by_name self.old.names.items ≡ true }
+        requires families { ascends by_family self.old.families.items ≡ true }
         requires number { is_numbered generation ≡ true }
-        requires absent { has generation (files_of key (rows_of self.old.names.items)) ≡ false }
+        requires absent { has generation (files_of key (rows_of self.old.families.items)) ≡ false }
         ensures row_changes { OnOk result (self.new.row_changes.items
             ≡ self.old.row_changes.items
             ++ changes.Add (new_row key keep moment (row_of_view source.entry).file.bytes generation) ∷ []) }
@@ -58,10 +58,10 @@ impl Simulation {
               source = full_of (row_of_view source.entry);
               target = record { key = key; generation = generation };
             }) ∷ []) }
-        ensures names { OnOk result (rows_of self.new.names.items
+        ensures families { OnOk result (rows_of self.new.families.items
             ≡ added keep (blank (new_row key keep moment (row_of_view source.entry).file.bytes generation))
-            (rows_of self.old.names.items)) }
-        ensures ascend { OnOk result (ascends by_name self.new.names.items ≡ true) }
+            (rows_of self.old.families.items)) }
+        ensures ascend { OnOk result (ascends by_family self.new.families.items ≡ true) }
     {
         let row = Row::new(
             key,
@@ -70,7 +70,7 @@ impl Simulation {
             moment,
             source.file.bytes.copy(alloc)?,
         );
-        add(&mut self.names, alloc, row.blank(alloc))?;
+        add(&mut self.families, alloc, row.blank(alloc))?;
         self.pairs.push(NamePair {
             source: source.full_name(),
             target: row.full_name(),
@@ -119,12 +119,12 @@ fn copies(
         let source = files.row_at(usize::from(*at));
         let key = to.key_from(&source.key());
         let size = source.file.bytes.len();
-        let number = numbered(&simulation.names, &key, to.generation);
+        let number = numbered(&simulation.families, &key, to.generation);
         let generation = match admitted(number, count, bytes, size) {
             Ok(generation) => generation,
             Err(code) => return Err(Refusal::Code(code)),
         };
-        let keep = keep_at(&simulation.names, &key, retention);
+        let keep = keep_at(&simulation.families, &key, retention);
         match simulation.copy(alloc, source, key, generation, moment_of(moment), keep) {
             Ok(()) => {
                 count += 1;

@@ -1,12 +1,12 @@
-// The files of a store by name.
+// The files of a store by family.
 ghost use Rattle.std.specs.Prelude.{◌≡◌, ◌+◌, ◌-◌, ◌*◌, ◌^◌, ◌<◌, ◌≤◌, Some, [], ◌∷◌, ◌++◌, get_or, length, map, option_copied, option_map, set, slice_get, true, IfOk, OnErr, OnOk};
 ghost use Rattle.ex_store.specs.declared.limits.TheConstants.{ROW_LIMIT, STORE_LIMIT};
 ghost use Rattle.ex_store.specs.declared.key.Key.{Key as Named};
 ghost use Rattle.ex_store.specs.declared.row.Row.{Row as Filed};
-ghost use Rattle.ex_store.specs.FileNames.{by_name, room_at, rows_of};
+ghost use Rattle.ex_store.specs.Families.{by_family, room_at, rows_of};
 ghost use Rattle.ex_store.specs.Lent.{row_of_view};
 ghost use Rattle.ex_store.specs.Ready.{are_doable, count_under, is_lawful, rows_after_all};
-ghost use Rattle.ex_store.specs.Rows.{blank, by_row, end_in, expunged, files_of, first_in, is_short, pages_in, pages_marked, row_at, rows_in_either, total, with_remark};
+ghost use Rattle.ex_store.specs.Rows.{blank, by_row, expunged, files_of, first_in, is_short, pages_in, pages_marked, row_at, rows_in_either, total, with_remark};
 ghost use Rattle.ex_store.specs.Adding.{keep_at, numbered};
 ghost use Rattle.ex_store.specs.Appending.{bytes_at, found};
 ghost use Rattle.cm_files.specs.Catalogue.{ascends};
@@ -14,9 +14,9 @@ ghost use Rattle.ex_generations.specs.declared.file.TheConstants.{FILE_LIMIT};
 ghost use Rattle.ex_store.specs.WellFormed.{is_numbered};
 ghost use Rattle.std.specs.List.{list_all};
 
-use crate::file_name::{Entry, blanks, bytes_at, find, found, keep_at, numbered};
-use crate::file_numbers::{count, end_of, first_of, len, push, remark_file, row_at};
-use crate::room::{change_names, make_room};
+use crate::family::{FamilyBox, blanks, bytes_at, find, found, keep_at, numbered};
+use crate::file_numbers::{count, first_of, len, push, remark_file, row_at};
+use crate::room::{change_families, make_room};
 use crate::sweep::{drop_marked, pages_in, total};
 use crate::{FullName, Key, Row, RowChange, RowView};
 use cm_fields::{Code, Gen};
@@ -25,21 +25,21 @@ use ex_generations::{File, Remark};
 use std::alloc::Global;
 use std::marker::Model;
 
-// The files by name, counted. Contracts see one flat list of them, and for how many of each name there is room.
+// The files by family, counted. Contracts see one flat list of them, and for how many of each family there is room.
 #[derive(Drop)]
 pub(crate) struct Files {
-    names: Vec<Entry>,
+    families: Vec<FamilyBox>,
 }
 
 impl Model for Files {
-    ghost use Rattle.ex_store.specs.FileNames.{AreNames, rooms_of, rows_of};
+    ghost use Rattle.ex_store.specs.Families.{AreFamilies, rooms_of, rows_of};
     ghost use Rattle.ex_store.specs.State.{FilesWithRoom};
 
     ghost Value = { FilesWithRoom };
 
-    ghost view = { λ it. record { rows = rows_of it.names.items; rooms = rooms_of it.names.items } };
+    ghost view = { λ it. record { rows = rows_of it.families.items; rooms = rooms_of it.families.items } };
 
-    ghost invariant = { λ it. AreNames it.names.items };
+    ghost invariant = { λ it. AreFamilies it.families.items };
 }
 
 impl Files {
@@ -48,7 +48,7 @@ impl Files {
         ensures { result.rows ≡ [] }
     {
         Files {
-            names: Vec::new(alloc),
+            families: Vec::new(alloc),
         }
     }
 
@@ -56,7 +56,7 @@ impl Files {
     pub(crate) fn len(&self) -> usize
         ensures { result ≡ length self.now.rows }
     {
-        len(&self.names)
+        len(&self.families)
     }
 
     // The file with this number.
@@ -67,37 +67,30 @@ impl Files {
         self.find_row(i, &mut 0)
     }
 
-    // The file of a full name, where there is one. How often a name is asked is added to `probes`.
+    // The file of a full name, where there is one. How often a family is asked is added to `probes`.
     pub(crate) fn find(&self, full: &FullName, probes: &mut u64) -> Option<&File>
         ensures file { option_copied result ≡ option_map (λ row. row.file) (row_at full.now self.now.rows) }
         ensures later { probes.old ≤ probes.new }
         ensures few { 2 ^ (probes.new - probes.old) ≤ 2 * length self.now.rooms + 1 }
     {
-        find(&self.names, full, probes)
+        find(&self.families, full, probes)
     }
 
-    // The file with this number. How often a name is asked is added to `probes`.
+    // The file with this number. How often a family is asked is added to `probes`.
     pub(crate) fn find_row(&self, i: usize, probes: &mut u64) -> RowView<'_>
         requires { i < length self.now.rows }
         ensures row { slice_get self.now.rows i ≡ Some (row_of_view result) }
         ensures later { probes.old ≤ probes.new }
         ensures few { 2 ^ (probes.new - probes.old) ≤ 2 * length self.now.rooms + 1 }
     {
-        row_at(&self.names, i, probes)
+        row_at(&self.families, i, probes)
     }
 
     // How many files stand before those of a directory.
     pub(crate) fn first_of(&self, directory: &[u8]) -> usize
         ensures { result ≡ first_in directory.now self.now.rows }
     {
-        first_of(&self.names, directory)
-    }
-
-    // How many files stand before those behind a directory.
-    pub(crate) fn end_of(&self, directory: &[u8]) -> usize
-        ensures { result ≡ end_in directory.now self.now.rows }
-    {
-        end_of(&self.names, directory)
+        first_of(&self.families, directory)
     }
 
     // Changes one thing of the file with this number.
@@ -107,18 +100,18 @@ impl Files {
             ≡ set self.old.rows i (with_remark remark (get_or self.old.rows i d)) }
         ensures rooms { self.new.rooms ≡ self.old.rooms }
     {
-        remark_file(&mut self.names, i, remark);
+        remark_file(&mut self.families, i, remark);
     }
 
-    // Makes room for what some changes put under each name.
+    // Makes room for what some changes put under each family.
     pub(crate) fn make_room(&mut self, alloc: Global, changes: &[RowChange]) -> Result<(), NoMemory>
         ensures rows { self.new.rows ≡ self.old.rows }
         ensures room { OnOk result ((key : Named) → 0 < count_under key changes.now
             → length (files_of key self.old.rows) + count_under key changes.now ≤ room_at key self.new.rooms) }
         ensures lean { OnOk result (length self.new.rooms ≤ length self.old.rows + length changes.now) }
     {
-        let made = make_room(&mut self.names, alloc, changes);
-        count(&mut self.names, 0);
+        let made = make_room(&mut self.families, alloc, changes);
+        count(&mut self.families, 0);
         made?;
         Ok(())
     }
@@ -133,8 +126,8 @@ impl Files {
         ensures rows { self.new.rows ≡ rows_after_all self.old.rows changes.items }
         ensures rooms { self.new.rooms ≡ self.old.rooms }
     {
-        change_names(&mut self.names, changes);
-        count(&mut self.names, 0);
+        change_families(&mut self.families, changes);
+        count(&mut self.families, 0);
     }
 
     // The bytes of all files together.
@@ -142,42 +135,42 @@ impl Files {
         requires { total self.now.rows ≤ STORE_LIMIT }
         ensures { result ≡ total self.now.rows }
     {
-        total(&self.names)
+        total(&self.families)
     }
 
-    // The generation that a new file of a name takes: a number that is given, and else the next.
+    // The generation that a new file of a family takes: a number that is given, and else the next.
     pub(crate) fn numbered(&self, key: &Key, generation: Gen) -> Result<u32, Code>
         ensures { result ≡ numbered generation (files_of key.now self.now.rows) }
     {
-        numbered(&self.names, key, generation)
+        numbered(&self.families, key, generation)
     }
 
-    // How many generations a new file of a name keeps: as many as the highest of them, and else this number.
+    // How many generations a new file of a family keeps: as many as the highest of them, and else this number.
     pub(crate) fn keep_at(&self, key: &Key, retention: u8) -> u8
         ensures { result ≡ keep_at retention key.now self.now.rows }
     {
-        keep_at(&self.names, key, retention)
+        keep_at(&self.families, key, retention)
     }
 
     // What a file holds; nothing where it is not there.
     pub(crate) fn bytes_at(&self, full: &FullName) -> &[u8]
         ensures { result.now ≡ bytes_at full.now self.now.rows }
     {
-        bytes_at(&self.names, full)
+        bytes_at(&self.families, full)
     }
 
-    // The names of two directories, with their files without their bytes, as if nobody had read them.
+    // The families of two directories, with their files without their bytes, as if nobody had read them.
     pub(crate) fn blanks(
         &self,
         alloc: Global,
         from: &[u8],
         to: &[u8],
-    ) -> Result<Vec<Entry>, NoMemory>
-        ensures rows { IfOk result (λ names.
-            rows_of names.items ≡ map blank (rows_in_either from.now to.now self.now.rows)) }
-        ensures ascend { IfOk result (λ names. ascends by_name names.items ≡ true) }
+    ) -> Result<Vec<FamilyBox>, NoMemory>
+        ensures rows { IfOk result (λ families.
+            rows_of families.items ≡ map blank (rows_in_either from.now to.now self.now.rows)) }
+        ensures ascend { IfOk result (λ families. ascends by_family families.items ≡ true) }
     {
-        blanks(alloc, &self.names, from, to)
+        blanks(alloc, &self.families, from, to)
     }
 
     // Expunges the files of a directory, and tells how many pages they had.
@@ -187,16 +180,16 @@ impl Files {
         ensures rooms { self.new.rooms ≡ self.old.rooms }
         ensures pages { result ≡ pages_marked directory.now self.old.rows }
     {
-        let pages = drop_marked(&mut self.names, directory);
-        count(&mut self.names, 0);
+        let pages = drop_marked(&mut self.families, directory);
+        count(&mut self.families, 0);
         pages
     }
 
-    // The generation of a name that is put behind, or none, where a new one is added.
+    // The generation of a family that is put behind, or none, where a new one is added.
     pub(crate) fn found(&self, key: &Key, generation: Gen) -> Result<Option<u32>, Code>
         ensures { result ≡ found generation (files_of key.now self.now.rows) }
     {
-        found(&self.names, key, generation)
+        found(&self.families, key, generation)
     }
 
     // The pages of a directory's files.
@@ -204,7 +197,7 @@ impl Files {
         requires { list_all is_short self.now.rows ≡ true }
         ensures { result ≡ pages_in directory.now self.now.rows }
     {
-        pages_in(&self.names, directory)
+        pages_in(&self.families, directory)
     }
 
     // Adds a file that goes behind all others.
@@ -216,7 +209,7 @@ impl Files {
         ensures added { OnOk result (self.new.rows ≡ self.old.rows ++ row ∷ []) }
         ensures refused { OnErr result (self.new.rows ≡ self.old.rows) }
     {
-        push(&mut self.names, alloc, row)?;
+        push(&mut self.families, alloc, row)?;
         Ok(())
     }
 }

@@ -12,7 +12,7 @@ mod define;
 mod directories;
 mod directory;
 mod draft;
-mod file_name;
+mod family;
 mod file_numbers;
 mod files;
 mod firsts;

@@ -18,7 +18,7 @@ use std::alloc::Global;
 use std::marker::Model;
 
 // A text in upper case.
-#[tactic(auto, using(crate::proofs::DefinedLaws::upper_more, crate::proofs::DefinedLaws::upper_all))]
+#[tactic(auto, using(cm_lists::proofs::Ascii::up_more, cm_lists::proofs::Ascii::up_all))]
 pub(crate) fn upper(text: &[u8]) -> Name
     requires short { length text.now ≤ NAME_LIMIT }
     requires ascii { IsAscii text.now }

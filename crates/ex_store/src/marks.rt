@@ -7,7 +7,7 @@ ghost use Rattle.ex_store.specs.Positions.{all_changed_at};
 ghost use Rattle.ex_generations.specs.declared.file.Remark.TheVariants as remarks;
 ghost use Rattle.ex_store.specs.declared.limits.TheConstants.{MOMENT_LIMIT, RETENTION_LIMIT};
 ghost use Rattle.ex_store.specs.Rows.{expunged, pages_marked, with_remark};
-ghost use Rattle.ex_store.specs.Selection.{meant, remarked, touched};
+ghost use Rattle.ex_store.specs.Selection.{selected, rows_with_remark, touched};
 ghost use Rattle.ex_store.specs.State.{has_directory};
 ghost use Rattle.ex_store.specs.WellFormed.{is_remark};
 
@@ -38,60 +38,61 @@ fn remark_all(files: &mut Files, positions: &[u16], remark: Remark)
 }
 
 impl Store {
-    // Changes one thing of the files that a place means, and tells how many they are.
+    // Changes one thing of the files that a place selects, and tells how many they are.
     fn remark(&mut self, files: &Place, remark: Remark) -> u32
         requires { is_remark remark ≡ true }
-        ensures remarked { self.new ≡ record self.old {
-          state = record self.old.state { rows = remarked remark files.now self.old.state };
+        ensures changed { self.new ≡ record self.old {
+          state = record self.old.state { rows = rows_with_remark remark files.now self.old.state };
         } }
-        ensures count { result ≡ length (meant files.now.flags.deleted files.now self.old.state) }
+        ensures count { result ≡ length (selected files.now.flags.deleted files.now self.old.state) }
     {
         let positions = self.positions(files, files.flags.deleted);
         remark_all(&mut self.files, &positions, remark);
         positions.len() as u32
     }
 
-    /// Marks the files that a place means as deleted, and tells how many they are; 0 where there is no such directory.
+    /// Marks the files that a place selects as deleted, and tells how many they are; 0 where there is no such
+    /// directory.
     pub fn mark(&mut self, files: &Place) -> u32
         ensures marked { self.new ≡ record self.old {
-          state = record self.old.state { rows = remarked (remarks.Deleted true) files.now self.old.state };
+          state = record self.old.state { rows = rows_with_remark (remarks.Deleted true) files.now self.old.state };
         } }
-        ensures count { result ≡ length (meant files.now.flags.deleted files.now self.old.state) }
+        ensures count { result ≡ length (selected files.now.flags.deleted files.now self.old.state) }
     {
         self.remark(files, Remark::Deleted(true))
     }
 
-    /// Clears the mark of the files that a place means, and tells how many they are; 0 where there is no such
+    /// Clears the mark of the files that a place selects, and tells how many they are; 0 where there is no such
     /// directory.
     pub fn unmark(&mut self, files: &Place) -> u32
         ensures unmarked { self.new ≡ record self.old {
-          state = record self.old.state { rows = remarked (remarks.Deleted false) files.now self.old.state };
+          state = record self.old.state { rows = rows_with_remark (remarks.Deleted false) files.now self.old.state };
         } }
-        ensures count { result ≡ length (meant files.now.flags.deleted files.now self.old.state) }
+        ensures count { result ≡ length (selected files.now.flags.deleted files.now self.old.state) }
     {
         self.remark(files, Remark::Deleted(false))
     }
 
-    /// Has the files that a place means keep so many generations each, and tells how many they are; 0 where there is no
-    /// such directory. No file is marked by that: it counts when a file is next added under the name.
+    /// Has the files that a place selects keep so many generations each, and tells how many they are; 0 where there is
+    /// no such directory. No file is marked by that: it counts when a file is next added under the name.
     pub fn set_keep(&mut self, files: &Place, keep: u8) -> u32
         requires { keep ≤ RETENTION_LIMIT }
         ensures kept { self.new ≡ record self.old {
-          state = record self.old.state { rows = remarked (remarks.Keep keep) files.now self.old.state };
+          state = record self.old.state { rows = rows_with_remark (remarks.Keep keep) files.now self.old.state };
         } }
-        ensures count { result ≡ length (meant files.now.flags.deleted files.now self.old.state) }
+        ensures count { result ≡ length (selected files.now.flags.deleted files.now self.old.state) }
     {
         self.remark(files, Remark::Keep(keep))
     }
 
-    /// Notes that the files that a place means are read at this moment, and tells how many they are; 0 where there is
+    /// Notes that the files that a place selects are read at this moment, and tells how many they are; 0 where there is
     /// no such directory.
     pub fn touch(&mut self, files: &Place, moment: u64) -> u32
         requires { moment ≤ MOMENT_LIMIT }
         ensures read { self.new ≡ record self.old {
           state = record self.old.state { rows = touched moment files.now self.old.state };
         } }
-        ensures count { result ≡ length (meant files.now.flags.deleted files.now self.old.state) }
+        ensures count { result ≡ length (selected files.now.flags.deleted files.now self.old.state) }
     {
         self.remark(files, Remark::Read(moment))
     }

@@ -1,7 +1,7 @@
 // Plans are prepared.
 ghost use Rattle.std.specs.Prelude.{ℕ, ◌≡◌, ◌<◌, ◌≤◌, ◌+◌, true, length, IfOk, IfErr, OnOk, Ok};
 ghost use Rattle.ex_store.specs.Rows.{files_of};
-ghost use Rattle.ex_store.specs.FileNames.{room_at};
+ghost use Rattle.ex_store.specs.Families.{room_at};
 ghost use Rattle.ex_store.specs.declared.key.Key.{Key as Named};
 ghost use Rattle.ex_store.specs.declared.plan.Plan.TheVariants as plans;
 ghost use Rattle.ex_store.specs.Plan.{IsRefused, MayPlan, planned};
@@ -63,10 +63,10 @@ impl Store {
             (count_made ready.now.definition ≤ self.new.spare_logical) }
         ensures names { OnOk result ((key : Named) → 0 < count_under key ready.now.row_changes
             → length (files_of key self.old.state.rows) + count_under key ready.now.row_changes
-            ≤ room_at key self.new.name_rooms) }
+            ≤ room_at key self.new.family_rooms) }
         ensures queue { OnOk result (length self.old.state.queue + length ready.now.entries ≤ self.new.queue_room) }
         ensures lean { OnOk result
-            (length self.new.name_rooms ≤ length self.old.state.rows + length ready.now.row_changes) }
+            (length self.new.family_rooms ≤ length self.old.state.rows + length ready.now.row_changes) }
     {
         if ready.directory.is_some() {
             self.directories.reserve()?;
@@ -88,7 +88,7 @@ impl Store {
         ensures ready { IfOk result (λ ready. planned plan moment self.old.state ≡ Ok (done_on self.old.state ready)) }
         ensures for_it { IfOk result (λ ready. IsFor ready self.new) }
         ensures lean { IfOk result (λ ready.
-            length self.new.name_rooms ≤ length self.old.state.rows + length ready.row_changes) }
+            length self.new.family_rooms ≤ length self.old.state.rows + length ready.row_changes) }
         ensures refused { IfErr result (IsRefused (planned plan moment self.old.state)) }
     {
         let ready = match self.plan(plan, moment) {

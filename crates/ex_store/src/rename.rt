@@ -8,7 +8,7 @@ ghost use Rattle.ex_store.specs.Lent.{row_of_view};
 ghost use Rattle.ex_store.specs.declared.limits.TheConstants.{ROW_LIMIT};
 ghost use Rattle.ex_store.specs.declared.plan.Plan.TheVariants as plans;
 ghost use Rattle.ex_store.specs.declared.ready.RowChange.TheVariants as changes;
-ghost use Rattle.ex_store.specs.FileNames.{by_name, row_under, rows_of};
+ghost use Rattle.ex_store.specs.Families.{by_family, row_under, rows_of};
 ghost use Rattle.ex_store.specs.Plan.{IsRefused, IsTarget, MayPlan, may_number, planned};
 ghost use Rattle.ex_store.specs.Positions.{elements_at};
 ghost use Rattle.ex_store.specs.Ready.{IsMade, applied, are_doable, done_on, moved, reinserted, rows_read};
@@ -17,7 +17,7 @@ ghost use Rattle.ex_store.specs.Rows.{files_of, is_in};
 ghost use Rattle.ex_store.specs.WellFormed.{AreRows, IsWellFormed, is_numbered};
 
 use crate::directories::Directories;
-use crate::file_name::{Entry, add, numbered, remove};
+use crate::family::{FamilyBox, add, numbered, remove};
 use crate::files::Files;
 use crate::simulation::Simulation;
 use crate::{FullName, NamePair, Place, Ready, Refusal, Row, RowChange, RowView, Store};
@@ -27,46 +27,47 @@ use std::alloc::Global;
 
 // Adds a file that was taken out under another name, unmarked, with all else that it has.
 fn reinsert(
-    names: &mut Vec<Entry>,
+    families: &mut Vec<FamilyBox>,
     alloc: Global,
     target: &FullName,
     file: Option<File>,
 ) -> Result<(), NoMemory>
-    requires names { ascends by_name names.old.items ≡ true }
+    requires families { ascends by_family families.old.items ≡ true }
     requires short { IfSome file (λ file. length file.bytes ≤ FILE_LIMIT) }
     requires number { is_numbered target.now.generation ≡ true }
-    requires absent { has target.now.generation (files_of target.now.key (rows_of names.old.items)) ≡ false }
-    ensures rows { OnOk result (rows_of names.new.items
-        ≡ reinserted target.now (rows_of names.old.items) (option_map (row_under target.now.key) file)) }
-    ensures ascend { OnOk result (ascends by_name names.new.items ≡ true) }
+    requires absent { has target.now.generation (files_of target.now.key (rows_of families.old.items)) ≡ false }
+    ensures rows { OnOk result (rows_of families.new.items
+        ≡ reinserted target.now (rows_of families.old.items) (option_map (row_under target.now.key) file)) }
+    ensures ascend { OnOk result (ascends by_family families.new.items ≡ true) }
 {
     let Some(file) = file else {
         return Ok(());
     };
-    add(names, alloc, Row::with_name(target.copy(), file))?;
+    add(families, alloc, Row::with_name(target.copy(), file))?;
     Ok(())
 }
 
 // A source is renamed in a simulation: it is taken out, and added under its new name. Which names it had and has.
 fn simulate(
-    names: &mut Vec<Entry>,
+    families: &mut Vec<FamilyBox>,
     alloc: Global,
     source: RowView<'_>,
     to: &Place,
 ) -> Result<NamePair, Refusal>
-    requires names { ascends by_name names.old.items ≡ true }
+    requires families { ascends by_family families.old.items ≡ true }
     requires number { may_number to.now.generation ≡ true }
     ensures pair { IfOk result (λ pair.
-        pair_for to.now (row_of_view source.entry) (rows_of names.old.items) ≡ Ok pair) }
-    ensures refused { IfErr result (IsRefused (pair_for to.now (row_of_view source.entry) (rows_of names.old.items))) }
+        pair_for to.now (row_of_view source.entry) (rows_of families.old.items) ≡ Ok pair) }
+    ensures refused { IfErr result
+        (IsRefused (pair_for to.now (row_of_view source.entry) (rows_of families.old.items))) }
     ensures numbered { IfOk result (λ pair. is_numbered pair.target.generation ≡ true) }
-    ensures rows { IfOk result (λ pair. rows_of names.new.items ≡ moved pair (rows_of names.old.items)) }
-    ensures ascend { IfOk result (λ pair. ascends by_name names.new.items ≡ true) }
+    ensures rows { IfOk result (λ pair. rows_of families.new.items ≡ moved pair (rows_of families.old.items)) }
+    ensures ascend { IfOk result (λ pair. ascends by_family families.new.items ≡ true) }
 {
     let full = source.full_name();
     let key = to.key_from(&source.key());
-    let file = remove(names, &full);
-    let generation = match numbered(names, &key, to.generation) {
+    let file = remove(families, &full);
+    let generation = match numbered(families, &key, to.generation) {
         Ok(generation) => generation,
         Err(code) => return Err(Refusal::Code(code)),
     };
@@ -74,7 +75,7 @@ fn simulate(
         source: full,
         target: FullName { key, generation },
     };
-    match reinsert(names, alloc, &pair.target, file) {
+    match reinsert(families, alloc, &pair.target, file) {
         Ok(()) => Ok(pair),
         Err(NoMemory) => Err(Refusal::NoMemory),
     }
@@ -86,7 +87,7 @@ impl Simulation {
         ensures row_changes { OnOk result
             (self.new.row_changes.items ≡ self.old.row_changes.items ++ changes.Move pair ∷ []) }
         ensures pairs { OnOk result (self.new.pairs.items ≡ self.old.pairs.items ++ pair ∷ []) }
-        ensures names { self.new.names.items ≡ self.old.names.items }
+        ensures families { self.new.families.items ≡ self.old.families.items }
     {
         self.pairs.push(pair.copy())?;
         self.row_changes.push(RowChange::Move(pair))?;
@@ -122,7 +123,7 @@ fn renames(
     };
     for at in positions {
         let source = files.row_at(usize::from(*at));
-        let pair = match simulate(&mut simulation.names, alloc, source, to) {
+        let pair = match simulate(&mut simulation.families, alloc, source, to) {
             Ok(pair) => pair,
             Err(refusal) => return Err(refusal),
         };

@@ -1,11 +1,11 @@
-// Which files a place means.
+// Which files a place selects.
 ghost use Rattle.std.specs.Prelude.{◌≡◌, ◌≤◌, true, drop, length, option_map};
 ghost use Rattle.std.specs.List.{list_all, position_from};
 ghost use Rattle.ex_store.specs.declared.limits.TheConstants.{ROW_LIMIT};
 ghost use Rattle.ex_store.specs.Lent.{row_of_view};
 ghost use Rattle.ex_store.specs.Positions.{positions_from};
 ghost use Rattle.ex_store.specs.Rows.{rows_in};
-ghost use Rattle.ex_store.specs.Selection.{IsNext, IsNumber, is_meant, meant};
+ghost use Rattle.ex_store.specs.Selection.{IsNext, IsNumber, is_selected_by, selected};
 ghost use Rattle.ex_store.specs.State.{has_directory, number_of};
 ghost use Rattle.ex_store.specs.WellFormed.{is_row_among};
 
@@ -15,8 +15,8 @@ use arrayvec::ArrayVec;
 use cm_files::select;
 use std::marker::Model;
 
-/// The files that a place means, one after the other (GTJFN and GNJFN), each looked for when it is asked for. Contracts
-/// see the list of those that are left.
+/// The files that a place selects, one after the other (GTJFN and GNJFN), each looked for when it is asked for.
+/// Contracts see the list of those that are left.
 #[derive(Drop)]
 pub struct Selection<'a, 'b> {
     store: &'a Store,
@@ -30,12 +30,12 @@ pub struct Selection<'a, 'b> {
 
 impl<'a, 'b> Model for Selection<'a, 'b> {
     ghost use Rattle.std.specs.Prelude.{List};
-    ghost use Rattle.ex_store.specs.Selection.{IsWalk, meant_from};
+    ghost use Rattle.ex_store.specs.Selection.{IsWalk, selected_from};
     ghost use Rattle.ex_store.specs.declared.row.Row.{Row as Filed};
 
     ghost Value = { List Filed };
 
-    ghost view = { λ it. meant_from it.deleted it.files.now it.store.now.state it.from };
+    ghost view = { λ it. selected_from it.deleted it.files.now it.store.now.state it.from };
 
     ghost invariant = { λ it. IsWalk it.files.now.directory it.store.now.state it.directory it.from };
 }
@@ -61,9 +61,9 @@ impl<'a, 'b> Iterator for Selection<'a, 'b> {
 }
 
 impl Store {
-    /// The files that a place means, with this mark, in ascending order; none where there is no such directory.
+    /// The files that a place selects, with this mark, in ascending order; none where there is no such directory.
     pub fn selection<'a, 'b>(&'a self, files: &'b Place, deleted: bool) -> Selection<'a, 'b>
-        ensures value { result ≡ meant deleted files.now self.now.state }
+        ensures value { result ≡ selected deleted files.now self.now.state }
         ensures lawful { list_all (is_row_among self.now.state.directories) result ≡ true }
         ensures few { length result ≤ ROW_LIMIT }
     {
@@ -86,22 +86,22 @@ impl Store {
         Some(directory as u16)
     }
 
-    /// The first file of a place's directory that the place means, with this mark, among those with this number or a
+    /// The first file of a place's directory that the place selects, with this mark, among those with this number or a
     /// later one; none where there is no such file or no such directory (GTJFN).
     pub fn select(&self, files: &Place, deleted: bool, from: u32) -> Option<u32>
         ensures { let rows = rows_in files.now.directory self.now.state.rows in
-            result ≡ position_from (is_meant deleted files.now self.now.state) from (drop from rows) }
+            result ≡ position_from (is_selected_by deleted files.now self.now.state) from (drop from rows) }
     {
         let directory = self.find_directory(files.directory.as_str())?;
-        self.next_meant(directory, files, deleted, from)
+        self.next_selected(directory, files, deleted, from)
     }
 
     // The same, where the place's directory has this number.
-    fn next_meant(&self, directory: u16, files: &Place, deleted: bool, from: u32) -> Option<u32>
+    fn next_selected(&self, directory: u16, files: &Place, deleted: bool, from: u32) -> Option<u32>
         requires there { has_directory files.now.directory self.now.state.directories ≡ true }
         requires number { directory ≡ number_of files.now.directory self.now.state.directories }
         ensures { let rows = rows_in files.now.directory self.now.state.rows in
-            result ≡ position_from (is_meant deleted files.now self.now.state) from (drop from rows) }
+            result ≡ position_from (is_selected_by deleted files.now self.now.state) from (drop from rows) }
     {
         // A use of a field, for the proof: the state is well formed.
         let _ = &self.directories;
@@ -123,13 +123,14 @@ impl Store {
     {
         // A use of a field, for the proof: the state is well formed.
         let _ = &self.directories;
-        let at = self.next_meant(directory, files, deleted, from)?;
+        let at = self.next_selected(directory, files, deleted, from)?;
         Some((at, self.row_at(directory, at, &mut 0)))
     }
 
-    // Where the rows stand that a place means, with this mark.
+    // Where the rows stand that a place selects, with this mark.
     pub(crate) fn positions(&self, files: &Place, deleted: bool) -> ArrayVec<u16, ROW_LIMIT>
-        ensures { result.items ≡ positions_from (is_meant deleted files.now self.now.state) 0 self.now.state.rows }
+        ensures { result.items
+            ≡ positions_from (is_selected_by deleted files.now self.now.state) 0 self.now.state.rows }
     {
         let mut positions = ArrayVec::new();
         let first = self.files.first_of(files.directory.as_bytes());
@@ -137,7 +138,7 @@ impl Store {
             return positions;
         };
         let mut from = 0;
-        while let Some(i) = self.next_meant(directory, files, deleted, from) {
+        while let Some(i) = self.next_selected(directory, files, deleted, from) {
             positions.push((first + i as usize) as u16);
             from = i + 1;
         }

@@ -3,11 +3,11 @@ ghost use Rattle.std.specs.Prelude.{◌≡◌, ◌≤◌, [], true, length, map,
 ghost use Rattle.std.specs.List.{list_all};
 ghost use Rattle.cm_files.specs.Catalogue.{ascends};
 ghost use Rattle.ex_store.specs.declared.limits.TheConstants.{ROW_LIMIT};
-ghost use Rattle.ex_store.specs.FileNames.{by_name, rows_of};
+ghost use Rattle.ex_store.specs.Families.{by_family, rows_of};
 ghost use Rattle.ex_store.specs.Ready.{is_lawful, is_reading_within, of_files};
 ghost use Rattle.ex_store.specs.Rows.{blank, rows_in_either};
 
-use crate::file_name::Entry;
+use crate::family::FamilyBox;
 use crate::files::Files;
 use crate::ready::Reading;
 use crate::{NamePair, Ready, RowChange};
@@ -15,12 +15,12 @@ use cm_io::NoMemory;
 use std::alloc::Global;
 
 // What is to be done, from which file to which one each goes, and the files of the directories that the plan touches,
-// by name, as they stand then, without their bytes, as if nobody had read them.
+// by family, as they stand then, without their bytes, as if nobody had read them.
 #[derive(Drop)]
 pub(crate) struct Simulation {
     pub(crate) row_changes: Vec<RowChange>,
     pub(crate) pairs: Vec<NamePair>,
-    pub(crate) names: Vec<Entry>,
+    pub(crate) families: Vec<FamilyBox>,
 }
 
 impl Simulation {
@@ -33,14 +33,14 @@ impl Simulation {
     ) -> Result<Simulation, NoMemory>
         ensures row_changes { IfOk result (λ simulation. simulation.row_changes.items ≡ []) }
         ensures pairs { IfOk result (λ simulation. simulation.pairs.items ≡ []) }
-        ensures names { IfOk result (λ simulation.
-            rows_of simulation.names.items ≡ map blank (rows_in_either from.now to.now files.now.rows)) }
-        ensures ascend { IfOk result (λ simulation. ascends by_name simulation.names.items ≡ true) }
+        ensures families { IfOk result (λ simulation.
+            rows_of simulation.families.items ≡ map blank (rows_in_either from.now to.now files.now.rows)) }
+        ensures ascend { IfOk result (λ simulation. ascends by_family simulation.families.items ≡ true) }
     {
         Ok(Simulation {
             row_changes: Vec::new(alloc),
             pairs: Vec::new(alloc),
-            names: files.blanks(alloc, from, to)?,
+            families: files.blanks(alloc, from, to)?,
         })
     }
 

@@ -48,7 +48,7 @@ impl Model for Store {
       };
       spare_directories = it.directories.spare;
       spare_logical = it.logical.spare;
-      name_rooms = it.files.rooms;
+      family_rooms = it.files.rooms;
       queue_room = vec_capacity it.queue;
     } };
 

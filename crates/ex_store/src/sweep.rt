@@ -1,14 +1,14 @@
-// What is told of all files, by name, and what is done with those of one directory.
+// What is told of all files, by family, and what is done with those of one directory.
 ghost use Rattle.std.specs.Prelude.{◌≡◌, ◌+◌, ◌^◌, ◌≤◌, ◌<◌, nat_le, true, length};
 ghost use Rattle.std.specs.List.{list_all};
 ghost use Rattle.cm_files.specs.Catalogue.{ascends};
 ghost use Rattle.ex_generations.specs.declared.file.TheConstants.{FILE_LIMIT};
 ghost use Rattle.ex_generations.specs.Generations.{marked, pages, unmarked};
 ghost use Rattle.ex_store.specs.declared.limits.TheConstants.{ROW_LIMIT, STORE_LIMIT};
-ghost use Rattle.ex_store.specs.FileNames.{by_name, bytes_of, is_under_directory, rooms_of, rows_of};
+ghost use Rattle.ex_store.specs.Families.{by_family, bytes_of, is_under_directory, rooms_of, rows_of};
 ghost use Rattle.ex_store.specs.Rows.{expunged, is_short, pages_in, pages_marked, total};
 
-use crate::file_name::Entry;
+use crate::family::FamilyBox;
 use crate::page_count;
 use ex_generations::File;
 
@@ -25,18 +25,18 @@ fn add_bytes(files: &[File], before: usize) -> usize
 }
 
 // The bytes of all files together.
-pub(crate) fn total(names: &[Entry]) -> usize
-    requires { total (rows_of names.now) ≤ STORE_LIMIT }
-    ensures { result ≡ total (rows_of names.now) }
+pub(crate) fn total(families: &[FamilyBox]) -> usize
+    requires { total (rows_of families.now) ≤ STORE_LIMIT }
+    ensures { result ≡ total (rows_of families.now) }
 {
     let mut all = 0;
-    for name in names {
-        all = add_bytes(name.files(), all);
+    for family in families {
+        all = add_bytes(family.files(), all);
     }
     all
 }
 
-impl Entry {
+impl FamilyBox {
     // Whether it is one of this directory.
     fn is_in(&self, directory: &[u8]) -> bool
         ensures { result ≡ is_under_directory directory.now self.now }
@@ -51,38 +51,38 @@ impl Entry {
         } }
         ensures pages { result ≡ pages (marked self.old.gens.files) }
     {
-        self.name.gens.expunge()
+        self.family.gens.expunge()
     }
 }
 
 // Expunges the files of a directory, and tells how many pages they had.
-pub(crate) fn drop_marked(names: &mut [Entry], directory: &[u8]) -> u32
-    requires names { ascends by_name names.old ≡ true }
-    requires few { length (rows_of names.old) ≤ ROW_LIMIT }
-    requires short { list_all is_short (rows_of names.old) ≡ true }
-    ensures rows { rows_of names.new ≡ expunged directory.now (rows_of names.old) }
-    ensures pages { result ≡ pages_marked directory.now (rows_of names.old) }
-    ensures ascend { ascends by_name names.new ≡ true }
-    ensures rooms { rooms_of names.new ≡ rooms_of names.old }
+pub(crate) fn drop_marked(families: &mut [FamilyBox], directory: &[u8]) -> u32
+    requires families { ascends by_family families.old ≡ true }
+    requires few { length (rows_of families.old) ≤ ROW_LIMIT }
+    requires short { list_all is_short (rows_of families.old) ≡ true }
+    ensures rows { rows_of families.new ≡ expunged directory.now (rows_of families.old) }
+    ensures pages { result ≡ pages_marked directory.now (rows_of families.old) }
+    ensures ascend { ascends by_family families.new ≡ true }
+    ensures rooms { rooms_of families.new ≡ rooms_of families.old }
 {
     let mut pages = 0;
-    for name in names.iter_mut() {
-        if !name.is_in(directory) {
+    for family in families.iter_mut() {
+        if !family.is_in(directory) {
             continue;
         }
-        pages += name.expunge();
+        pages += family.expunge();
     }
     pages
 }
 
-// Drops the names that have no file.
-pub(crate) fn drop_empty(names: &mut Vec<Entry>)
-    requires { ascends by_name names.old.items ≡ true }
-    ensures rows { rows_of names.new.items ≡ rows_of names.old.items }
-    ensures ascend { ascends by_name names.new.items ≡ true }
-    ensures lean { length names.new.items ≤ length (rows_of names.old.items) }
+// Drops the families that have no file.
+pub(crate) fn drop_empty(families: &mut Vec<FamilyBox>)
+    requires { ascends by_family families.old.items ≡ true }
+    ensures rows { rows_of families.new.items ≡ rows_of families.old.items }
+    ensures ascend { ascends by_family families.new.items ≡ true }
+    ensures lean { length families.new.items ≤ length (rows_of families.old.items) }
 {
-    names.retain(|name| !name.files().is_empty());
+    families.retain(|family| !family.files().is_empty());
 }
 
 // The pages of some files, behind so many.
@@ -99,17 +99,17 @@ fn add_pages(files: &[File], before: u32) -> u32
 }
 
 // The pages of a directory's files.
-pub(crate) fn pages_in(names: &[Entry], directory: &[u8]) -> u32
-    requires few { length (rows_of names.now) ≤ ROW_LIMIT }
-    requires short { list_all is_short (rows_of names.now) ≡ true }
-    ensures { result ≡ pages_in directory.now (rows_of names.now) }
+pub(crate) fn pages_in(families: &[FamilyBox], directory: &[u8]) -> u32
+    requires few { length (rows_of families.now) ≤ ROW_LIMIT }
+    requires short { list_all is_short (rows_of families.now) ≡ true }
+    ensures { result ≡ pages_in directory.now (rows_of families.now) }
 {
     let mut pages = 0;
-    for name in names {
-        if !name.is_in(directory) {
+    for family in families {
+        if !family.is_in(directory) {
             continue;
         }
-        pages = add_pages(name.files(), pages);
+        pages = add_pages(family.files(), pages);
     }
     pages
 }

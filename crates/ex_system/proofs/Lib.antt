@@ -1,5 +1,5 @@
 mod Parts
-pub mod SavingLaws
-pub mod Starting
-pub mod TryingLemmas
+pub mod SaveLaws
+pub mod Starts
+pub mod Trials
 mod WordLaws

@@ -16,13 +16,13 @@ use Rattle.ex_commands.specs.Act.{act_of}
 use Rattle.ex_commands.specs.declared.acted.Acted.{Acted}
 use Rattle.ex_commands.specs.declared.acted.Acted.TheVariants as answers
 use Rattle.ex_commands.specs.declared.command.Command.{Command}
-use Rattle.ex_commands.proofs.Coming.{refusal_stays}
+use Rattle.ex_commands.proofs.Outcomes.{refusal_stays}
 use Rattle.ex_take.specs.Exec.{acts, ending_deeds, exec_meaning, fault_deeds, file_line_deeds, follows, innermost, looks_ahead, next_fault, passed}
 use Rattle.ex_take.specs.ExecState.{ExecState}
 use Rattle.ex_take.specs.Interpreter.{deed_of, raw_answer, raw_by}
 use Rattle.ex_take.specs.InterpreterState.{InterpreterState}
 use Rattle.ex_take.proofs.Keys.{keys_go_on, only_control_z}
-use Rattle.ex_take.proofs.LineKeeping.{raw_left}
+use Rattle.ex_take.proofs.KeptLines.{raw_left}
 
 -- the files of a state
 abbrev pub files_of : ExecState → State

@@ -1,8 +1,9 @@
 -- Files that are open, the one that is taken now at the end.
-use Rattle.std.proofs.Common.{◌≡◌, ℕ, zero, suc, get_or, ◌+◌, ◌-◌, ◌<◌, ◌==◌, ◌&&◌, true, false, cond, List, [], ◌∷◌, ◌++◌, length, take, slice_get, Option, None, Some, refl, sym, ap, ◌∙◌, arith, length-append}
-use Rattle.std.proofs.lemmas.Bool.Decides.{nat_tests}
+use Rattle.std.proofs.Common.{◌≡◌, ℕ, suc, get_or, ◌-◌, ◌<◌, ◌==◌, ◌&&◌, true, false, cond, List, [], ◌∷◌, ◌++◌, length, take, slice_get, Option, None, Some, refl, sym, ap, ◌∙◌, arith}
 use Rattle.std.proofs.lemmas.List.{length-take-le}
-use Rattle.std.proofs.lemmas.Option.{slice_get-get_or, slice_get_within}
+use Rattle.std.proofs.lemmas.Option.{slice_get-get_or}
+use Rattle.cm_lists.proofs.Elements.{last_split}
+use Rattle.cm_lists.proofs.Pieces.{push_is_not_empty}
 use Rattle.ex_take.specs.Exec.{innermost, is_over, open_files}
 
 -- one at the end that is over is none of those that go on
@@ -12,27 +13,13 @@ open_over [] file over = rw over refl
 open_over (one ∷ files) file over =
     ap (λ others. cond (length others == 0 && length one == 0) [] (one ∷ others)) (open_over files file over)
 
-pub some_left : (files : List (List (List ℕ))) (file : List (List ℕ)) → (length (files ++ file ∷ []) == 0) ≡ false
-some_left files file =
-    let size : length (file ∷ []) ≡ 1 = refl in grind (arith, nat_tests, length-append files (file ∷ []), size)
-
 -- and where it is not over all go on
 open_on : (files : List (List (List ℕ))) (file : List (List ℕ)) → (length file == 0) ≡ false
     → open_files (files ++ file ∷ []) ≡ files ++ file ∷ []
 open_on [] file on = rw on refl
 open_on (one ∷ files) file on =
     ap (λ others. cond (length others == 0 && length one == 0) [] (one ∷ others)) (open_on files file on)
-    ∙ rw (some_left files file) refl
-
--- a list with an element at its end
-last_at : {X : Type 0} (xs : List X) (n : ℕ) (x : X) → slice_get xs n ≡ Some x → n + 1 ≡ length xs → xs ≡ take n xs ++ x ∷ []
-last_at [] n x is size = absurd (cc)
-last_at (one ∷ []) zero x is size = let same : one ≡ x = cc in ap (λ it. it ∷ []) same
-last_at (one ∷ other ∷ xs) zero x is size = absurd (omega (arith, size))
-last_at (one ∷ xs) (suc n) x is size = ap (λ it. one ∷ it) (last_at xs n x is (omega (arith, size)))
-
-last_split : {X : Type 0} (xs : List X) (x : X) → slice_get xs (length xs - 1) ≡ Some x → xs ≡ take (length xs - 1) xs ++ x ∷ []
-last_split xs x is = last_at xs (length xs - 1) x is (omega (arith, slice_get_within xs (length xs - 1) x is))
+    ∙ rw (push_is_not_empty files file) refl
 
 -- where the file that is taken now is over, it is taken away
 pub over_less : (files others : List (List (List ℕ))) → is_over (innermost files) ≡ true → others ≡ take (length files - 1) files

@@ -10,7 +10,7 @@ use Rattle.ex_commands.specs.declared.command.Command.{Command}
 use Rattle.ex_commands.specs.declared.command.Command.TheVariants as commands
 use Rattle.ex_commands.specs.declared.data.DataTurn.{DataTurn}
 use Rattle.ex_commands.specs.declared.data.DataTurn.TheVariants as turns
-use Rattle.ex_commands.proofs.Coming.{ends_by_logout}
+use Rattle.ex_commands.proofs.Outcomes.{ends_by_logout}
 use Rattle.ex_commands.proofs.TypedEnds.{others_keep}
 use Rattle.ex_take.specs.Interpreter.{becomes, deed_of, raw_by, typed_deeds}
 use Rattle.ex_take.specs.InterpreterState.{InterpreterState}

@@ -1,15 +1,18 @@
-mod Acting
-mod Becoming
+mod Acts
 mod Changes
+mod CommandAnswers
 mod Files
-mod Following
+pub mod KeptLines
 mod Keys
-pub mod LineKeeping
 mod LineLaws
-mod Obeying
+mod LogoutKeys
+mod LogoutLines
 mod Outcomes
+mod PendingCommands
 mod Quiet
-mod QuietKeys
+pub mod QuietKeys
 mod QuietLines
+mod Replies
+pub mod Sequels
+mod States
 mod TypedKeys
-mod Waiting

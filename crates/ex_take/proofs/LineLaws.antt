@@ -1,9 +1,10 @@
 -- The lines of a command file.
-use Rattle.std.proofs.Common.{◌≡◌, ℕ, ◌≤◌, nat_le, Bool, true, false, List, [], ◌∷◌, ◌&&◌, ◌+◌, length, take, drop, Option, None, Some, refl, sym, ap, subst, ◌∙◌, arith}
+use Rattle.std.proofs.Common.{◌≡◌, ℕ, ◌≤◌, nat_le, true, false, List, [], ◌∷◌, ◌+◌, length, take, drop, Option, None, Some, refl, sym, ap, subst, ◌∙◌, arith}
 use Rattle.std.specs.List.{AllByRecursion, list_all}
 use Rattle.std.proofs.lemmas.Bool.Decides.{nat_tests}
 use Rattle.cm_text.specs.Bytes.{is_line_byte}
 use Rattle.std.proofs.lemmas.List.{drop-drop}
+use Rattle.cm_lists.proofs.Bools.{and_first, and_second}
 use Rattle.cm_text.specs.Lines.{BeginsLine, BeginsLines, lines}
 use Rattle.cm_text.specs.declared.lines.LineEnd.{LineEnd}
 use Rattle.cm_text.specs.Text.{IsLine, ends_in_hyphen}
@@ -42,23 +43,16 @@ reads_line bytes rest more at found first line new result is begins some read be
     ∙ joins ∙ ap (λ (it : List ℕ). new ∷ file_lines it) place)
 
 -- text bytes and join bytes alone
-and_left : (a b : Bool) → (a && b) ≡ true → a ≡ true
-and_left true b both = refl
-and_left false b both = both
-
-and_right : (a b : Bool) → (a && b) ≡ true → b ≡ true
-and_right true b both = both
-and_right false b both = absurd (cc)
 
 all_plain : (bytes : List ℕ) → list_all is_line_byte bytes ≡ true → AllByRecursion (λ byte. is_line_byte byte ≡ true) bytes
 all_plain [] all = tt
 all_plain (byte ∷ bytes) all =
-    (and_left (is_line_byte byte) (list_all is_line_byte bytes) all, all_plain bytes (and_right (is_line_byte byte) (list_all is_line_byte bytes) all))
+    (and_first (is_line_byte byte) (list_all is_line_byte bytes) all, all_plain bytes (and_second (is_line_byte byte) (list_all is_line_byte bytes) all))
 
 pub line_holds : (line : List ℕ) → is_line line ≡ true → IsLine line
 line_holds line is = record {
-  short = nat_le_true (length line) LINE_LIMIT (and_left (nat_le (length line) LINE_LIMIT) (list_all is_line_byte line) is);
-  plain = all_plain line (and_right (nat_le (length line) LINE_LIMIT) (list_all is_line_byte line) is);
+  short = nat_le_true (length line) LINE_LIMIT (and_first (nat_le (length line) LINE_LIMIT) (list_all is_line_byte line) is);
+  plain = all_plain line (and_second (nat_le (length line) LINE_LIMIT) (list_all is_line_byte line) is);
 }
   where
     nat_le_true : (n m : ℕ) → nat_le n m ≡ true → n ≤ m

@@ -12,7 +12,7 @@ use Rattle.cm_run.specs.declared.stop.Stop.{Stop}
 use Rattle.cm_run.specs.declared.stop.Stop.TheVariants as stop
 use Rattle.cm_run.proofs.Causes.{obey_cause_on}
 use Rattle.cm_run.proofs.Deeds.{deeds_traces}
-use Rattle.cm_run.proofs.Joining.{traces_cut, traces_on}
+use Rattle.cm_run.proofs.Joins.{traces_cut, traces_on}
 use Rattle.ex_store.specs.declared.place.Place.{Place}
 use Rattle.ex_take.specs.Exec.{take_deeds, exec_meaning}
 use Rattle.ex_take.specs.ExecState.{ExecState}

@@ -1,11 +1,11 @@
 -- What lines leave of the command files: none is open, or the next line of one can be taken.
 use Rattle.std.proofs.Common.{◌≡◌, ◌⊎◌, inl, inr, ℕ, suc, ◌-◌, ◌==◌, ◌&&◌, Bool, true, false, cond, List, [], ◌∷◌, ◌++◌, map, length, slice_get, Option, None, Some, refl, sym, ap, ◌∙◌, subst, arith}
-use Rattle.std.proofs.lemmas.Bool.Decides.{nat_tests}
 use Rattle.std.specs.Option.{option_map_or}
+use Rattle.cm_lists.proofs.Pieces.{cons_is_not_empty}
 use Rattle.cm_fields.specs.declared.code.Code.{Code}
 use Rattle.cm_run.specs.Meaning.{Deed}
 use Rattle.cm_run.specs.Obey.{left_by}
-use Rattle.cm_run.proofs.Obeying.{left_append}
+use Rattle.cm_run.proofs.Acts.{left_append}
 use Rattle.ex_store.specs.declared.place.Place.{Place}
 use Rattle.ex_commands.specs.Act.{act_of}
 use Rattle.cm_blocks.specs.FieldView.{FieldView}
@@ -23,8 +23,8 @@ use Rattle.ex_take.specs.Interpreter.{becomes, completion_answer, deed_of, pendi
 use Rattle.ex_take.specs.InterpreterState.{InterpreterState}
 use Rattle.ex_take.specs.Quiet.{IsQuiet, Waits}
 use Rattle.ex_take.specs.declared.pending.Pending.{Pending}
-use Rattle.ex_take.proofs.Becoming.{otherwise}
-use Rattle.ex_take.proofs.Following.{left_lifted}
+use Rattle.ex_take.proofs.States.{otherwise}
+use Rattle.ex_take.proofs.Sequels.{left_lifted}
 
 -- a file is open, of which the next line can be taken; so many were taken
 pub record IsOpen (taken : ℕ) (at : ExecState) : Type 0 where
@@ -47,9 +47,6 @@ pub quiet_stands : (taken : ℕ) (at : ExecState) → IsQuiet at → Stands take
 quiet_stands taken at quiet = λ going. inl quiet
 
 -- the last of the files that go on is not over
-some_files : (file : List (List ℕ)) (files : List (List (List ℕ))) → (length (file ∷ files) == 0) ≡ false
-some_files file files = let size : length (file ∷ files) ≡ suc (length files) = refl in grind (arith, nat_tests, size)
-
 last_of_more : (one file : List (List ℕ)) (files : List (List (List ℕ))) → innermost (one ∷ file ∷ files) ≡ innermost (file ∷ files)
 last_of_more one file files =
     let size : length (one ∷ file ∷ files) ≡ suc (length (file ∷ files)) = refl in
@@ -65,7 +62,7 @@ last_is_on (one ∷ files) = by (open_files files) (length one == 0) refl (last_
   by [] true is on = refl
   by [] false is on = is
   by (file ∷ others) over is on =
-      ap (λ (none : Bool). is_over (innermost (cond (none && over) [] (one ∷ file ∷ others)))) (some_files file others)
+      ap (λ (none : Bool). is_over (innermost (cond (none && over) [] (one ∷ file ∷ others)))) (cons_is_not_empty file others)
       ∙ ap is_over (last_of_more one file others) ∙ on
 
 -- the next line is looked at
@@ -93,8 +90,8 @@ goes_on_with at [] line waits on =
     (λ going. inl (record { files = refl; taken = refl; waits = waits }))
 goes_on_with at (file ∷ files) line waits on =
     subst (λ (n : ℕ). Stands n (left_by (with_files at (file ∷ files)) (looks_ahead (with_files at (file ∷ files)))))
-    (ap (λ (none : Bool). cond none 0 at.taken) (some_files file files))
-    (looks_stand (with_files at (file ∷ files)) line waits (some_files file files) on)
+    (ap (λ (none : Bool). cond none 0 at.taken) (cons_is_not_empty file files))
+    (looks_stand (with_files at (file ∷ files)) line waits (cons_is_not_empty file files) on)
 
 closes_stand : (at : ExecState) → at.interpreter.typing ≡ None → at.interpreter.pending ≡ None → Stands at.taken (left_by at (closes at))
 unfolding closes
@@ -140,12 +137,12 @@ added_stays fields (commands.Directory files since before deleted read sub) is =
     (commands.Directory files since before deleted read sub) (λ it. refl) refl)
 added_stays fields command is = absurd (cc)
 
-complete_stays : (command : Command) → is_pending command ≡ true → takes_subs (complete command) ≡ true
+pub complete_stays : (command : Command) → is_pending command ≡ true → takes_subs (complete command) ≡ true
 complete_stays (commands.Build directory retention sub) is = refl
 complete_stays (commands.Directory files since before deleted read sub) is = refl
 complete_stays command is = absurd (cc)
 
-complete_waits_not : (command : Command) → is_pending command ≡ true → is_pending (complete command) ≡ false
+pub complete_waits_not : (command : Command) → is_pending command ≡ true → is_pending (complete command) ≡ false
 complete_waits_not (commands.Build directory retention sub) is = refl
 complete_waits_not (commands.Directory files since before deleted read sub) is = refl
 complete_waits_not command is = absurd (cc)
@@ -167,8 +164,11 @@ module _ (interpreter : InterpreterState) (moment : ℕ) (command : Command) (ta
   pub sub_free : (deed_of interpreter moment command).state.pending ≡ interpreter.pending
   sub_free = ap (λ (it : InterpreterState). it.pending) (sym same)
 
+  pub sub_goes : (deed_of interpreter moment command).state.ended ≡ interpreter.ended
+  sub_goes = ap (λ (it : InterpreterState). it.ended) (sym same)
+
 -- acts of the EXEC's, and what follows them
-followed_left : (at : ExecState) (deeds : List (Deed InterpreterState)) (more : List (Deed ExecState))
+pub followed_left : (at : ExecState) (deeds : List (Deed InterpreterState)) (more : List (Deed ExecState))
     → left_by at (map (lifted at) deeds ++ more) ≡ left_by (record at { interpreter = left_by at.interpreter deeds }) more
 followed_left at deeds more =
     left_append (map (lifted at) deeds) more at ∙ ap (λ (it : ExecState). left_by it more) (left_lifted at deeds at.interpreter)

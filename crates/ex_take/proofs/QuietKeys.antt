@@ -16,7 +16,7 @@ use Rattle.cm_run.specs.Keeping.{is_line}
 use Rattle.cm_run.specs.Obey.{left_by}
 use Rattle.cm_run.specs.Trace.{RunState, file_line_trace, file_session, file_trace, line_by, next_line, step}
 use Rattle.cm_run.proofs.LineTurns.{abandonment_leads, confirmed_leads, edit_leads, fault_leads, moment_of, raw_leads, refusal_leads, session_at}
-use Rattle.cm_run.proofs.Obeying.{left_append}
+use Rattle.cm_run.proofs.Acts.{left_append}
 use Rattle.cm_run.proofs.Screens.{state-deeds}
 use Rattle.ex_commands.specs.Typed.{bytes_behind, echo_of, turn_of}
 use Rattle.ex_commands.specs.declared.acted.Acted.{Acted}
@@ -32,7 +32,7 @@ use Rattle.ex_take.specs.Quiet.{IsQuiet, IsQuietUnlessEnded, Waits}
 use Rattle.ex_take.specs.declared.pending.Pending.{Pending}
 use Rattle.ex_take.specs.declared.typing.Typing.{Typing}
 use Rattle.ex_take.proofs.Files.{some_last}
-use Rattle.ex_take.proofs.Following.{left_lifted}
+use Rattle.ex_take.proofs.Sequels.{left_lifted}
 use Rattle.ex_take.proofs.Quiet.{IsOpen, Stands, ended_not, quiet_stands}
 use Rattle.ex_take.proofs.QuietLines.{file_line_stands, line_quiet}
 
@@ -42,7 +42,7 @@ no_next (mode.Line node prompt takes_moment) = refl
 no_next mode.Raw = refl
 no_next mode.Ended = refl
 
-quiet_next : (at : ExecState) → at.files ≡ [] → next_line exec_meaning at ≡ None
+pub quiet_next : (at : ExecState) → at.files ≡ [] → next_line exec_meaning at ≡ None
 quiet_next at none =
     ap (λ (files : List (List (List ℕ))). line_by (mode_of at.interpreter) (line_in (innermost files))) none ∙ no_next (mode_of at.interpreter)
 
@@ -74,7 +74,7 @@ last_line taken None on fault some = absurd (some refl)
 last_line taken (Some []) on fault some = absurd (cc)
 last_line taken (Some (line ∷ lines)) on fault some = (line, taken_line line (taken == FILE_LINES) (file_line.is_line line) fault)
 
-open_next : (at : ExecState) (taken : ℕ) → at.interpreter.ended ≡ false → IsOpen taken at → (line : List ℕ) × (next_line exec_meaning at ≡ Some line)
+pub open_next : (at : ExecState) (taken : ℕ) → at.interpreter.ended ≡ false → IsOpen taken at → (line : List ℕ) × (next_line exec_meaning at ≡ Some line)
 open_next at taken going held =
     let found = last_line at.taken (innermost at.files) held.on held.fault (no_last at.files held.some) in
     (found.0, line_mode_by at.interpreter.ended at.interpreter.typing at.interpreter.pending (line_in (innermost at.files)) going held.line ∙ found.1)
@@ -90,12 +90,12 @@ full_faults taken (Some (line ∷ lines)) is on fault some =
     = sym (ap (λ (test : Bool). cond test (Some LineLimit) (cond (file_line.is_line line) None (Some BadLine))) full) ∙ fault in cc
 
 -- the lines that wait are taken, until none is open
-either : (A : Type 0) (at : ExecState) (taken : ℕ) → IsQuiet at ⊎ IsOpen taken at → (IsQuiet at → A) → (IsOpen taken at → A) → A
+pub either : (A : Type 0) (at : ExecState) (taken : ℕ) → IsQuiet at ⊎ IsOpen taken at → (IsQuiet at → A) → (IsOpen taken at → A) → A
 either A at taken (inl quiet) one other = one quiet
 either A at taken (inr held) one other = other held
 
 module _ (moment : ℕ) where
-  abbrev behind : ℕ → ExecState → ExecState
+  abbrev pub behind : ℕ → ExecState → ExecState
   behind lines at = state_behind at (file_trace exec_meaning lines moment at)
 
   -- what a turn comes to, by the line that is next
@@ -108,13 +108,13 @@ module _ (moment : ℕ) where
   unfolding file_trace
   turn_is lines at = refl
 
-  turn_none : (lines : ℕ) (at : ExecState) → next_line exec_meaning at ≡ None → behind (suc lines) at ≡ behind lines at
+  pub turn_none : (lines : ℕ) (at : ExecState) → next_line exec_meaning at ≡ None → behind (suc lines) at ≡ behind lines at
   turn_none lines at none = turn_is lines at ∙ ap (λ (line : Option (List ℕ)). by_line lines at line) none
 
-  abbrev next_of : ExecState → List ℕ → ExecState
+  abbrev pub next_of : ExecState → List ℕ → ExecState
   next_of at line = left_by at (file_line_deeds at (file_session exec_meaning at line) moment)
 
-  turn_some : (lines : ℕ) (at : ExecState) (line : List ℕ) → next_line exec_meaning at ≡ Some line
+  pub turn_some : (lines : ℕ) (at : ExecState) (line : List ℕ) → next_line exec_meaning at ≡ Some line
       → behind (suc lines) at ≡ behind lines (next_of at line)
   turn_some lines at line some =
       let events = file_line_trace exec_meaning moment at (Some line) in
@@ -125,7 +125,7 @@ module _ (moment : ℕ) where
       ∙ ap (λ (it : ExecState). state_behind it (file_trace exec_meaning lines moment (state_behind at events))) leads
       ∙ ap (λ (it : ExecState). state_behind (next_of at line) (file_trace exec_meaning lines moment it)) leads
 
-  none_behind : (at : ExecState) → behind 0 at ≡ at
+  pub none_behind : (at : ExecState) → behind 0 at ≡ at
   unfolding file_trace
   none_behind at = refl
 
@@ -192,7 +192,7 @@ raw_quiet at key quiet =
     }))
 
 -- while a file is typed in the next key is for no line
-line_typing : (ended : Bool) (typing : Option Typing) (pending : Option Pending) → is_line (mode_by ended typing pending) ≡ true → typing ≡ None
+pub line_typing : (ended : Bool) (typing : Option Typing) (pending : Option Pending) → is_line (mode_by ended typing pending) ≡ true → typing ≡ None
 line_typing true typing pending line = absurd (cc)
 line_typing false (Some typing) pending line = absurd (cc)
 line_typing false None pending line = refl

@@ -1,6 +1,7 @@
 -- What each line leaves of the command files, a typed one and one of a file.
 use Rattle.std.proofs.Common.{◌≡◌, ℕ, ◌-◌, ◌==◌, Bool, true, false, cond, List, [], ◌∷◌, ◌++◌, map, length, take, drop, Option, None, Some, refl, sym, ap, ◌∙◌, subst}
 use Rattle.std.specs.Option.{option_map_or}
+use Rattle.cm_lists.proofs.Pieces.{push_is_not_empty}
 use Rattle.cm_io.specs.Fault.{next_count}
 use Rattle.cm_blocks.specs.declared.field.Ending.{Ending}
 use Rattle.cm_blocks.specs.declared.field.Ending.TheVariants as endings
@@ -16,7 +17,7 @@ use Rattle.ex_commands.specs.declared.acted.Acted.{Acted}
 use Rattle.ex_commands.specs.declared.acted.Acted.TheVariants as answers
 use Rattle.ex_commands.specs.declared.command.Command.{Command}
 use Rattle.ex_commands.specs.declared.command.Command.TheVariants as commands
-use Rattle.ex_commands.proofs.Coming.{Comes, comes, ends_by_logout}
+use Rattle.ex_commands.proofs.Outcomes.{Comes, comes, ends_by_logout}
 use Rattle.ex_take.specs.Exec.{acts, command_deeds, ending_deeds, file_line_deeds, follows, innermost, lifted, line_by, line_deeds, opened, opens, passed, pending_deeds, refuses, settles, take_deeds, typing_deeds, unwaiting}
 use Rattle.ex_take.specs.ExecState.{ExecState}
 use Rattle.ex_take.specs.Interpreter.{becomes, command_at, deed_of, pending_with}
@@ -25,11 +26,11 @@ use Rattle.ex_take.specs.Lines.{file_lines}
 use Rattle.ex_take.specs.Quiet.{IsQuiet, Waits}
 use Rattle.ex_take.specs.declared.exec.TheConstants.{MOST_FILES}
 use Rattle.ex_take.specs.declared.pending.Pending.{Pending}
-use Rattle.ex_take.proofs.Files.{some_last, some_left}
+use Rattle.ex_take.proofs.Files.{some_last}
 use Rattle.ex_take.proofs.Quiet.{IsOpen, Stands, added_stays, follows_quiet, follows_stand, no_logout, settles_stand, stopped_stands, sub_free, sub_line, takes_subs}
 
 -- behind an act a command waits only for its subcommands
-waits_by : (interpreter : InterpreterState) (moment : ℕ) (command : Command) (act : Act) → Comes command interpreter.state act
+pub waits_by : (interpreter : InterpreterState) (moment : ℕ) (command : Command) (act : Act) → Comes command interpreter.state act
     → Waits interpreter.pending → Waits (becomes interpreter moment command act.answer).pending
 unfolding becomes
 waits_by interpreter moment command act (Comes.done is) waits =
@@ -69,10 +70,10 @@ ends_by_answer interpreter moment command answer is = ap (λ (it : Acted). (beco
 
 -- what a command leaves that acts
 module _ (at : ExecState) (moment : ℕ) (command : Command) where
-  abbrev acted : ExecState
+  abbrev pub acted : ExecState
   acted = record at { interpreter = (deed_of at.interpreter moment command).state }
 
-  abbrev act : Act
+  abbrev pub act : Act
   act = act_of command moment at.interpreter.state
 
   acts_quiet : IsQuiet at → Stands 0 (left_by at (acts at moment command))
@@ -96,7 +97,7 @@ module _ (at : ExecState) where
   take_stands file line waits = by (length at.files == MOST_FILES) where
     by : (full : Bool) → Stands at.taken (left_by at (cond full (refuses TakeDepth at ∷ []) (opens at file ∷ settles (opened at file))))
     by true = stopped_stands at.taken TakeDepth at
-    by false = settles_stand (opened at file) line waits (some_left at.files (file_lines (bytes_of file at.interpreter.state)))
+    by false = settles_stand (opened at file) line waits (push_is_not_empty at.files (file_lines (bytes_of file at.interpreter.state)))
 
   typing_stands : (moment : ℕ) (to : Place) → (length at.files == 0) ≡ false → Stands at.taken (left_by at (typing_deeds at moment to))
   typing_stands moment to some =
@@ -134,30 +135,30 @@ commands_quiet at moment command line quiet = acts_quiet at moment command quiet
 
 -- a line of subcommands: the command waits on, or acts
 module _ (at : ExecState) (session : SessionState) (pending : Pending) (waits : is_pending pending.command ≡ true) where
-  abbrev on : ExecState
+  abbrev pub on : ExecState
   on = unwaiting at
 
-  abbrev more : Pending
+  abbrev pub more : Pending
   more = pending_with session pending
 
-  takes : takes_subs more.command ≡ true
+  pub takes : takes_subs more.command ≡ true
   takes = added_stays session.fields pending.command waits
 
   -- what it leaves where it waits on, and where it acts
-  abbrev waiting : ExecState
+  abbrev pub waiting : ExecState
   waiting = record on { interpreter = record on.interpreter { pending = Some more } }
 
-  abbrev done : ExecState
+  abbrev pub done : ExecState
   done = record on { interpreter = (deed_of on.interpreter more.moment more.command).state }
 
-  abbrev answer : Acted
+  abbrev pub answer : Acted
   answer = (act_of more.command more.moment on.interpreter.state).answer
 
-  abbrev by_test : Bool → List (Deed ExecState)
+  abbrev pub by_test : Bool → List (Deed ExecState)
   by_test test = lifted on (record { may_allocate = false; state = record on.interpreter { pending = Some more }; reply = [] })
       ∷ cond test (follows waiting answers.Pending) (lifted on (deed_of on.interpreter more.moment more.command) ∷ follows done answer)
 
-  pending_as : pending_deeds on session pending ≡ by_test (is_pending more.command)
+  pub pending_as : pending_deeds on session pending ≡ by_test (is_pending more.command)
   pending_as = by (is_pending more.command) where
     by : (test : Bool) → lifted on (record { may_allocate = false; state = record on.interpreter { pending = Some more }; reply = [] })
         ∷ (map (lifted on) (cond test [] (deed_of on.interpreter more.moment more.command ∷ []))
@@ -169,7 +170,7 @@ module _ (at : ExecState) (session : SessionState) (pending : Pending) (waits : 
   no_end : answer ≡ answers.Logout → ⊥
   no_end is = no_logout more.command takes ((ends_by_logout more.command more.moment on.interpreter.state).0 is)
 
-  free : is_pending more.command ≡ false → Waits done.interpreter.pending
+  pub free : is_pending more.command ≡ false → Waits done.interpreter.pending
   free over = subst (λ (it : Option Pending). Waits it) (sym (sub_free on.interpreter more.moment more.command takes over)) tt
 
   pending_stands : at.interpreter.typing ≡ None → (length at.files == 0) ≡ false → Stands at.taken (left_by at (pending_deeds on session pending))
@@ -205,7 +206,7 @@ module _ (at : ExecState) (session : SessionState) (moment : ℕ) (line : at.int
 -- the line of a file is passed, and then does what it comes to
 passed_some : (files : List (List (List ℕ))) (last : Option (List (List ℕ))) → innermost files ≡ last → (length files == 0) ≡ false
     → (length (take (length files - 1) files ++ option_map_or (λ (file : List (List ℕ)). drop 1 file ∷ []) last []) == 0) ≡ false
-passed_some files (Some file) is some = some_left (take (length files - 1) files) (drop 1 file)
+passed_some files (Some file) is some = push_is_not_empty (take (length files - 1) files) (drop 1 file)
 passed_some [] None is some = absurd (cc)
 passed_some (file ∷ files) None is some = absurd (some_last file files is)
 

@@ -12,7 +12,7 @@ use Rattle.ex_take.specs.Interpreter.{raw_answer, raw_by, typed_answer, typed_de
 use Rattle.ex_take.specs.InterpreterState.{InterpreterState}
 use Rattle.ex_take.specs.declared.pending.Pending.{Pending}
 use Rattle.ex_take.specs.declared.typing.Typing.{Typing}
-use Rattle.ex_take.proofs.Obeying.{obeys_behind, obeys_silent}
+use Rattle.ex_take.proofs.CommandAnswers.{obeys_behind, obeys_silent}
 
 module _ (state : State) (held : Option Typing) (ended : Bool) (waits : Option Pending) (now : InterpreterState) (key : ℕ) (typing : Typing) (told : Told)
     (view : record { state = state; typing = held; ended = ended; pending = waits } ≡ now) (some : held ≡ Some typing)

@@ -3,6 +3,8 @@ pub mod ExecState
 pub mod Interpreter
 pub mod InterpreterState
 pub mod Lines
+pub mod Logout
 pub mod Outcome
 pub mod Quiet
+pub mod Reply
 pub mod Taking

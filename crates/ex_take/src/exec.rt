@@ -6,6 +6,7 @@ ghost use Rattle.ex_take.specs.Taking.{is_at_rest, rested};
 
 mod application;
 mod closing;
+mod control;
 mod lines;
 
 use crate::command_file::CommandFile;
@@ -82,7 +83,7 @@ impl Exec {
     }
 
     /// Why a line was refused last, by what it commands or as a line of a command file; none where a file was opened
-    /// since. Behind `take` that is why the file was closed before its end.
+    /// since, or it was forgiven. Behind `take` that is why the file was closed before its end.
     pub fn stop(&self) -> Option<Code>
         ensures { result ≡ self.now.stop }
     {

@@ -281,7 +281,7 @@ impl Interpreter {
     }
 
     /// Ends the subcommands of a command that waited, as an empty line of them does: it acts.
-    #[tactic(auto, using(crate::proofs::Waiting::may_act_complete))]
+    #[tactic(auto, using(ex_commands::proofs::Subcommands::complete_may))]
     pub fn end_subcommands<S: Sink>(&mut self, mut pending: Pending, screen: &mut S) -> Acted
         requires may_act { MayAct pending.command self.old.state }
         requires line { self.old.typing ≡ None }
@@ -335,7 +335,7 @@ impl Interpreter {
     }
 
     /// Shows what a key of a file that is typed in does, and does nothing yet.
-    #[tactic(auto, using(cm_io::proofs::Adding::add_none))]
+    #[tactic(auto, using(cm_io::proofs::Additions::add_none))]
     pub fn echo_raw<S: Sink>(&self, key: u8, screen: &mut S) -> Put
         ensures bytes { Adds (S.told screen.old) (S.told screen.new) (echo_by key self.now.typing) result }
         ensures later { S.faults screen.old ≤ S.faults screen.new }
@@ -348,7 +348,7 @@ impl Interpreter {
     }
 
     /// Takes a key of a file that is typed in.
-    #[tactic(auto, using(cm_run::proofs::Obeying::obeys_nothing, crate::proofs::Obeying::obeys_silent), unfolding(cm_run::specs::Cause::ObeyCause, crate::specs::Interpreter::typed_deeds))]
+    #[tactic(auto, using(cm_run::proofs::Acts::obeys_nothing, crate::proofs::CommandAnswers::obeys_silent), unfolding(cm_run::specs::Cause::ObeyCause, crate::specs::Interpreter::typed_deeds))]
     pub fn obey_raw<S: Sink>(&mut self, key: u8, screen: &mut S) -> Acted
         ensures obeys { Obeys (stage (S.told screen.old) self.old) (stage (S.told screen.new) self.new)
             (raw_by self.old key self.old.typing) (outcome_of result) }

@@ -1,5 +1,5 @@
 //! Laws of the EXEC with its command files. Each is a function that does nothing, whose contract is the law.
-ghost use Rattle.std.specs.Prelude.{◌≡◌, ◌≢◌, ℕ, Some, true, false};
+ghost use Rattle.std.specs.Prelude.{◌≡◌, ◌≢◌, ℕ, List, Err, Some, true, false};
 ghost use Rattle.cm_line.specs.Keys.{class_at};
 ghost use Rattle.cm_line.specs.declared.key.KeyClass.TheVariants as classes;
 ghost use Rattle.cm_fields.specs.declared.code.Code.{Code};
@@ -7,10 +7,14 @@ ghost use Rattle.cm_blocks.specs.declared.field.Ending.TheVariants as endings;
 ghost use Rattle.cm_blocks.specs.declared.field.Fault.{Fault};
 ghost use Rattle.cm_state.specs.SessionState.{SessionState, met_line};
 ghost use Rattle.cm_state.specs.declared.turn.Turn.TheVariants as turn;
+ghost use Rattle.cm_run.specs.Cut.{Traces};
+ghost use Rattle.cm_run.specs.Event.{Event};
 ghost use Rattle.cm_run.specs.Idle.{turn_at};
 ghost use Rattle.cm_run.specs.Keeping.{IsLineKeeping, is_line};
 ghost use Rattle.cm_run.specs.Obey.{left_by};
+ghost use Rattle.cm_run.specs.Observed.{Observed};
 ghost use Rattle.cm_run.specs.Trace.{RunState, step};
+ghost use Rattle.cm_run.specs.declared.stop.Stop.{Stop};
 ghost use Rattle.ex_store.specs.State.{State};
 ghost use Rattle.ex_commands.specs.Act.{act_of};
 ghost use Rattle.ex_commands.specs.declared.acted.Acted.TheVariants as answers;
@@ -20,7 +24,9 @@ ghost use Rattle.ex_take.specs.Interpreter.{completion, deed_of, raw_by};
 ghost use Rattle.ex_take.specs.InterpreterState.{InterpreterState};
 ghost use Rattle.ex_take.specs.Exec.{acts, counted, exec_meaning, file_line_deeds, looks_ahead, unwaiting};
 ghost use Rattle.ex_take.specs.ExecState.{ExecState, exec_start};
+ghost use Rattle.ex_take.specs.Logout.{ConfirmsLogout};
 ghost use Rattle.ex_take.specs.Quiet.{IsQuiet, IsQuietUnlessEnded};
+ghost use Rattle.ex_take.specs.Reply.{StandsAsShown};
 ghost use Rattle.ex_take.specs.declared.pending.Pending.{Pending};
 ghost use Rattle.ex_take.specs.declared.exec.TheConstants.{MOST_FILES};
 
@@ -43,10 +49,13 @@ pub fn only_control_z_writes_a_typed_file()
         → (left_by interpreter (raw_by interpreter key interpreter.typing)).state ≡ interpreter.state }
 {}
 
-/// An act ends the run only where it is that of LOGOUT, whose other name is KJOB: the act of a main line, that behind
-/// the last subcommand of a command that waited, and each act of a key of a file that is typed in. So a key ends it
-/// only where it confirms a line.
+/// Only LOGOUT, whose other name is KJOB, ends the run: a key ends it only where it confirms a line that commands
+/// LOGOUT, or one that takes command files of which a line does, each as it is parsed under the state that it finds. So
+/// each act that ends it is that of LOGOUT: of those of main lines, of those behind the last subcommand of a command
+/// that waited, and of those of the keys of a file that is typed in, which end it never.
 pub fn only_logout_ends_the_run()
+    ensures key { (at : RunState ExecState) → (key : ℕ) → IsQuiet at.state → at.state.interpreter.ended ≡ false
+        → (step exec_meaning at key).state.interpreter.ended ≡ true → ConfirmsLogout at key }
     ensures line { (at : RunState ExecState) → (key : ℕ) → at.state.interpreter.ended ≡ false
         → (step exec_meaning at key).state.interpreter.ended ≡ true → is_line (exec_meaning.mode_of at.state) ≡ true }
     ensures confirmed { (at : RunState ExecState) → (key : ℕ) → at.state.interpreter.ended ≡ false
@@ -85,6 +94,15 @@ pub fn a_refused_line_changes_nothing()
     ensures act { (at : ExecState) → (moment : ℕ) → (command : Command) → (code : Code)
         → (act_of command moment at.interpreter.state).answer ≡ answers.Refused code
         → (left_by at (acts at moment command)).interpreter.state ≡ at.interpreter.state }
+{}
+
+/// The bytes that are shown tell what has acted, where a run or a command file is cut short, be it by the screen, by
+/// the log or by want of memory. The place of the reply of an act is the number of bytes that are shown before it. The
+/// acts that are done are the first ones, in order. Each is done whose reply place the shown bytes pass, and none whose
+/// reply place lies past their end.
+pub fn what_is_shown_tells_what_has_acted()
+    ensures { (before now : Observed ExecState) → (events : List (Event ExecState)) → (why : Stop)
+        → Traces before now events (Err why) → StandsAsShown before now events }
 {}
 
 /// Between keys no command file is open, and no line of one is counted: so it is at the start, and so each key leaves

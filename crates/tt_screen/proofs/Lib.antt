@@ -1,4 +1,4 @@
-pub mod Feeding
-pub mod Holding
-mod Reading
-mod Writing
+pub mod Feeds
+pub mod HeldTexts
+mod ReadBytes
+mod WrittenRows

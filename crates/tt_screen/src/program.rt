@@ -54,7 +54,7 @@ pub fn tt20<K: Source, S: Sink>(keys: &mut K, screen: &mut S) -> Status
 }
 
 // Feeds all bytes to a screen that is blank.
-#[tactic(auto, using(crate::proofs::Reading::fed_none, crate::proofs::Reading::fed_column))]
+#[tactic(auto, using(crate::proofs::ReadBytes::fed_none, crate::proofs::ReadBytes::fed_column))]
 fn feed_all<K: Source>(keys: &mut K, shown: &mut Screen) -> Read
     requires { shown.old ≡ kept_of blank_grid }
     ensures feeds { IsTrue K.tells → Feeds (K.left keys.old) (K.left keys.new) shown.new result }
@@ -83,7 +83,7 @@ fn put_screen<S: Sink>(shown: &Screen, screen: &mut S) -> Put
     out.went()
 }
 
-#[tactic(auto, using(crate::proofs::Writing::no_rows, crate::proofs::Writing::row_more))]
+#[tactic(auto, using(crate::proofs::WrittenRows::no_rows, crate::proofs::WrittenRows::row_more))]
 fn put_rows<S: Sink>(shown: &Screen, out: &mut Writer<'_, S>)
     ensures { Writes S.Sink out.old out.new (rows_text shown.now.rows) }
 {

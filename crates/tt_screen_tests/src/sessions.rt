@@ -264,7 +264,7 @@ struct PlainScreen;
 impl Display for PlainScreen {
     ghost use Rattle.tt_screen.specs.Grid as grid;
     ghost use Rattle.tt_screen.specs.Holds as held;
-    ghost use Rattle.tt_screen.proofs.Holding.{screen_is_a_display};
+    ghost use Rattle.tt_screen.proofs.HeldTexts.{screen_is_a_display};
 
     ghost State = { grid.Grid };
 

@@ -97,7 +97,7 @@ fn marked_so(files: &Place, deleted: bool) -> Place
 }
 
 // Puts the listing of files of these days, of which there are so many, with the day of reading or of writing.
-#[tactic(auto, using(cm_io::proofs::Texts::texts, crate::proofs::Listing::lines_within), unfolding(crate::specs::Commands::Directory::listing))]
+#[tactic(auto, using(cm_io::proofs::Texts::texts, crate::proofs::DayLines::lines_within), unfolding(crate::specs::Commands::Directory::listing))]
 fn put_listing<S: Sink>(
     store: &Store,
     files: &Place,

@@ -28,8 +28,8 @@ impl Exec {
         self.stop = Some(code);
     }
 
-    // Refuses a line of a file.
-    pub(super) fn refuse_line<S: Sink>(&mut self, code: Code, screen: &mut S) -> Result<(), Stop>
+    /// Refuses a line: shows why, drops the command that waits, and closes the files that are open.
+    pub fn refuse_line<S: Sink>(&mut self, code: Code, screen: &mut S) -> Result<(), Stop>
         ensures obeys { Obeys (stage (S.told screen.old) self.old) (stage (S.told screen.new) self.new)
             (refuses code self.old ∷ []) result }
         ensures later { S.faults screen.old ≤ S.faults screen.new }

@@ -85,8 +85,8 @@ impl Exec {
         }
     }
 
-    // Does what a line commands.
-    fn obey_command<S: Sink>(
+    /// Does what a line commands.
+    pub fn obey_command<S: Sink>(
         &mut self,
         command: Command,
         moment: u64,
@@ -133,7 +133,7 @@ impl Exec {
     }
 
     // Does what a line comes to whose parse is done.
-    #[tactic(auto, using(crate::proofs::Waiting::main_line, crate::proofs::Waiting::subcommand_line))]
+    #[tactic(auto, using(crate::proofs::PendingCommands::main_line, crate::proofs::PendingCommands::subcommand_line))]
     pub(super) fn obey_done<S: Sink>(
         &mut self,
         session: &Session<ExecRules>,

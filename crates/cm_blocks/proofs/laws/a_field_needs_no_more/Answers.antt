@@ -1,4 +1,4 @@
-use Rattle.cm_blocks.proofs.Keeping.{chain_keeps}
+use Rattle.cm_blocks.proofs.Needs.{chain_keeps}
 use Rattle.cm_blocks.proofs.laws.a_field_needs_no_more.Goals as goal
 
 pub returns : goal.returns

@@ -1,4 +1,4 @@
-use Rattle.cm_blocks.proofs.Parsing.{start_is_open}
+use Rattle.cm_blocks.proofs.Parses.{start_is_open}
 use Rattle.cm_blocks.proofs.laws.a_start_is_open.Goals as goal
 
 pub returns : goal.returns

@@ -1,4 +1,4 @@
-use Rattle.cm_blocks.proofs.Parsing.{parse_of_parses, parses_are_parse_of}
+use Rattle.cm_blocks.proofs.Parses.{parse_of_parses, parses_are_parse_of}
 use Rattle.cm_blocks.proofs.laws.one_parse.Goals as goal
 
 pub returns-clause-is_one : goal.returns-clause-is_one

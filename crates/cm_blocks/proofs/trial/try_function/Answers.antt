@@ -1,7 +1,7 @@
 -- Each function looks at no more than there is.
 use Rattle.cm_fields.proofs.Phrases.{noise_is_local, token_is_local}
-use Rattle.cm_fields.proofs.Quoting.{quoted_is_local}
-use Rattle.cm_files.proofs.Fielding.{directory_is_local, file_is_local, user_is_local}
+use Rattle.cm_fields.proofs.QuotedTexts.{quoted_is_local}
+use Rattle.cm_files.proofs.Trials.{directory_is_local, file_is_local, user_is_local}
 use Rattle.cm_blocks.proofs.Switches.{switch_is_local}
 use Rattle.cm_blocks.proofs.Trials.{seen_from}
 use Rattle.cm_blocks.proofs.trial.try_function.Goals as goal

@@ -1,4 +1,4 @@
-use Rattle.cm_dates.proofs.Reading.{text_read}
+use Rattle.cm_dates.proofs.DayTexts.{text_read}
 use Rattle.cm_dates.proofs.laws.text_is_read.Goals as goal
 
 pub returns : goal.returns

@@ -2,7 +2,7 @@ use Rattle.std.proofs.Common.{refl}
 use Rattle.cm_text.specs.Bytes.{is_word}
 use Rattle.cm_fields.specs.Run.{number_of, word_of}
 use Rattle.cm_fields.specs.Text.{is_inside, text_of}
-use Rattle.cm_fields.proofs.Finishing.{comma_decides, confirm_decides, noise_decides, quoted_decides, run_decides, token_decides}
+use Rattle.cm_fields.proofs.LineEnds.{comma_decides, confirm_decides, noise_decides, quoted_decides, run_decides, token_decides}
 use Rattle.cm_fields.proofs.laws.finished_texts_are_decided.Goals as goal
 
 pub returns-clause-noise : goal.returns-clause-noise

@@ -1,4 +1,4 @@
-use Rattle.cm_fields.proofs.Passing.{open_of_skip, past_of_skip, skip_of_open, skip_of_past}
+use Rattle.cm_fields.proofs.FieldStarts.{open_of_skip, past_of_skip, skip_of_open, skip_of_past}
 use Rattle.cm_fields.proofs.laws.skip_passes_blanks_and_comments.Goals as goal
 
 pub returns-clause-past : goal.returns-clause-past

@@ -3,7 +3,7 @@ use Rattle.cm_fields.specs.Run.{number_of, word_of}
 use Rattle.cm_fields.specs.Text.{is_inside, text_of}
 use Rattle.cm_fields.proofs.Marks.{comma_is_local, confirm_is_local}
 use Rattle.cm_fields.proofs.Phrases.{noise_is_local, token_is_local}
-use Rattle.cm_fields.proofs.Quoting.{quoted_is_local}
+use Rattle.cm_fields.proofs.QuotedTexts.{quoted_is_local}
 use Rattle.cm_fields.proofs.Runs.{run_is_local}
 use Rattle.cm_fields.proofs.laws.trials_are_local.Goals as goal
 

@@ -1,5 +1,5 @@
 use Rattle.std.proofs.Common.{◌∙◌}
-use Rattle.cm_fields.proofs.Unquoting.{byte_pushed}
+use Rattle.cm_fields.proofs.QuotedNames.{byte_pushed}
 use Rattle.cm_fields.proofs.quotes.+push_unquoted.Goals as goal
 
 pub returns-in-len1-up : goal.returns-in-len1-up

@@ -1,4 +1,4 @@
-use Rattle.cm_files.proofs.Fielding.{directory_decides, file_decides, user_decides}
+use Rattle.cm_files.proofs.Trials.{directory_decides, file_decides, user_decides}
 use Rattle.cm_files.proofs.laws.finished_texts_are_decided.Goals as goal
 
 pub returns-clause-user : goal.returns-clause-user

@@ -1,4 +1,4 @@
-use Rattle.cm_files.proofs.Fielding.{directory_is_local, file_is_local, user_is_local}
+use Rattle.cm_files.proofs.Trials.{directory_is_local, file_is_local, user_is_local}
 use Rattle.cm_files.proofs.laws.trials_are_local.Goals as goal
 
 pub returns-clause-user : goal.returns-clause-user

@@ -1,5 +1,5 @@
 use Rattle.std.proofs.Common.{◌+◌, length, arith, rules}
-use Rattle.cm_files.proofs.Spending.{spend}
+use Rattle.cm_lists.proofs.Products.{spend}
 use Rattle.cm_files.proofs.Stars.{means_next}
 use Rattle.cm_files.proofs.pattern.means_an_end.Goals as goal
 

@@ -1,7 +1,7 @@
 use Rattle.std.proofs.Common.{drop, sym, ◌∙◌}
 use Rattle.cm_blocks.specs.Setting.{setting}
 use Rattle.cm_io.proofs.Texts.{left_less}
-use Rattle.cm_help.proofs.Joining.{left_here}
+use Rattle.cm_help.proofs.Joins.{left_here}
 use Rattle.cm_help.proofs.listing.put_possible.Goals as goal
 
 pub loop-block-preserved : goal.loop-block-preserved

@@ -2,7 +2,7 @@
 use Rattle.std.proofs.Common.{drop, true}
 use Rattle.cm_blocks.specs.Setting.{setting}
 use Rattle.cm_io.proofs.Texts.{Left}
-use Rattle.cm_help.proofs.Joining.{left}
+use Rattle.cm_help.proofs.Joins.{left}
 use Rattle.cm_help.proofs.listing.put_possible.Given as goal
 
 abbrev pub invariant-loop-block : goal.invariant-loop-block

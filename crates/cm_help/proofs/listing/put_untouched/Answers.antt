@@ -1,7 +1,7 @@
 use Rattle.std.proofs.Common.{List, [], ap, map, false}
+use Rattle.cm_lists.proofs.Elements.{drop_here}
 use Rattle.cm_blocks.specs.declared.node.Block.{Block}
 use Rattle.cm_io.proofs.Texts.{left_less}
-use Rattle.cm_help.proofs.Joining.{drop_here}
 use Rattle.cm_help.specs.Help.{listing}
 use Rattle.cm_help.specs.Phrase.{phrase}
 use Rattle.cm_help.proofs.listing.put_untouched.Goals as goal

@@ -1,6 +1,6 @@
 use Rattle.std.proofs.Common.{◌≡◌, true, drop, length}
 use Rattle.cm_hooks.specs.Among.{are_names, goes_on, rests, texts, under}
-use Rattle.cm_hooks.proofs.Joining.{joined_all, under_from}
+use Rattle.cm_hooks.proofs.Joins.{joined_all, under_from}
 use Rattle.cm_hooks.proofs.among.completion_among.Given as goal
 
 abbrev pub invariant-loop-name : goal.invariant-loop-name

@@ -1,7 +1,7 @@
 use Rattle.std.proofs.Common.{length, rules}
 use Rattle.std.proofs.lemmas.Str.{IsAscii-drop, IsCharBoundary-from_ascii}
 use Rattle.cm_text.specs.BeginLaws.{begins-le}
-use Rattle.cm_hooks.proofs.Joining.{name_is_ascii}
+use Rattle.cm_hooks.proofs.Joins.{name_is_ascii}
 use Rattle.cm_hooks.proofs.among.rest.Goals as goal
 
 pub range_from-requires : goal.range_from-requires

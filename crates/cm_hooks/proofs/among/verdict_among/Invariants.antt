@@ -1,6 +1,6 @@
 use Rattle.std.proofs.Common.{◌≡◌, drop}
 use Rattle.cm_hooks.specs.Among.{only, texts, under}
-use Rattle.cm_hooks.proofs.Joining.{only_with, under_from}
+use Rattle.cm_hooks.proofs.Joins.{only_with, under_from}
 use Rattle.cm_hooks.proofs.among.verdict_among.Given as goal
 
 abbrev pub invariant-loop-number : goal.invariant-loop-number

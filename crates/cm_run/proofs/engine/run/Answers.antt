@@ -1,10 +1,13 @@
-use Rattle.std.proofs.Common.{refl, ap, sym, ◌∙◌, arith}
+use Rattle.std.proofs.Common.{◌≡◌, true, false, refl, ap, sym, ◌∙◌, arith}
+use Rattle.cm_lists.proofs.Numbers.{le_add_more}
+use Rattle.cm_lists.proofs.Pieces.{count_of_cons}
 use Rattle.cm_run.specs.Cause.{Counts, ObeyCause, StrokeCause}
 use Rattle.cm_run.specs.Trace.{run_state}
-use Rattle.cm_run.proofs.Beginning.{run_begins, run_unbegun}
-use Rattle.cm_run.proofs.Causes.{acts_cause, asked_last, asked_more, asked_within, count_cut, count_end, count_limit, count_more, count_over, count_prompt, count_unread, counts_same, run_limit, run_quiet, run_unread, stroke_run}
-use Rattle.cm_run.proofs.Progressing.{went_cut, went_first, went_on, went_sound}
-use Rattle.cm_run.proofs.Running.{run_ends, run_fails, run_goes_on, run_halts, run_over, run_stops}
+use Rattle.cm_run.proofs.FirstPrompt.{run_begins, run_unbegun}
+use Rattle.cm_run.proofs.Causes.{acts_cause, asked_last, asked_more, count_cut, count_end, count_limit, count_over, count_prompt, count_unread, counts_same, run_limit, run_quiet, run_unread, stroke_run}
+use Rattle.cm_run.proofs.MomentLaws.{gone_first, gone_on, runs_to}
+use Rattle.cm_run.proofs.Progress.{went_cut, went_first, went_on, went_sound}
+use Rattle.cm_run.proofs.Course.{run_ends, run_fails, run_goes_on, run_halts, run_over, run_stops}
 use Rattle.cm_run.proofs.engine.run.Goals as goal
 
 pub returns-in-Err-clause-traces : goal.returns-in-Err-clause-traces
@@ -31,6 +34,7 @@ loop-turn-init g c = record {
   log = refl;
   keys = refl;
   went = λ keys_tell clock_tells. went_first g.A.Application.means c.args.app.now _ _ _ _ c.new-session.ensures.session c.in-Ok.ensures.session;
+  gone = λ keys_tell. gone_first g.A.Application.means c.args.app.now _ _ _ c.new-session.ensures.session c.in-Ok.ensures.session;
   quiet = λ none. refl;
 }
 
@@ -103,7 +107,7 @@ loop-turn-preserved g c = record {
       (c.in-Byte.ensures.bytes keys_tell) c.in-Byte.ensures.asked (c.in-Ok-handle_key.ensures.traces clock_tells _ _)
       (c.in-Ok-handle_key.ensures.next clock_tells refl);
   ready = c.in-Ok-handle_key.ensures.ready refl;
-  count = λ keys_tell. count_more _ c.loop-turn._turn _ _ c.in-Byte.key (c.loop-turn.invariant.count keys_tell) (c.in-Byte.ensures.bytes keys_tell);
+  count = λ keys_tell. count_of_cons _ c.loop-turn._turn _ _ c.in-Byte.key (c.loop-turn.invariant.count keys_tell) (c.in-Byte.ensures.bytes keys_tell);
   asked = asked_more _ _ _ c.loop-turn._turn c.loop-turn.invariant.asked c.in-Byte.ensures.asked;
   screen = ap (λ (n : Counts). n.screen) (c.in-Ok-handle_key.ensures.cause 0) ∙ c.loop-turn.invariant.screen;
   log = ap (λ (n : Counts). n.log) (c.in-Ok-handle_key.ensures.cause 0) ∙ c.loop-turn.invariant.log;
@@ -113,6 +117,10 @@ loop-turn-preserved g c = record {
       (run_state c.handle_key.new.session c.handle_key.new.app (g.C.Clock.left c.handle_key.new.clock))
       (sym c.has_ended.ensures ∙ c.if-has_ended.false) (c.in-Byte.ensures.bytes keys_tell) c.meets_sound.ensures
       (c.in-Ok-handle_key.ensures.next clock_tells refl);
+  gone = λ keys_tell.
+      gone_on g.A.Application.means _ _ _ _ _ (c.loop-turn.invariant.gone keys_tell) _ c.in-Byte.key _ _
+      (sym c.has_ended.ensures ∙ c.if-has_ended.false) (c.in-Byte.ensures.bytes keys_tell) c.meets_sound.ensures
+      (c.in-Ok-handle_key.ensures.leads refl);
   quiet = λ none. (c.in-Ok-handle_key.ensures.quiet none).0 ∙ c.loop-turn.invariant.quiet none;
 }
 
@@ -182,7 +190,7 @@ returns-in-Err-clause-asked g c = omega arith
 
 pub returns-then-has_ended-clause-asked : goal.returns-then-has_ended-clause-asked
 returns-then-has_ended-clause-asked g c =
-    asked_within c.args.limit _ _ c.loop-turn._turn c.loop-turn.invariant.asked c.loop-turn.auto._turn-end
+    le_add_more c.args.limit _ _ c.loop-turn._turn c.loop-turn.invariant.asked c.loop-turn.auto._turn-end
 
 pub returns-in-End-clause-asked : goal.returns-in-End-clause-asked
 returns-in-End-clause-asked g c =
@@ -198,8 +206,24 @@ returns-in-Err-handle_key-clause-asked g c =
 
 pub returns-then-has_ended-2-clause-asked : goal.returns-then-has_ended-2-clause-asked
 returns-then-has_ended-2-clause-asked g c =
-    asked_within c.args.limit _ _ c.loop-turn._turn c.loop-turn.invariant.asked c.loop-turn.auto._turn-end
+    le_add_more c.args.limit _ _ c.loop-turn._turn c.loop-turn.invariant.asked c.loop-turn.auto._turn-end
 
 pub returns-else-has_ended-2-clause-asked : goal.returns-else-has_ended-2-clause-asked
 returns-else-has_ended-2-clause-asked g c =
-    asked_within c.args.limit _ _ c.loop-turn._turn c.loop-turn.invariant.asked c.loop-turn.auto._turn-end
+    le_add_more c.args.limit _ _ c.loop-turn._turn c.loop-turn.invariant.asked c.loop-turn.auto._turn-end
+
+-- where the keys that were taken lead
+pub returns-then-has_ended-clause-leads : goal.returns-then-has_ended-clause-leads
+returns-then-has_ended-clause-leads g c = λ keys_tell went.
+    runs_to g.A.Application.means _ _ _ _ _ (c.loop-turn.invariant.gone keys_tell) _ refl
+    (λ going. let both : true ≡ false = sym c.if-has_ended.true ∙ c.has_ended.ensures ∙ going in absurd (cc))
+
+pub returns-in-End-clause-leads : goal.returns-in-End-clause-leads
+returns-in-End-clause-leads g c = λ keys_tell went.
+    runs_to g.A.Application.means _ _ _ _ _ (c.loop-turn.invariant.gone keys_tell) _
+    ((c.in-End.ensures.bytes keys_tell).1 ∙ sym (c.in-End.ensures.bytes keys_tell).0) (λ going. (c.in-End.ensures.bytes keys_tell).1)
+
+pub returns-then-has_ended-2-clause-leads : goal.returns-then-has_ended-2-clause-leads
+returns-then-has_ended-2-clause-leads g c = λ keys_tell went.
+    runs_to g.A.Application.means _ _ _ _ _ (c.loop-turn.invariant.gone keys_tell) _ refl
+    (λ going. let both : true ≡ false = sym c.if-has_ended-2.true ∙ c.has_ended-2.ensures ∙ going in absurd (cc))

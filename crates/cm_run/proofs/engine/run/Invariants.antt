@@ -2,8 +2,9 @@ use Rattle.std.proofs.Common.{◌≡◌, ◌+◌, ◌≤◌, false, length, IsTr
 use Rattle.cm_run.specs.Observed.{observed}
 use Rattle.cm_run.specs.Ready.{IsReadyIn}
 use Rattle.cm_run.specs.Trace.{is_ended, keys_trace, run_state, run_trace, starting, unless}
-use Rattle.cm_run.proofs.Progressing.{Went}
-use Rattle.cm_run.proofs.Running.{Ahead}
+use Rattle.cm_run.proofs.MomentLaws.{Gone}
+use Rattle.cm_run.proofs.Progress.{Went}
+use Rattle.cm_run.proofs.Course.{Ahead}
 use Rattle.cm_run.proofs.engine.run.Given as goal
 
 -- the keys so far have happened, those behind them are left, and no fault was counted
@@ -26,5 +27,6 @@ invariant-loop-turn g l = record {
   went : IsTrue g.K.Source.tells → IsTrue g.C.Clock.tells → Went g.A.Application.means
       (starting g.A.Application.means l.fn.app (g.C.Clock.left l.fn.clock)) (run_state l.session l.app (g.C.Clock.left l.clock))
       (g.K.Source.left l.fn.keys) (g.K.Source.left l.keys);
+  gone : IsTrue g.K.Source.tells → Gone g.A.Application.means l.fn.app l.session l.app (g.K.Source.left l.fn.keys) (g.K.Source.left l.keys);
   quiet : l.logging ≡ false → g.W.Sink.told l.log ≡ g.W.Sink.told l.fn.log;
 }

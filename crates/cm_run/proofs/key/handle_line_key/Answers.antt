@@ -1,4 +1,5 @@
-use Rattle.std.proofs.Common.{[]}
+use Rattle.std.proofs.Common.{[], ◌∷◌, ◌++◌}
+use Rattle.cm_run.specs.Trace.{run_state}
 use Rattle.cm_run.proofs.Keys.{echo_done, line_log_cut, line_next, line_on, line_screen_cut, turn_done}
 use Rattle.cm_run.proofs.key.handle_line_key.Goals as goal
 
@@ -34,3 +35,16 @@ returns-clause-next g c = λ tells done.
     (g.W.Sink.told c.args.log.now) (g.W.Sink.told c.log_line.new.log) [] 0 c.args.steps.now c.edit_line-turn.new.steps
     c.edit_line-turn.result _ (c.finish_key.ensures.next tells done) c.edit_line-turn.ensures.edited
     (c.edit_line-turn.ensures.turn (turn_done _ c.in_default.not-Failed))
+
+pub returns-clause-leads : goal.returns-clause-leads
+returns-clause-leads g c = λ done.
+    let line = c.finish_key.ensures.leads done in
+    record {
+      given = line.given;
+      leads = λ moment more.
+          line_next g.A.Application.means c.args.logging c.args.key c.args.session.now c.edit_line-turn.new.session c.args.app.now
+          (line.given ++ moment ∷ more) (g.S.Sink.told c.args.screen.now) (g.S.Sink.told c.edit_line-turn.new.screen)
+          (g.W.Sink.told c.args.log.now) (g.W.Sink.told c.log_line.new.log) [] 0 c.args.steps.now c.edit_line-turn.new.steps
+          c.edit_line-turn.result (run_state c.finish_key.new.session c.finish_key.new.app (moment ∷ more)) (line.leads moment more) c.edit_line-turn.ensures.edited
+          (c.edit_line-turn.ensures.turn (turn_done _ c.in_default.not-Failed));
+    }

@@ -1,4 +1,4 @@
-use Rattle.cm_run.proofs.Cutting.{traces_log, traces_screen}
+use Rattle.cm_run.proofs.Cuts.{traces_log, traces_screen}
 use Rattle.cm_run.proofs.laws.a_cut_run_is_a_beginning.Goals as goal
 
 pub returns-clause-screen : goal.returns-clause-screen

@@ -1,4 +1,4 @@
-use Rattle.cm_run.proofs.Showing.{key_clears, key_shows}
+use Rattle.cm_run.proofs.Echoes.{key_clears, key_shows}
 use Rattle.cm_run.proofs.laws.a_key_keeps_the_screen.Goals as goal
 
 pub returns-clause-clear : goal.returns-clause-clear

@@ -1,4 +1,4 @@
-use Rattle.cm_run.proofs.Showing.{start_is_clear, start_shows}
+use Rattle.cm_run.proofs.Echoes.{start_is_clear, start_shows}
 use Rattle.cm_run.proofs.laws.a_prompt_begins_a_line.Goals as goal
 
 pub returns-clause-shows : goal.returns-clause-shows

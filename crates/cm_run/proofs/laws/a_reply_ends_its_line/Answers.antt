@@ -1,4 +1,4 @@
-use Rattle.cm_run.proofs.Showing.{reply_shows}
+use Rattle.cm_run.proofs.Echoes.{reply_shows}
 use Rattle.cm_run.proofs.laws.a_reply_ends_its_line.Goals as goal
 
 pub returns : goal.returns

@@ -1,4 +1,4 @@
-use Rattle.cm_run.proofs.Keeping.{run_keeps}
+use Rattle.cm_run.proofs.Displays.{run_keeps}
 use Rattle.cm_run.proofs.laws.a_run_keeps_the_screen.Goals as goal
 
 pub returns : goal.returns

@@ -1,4 +1,4 @@
-use Rattle.cm_run.proofs.Counting.{line_is_all, run_is_counted}
+use Rattle.cm_run.proofs.Counts.{line_is_all, run_is_counted}
 use Rattle.cm_run.proofs.laws.the_counter_is_the_sum_over_the_keys.Goals as goal
 
 pub returns-clause-sum : goal.returns-clause-sum

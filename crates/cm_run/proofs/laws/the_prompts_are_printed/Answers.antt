@@ -1,4 +1,4 @@
-use Rattle.cm_run.proofs.Showing.{prompts_printed}
+use Rattle.cm_run.proofs.Echoes.{prompts_printed}
 use Rattle.cm_run.proofs.laws.the_prompts_are_printed.Goals as goal
 
 pub returns-clause-main : goal.returns-clause-main

@@ -1,8 +1,8 @@
 use Rattle.std.proofs.Common.{refl, sym, ◌∙◌}
 use Rattle.cm_run.specs.Cause.{ObeyCause}
 use Rattle.cm_run.specs.declared.engine.TheConstants.{FILE_LINES}
-use Rattle.cm_run.proofs.Running.{ahead_first}
-use Rattle.cm_run.proofs.Waiting.{files_cut, files_full, files_more, files_over}
+use Rattle.cm_run.proofs.Course.{ahead_first}
+use Rattle.cm_run.proofs.CommandLines.{files_cut, files_full, files_more, files_over}
 use Rattle.cm_run.proofs.line.take_lines.Goals as goal
 
 pub loop-line-init : goal.loop-line-init

@@ -3,7 +3,7 @@ use Rattle.cm_io.specs.Told.{Told}
 use Rattle.cm_run.specs.declared.engine.TheConstants.{FILE_LINES}
 use Rattle.cm_run.specs.Observed.{observed}
 use Rattle.cm_run.specs.Trace.{file_trace}
-use Rattle.cm_run.proofs.Running.{Ahead}
+use Rattle.cm_run.proofs.Course.{Ahead}
 use Rattle.cm_run.proofs.line.take_lines.Given as goal
 
 -- the lines so far have acted, and those behind them are left

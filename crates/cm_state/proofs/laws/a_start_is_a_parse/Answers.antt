@@ -1,4 +1,4 @@
-use Rattle.cm_state.proofs.Starting.{start_parses}
+use Rattle.cm_state.proofs.Starts.{start_parses}
 use Rattle.cm_state.proofs.laws.a_start_is_a_parse.Goals as goal
 
 pub returns : goal.returns

@@ -1,4 +1,4 @@
-use Rattle.cm_tables.proofs.SharingLemmas.{common_is_longest, common_is_shared, common_of_none}
+use Rattle.cm_tables.proofs.ShareLemmas.{common_is_longest, common_is_shared, common_of_none}
 use Rattle.cm_tables.proofs.laws.the_common_text_is_the_longest.Goals as goal
 
 pub returns-clause-shared : goal.returns-clause-shared

@@ -1,7 +1,7 @@
 use Rattle.std.proofs.Common.{◌≡◌, ◌+◌, ap, arith, drop, rules, sym, ◌∙◌}
 use Rattle.cm_tables.specs.Listed.{first_place}
 use Rattle.cm_tables.proofs.StartLaws.{listed_in, listed_stop}
-use Rattle.cm_tables.proofs.Listing.{listed_of}
+use Rattle.cm_tables.proofs.ListedEntries.{listed_of}
 use Rattle.cm_tables.proofs.listed.next_listed.Goals as goal
 
 pub loop-offset-init : goal.loop-offset-init

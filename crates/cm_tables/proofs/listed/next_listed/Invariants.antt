@@ -1,7 +1,7 @@
 use Rattle.std.proofs.Common.{◌≡◌, ◌+◌, drop}
 use Rattle.cm_tables.specs.Listed.{first_place, next_listed}
 use Rattle.cm_tables.specs.Search.{AreNotBelow, Ascends}
-use Rattle.cm_tables.proofs.Listing.{listed_of}
+use Rattle.cm_tables.proofs.ListedEntries.{listed_of}
 use Rattle.cm_tables.proofs.listed.next_listed.Given as goal
 
 -- the first from here on is the first from the position on

@@ -1,6 +1,6 @@
 use Rattle.std.proofs.Common.{ap, arith, length, length-append, append_assoc}
 use Rattle.std.proofs.lemmas.Fmt.{decimal_step}
-use Rattle.cm_text.proofs.Decimal.{length_decimal_step}
+use Rattle.cm_lists.proofs.Digits.{length_decimal_step}
 use Rattle.cm_text.proofs.digits.+push_decimal.Goals as goal
 
 pub push_digit-requires-else-number-lt10-clause-room : goal.push_digit-requires-else-number-lt10-clause-room

@@ -1,6 +1,6 @@
 use Rattle.std.proofs.Common.{arith, refl, of_calls, sym}
 use Rattle.std.proofs.lemmas.Fn.{called}
-use Rattle.cm_text.proofs.SeekLaws.{asked_again, few_asked, fewer_left, sought_above, sought_below}
+use Rattle.cm_lists.proofs.Seeks.{asked_again, few_asked, fewer_left, sought_above, sought_below}
 use Rattle.cm_text.proofs.search.seek.Goals as goal
 
 pub loop-size-preserved-then-is_before : goal.loop-size-preserved-then-is_before

@@ -1,6 +1,6 @@
 use Rattle.std.proofs.Common.{◌≤◌, ◌+◌, ◌-◌, ◌*◌, ◌^◌, Bool, length}
 use Rattle.std.specs.Fn.{ComputesKey}
-use Rattle.cm_text.proofs.SeekLaws.{IsSought}
+use Rattle.cm_lists.proofs.Seeks.{IsSought}
 use Rattle.cm_text.proofs.search.seek.Given as goal
 
 abbrev pub invariant-loop-size : goal.invariant-loop-size

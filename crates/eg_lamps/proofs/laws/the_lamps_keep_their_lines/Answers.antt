@@ -1,4 +1,4 @@
-use Rattle.eg_lamps.proofs.Replying.{lamps_keep_lines}
+use Rattle.eg_lamps.proofs.Replies.{lamps_keep_lines}
 use Rattle.eg_lamps.proofs.laws.the_lamps_keep_their_lines.Goals as goal
 
 pub returns : goal.returns

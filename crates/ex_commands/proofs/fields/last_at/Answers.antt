@@ -1,7 +1,7 @@
 use Rattle.std.proofs.Common.{◌≡◌, ◌+◌, ◌-◌, ◌==◌, true, false, ap, sym, ◌∙◌, arith}
 use Rattle.std.proofs.lemmas.Bool.Decides.{nat_tests}
 use Rattle.cm_blocks.specs.FieldView.{FieldView}
-use Rattle.ex_commands.proofs.Lasting.{last_found, last_other}
+use Rattle.ex_commands.proofs.LastFields.{last_found, last_other}
 use Rattle.ex_commands.proofs.fields.last_at.Goals as goal
 
 pub returns-then-node : goal.returns-then-node

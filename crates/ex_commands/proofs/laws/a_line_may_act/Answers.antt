@@ -1,5 +1,5 @@
 use Rattle.cm_blocks.specs.declared.field.Ending.TheVariants as ending
-use Rattle.ex_commands.proofs.Asking.{text_plain}
+use Rattle.ex_commands.proofs.Forms.{text_plain}
 use Rattle.ex_commands.proofs.Doable.{line_may_act}
 use Rattle.ex_commands.proofs.laws.a_line_may_act.Goals as goal
 

@@ -1,4 +1,4 @@
-use Rattle.ex_commands.proofs.Coming.{refusal_stays}
+use Rattle.ex_commands.proofs.Outcomes.{refusal_stays}
 use Rattle.ex_commands.proofs.laws.a_refusal_changes_nothing.Goals as goal
 
 pub returns : goal.returns

@@ -1,4 +1,4 @@
-use Rattle.ex_commands.proofs.Coming.{ends_by_logout}
+use Rattle.ex_commands.proofs.Outcomes.{ends_by_logout}
 use Rattle.ex_commands.proofs.laws.only_logout_ends_the_run.Goals as goal
 
 pub returns : goal.returns

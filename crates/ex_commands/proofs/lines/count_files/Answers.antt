@@ -1,8 +1,8 @@
 use Rattle.std.proofs.Common.{List, filter, length, ap, arith, ◌∙◌}
 use Rattle.ex_store.specs.declared.row.Row.{Row}
 use Rattle.ex_commands.specs.Replies.{is_within}
-use Rattle.ex_commands.proofs.Lining.{is_first}
-use Rattle.ex_commands.proofs.Listing.{counted_next}
+use Rattle.ex_commands.proofs.ElementLines.{is_first}
+use Rattle.ex_commands.proofs.DayLines.{counted_next}
 use Rattle.ex_commands.proofs.lines.count_files.Goals as goal
 
 pub loop-row-init : goal.loop-row-init

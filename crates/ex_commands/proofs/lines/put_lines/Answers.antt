@@ -2,7 +2,7 @@ use Rattle.std.proofs.Common.{ap}
 use Rattle.std.specs.List.{flat_map}
 use Rattle.cm_io.proofs.Texts.{left_less, left_whole}
 use Rattle.ex_commands.specs.Replies.{line_of}
-use Rattle.ex_commands.proofs.Lining.{is_first}
+use Rattle.ex_commands.proofs.ElementLines.{is_first}
 use Rattle.ex_commands.proofs.lines.put_lines.Goals as goal
 
 pub loop-row-init : goal.loop-row-init

@@ -1,7 +1,7 @@
 use Rattle.std.proofs.Common.{ap}
 use Rattle.ex_store.specs.State.{StoreWithRoom}
 use Rattle.ex_commands.specs.Effect.{pair_lines}
-use Rattle.ex_commands.proofs.Playing.{play_done, play_refused}
+use Rattle.ex_commands.proofs.Plays.{play_done, play_refused}
 use Rattle.ex_commands.proofs.plans.play.Goals as goal
 
 pub returns-in-Ok : goal.returns-in-Ok

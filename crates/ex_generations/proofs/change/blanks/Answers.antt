@@ -1,7 +1,7 @@
 use Rattle.std.proofs.Common.{◌≡◌, map, subst, sym, arith}
 use Rattle.std.proofs.lemmas.Grind.{common_steps}
 use Rattle.ex_generations.specs.Generations.{IsAscending, blank}
-use Rattle.ex_generations.proofs.Ascending.{IsAscending-blank}
+use Rattle.ex_generations.proofs.Ascents.{IsAscending-blank}
 use Rattle.ex_generations.proofs.change.blanks.Goals as goal
 
 pub returns-clause-ascending : goal.returns-clause-ascending

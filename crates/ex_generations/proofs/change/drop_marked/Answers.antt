@@ -1,7 +1,7 @@
 use Rattle.std.proofs.Common.{◌≡◌, not, rules, sym, subst}
 use Rattle.std.proofs.lemmas.Fn.{filter_same}
 use Rattle.ex_generations.specs.Generations.{IsAscending, unmarked}
-use Rattle.ex_generations.proofs.Ascending.{IsAscending-filter}
+use Rattle.ex_generations.proofs.Ascents.{IsAscending-filter}
 use Rattle.ex_generations.proofs.change.drop_marked.Goals as goal
 
 pub returns-clause-items : goal.returns-clause-items

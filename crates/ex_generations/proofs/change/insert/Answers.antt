@@ -1,7 +1,7 @@
 use Rattle.std.proofs.Common.{◌≡◌, insert, sym, subst, ap, ◌∙◌}
 use Rattle.std.proofs.lemmas.List.Sums.{prefix_len-le-length}
 use Rattle.ex_generations.specs.Generations.{IsAscending, inserted}
-use Rattle.ex_generations.proofs.Placing.{IsAscending-inserted, IsNew, inserted_at, place_of}
+use Rattle.ex_generations.proofs.Places.{IsAscending-inserted, IsNew, inserted_at, place_of}
 use Rattle.ex_generations.proofs.change.insert.Goals as goal
 
 pub put_at-requires-clause-within : goal.put_at-requires-clause-within

@@ -2,7 +2,7 @@ use Rattle.std.proofs.Common.{◌≡◌, subst, sym, arith}
 use Rattle.std.proofs.lemmas.Grind.{common_steps}
 use Rattle.ex_generations.specs.Generations.{IsAscending}
 use Rattle.ex_generations.specs.Retention.{kept_newest}
-use Rattle.ex_generations.proofs.Ascending.{IsAscending-kept}
+use Rattle.ex_generations.proofs.Ascents.{IsAscending-kept}
 use Rattle.ex_generations.proofs.change.keep_newest.Goals as goal
 
 pub returns-clause-ascending : goal.returns-clause-ascending

@@ -1,8 +1,8 @@
 use Rattle.std.proofs.Common.{◌≡◌, true, false, refl, sym, ◌∙◌}
 use Rattle.std.proofs.lemmas.Bool.{both_ways, false≢true}
 use Rattle.ex_generations.specs.Generations.{has, with_remark}
-use Rattle.ex_generations.proofs.Ascending.{with_remark-bytes, with_remark-generation}
-use Rattle.ex_generations.proofs.Placing.{IsAscending-set, StandsAt-from_position, absent-from_position, changed-absent, set_is}
+use Rattle.ex_generations.proofs.Ascents.{with_remark-bytes, with_remark-generation}
+use Rattle.ex_generations.proofs.Places.{IsAscending-set, StandsAt-from_position, absent-from_position, changed-absent, set_is}
 use Rattle.ex_generations.proofs.change.remark.Goals as goal
 
 pub returns-in-Some-clause-none : goal.returns-in-Some-clause-none

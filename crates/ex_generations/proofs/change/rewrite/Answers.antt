@@ -1,7 +1,7 @@
 use Rattle.std.proofs.Common.{refl, sym, ◌∙◌}
 use Rattle.std.proofs.lemmas.Bool.{both_ways}
 use Rattle.ex_generations.specs.Generations.{rewritten}
-use Rattle.ex_generations.proofs.Placing.{IsAscending-set, absent-from_position, set_is}
+use Rattle.ex_generations.proofs.Places.{IsAscending-set, absent-from_position, set_is}
 use Rattle.ex_generations.proofs.change.rewrite.Goals as goal
 
 pub returns-clause-changed : goal.returns-clause-changed

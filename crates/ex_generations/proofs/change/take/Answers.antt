@@ -1,8 +1,8 @@
 use Rattle.std.proofs.Common.{◌≡◌, Some, None, position, sym, subst, ◌∙◌}
 use Rattle.std.proofs.lemmas.Bool.{both_ways}
 use Rattle.ex_generations.specs.Generations.{IsAscending, is_generation}
-use Rattle.ex_generations.proofs.Ascending.{IsAscending-without}
-use Rattle.ex_generations.proofs.Placing.{absent-from_position, find_is, remove_is}
+use Rattle.ex_generations.proofs.Ascents.{IsAscending-without}
+use Rattle.ex_generations.proofs.Places.{absent-from_position, find_is, remove_is}
 use Rattle.ex_generations.proofs.change.take.Goals as goal
 
 pub unreachable-requires : goal.unreachable-requires

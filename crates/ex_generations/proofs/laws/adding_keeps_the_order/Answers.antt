@@ -1,4 +1,4 @@
-use Rattle.ex_generations.proofs.Retaining.{IsAscending-added}
+use Rattle.ex_generations.proofs.Retention.{IsAscending-added}
 use Rattle.ex_generations.proofs.laws.adding_keeps_the_order.Goals as goal
 
 pub returns : goal.returns

@@ -1,4 +1,4 @@
-use Rattle.ex_generations.proofs.Keeping.{among}
+use Rattle.ex_generations.proofs.KeptFiles.{among}
 use Rattle.ex_generations.proofs.laws.an_added_file_leaves_the_others.Goals as goal
 
 pub returns : goal.returns

@@ -1,4 +1,4 @@
-use Rattle.ex_generations.proofs.Retaining.{retained-marks}
+use Rattle.ex_generations.proofs.Retention.{retained-marks}
 use Rattle.ex_generations.proofs.laws.retention_changes_marks_alone.Goals as goal
 
 pub returns : goal.returns

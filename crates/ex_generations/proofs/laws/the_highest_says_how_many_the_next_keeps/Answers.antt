@@ -1,4 +1,4 @@
-use Rattle.ex_generations.proofs.Retaining.{keep_for-append}
+use Rattle.ex_generations.proofs.Retention.{keep_for-append}
 use Rattle.ex_generations.proofs.laws.the_highest_says_how_many_the_next_keeps.Goals as goal
 
 pub returns-clause-others : goal.returns-clause-others

@@ -1,5 +1,5 @@
 use Rattle.std.proofs.Common.{sym, ◌∙◌}
-use Rattle.ex_generations.proofs.Placing.{absent-from_position, find_absent, find_is}
+use Rattle.ex_generations.proofs.Places.{absent-from_position, find_absent, find_is}
 use Rattle.ex_generations.proofs.search.find.Goals as goal
 
 pub returns-in-Some : goal.returns-in-Some

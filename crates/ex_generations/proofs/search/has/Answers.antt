@@ -1,5 +1,5 @@
 use Rattle.std.proofs.Common.{◌∙◌}
-use Rattle.ex_generations.proofs.Halving.{has_position}
+use Rattle.ex_generations.proofs.Halves.{has_position}
 use Rattle.ex_generations.proofs.search.has.Goals as goal
 
 pub returns : goal.returns

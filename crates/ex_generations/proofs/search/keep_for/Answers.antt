@@ -1,5 +1,5 @@
 use Rattle.std.proofs.Common.{sym}
-use Rattle.ex_generations.proofs.Retaining.{keep_for-last, keep_for-none}
+use Rattle.ex_generations.proofs.Retention.{keep_for-last, keep_for-none}
 use Rattle.ex_generations.proofs.search.keep_for.Goals as goal
 
 pub returns-in-Some : goal.returns-in-Some

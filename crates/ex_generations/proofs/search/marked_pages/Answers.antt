@@ -1,5 +1,5 @@
 use Rattle.std.proofs.Common.{arith}
-use Rattle.ex_generations.proofs.Ascending.{length-within, short_at}
+use Rattle.ex_generations.proofs.Ascents.{length-within, short_at}
 use Rattle.ex_generations.proofs.search.marked_pages.Goals as goal
 
 pub page_count-pages-requires : goal.page_count-pages-requires

@@ -1,6 +1,6 @@
 use Rattle.std.proofs.Common.{rules}
 use Rattle.std.proofs.lemmas.List.Sorted.{IsPartitionPoint-from_clause}
-use Rattle.ex_generations.proofs.Halving.{is_lower, lower_first, place_is}
+use Rattle.ex_generations.proofs.Halves.{is_lower, lower_first, place_is}
 use Rattle.ex_generations.proofs.search.place.Goals as goal
 
 pub returns-clause-place : goal.returns-clause-place

@@ -3,7 +3,7 @@ use Rattle.std.proofs.lemmas.Bool.{both_ways, lt-ltb, ltb-true}
 use Rattle.std.proofs.lemmas.List.{get_or_default}
 use Rattle.std.specs.Option.{is_some}
 use Rattle.ex_generations.specs.declared.file.File.{File}
-use Rattle.ex_generations.proofs.Halving.{found_at, none_at}
+use Rattle.ex_generations.proofs.Halves.{found_at, none_at}
 use Rattle.ex_generations.proofs.search.position.Goals as goal
 
 pub returns-in-Some-clause-place : goal.returns-in-Some-clause-place

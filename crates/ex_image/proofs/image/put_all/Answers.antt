@@ -1,8 +1,8 @@
 use Rattle.std.proofs.Common.{subst}
 use Rattle.cm_io.specs.declared.sink.Put.TheVariants.{Failed}
 use Rattle.ex_image.specs.Writing.{Appends}
-use Rattle.ex_image.proofs.Appending.{appends_both, appends_early}
-use Rattle.ex_image.proofs.Joining.{image_joined}
+use Rattle.ex_image.proofs.Appends.{appends_both, appends_early}
+use Rattle.ex_image.proofs.Joins.{image_joined}
 use Rattle.ex_image.proofs.image.put_all.Goals as goal
 
 pub returns-in-Failed : goal.returns-in-Failed

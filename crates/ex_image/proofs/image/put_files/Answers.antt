@@ -1,4 +1,4 @@
-use Rattle.ex_image.proofs.Appending.{appends_both, appends_early}
+use Rattle.ex_image.proofs.Appends.{appends_both, appends_early}
 use Rattle.ex_image.proofs.image.put_files.Goals as goal
 
 pub returns-in-Failed-put_each : goal.returns-in-Failed-put_each

@@ -3,7 +3,7 @@ use Rattle.std.specs.List.{flat_map}
 use Rattle.ex_image.specs.Image.{logical_record}
 use Rattle.ex_image.specs.Record.{Connected, line_text, record_text}
 use Rattle.ex_image.specs.Writing.{Appends}
-use Rattle.ex_image.proofs.Appending.{appends_both, appends_early}
+use Rattle.ex_image.proofs.Appends.{appends_both, appends_early}
 use Rattle.ex_image.proofs.image.put_names.Goals as goal
 
 pub returns-in-Failed : goal.returns-in-Failed

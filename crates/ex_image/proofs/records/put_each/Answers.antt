@@ -1,7 +1,7 @@
 use Rattle.std.proofs.Common.{get_or, [], arith}
 use Rattle.std.proofs.lemmas.Option.{slice_get-get_or}
 use Rattle.ex_image.specs.Record.{End}
-use Rattle.ex_image.proofs.Leaving.{leaves_less, leaves_part, record_here}
+use Rattle.ex_image.proofs.Leaves.{leaves_less, leaves_part, record_here}
 use Rattle.ex_image.proofs.records.put_each.Goals as goal
 
 pub returns-in-Failed : goal.returns-in-Failed

@@ -2,7 +2,7 @@
 use Rattle.std.proofs.Common.{drop}
 use Rattle.std.specs.List.{flat_map}
 use Rattle.ex_image.specs.Record.{record_text}
-use Rattle.ex_image.proofs.Leaving.{Leaves}
+use Rattle.ex_image.proofs.Leaves.{Leaves}
 use Rattle.ex_image.proofs.records.put_each.Given as goal
 
 abbrev pub invariant-loop-i : goal.invariant-loop-i

@@ -1,4 +1,4 @@
-use Rattle.ex_image.proofs.Appending.{appends_both}
+use Rattle.ex_image.proofs.Appends.{appends_both}
 use Rattle.ex_image.proofs.records.put_file.Goals as goal
 
 pub returns : goal.returns

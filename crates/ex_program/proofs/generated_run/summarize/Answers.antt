@@ -5,7 +5,7 @@ use Rattle.ex_store.specs.State.{State}
 use Rattle.ex_take.specs.Exec.{exec_meaning}
 use Rattle.ex_take.specs.ExecState.{ExecState}
 use Rattle.ex_program.specs.declared.progress.TheConstants.{GENERATED_KEYS}
-use Rattle.ex_program.proofs.Summing.{cut_for_memory, from_first, memory_alone, performed, shown, sums_up, taken, trace_from_first}
+use Rattle.ex_program.proofs.Summaries.{cut_for_memory, from_first, memory_alone, performed, shown, sums_up, taken, trace_from_first}
 use Rattle.ex_program.proofs.generated_run.summarize.Goals as goal
 
 pub error_of-requires : goal.error_of-requires

@@ -1,4 +1,4 @@
-use Rattle.ex_program.proofs.Heading.{read_again, taken_again}
+use Rattle.ex_program.proofs.KnownRuns.{read_again, taken_again}
 use Rattle.ex_program.proofs.laws.what_is_saved_is_read_again.Goals as goal
 
 pub returns-clause-begins : goal.returns-clause-begins

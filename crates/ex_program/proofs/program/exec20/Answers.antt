@@ -3,10 +3,10 @@ use Rattle.cm_io.specs.Told.{add}
 use Rattle.ex_system.specs.Asked.{form_view}
 use Rattle.ex_system.specs.Disk.{disk_of}
 use Rattle.ex_run.specs.Scene.{scene}
-use Rattle.ex_run.proofs.Asking.{heads}
+use Rattle.ex_run.proofs.Words.{heads}
 use Rattle.ex_program.specs.ExecRun.{exec_left, exec_over}
-use Rattle.ex_program.proofs.Generating.{stands_generated}
-use Rattle.ex_program.proofs.Heading.{ended_where, no_usage, shown_where, stands_asked}
+use Rattle.ex_program.proofs.GeneratedRuns.{stands_generated}
+use Rattle.ex_program.proofs.KnownRuns.{ended_where, no_usage, shown_where, stands_asked}
 use Rattle.ex_program.proofs.program.exec20.Goals as goal
 
 pub returns-clause-done_shown : goal.returns-clause-done_shown
@@ -49,14 +49,14 @@ returns-clause-start g c =
     (heads _ exec_over _ (form_view c.in-Some.form) _ _ _ _ c.run_form.result c.in-Some.ensures c.run_form.ensures).start
 
 pub returns-clause-complete : goal.returns-clause-complete
-returns-clause-complete g c = λ keys clock form start asks few screen log source host.
-    ((heads _ exec_over _ (form_view c.in-Some.form) _ _ _ _ c.run_form.result c.in-Some.ensures c.run_form.ensures).follows (keys, clock) form start asks).complete few
+returns-clause-complete g c = λ keys form start asks few screen log source host.
+    ((heads _ exec_over _ (form_view c.in-Some.form) _ _ _ _ c.run_form.result c.in-Some.ensures c.run_form.ensures).finishes keys form start asks).complete few
     (record { screen = screen; log = log; keys = source; host = host })
 
 pub returns-clause-limit : goal.returns-clause-limit
-returns-clause-limit g c = λ keys clock form start asks taken rest all count going screen log source host.
-    ((heads _ exec_over _ (form_view c.in-Some.form) _ _ _ _ c.run_form.result c.in-Some.ensures c.run_form.ensures).follows (keys, clock) form start asks).limit taken rest all count
-    (ended_where (exec_left form.logs start (g.C.Clock.left c.args.clock.now) taken) ∙ going)
+returns-clause-limit g c = λ keys form start asks taken rest all count going screen log source host.
+    ((heads _ exec_over _ (form_view c.in-Some.form) _ _ _ _ c.run_form.result c.in-Some.ensures c.run_form.ensures).finishes keys form start asks).limit taken rest all count
+    (λ moments told. ended_where (exec_left form.logs start moments taken) ∙ going moments told)
     (record { screen = screen; log = log; keys = source; host = host })
 
 -- what stands, by the way out

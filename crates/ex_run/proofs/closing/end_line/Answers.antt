@@ -2,7 +2,7 @@ use Rattle.std.proofs.Common.{ap, ◌∙◌, inl}
 use Rattle.cm_io.specs.Told.{add}
 use Rattle.cm_text.specs.Shown.{end_of_line}
 use Rattle.ex_system.specs.Messages.{message}
-use Rattle.ex_system.proofs.TryingLemmas.{tried_behind}
+use Rattle.ex_system.proofs.Trials.{tried_behind}
 use Rattle.ex_run.proofs.closing.end_line.Goals as goal
 
 pub returns-in-Done-clause-ends : goal.returns-in-Done-clause-ends

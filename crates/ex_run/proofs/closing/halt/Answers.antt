@@ -2,7 +2,7 @@ use Rattle.std.proofs.Common.{ap, ◌∙◌}
 use Rattle.cm_io.specs.Told.{add}
 use Rattle.cm_text.specs.Shown.{end_of_line}
 use Rattle.ex_system.specs.Messages.{message}
-use Rattle.ex_system.proofs.TryingLemmas.{tried_behind, tried_joined}
+use Rattle.ex_system.proofs.Trials.{tried_behind, tried_joined}
 use Rattle.ex_run.proofs.closing.halt.Goals as goal
 
 pub returns-in-Done-clause-shown : goal.returns-in-Done-clause-shown

@@ -1,10 +1,10 @@
 use Rattle.cm_io.specs.declared.status.Status.TheVariants as status
 use Rattle.ex_system.specs.Asked.{form_view}
 use Rattle.ex_system.specs.Disk.{disk_of}
-use Rattle.ex_system.proofs.Starting.{began_cause}
+use Rattle.ex_system.proofs.Starts.{began_cause}
 use Rattle.ex_run.specs.Over.{over}
 use Rattle.ex_run.specs.Scene.{scene}
-use Rattle.ex_run.proofs.Coursing.{course_early, course_past}
+use Rattle.ex_run.proofs.Courses.{course_early, course_past}
 use Rattle.ex_run.proofs.program.run_program.Goals as goal
 
 -- before the first prompt

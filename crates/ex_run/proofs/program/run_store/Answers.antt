@@ -2,7 +2,7 @@ use Rattle.ex_system.specs.Asked.{form_view}
 use Rattle.ex_system.specs.Disk.{disk_of}
 use Rattle.ex_run.specs.Over.{over}
 use Rattle.ex_run.specs.Scene.{scene}
-use Rattle.ex_run.proofs.Coming.{comes}
+use Rattle.ex_run.proofs.Outcomes.{comes}
 use Rattle.ex_run.proofs.program.run_store.Goals as goal
 
 pub returns : goal.returns

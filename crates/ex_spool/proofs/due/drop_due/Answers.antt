@@ -3,7 +3,7 @@ use Rattle.std.specs.List.{remove}
 use Rattle.ex_store.specs.State.{State}
 use Rattle.ex_store.specs.declared.queue.QueueEntry.{QueueEntry}
 use Rattle.ex_spool.specs.Spool.{is_due}
-use Rattle.ex_spool.proofs.Dropping.{kept_turn, no_entry}
+use Rattle.ex_spool.proofs.Drops.{kept_turn, no_entry}
 use Rattle.ex_spool.proofs.due.drop_due.Goals as goal
 
 pub loop-i-preserved : goal.loop-i-preserved

@@ -1,6 +1,6 @@
 -- From here on the queue has only the entries that are not due.
 use Rattle.std.proofs.Common.{◌≡◌, ◌≤◌, length}
-use Rattle.ex_spool.proofs.Dropping.{kept_from}
+use Rattle.ex_spool.proofs.Drops.{kept_from}
 use Rattle.ex_spool.proofs.due.drop_due.Given as goal
 
 abbrev pub invariant-loop-i : goal.invariant-loop-i

@@ -1,6 +1,6 @@
 use Rattle.std.proofs.Common.{subst, ◌∙◌, ap}
 use Rattle.cm_io.specs.Writer.{Writes}
-use Rattle.ex_image.proofs.Sounding.{forms_of_state}
+use Rattle.ex_image.proofs.Soundness.{forms_of_state}
 use Rattle.ex_store.specs.State.{State}
 use Rattle.ex_spool.proofs.DueLaws.{pages_are}
 use Rattle.ex_spool.proofs.pages.put_pages.Goals as goal

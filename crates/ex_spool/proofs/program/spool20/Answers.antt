@@ -5,8 +5,8 @@ use Rattle.ex_system.specs.Asked.{form_view}
 use Rattle.ex_system.specs.Disk.{disk_of}
 use Rattle.ex_system.specs.Messages.{IsSilent}
 use Rattle.ex_spool.specs.Stands.{Course, scene}
-use Rattle.ex_spool.proofs.Asking.{follows_asked, stands_asked, start_asked, usage_asked}
-use Rattle.ex_spool.proofs.Printing.{course_cut, course_early, course_past, printed_whole}
+use Rattle.ex_spool.proofs.WordCases.{follows_asked, stands_asked, start_asked, usage_asked}
+use Rattle.ex_spool.proofs.Prints.{course_cut, course_early, course_past, printed_whole}
 use Rattle.ex_spool.proofs.program.spool20.Given.{Over}
 use Rattle.ex_spool.proofs.program.spool20.Goals as goal
 use Rattle.ex_spool.proofs.program.spool20.Goals.{After-finish, After-refuse}

@@ -1,14 +1,14 @@
 use Rattle.std.proofs.Common.{◌≡◌, ◌<◌, ◌+◌, ◌++◌, ℕ, List, [], drop, get_or, length, map, set, take, take-append-drop, ap, arith, sym, ◌∙◌}
 use Rattle.std.proofs.Math.ListN.{drop_of_length-le}
 use Rattle.std.proofs.lemmas.List.{length-set}
+use Rattle.cm_lists.proofs.Elements.{get_or_of_some}
 use Rattle.ex_generations.specs.declared.file.Remark.TheVariants as remarks
 use Rattle.ex_store.specs.declared.row.Row.{Row}
 use Rattle.ex_store.specs.Draft.{kept_by}
 use Rattle.ex_store.specs.Lent.{row_of_view}
 use Rattle.ex_store.specs.Rows.{with_remark}
 use Rattle.ex_store.specs.State.{retention_of}
-use Rattle.ex_store.proofs.ElementsLaws.{viewed}
-use Rattle.ex_store.proofs.RemarkedLaws.{changed_next}
+use Rattle.ex_store.proofs.RemarkLaws.{changed_next}
 use Rattle.ex_store.proofs.draft.keep_by.Goals as goal
 
 pub loop-i-preserved : goal.loop-i-preserved
@@ -18,7 +18,7 @@ loop-i-preserved c =
     let row = row_of_view c.row_at.result in
     let directories = c.args.directories.now.list in
     let below : i < length rows = omega (arith, c.loop-i-test.true, c.len-i-end.ensures, c.loop-i.invariant.size) in
-    let is : row ≡ get_or rows i row = viewed rows i row c.row_at.ensures in
+    let is : row ≡ get_or rows i row = get_or_of_some rows i row c.row_at.ensures in
     let keep : c.retention_of-keep.result ≡ retention_of (get_or rows i row).key.directory directories =
     c.retention_of-keep.ensures ∙ ap (λ (name : List ℕ). retention_of name directories) c.as_str.ensures.value
     ∙ ap (λ (it : Row). retention_of it.key.directory directories) is in

@@ -1,10 +1,10 @@
 use Rattle.std.proofs.Common.{◌<◌, ◌++◌, List, append-nil, length, refl, arith, sym, ap, ◌∙◌}
 use Rattle.std.proofs.lemmas.List.{at_drop_all}
+use Rattle.cm_lists.proofs.Elements.{map_drop_more}
 use Rattle.ex_store.specs.declared.directory.Directory.{Directory}
 use Rattle.ex_store.specs.declared.limits.TheConstants.{DIRECTORY_LIMIT}
 use Rattle.ex_store.specs.Rows.{first_in}
 use Rattle.ex_store.specs.State.{firsts_in}
-use Rattle.ex_store.proofs.FirstsLaws.{firsts_more}
 use Rattle.ex_store.proofs.firsts.firsts_in.Goals as goal
 
 pub loop-i-init : goal.loop-i-init
@@ -18,7 +18,7 @@ push-requires c =
 
 pub loop-i-preserved : goal.loop-i-preserved
 loop-i-preserved c = record {
-  found = firsts_more (λ (directory : Directory). first_in directory.name c.args.files.now.rows) c.args.directories.now.list
+  found = map_drop_more (λ (directory : Directory). first_in directory.name c.args.files.now.rows) c.args.directories.now.list
       c.loop-i.i c.first_at.result c.loop-i.firsts.items c.push.new.self.items _ c.first_at.ensures c.push.ensures.items
       c.loop-i.invariant.found;
   size = omega (arith, c.push.ensures.len, c.loop-i.invariant.size);

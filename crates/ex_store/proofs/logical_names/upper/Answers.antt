@@ -1,5 +1,5 @@
-use Rattle.ex_store.proofs.DefinedLaws.{upper_fits}
+use Rattle.cm_lists.proofs.Ascii.{uppercase_at_ascii}
 use Rattle.ex_store.proofs.logical_names.upper.Goals as goal
 
 pub push-requires : goal.push-requires
-push-requires c = rw c.to_ascii_uppercase.ensures.value (upper_fits c.args.text.now c.loop-byte.byte-index c.requires.ascii)
+push-requires c = rw c.to_ascii_uppercase.ensures.value (uppercase_at_ascii c.args.text.now c.loop-byte.byte-index c.requires.ascii)

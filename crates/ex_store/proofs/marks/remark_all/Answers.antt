@@ -1,10 +1,10 @@
 use Rattle.std.proofs.Common.{◌<◌, ◌+◌, List, [], None, false, length, drop, ap, arith, ◌∙◌}
 use Rattle.std.proofs.lemmas.List.{length-set}
+use Rattle.cm_lists.proofs.Quantifiers.{all_below}
 use Rattle.ex_store.specs.declared.row.Row.{Row}
 use Rattle.ex_store.specs.Positions.{all_changed_at}
 use Rattle.ex_store.specs.Rows.{with_remark}
-use Rattle.ex_store.proofs.ElementsLaws.{place_within}
-use Rattle.ex_store.proofs.RemarkedLaws.{changed_more}
+use Rattle.ex_store.proofs.RemarkLaws.{changed_more}
 use Rattle.ex_store.proofs.marks.remark_all.Goals as goal
 
 -- stands where a place is past the end, which none is
@@ -17,13 +17,13 @@ no_row = record {
 pub remark-requires : goal.remark-requires
 remark-requires c =
     let first : c.from.result < length c.args.files.now.rows =
-    place_within c.args.positions.now (length c.args.files.now.rows) c.loop-at.at-index c.from.result c.requires c.loop-at-test.true c.from.ensures in
+    all_below c.args.positions.now (length c.args.files.now.rows) c.loop-at.at-index c.from.result c.requires c.loop-at-test.true c.from.ensures in
     omega (arith, first, c.loop-at.invariant.size)
 
 pub loop-at-preserved : goal.loop-at-preserved
 loop-at-preserved c =
     let first : c.from.result < length c.args.files.now.rows =
-    place_within c.args.positions.now (length c.args.files.now.rows) c.loop-at.at-index c.from.result c.requires c.loop-at-test.true c.from.ensures in
+    all_below c.args.positions.now (length c.args.files.now.rows) c.loop-at.at-index c.from.result c.requires c.loop-at-test.true c.from.ensures in
     let below : c.from.result < length c.loop-at.files.rows = omega (arith, first, c.loop-at.invariant.size) in
     record {
       changed =

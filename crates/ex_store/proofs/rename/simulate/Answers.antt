@@ -1,5 +1,5 @@
 use Rattle.std.proofs.Common.{sym, ◌∙◌}
-use Rattle.ex_store.specs.FileNames.{rows_of}
+use Rattle.ex_store.specs.Families.{rows_of}
 use Rattle.ex_store.specs.Rows.{files_of}
 use Rattle.ex_store.proofs.AdmittedLaws.{counted_target, numbered_free}
 use Rattle.ex_store.proofs.rename.simulate.Goals as goal

@@ -1,5 +1,5 @@
 use Rattle.std.proofs.Common.{◌≡◌, ◌+◌, drop}
-use Rattle.ex_store.specs.FileNames.{bytes_of}
+use Rattle.ex_store.specs.Families.{bytes_of}
 use Rattle.ex_store.proofs.sweep.add_bytes.Given as goal
 
 abbrev pub invariant-loop-file : goal.invariant-loop-file

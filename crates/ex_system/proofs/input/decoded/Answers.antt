@@ -1,7 +1,7 @@
 use Rattle.std.proofs.Common.{Err, subst}
 use Rattle.ex_image.specs.declared.fault.ImageFault.{ImageFault}
 use Rattle.ex_image.specs.Decoding.{IsBadAt, IsStore}
-use Rattle.ex_system.proofs.Starting.{goes_wrong}
+use Rattle.ex_system.proofs.Starts.{goes_wrong}
 use Rattle.ex_system.proofs.input.decoded.Goals as goal
 
 pub returns-in-Err-Bad-clause-cause : goal.returns-in-Err-Bad-clause-cause

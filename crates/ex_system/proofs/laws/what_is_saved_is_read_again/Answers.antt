@@ -1,5 +1,5 @@
-use Rattle.ex_system.proofs.SavingLaws.{saved_image}
-use Rattle.ex_system.proofs.Starting.{from_image, one_image}
+use Rattle.ex_system.proofs.SaveLaws.{saved_image}
+use Rattle.ex_system.proofs.Starts.{from_image, one_image}
 use Rattle.ex_system.proofs.laws.what_is_saved_is_read_again.Goals as goal
 
 pub returns-clause-starts : goal.returns-clause-starts

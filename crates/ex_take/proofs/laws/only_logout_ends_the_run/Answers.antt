@@ -1,7 +1,11 @@
 use Rattle.ex_commands.specs.Command.{is_pending}
 use Rattle.ex_take.proofs.Keys.{act_ends, completion_ends, keys_go_on}
 use Rattle.ex_take.proofs.Changes.{ends_at_a_line, goes_on_unconfirmed}
+use Rattle.ex_take.proofs.LogoutKeys.{step_logout}
 use Rattle.ex_take.proofs.laws.only_logout_ends_the_run.Goals as goal
+
+pub returns-clause-key : goal.returns-clause-key
+returns-clause-key c = step_logout
 
 pub returns-clause-main : goal.returns-clause-main
 returns-clause-main c = act_ends

@@ -1,4 +1,4 @@
-use Rattle.ex_take.proofs.LineKeeping.{exec_keeps_lines}
+use Rattle.ex_take.proofs.KeptLines.{exec_keeps_lines}
 use Rattle.ex_take.proofs.laws.the_exec_keeps_its_lines.Goals as goal
 
 pub returns : goal.returns

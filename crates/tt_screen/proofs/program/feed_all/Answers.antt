@@ -1,5 +1,5 @@
 use Rattle.std.proofs.Common.{◌∙◌}
-use Rattle.tt_screen.proofs.Reading.{Fed, asked_more, asked_turn, fed_column, fed_more}
+use Rattle.tt_screen.proofs.ReadBytes.{Fed, asked_more, asked_turn, fed_column, fed_more}
 use Rattle.tt_screen.proofs.program.feed_all.Goals as goal
 
 pub loop-turn-preserved : goal.loop-turn-preserved

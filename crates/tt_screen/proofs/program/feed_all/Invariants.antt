@@ -1,5 +1,5 @@
 use Rattle.std.proofs.Common.{◌≡◌, ◌≤◌}
-use Rattle.tt_screen.proofs.Reading.{Asked, Fed}
+use Rattle.tt_screen.proofs.ReadBytes.{Asked, Fed}
 use Rattle.tt_screen.proofs.program.feed_all.Given as goal
 
 -- the bytes so far are on the screen, the column is within their number, a get was asked for each, and no fault was

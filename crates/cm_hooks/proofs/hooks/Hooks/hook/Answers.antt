@@ -1,4 +1,4 @@
-use Rattle.cm_hooks.proofs.Tied.{tied_hook}
+use Rattle.cm_hooks.proofs.Ties.{tied_hook}
 use Rattle.cm_hooks.proofs.hooks.Hooks.hook.Goals as goal
 
 pub unreachable-requires : goal.unreachable-requires

@@ -1,6 +1,6 @@
 use Rattle.std.proofs.Common.{◌≡◌, ◌+◌, length, rules}
 use Rattle.cm_hooks.specs.Ties.{id_of}
-use Rattle.cm_hooks.proofs.Tied.{tied-append}
+use Rattle.cm_hooks.proofs.Ties.{tied-append}
 use Rattle.cm_hooks.proofs.hooks.Hooks.push.Goals as goal
 
 pub returns-clause-ties : goal.returns-clause-ties

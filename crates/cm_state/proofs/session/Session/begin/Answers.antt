@@ -1,4 +1,4 @@
-use Rattle.cm_state.proofs.Starting.{started_is_ready}
+use Rattle.cm_state.proofs.Starts.{started_is_ready}
 use Rattle.cm_state.proofs.session.Session.begin.Goals as goal
 
 pub returns-clause-ready : goal.returns-clause-ready

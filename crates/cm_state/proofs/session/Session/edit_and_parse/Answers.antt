@@ -3,7 +3,7 @@ use Rattle.cm_blocks.specs.Kept.{cost_behind}
 use Rattle.cm_blocks.specs.Setting.{Setting, setting}
 use Rattle.cm_recognise.specs.declared.insertion.Insertion.{Insertion}
 use Rattle.cm_state.specs.SessionState.{text_of}
-use Rattle.cm_state.proofs.Editing.{EditsAndParses, met_completion, edits_and_parses, trimmed_starts, trims}
+use Rattle.cm_state.proofs.Edits.{EditsAndParses, met_completion, edits_and_parses, trimmed_starts, trims}
 use Rattle.cm_state.proofs.session.Session.edit_and_parse.Given.{Over}
 use Rattle.cm_state.proofs.session.Session.edit_and_parse.Goals as goal
 

@@ -1,4 +1,4 @@
-use Rattle.cm_state.proofs.Starting.{new_is_ready}
+use Rattle.cm_state.proofs.Starts.{new_is_ready}
 use Rattle.cm_state.proofs.session.Session.new.Goals as goal
 
 pub returns-clause-ready : goal.returns-clause-ready

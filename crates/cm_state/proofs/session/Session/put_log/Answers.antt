@@ -1,7 +1,7 @@
 use Rattle.std.proofs.Common.{◌≡◌, ap, subst, ◌∙◌}
 use Rattle.cm_io.specs.Writer.{Writes}
 use Rattle.cm_state.specs.SessionState.{SessionState}
-use Rattle.cm_state.proofs.Logging.{line_put}
+use Rattle.cm_state.proofs.Logs.{line_put}
 use Rattle.cm_state.proofs.session.Session.put_log.Goals as goal
 
 pub returns : goal.returns

@@ -1,7 +1,7 @@
 use Rattle.std.proofs.Common.{◌≡◌, ◌+◌, ℕ, ap, refl, ◌∙◌, arith}
 use Rattle.cm_blocks.specs.Setting.{setting}
 use Rattle.cm_state.specs.SessionState.{SessionState}
-use Rattle.cm_state.proofs.Editing.{finishes, whole_starts}
+use Rattle.cm_state.proofs.Edits.{finishes, whole_starts}
 use Rattle.cm_state.proofs.session.Session.whole.Goals as goal
 
 pub reparse-requires : goal.reparse-requires

@@ -1,4 +1,4 @@
-use Rattle.cm_state.proofs.Stacking.{pushed}
+use Rattle.cm_state.proofs.Stacks.{pushed}
 use Rattle.cm_state.proofs.stack.Stack.push.Goals as goal
 
 pub invariant_of-self : goal.invariant_of-self

@@ -1,6 +1,6 @@
 use Rattle.std.proofs.Common.{arith, ◌∙◌, ap}
 use Rattle.cm_blocks.specs.Kept.{needing}
-use Rattle.cm_state.proofs.Stacking.{cut}
+use Rattle.cm_state.proofs.Stacks.{cut}
 use Rattle.cm_state.proofs.stack.Stack.truncate.Goals as goal
 
 pub invariant_of-self : goal.invariant_of-self

@@ -1,12 +1,12 @@
 use Rattle.std.proofs.Common.{[], ap, arith, refl}
 use Rattle.cm_blocks.specs.Grammar.{hook_count}
-use Rattle.cm_run.proofs.Keeping.{run_keeps}
+use Rattle.cm_run.proofs.Displays.{run_keeps}
 use Rattle.tt_screen.specs.Grid.{feed}
 use Rattle.tt_screen.specs.Holds.{Holds}
-use Rattle.tt_screen.proofs.Holding.{screen_is_a_display}
+use Rattle.tt_screen.proofs.HeldTexts.{screen_is_a_display}
 use Rattle.eg_lamps.specs.Program.{lamp_meaning}
 use Rattle.eg_lamps.proofs.Faultless.{graph_hooks}
-use Rattle.eg_lamps.proofs.Replying.{lamps_keep_lines}
+use Rattle.eg_lamps.proofs.Replies.{lamps_keep_lines}
 use Rattle.eg_lamps.proofs.program.Program.run.Goals as goal
 
 -- one hook is enough

@@ -1,4 +1,4 @@
-use Rattle.ex_commands.proofs.Fitting.{names_are_short}
+use Rattle.ex_commands.proofs.Fits.{names_are_short}
 use Rattle.ex_commands.proofs.command.Command.add_sub.Goals as goal
 
 pub extend-requires : goal.extend-requires

@@ -1,4 +1,4 @@
-use Rattle.ex_commands.proofs.Fitting.{names_are_short}
+use Rattle.ex_commands.proofs.Fits.{names_are_short}
 use Rattle.ex_commands.proofs.command.Command.of.Goals as goal
 
 pub named-requires : goal.named-requires

@@ -1,5 +1,5 @@
 use Rattle.std.proofs.Common.{false, sym, ◌∙◌}
-use Rattle.ex_commands.proofs.Acting.{refused_to_begin}
+use Rattle.ex_commands.proofs.Refusals.{refused_to_begin}
 use Rattle.ex_commands.proofs.commands.copy.begin.Goals as goal
 
 pub returns-then-lacks_name : goal.returns-then-lacks_name

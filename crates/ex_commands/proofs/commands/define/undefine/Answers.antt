@@ -1,6 +1,6 @@
 use Rattle.std.proofs.Common.{false, ap}
 use Rattle.ex_store.specs.State.{StoreWithRoom}
-use Rattle.ex_commands.proofs.Acting.{refused_to_undefine}
+use Rattle.ex_commands.proofs.Refusals.{refused_to_undefine}
 use Rattle.ex_commands.proofs.commands.define.undefine.Goals as goal
 
 pub returns-in-Err : goal.returns-in-Err

@@ -1,5 +1,5 @@
 use Rattle.std.proofs.Common.{false, sym, ◌∙◌}
-use Rattle.ex_commands.proofs.Acting.{refused_to_list}
+use Rattle.ex_commands.proofs.Refusals.{refused_to_list}
 use Rattle.ex_commands.proofs.commands.directory.list.Goals as goal
 
 pub returns-in-0 : goal.returns-in-0

@@ -1,6 +1,6 @@
 use Rattle.std.proofs.Common.{◌&&◌, nat_le, nat_lt, true}
 use Rattle.ex_store.specs.declared.limits.TheConstants.{COPIES_LIMIT}
-use Rattle.ex_commands.proofs.Acting.{refused_to_print}
+use Rattle.ex_commands.proofs.Refusals.{refused_to_print}
 use Rattle.ex_commands.proofs.commands.print.act.Goals as goal
 
 pub returns-then-not-may_copy : goal.returns-then-not-may_copy

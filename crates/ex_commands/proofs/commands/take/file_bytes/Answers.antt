@@ -1,6 +1,6 @@
 use Rattle.std.proofs.Common.{ap, sym, ◌∙◌}
 use Rattle.ex_commands.specs.Commands.Take.{first_bytes}
-use Rattle.ex_commands.proofs.Lining.{is_first}
+use Rattle.ex_commands.proofs.ElementLines.{is_first}
 use Rattle.ex_commands.proofs.commands.take.file_bytes.Goals as goal
 
 pub returns-in-Some-clause-bytes : goal.returns-in-Some-clause-bytes

@@ -1,5 +1,5 @@
 use Rattle.std.proofs.Common.{arith}
-use Rattle.ex_generations.proofs.Ascending.{length-within}
+use Rattle.ex_generations.proofs.Ascents.{length-within}
 use Rattle.ex_generations.proofs.gens.Gens.len.Goals as goal
 
 pub overflow_cast-result : goal.overflow_cast-result

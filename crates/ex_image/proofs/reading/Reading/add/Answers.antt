@@ -1,5 +1,5 @@
 use Rattle.ex_image.specs.Said.{next_said}
-use Rattle.ex_image.proofs.ReaderAdding.{in_range_of, there_of}
+use Rattle.ex_image.proofs.ReaderAdditions.{in_range_of, there_of}
 use Rattle.ex_image.proofs.reading.Reading.add.Goals as goal
 
 pub add-requires-clause-in_range : goal.add-requires-clause-in_range

@@ -6,7 +6,7 @@ use Rattle.ex_image.specs.declared.version.Version.TheVariants as versions
 use Rattle.ex_image.specs.Image.{file_record}
 use Rattle.ex_image.specs.Record.{Entry, line_text, record_text}
 use Rattle.ex_image.specs.Writing.{Appends}
-use Rattle.ex_image.proofs.Leaving.{file_joined}
+use Rattle.ex_image.proofs.Leaves.{file_joined}
 use Rattle.ex_image.proofs.records.FilesSeries.put.Goals as goal
 
 pub returns : goal.returns

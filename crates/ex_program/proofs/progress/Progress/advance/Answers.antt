@@ -1,4 +1,4 @@
-use Rattle.ex_program.proofs.Advancing.{more_left, none_left}
+use Rattle.ex_program.proofs.KeysLeft.{more_left, none_left}
 use Rattle.ex_program.proofs.progress.Progress.advance.Goals as goal
 
 pub returns-then-self-eq0-clause-end : goal.returns-then-self-eq0-clause-end

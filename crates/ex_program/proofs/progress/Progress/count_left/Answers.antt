@@ -1,6 +1,6 @@
 use Rattle.std.proofs.Common.{◌≡◌, ◌+◌, ◌-◌, length, ap, ◌∙◌, arith}
 use Rattle.ex_program.specs.GeneratedKeys.{line_keys}
-use Rattle.ex_program.proofs.Advancing.{all_counted, more_counted}
+use Rattle.ex_program.proofs.KeysLeft.{all_counted, more_counted}
 use Rattle.ex_program.proofs.progress.Progress.count_left.Goals as goal
 
 pub loop-turn-preserved : goal.loop-turn-preserved

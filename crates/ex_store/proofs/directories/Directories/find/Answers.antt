@@ -1,8 +1,9 @@
 use Rattle.std.proofs.Common.{Some, None, cond, position, ap, sym, ◌∙◌}
 use Rattle.std.specs.Map.{keys_of}
 use Rattle.std.specs.Str.{bytes_eq}
+use Rattle.cm_lists.proofs.Positions.{position_turned}
 use Rattle.ex_store.specs.State.{has_directory, number_of}
-use Rattle.ex_store.proofs.EntriesLaws.{find_entry, has_long, position_turned}
+use Rattle.ex_store.proofs.EntriesLaws.{find_entry, has_long}
 use Rattle.ex_store.proofs.directories.Directories.find.Goals as goal
 
 pub returns-in_err-short : goal.returns-in_err-short

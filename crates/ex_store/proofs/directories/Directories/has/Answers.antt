@@ -1,8 +1,9 @@
 use Rattle.std.proofs.Common.{ap, is_some, sym, ◌∙◌}
 use Rattle.std.specs.Map.{lookup}
 use Rattle.std.specs.Str.{bytes_eq}
+use Rattle.cm_lists.proofs.Positions.{lookup_turned}
 use Rattle.ex_store.specs.State.{has_directory}
-use Rattle.ex_store.proofs.EntriesLaws.{has_entry, has_long, lookup_turned}
+use Rattle.ex_store.proofs.EntriesLaws.{has_entry, has_long}
 use Rattle.ex_store.proofs.directories.Directories.has.Goals as goal
 
 pub returns-in-Some : goal.returns-in-Some

@@ -2,9 +2,10 @@ use Rattle.std.proofs.Common.{ap, find, sym, ◌∙◌}
 use Rattle.std.specs.Map.{lookup}
 use Rattle.std.specs.Option.{option_map}
 use Rattle.std.specs.Str.{bytes_eq}
+use Rattle.cm_lists.proofs.Positions.{lookup_turned}
 use Rattle.ex_store.specs.declared.directory.Directory.{Directory}
 use Rattle.ex_store.specs.State.{is_named}
-use Rattle.ex_store.proofs.EntriesLaws.{find_long, lookup_turned, retention_entry}
+use Rattle.ex_store.proofs.EntriesLaws.{find_long, retention_entry}
 use Rattle.ex_store.proofs.directories.Directories.retention.Goals as goal
 
 pub returns-in_err-short : goal.returns-in_err-short

@@ -1,4 +1,4 @@
-use Rattle.ex_store.proofs.RemarkedLaws.{draft_with_rows, rows_kept_by}
+use Rattle.ex_store.proofs.RemarkLaws.{draft_with_rows, rows_kept_by}
 use Rattle.ex_store.proofs.draft.Draft.keep_by_directories.Goals as goal
 
 pub invariant_of-self : goal.invariant_of-self

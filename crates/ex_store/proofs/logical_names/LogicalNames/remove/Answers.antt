@@ -1,11 +1,11 @@
 use Rattle.std.proofs.Common.{◌≡◌, List, filter, is_some, not, ap, arith, sym, ◌∙◌}
 use Rattle.std.specs.Map.{lookup, remove_entry}
 use Rattle.std.specs.Str.{bytes_eq}
+use Rattle.cm_lists.proofs.Quantifiers.{all_filter}
 use Rattle.cm_text.specs.Case.{equals}
 use Rattle.ex_store.specs.declared.directory.Definition.{Definition}
 use Rattle.ex_store.specs.Entries.{definitions_of, is_kept}
 use Rattle.ex_store.specs.State.{has_definition}
-use Rattle.ex_store.proofs.AscendsLaws.{all_filter}
 use Rattle.ex_store.proofs.KeptNamesLaws.{find_entry, has_found, none_has, nothing_removed, removed}
 use Rattle.ex_store.proofs.logical_names.LogicalNames.remove.Goals as goal
 

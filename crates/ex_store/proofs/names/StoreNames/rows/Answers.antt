@@ -1,4 +1,4 @@
-use Rattle.std.proofs.Common.{arith, ap, subst}
+use Rattle.std.proofs.Common.{arith, subst}
 use Rattle.ex_store.specs.WellFormed.{IsWellFormed}
 use Rattle.ex_store.proofs.RowsInLaws.{rows_between}
 use Rattle.ex_store.proofs.CatalogueLaws.{catalogue_lawful}
@@ -8,9 +8,7 @@ use Rattle.ex_store.proofs.names.StoreNames.rows.Goals as goal
 pub overflow_sub-result : goal.overflow_sub-result
 overflow_sub-result c =
     let well = subst (λ held. IsWellFormed held.state) c.self.view_is c.self.invariant.well in
-    let rows = ap (λ held. held.state.rows) c.self.view_is in
-    let counts = rows_between c.args.self.now.state well c.args.directory c.name_of.result.now c.name_of.ensures
-    c.first_at.result c.end_of-end.result c.self.inside.files.rows rows c.end_of-end.ensures c.first_at.ensures in
+    let counts = rows_between c.args.self.now.state well c.args.directory c.first_at.result c.end_at.result c.first_at.ensures c.end_at.ensures in
     let whole = counts.0 in
     omega arith
 
@@ -18,9 +16,7 @@ overflow_sub-result c =
 pub overflow_cast-result : goal.overflow_cast-result
 overflow_cast-result c =
     let well = subst (λ held. IsWellFormed held.state) c.self.view_is c.self.invariant.well in
-    let rows = ap (λ held. held.state.rows) c.self.view_is in
-    let counts = rows_between c.args.self.now.state well c.args.directory c.name_of.result.now c.name_of.ensures
-    c.first_at.result c.end_of-end.result c.self.inside.files.rows rows c.end_of-end.ensures c.first_at.ensures in
+    let counts = rows_between c.args.self.now.state well c.args.directory c.first_at.result c.end_at.result c.first_at.ensures c.end_at.ensures in
     let few = counts.1 in
     omega arith
 
@@ -28,9 +24,7 @@ overflow_cast-result c =
 pub returns-clause-value : goal.returns-clause-value
 returns-clause-value c =
     let well = subst (λ held. IsWellFormed held.state) c.self.view_is c.self.invariant.well in
-    let rows = ap (λ held. held.state.rows) c.self.view_is in
-    let counts = rows_between c.args.self.now.state well c.args.directory c.name_of.result.now c.name_of.ensures
-    c.first_at.result c.end_of-end.result c.self.inside.files.rows rows c.end_of-end.ensures c.first_at.ensures in
+    let counts = rows_between c.args.self.now.state well c.args.directory c.first_at.result c.end_at.result c.first_at.ensures c.end_at.ensures in
     let whole = counts.0 in
     omega arith
 

@@ -15,19 +15,19 @@ use Rattle.ex_store.specs.Plan.{planned}
 use Rattle.ex_store.specs.Positions.{elements_at}
 use Rattle.ex_store.specs.Ready.{Change, IsMade, rows_read}
 use Rattle.ex_store.specs.Rows.{AreAlike}
-use Rattle.ex_store.specs.Selection.{is_meant}
+use Rattle.ex_store.specs.Selection.{is_selected_by}
 use Rattle.ex_store.specs.State.{StoreWithRoom, retention_of}
 use Rattle.ex_store.specs.WellFormed.{AreRows, IsWellFormed}
 use Rattle.ex_store.proofs.AlikeLaws.{alike_read}
 use Rattle.ex_store.proofs.AllCopiedLaws.{moment_within}
 use Rattle.ex_store.proofs.BuiltLaws.{retention_within}
-use Rattle.ex_store.proofs.RemarkedLaws.{positions_fit, rows_remarked}
+use Rattle.ex_store.proofs.RemarkLaws.{positions_fit, rows_of_remark}
 use Rattle.ex_store.proofs.PlannedLaws.{IsOver, doable_by, is_over, made_by, refused_by, sound_by}
 use Rattle.ex_store.proofs.store.Store.append.Goals as goal
 
 pub appends-requires-clause-within : goal.appends-requires-clause-within
 appends-requires-clause-within c =
-    positions_fit (is_meant c.args.from.now.flags.deleted c.args.from.now c.args.self.now.state) c.args.self.now.state.rows
+    positions_fit (is_selected_by c.args.from.now.flags.deleted c.args.from.now c.args.self.now.state) c.args.self.now.state.rows
     c.self.inside.files.rows c.deref.result.now c.positions-positions.result.items
     (ap (λ (held : StoreWithRoom). held.state.rows) c.self.view_is) c.deref.ensures.0 c.positions-positions.ensures
 
@@ -55,11 +55,11 @@ reading moment from = Some (record { files = from; moment = moment_of moment })
 alike : (c : goal.After-appends) → AreAlike c.self.inside.files.rows (rows_read (reading c.args.moment c.args.from.now) c.args.self.now.state)
 alike c =
     subst (λ (rows : List Row). AreAlike rows (rows_read (reading c.args.moment c.args.from.now) c.args.self.now.state)) (sym (over c).rows_are)
-    (alike_read (is_meant c.args.from.now.flags.deleted c.args.from.now c.args.self.now.state) (moment_of c.args.moment) c.args.self.now.state.rows)
+    (alike_read (is_selected_by c.args.from.now.flags.deleted c.args.from.now c.args.self.now.state) (moment_of c.args.moment) c.args.self.now.state.rows)
 
 are : (c : goal.After-appends) → AreRows c.self.inside.directories.list (rows_read (reading c.args.moment c.args.from.now) c.args.self.now.state)
 are c =
-    rows_remarked c.self.inside.directories.list c.args.self.now.state.rows (is_meant c.args.from.now.flags.deleted c.args.from.now c.args.self.now.state)
+    rows_of_remark c.self.inside.directories.list c.args.self.now.state.rows (is_selected_by c.args.from.now.flags.deleted c.args.from.now c.args.self.now.state)
     (remarks.Read (moment_of c.args.moment)) (moment_within c.args.moment)
     (subst (λ (rows : List Row). AreRows c.self.inside.directories.list rows) (over c).rows_are c.self.invariant.well.draft.rows)
 

@@ -1,4 +1,4 @@
-use Rattle.ex_store.proofs.RemarkedLaws.{rows_expunged, rows_short, well_formed_with_rows}
+use Rattle.ex_store.proofs.RemarkLaws.{rows_expunged, rows_short, well_formed_with_rows}
 use Rattle.ex_store.proofs.store.Store.expunge.Goals as goal
 
 pub expunge-pages-requires : goal.expunge-pages-requires

@@ -2,7 +2,7 @@ use Rattle.std.proofs.Common.{◌≡◌, ◌≤◌, length, Some, None, arith, c
 use Rattle.std.proofs.lemmas.List.Sums.{prefix_len-le-length}
 use Rattle.ex_store.specs.State.{StoreWithRoom, has_directory, number_of}
 use Rattle.ex_store.specs.WellFormed.{IsWellFormed}
-use Rattle.ex_store.proofs.MeantLaws.{found_there}
+use Rattle.ex_store.proofs.WalkLaws.{found_there}
 use Rattle.ex_store.proofs.SelectionLaws.{is_number}
 use Rattle.ex_store.proofs.store.Store.find_directory.Goals as goal
 

@@ -8,13 +8,13 @@ use Rattle.ex_store.proofs.store.Store.next_row.Goals as goal
 pub returns-in_err-at : goal.returns-in_err-at
 returns-in_err-at c =
     rw c.from_residual.ensures
-    (next_none c.args.deleted c.args.files.now c.args.self.now.state c.args.from (sym c.in_err-at.was ∙ c.next_meant.ensures))
+    (next_none c.args.deleted c.args.files.now c.args.self.now.state c.args.from (sym c.in_err-at.was ∙ c.next_selected.ensures))
 
 pub row_at-requires-clause-row : goal.row_at-requires-clause-row
 row_at-requires-clause-row c =
     let well = subst (λ held. IsWellFormed held.state) c.self.view_is c.self.invariant.well in
     next_within c.args.deleted c.args.files.now c.args.self.now.state well c.args.from c.in_ok-at.at c.args.directory
-    (sym c.in_ok-at.was ∙ c.next_meant.ensures) c.requires.there c.requires.number
+    (sym c.in_ok-at.was ∙ c.next_selected.ensures) c.requires.there c.requires.number
 
 pub row_at-requires-clause-directory : goal.row_at-requires-clause-directory
 row_at-requires-clause-directory c =
@@ -25,4 +25,4 @@ pub returns : goal.returns
 returns c =
     let well = subst (λ held. IsWellFormed held.state) c.self.view_is c.self.invariant.well in
     next_some c.args.deleted c.args.files.now c.args.self.now.state well c.args.from c.in_ok-at.at c.args.directory
-    (row_of_view c.row_at.result) (sym c.in_ok-at.was ∙ c.next_meant.ensures) c.requires.there c.requires.number c.row_at.ensures.row
+    (row_of_view c.row_at.result) (sym c.in_ok-at.was ∙ c.next_selected.ensures) c.requires.there c.requires.number c.row_at.ensures.row

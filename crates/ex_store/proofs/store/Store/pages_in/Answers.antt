@@ -1,4 +1,4 @@
-use Rattle.ex_store.proofs.RemarkedLaws.{rows_short}
+use Rattle.ex_store.proofs.RemarkLaws.{rows_short}
 use Rattle.ex_store.proofs.store.Store.pages_in.Goals as goal
 
 pub pages_in-requires : goal.pages_in-requires

@@ -2,11 +2,11 @@ use Rattle.std.proofs.Common.{◌≡◌, length, ap, arith, refl, subst}
 use Rattle.std.proofs.lemmas.Grind.{common_steps}
 use Rattle.ex_store.specs.Plan.{sources}
 use Rattle.ex_store.specs.Positions.{elements_at}
-use Rattle.ex_store.specs.Selection.{is_meant}
+use Rattle.ex_store.specs.Selection.{is_selected_by}
 use Rattle.ex_store.specs.State.{StoreWithRoom}
 use Rattle.ex_store.specs.WellFormed.{IsWellFormed}
 use Rattle.ex_store.proofs.PrintedLaws.{asked_is, count_is, files_are, planned_full, planned_printed, sound_printed}
-use Rattle.ex_store.proofs.RemarkedLaws.{positions_fit}
+use Rattle.ex_store.proofs.RemarkLaws.{positions_fit}
 use Rattle.ex_store.proofs.store.Store.print.Goals as goal
 
 pub returns-in-Err-clause-refused : goal.returns-in-Err-clause-refused
@@ -21,7 +21,7 @@ returns-in-Err-clause-refused c = λ moment.
 
 pub queue_files-requires-clause-within : goal.queue_files-requires-clause-within
 queue_files-requires-clause-within c =
-    positions_fit (is_meant c.args.files.now.flags.deleted c.args.files.now c.args.self.now.state) c.args.self.now.state.rows
+    positions_fit (is_selected_by c.args.files.now.flags.deleted c.args.files.now c.args.self.now.state) c.args.self.now.state.rows
     c.self.inside.files.rows c.deref.result.now c.positions-positions.result.items
     (ap (λ (held : StoreWithRoom). held.state.rows) c.self.view_is) c.deref.ensures.0 c.positions-positions.ensures
 

@@ -12,19 +12,19 @@ use Rattle.ex_store.specs.Positions.{elements_at}
 use Rattle.ex_store.specs.Ready.{Change, IsMade}
 use Rattle.ex_store.specs.Renaming.{all_renamed}
 use Rattle.ex_store.specs.Rows.{by_row}
-use Rattle.ex_store.specs.Selection.{is_meant}
+use Rattle.ex_store.specs.Selection.{is_selected_by}
 use Rattle.ex_store.specs.State.{StoreWithRoom}
 use Rattle.ex_store.specs.WellFormed.{IsWellFormed}
-use Rattle.ex_store.proofs.MeantLaws.{all_meant_in}
-use Rattle.ex_store.proofs.RemarkedLaws.{positions_fit}
+use Rattle.ex_store.proofs.WalkLaws.{all_selected_in}
+use Rattle.ex_store.proofs.RemarkLaws.{positions_fit}
 use Rattle.ex_store.proofs.PlannedLaws.{IsOver, doable_by, is_over, made_by, refused_by, sound_by}
-use Rattle.ex_store.proofs.AllRenamedLaws.{distinct_meant}
+use Rattle.ex_store.proofs.AllRenamedLaws.{distinct_selected}
 use Rattle.ex_store.proofs.store.Store.rename.Goals as goal
 use Rattle.ex_store.proofs.store.Store.rename.Goals.{After-as_bytes}
 
 pub renames-requires-clause-within : goal.renames-requires-clause-within
 renames-requires-clause-within c =
-    positions_fit (is_meant c.args.from.now.flags.deleted c.args.from.now c.args.self.now.state) c.args.self.now.state.rows
+    positions_fit (is_selected_by c.args.from.now.flags.deleted c.args.from.now c.args.self.now.state) c.args.self.now.state.rows
     c.self.inside.files.rows c.deref.result.now c.positions-positions.result.items
     (ap (λ (held : StoreWithRoom). held.state.rows) c.self.view_is) c.deref.ensures.0 c.positions-positions.ensures
 
@@ -37,12 +37,12 @@ over c =
 pub renames-requires-clause-inside : goal.renames-requires-clause-inside
 renames-requires-clause-inside c =
     rw ((over c).sources_are, c.as_bytes.ensures.value)
-    (all_meant_in c.args.from.now.flags.deleted c.args.from.now c.args.self.now.state c.args.self.now.state.rows)
+    (all_selected_in c.args.from.now.flags.deleted c.args.from.now c.args.self.now.state c.args.self.now.state.rows)
 
 pub renames-requires-clause-distinct : goal.renames-requires-clause-distinct
 renames-requires-clause-distinct c =
     rw (over c).sources_are
-    (distinct_meant (is_meant c.args.from.now.flags.deleted c.args.from.now c.args.self.now.state) c.args.self.now.state.rows
+    (distinct_selected (is_selected_by c.args.from.now.flags.deleted c.args.from.now c.args.self.now.state) c.args.self.now.state.rows
     (subst (λ (held : StoreWithRoom). ascends by_row held.state.rows ≡ true) c.self.view_is c.self.invariant.well.draft.rows.ascend))
 
 -- a renaming, of any directories, sources and rows

@@ -1,7 +1,7 @@
 use Rattle.std.proofs.Common.{arith, subst}
 use Rattle.ex_store.specs.Selection.{IsNumber}
 use Rattle.ex_store.specs.WellFormed.{IsWellFormed}
-use Rattle.ex_store.proofs.SelectionLaws.{meant_all, meant_few, meant_lawful}
+use Rattle.ex_store.proofs.SelectionLaws.{selected_all, selected_few, selected_lawful}
 use Rattle.ex_store.proofs.store.Store.selection.Goals as goal
 
 pub invariant_of-result : goal.invariant_of-result
@@ -11,14 +11,14 @@ invariant_of-result c = record {
 }
 
 pub returns-clause-value : goal.returns-clause-value
-returns-clause-value c = meant_all c.args.deleted c.args.files.now c.args.self.now.state
+returns-clause-value c = selected_all c.args.deleted c.args.files.now c.args.self.now.state
 
 pub returns-clause-lawful : goal.returns-clause-lawful
 returns-clause-lawful c =
-    meant_lawful c.args.deleted c.args.files.now c.args.self.now.state
+    selected_lawful c.args.deleted c.args.files.now c.args.self.now.state
     (subst (λ held. IsWellFormed held.state) c.self.view_is c.self.invariant.well)
 
 pub returns-clause-few : goal.returns-clause-few
 returns-clause-few c =
-    meant_few c.args.deleted c.args.files.now c.args.self.now.state
+    selected_few c.args.deleted c.args.files.now c.args.self.now.state
     (subst (λ held. IsWellFormed held.state) c.self.view_is c.self.invariant.well)

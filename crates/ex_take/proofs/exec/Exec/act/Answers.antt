@@ -4,7 +4,7 @@ use Rattle.ex_commands.specs.Act.{act_of}
 use Rattle.ex_take.specs.Interpreter.{deed_of}
 use Rattle.ex_take.specs.Exec.{acts, follows}
 use Rattle.ex_take.specs.ExecState.{ExecState}
-use Rattle.ex_take.proofs.Following.{cause_kept, cause_on, followed_cut, followed_on}
+use Rattle.ex_take.proofs.Sequels.{cause_kept, cause_on, followed_cut, followed_on}
 use Rattle.ex_take.proofs.exec.Exec.act.Goals as goal
 
 pub returns-in-Ok-clause-obeys : goal.returns-in-Ok-clause-obeys

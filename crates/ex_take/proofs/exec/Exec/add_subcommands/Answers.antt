@@ -3,7 +3,7 @@ use Rattle.cm_run.specs.Obey.{Obeys, stage}
 use Rattle.ex_take.specs.Interpreter.{completion_answer, pending_with}
 use Rattle.ex_take.specs.Exec.{follows, pending_deeds}
 use Rattle.ex_take.specs.ExecState.{ExecState}
-use Rattle.ex_take.proofs.Following.{cause_kept, cause_on, followed_from, followed_from_cut}
+use Rattle.ex_take.proofs.Sequels.{cause_kept, cause_on, followed_from, followed_from_cut}
 use Rattle.ex_take.proofs.exec.Exec.add_subcommands.Goals as goal
 
 pub returns-in-Ok-clause-obeys : goal.returns-in-Ok-clause-obeys

@@ -1,4 +1,4 @@
-use Rattle.ex_take.proofs.Following.{typing_barred, typing_first}
+use Rattle.ex_take.proofs.Sequels.{typing_barred, typing_first}
 use Rattle.ex_take.proofs.exec.Exec.begin_file.Goals as goal
 use Rattle.std.proofs.Common.{rules}
 

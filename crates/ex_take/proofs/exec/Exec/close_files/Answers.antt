@@ -1,4 +1,4 @@
-use Rattle.ex_take.proofs.Following.{closes_obey}
+use Rattle.ex_take.proofs.Sequels.{closes_obey}
 use Rattle.ex_take.proofs.exec.Exec.close_files.Goals as goal
 
 pub returns-clause-obeys : goal.returns-clause-obeys

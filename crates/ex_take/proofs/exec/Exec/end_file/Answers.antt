@@ -2,7 +2,7 @@ use Rattle.std.proofs.Common.{Err, sym, subst, ◌∙◌}
 use Rattle.cm_run.specs.Obey.{Obeys, stage}
 use Rattle.ex_take.specs.Exec.{end_deeds}
 use Rattle.ex_take.specs.ExecState.{ExecState}
-use Rattle.ex_take.proofs.Following.{cause_on, end_ends, end_ends_cut}
+use Rattle.ex_take.proofs.Sequels.{cause_on, end_ends, end_ends_cut}
 use Rattle.ex_take.proofs.exec.Exec.end_file.Goals as goal
 
 pub returns-in-Ok-clause-obeys : goal.returns-in-Ok-clause-obeys

@@ -1,6 +1,6 @@
 use Rattle.std.proofs.Common.{refl}
 use Rattle.cm_run.specs.Cause.{ObeyCause}
-use Rattle.ex_take.proofs.Following.{follows_logout, follows_other, follows_refused}
+use Rattle.ex_take.proofs.Sequels.{follows_logout, follows_other, follows_refused}
 use Rattle.ex_take.proofs.exec.Exec.follow.Goals as goal
 
 pub returns-in-Refused-clause-obeys : goal.returns-in-Refused-clause-obeys

@@ -1,6 +1,6 @@
 use Rattle.std.proofs.Common.{refl}
 use Rattle.cm_run.specs.Cause.{ObeyCause}
-use Rattle.ex_take.proofs.Following.{end_other, end_refused}
+use Rattle.ex_take.proofs.Sequels.{end_other, end_refused}
 use Rattle.ex_take.proofs.exec.Exec.follow_end.Goals as goal
 
 pub returns-in-Refused-clause-obeys : goal.returns-in-Refused-clause-obeys

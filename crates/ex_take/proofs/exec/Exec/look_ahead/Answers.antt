@@ -1,6 +1,6 @@
 use Rattle.std.proofs.Common.{refl}
 use Rattle.cm_run.specs.Cause.{ObeyCause}
-use Rattle.ex_take.proofs.Following.{looks_none, looks_some}
+use Rattle.ex_take.proofs.Sequels.{looks_none, looks_some}
 use Rattle.ex_take.proofs.exec.Exec.look_ahead.Goals as goal
 
 pub returns-in-None-clause-obeys : goal.returns-in-None-clause-obeys

@@ -1,4 +1,4 @@
-use Rattle.ex_take.proofs.Following.{command_acts, command_takes, command_types}
+use Rattle.ex_take.proofs.Sequels.{command_acts, command_takes, command_types}
 use Rattle.ex_take.proofs.exec.Exec.obey_command.Goals as goal
 
 pub returns-in-Take-clause-obeys : goal.returns-in-Take-clause-obeys

@@ -2,7 +2,7 @@ use Rattle.std.proofs.Common.{sym, subst, ◌∙◌}
 use Rattle.cm_run.specs.Obey.{Obeys, stage}
 use Rattle.ex_take.specs.Exec.{line_deeds}
 use Rattle.ex_take.specs.ExecState.{ExecState}
-use Rattle.ex_take.proofs.Following.{line_commands, line_waits}
+use Rattle.ex_take.proofs.Sequels.{line_commands, line_waits}
 use Rattle.ex_take.proofs.exec.Exec.obey_done.Goals as goal
 
 pub returns-in-Some-clause-obeys : goal.returns-in-Some-clause-obeys

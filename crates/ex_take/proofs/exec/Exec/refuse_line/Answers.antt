@@ -1,4 +1,4 @@
-use Rattle.ex_take.proofs.Following.{cause_cut, cause_done, refusal_cut, refusal_done}
+use Rattle.ex_take.proofs.Sequels.{cause_cut, cause_done, refusal_cut, refusal_done}
 use Rattle.ex_take.proofs.exec.Exec.refuse_line.Goals as goal
 
 pub returns-in-Done-clause-obeys : goal.returns-in-Done-clause-obeys

@@ -1,5 +1,5 @@
 use Rattle.std.proofs.Common.{rules}
-use Rattle.ex_take.proofs.Following.{settles_on, settles_over}
+use Rattle.ex_take.proofs.Sequels.{settles_on, settles_over}
 use Rattle.ex_take.proofs.exec.Exec.settle.Goals as goal
 
 pub returns-then-is_over-clause-obeys : goal.returns-then-is_over-clause-obeys

@@ -8,7 +8,7 @@ use Rattle.ex_commands.specs.Commands.Take.{bytes_of}
 use Rattle.ex_take.specs.Lines.{file_lines}
 use Rattle.ex_take.specs.Exec.{take_deeds}
 use Rattle.ex_take.specs.ExecState.{ExecState}
-use Rattle.ex_take.proofs.Following.{take_opens, take_wants}
+use Rattle.ex_take.proofs.Sequels.{take_opens, take_wants}
 use Rattle.ex_take.proofs.exec.Exec.take.Goals as goal
 
 pub returns-in_default-clause-obeys : goal.returns-in_default-clause-obeys

@@ -1,5 +1,5 @@
 use Rattle.std.proofs.Common.{sym, ◌∙◌}
-use Rattle.ex_take.proofs.Becoming.{named, unnamed}
+use Rattle.ex_take.proofs.States.{named, unnamed}
 use Rattle.ex_take.proofs.interpreter.Interpreter.begin_typing.Goals as goal
 
 pub returns-then-lacks_name-clause-ready : goal.returns-then-lacks_name-clause-ready

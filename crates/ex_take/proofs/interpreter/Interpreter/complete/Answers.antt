@@ -1,7 +1,7 @@
 use Rattle.std.proofs.Common.{◌≡◌, Some, sym, ◌∙◌}
 use Rattle.ex_take.specs.Interpreter.{deed_of}
 use Rattle.ex_take.specs.Outcome.{outcome_of}
-use Rattle.ex_take.proofs.Waiting.{lacking_same, obeys_from, waits_on, waits_sound}
+use Rattle.ex_take.proofs.PendingCommands.{lacking_same, obeys_from, waits_on, waits_sound}
 use Rattle.ex_take.proofs.interpreter.Interpreter.complete.Goals as goal
 
 pub invariant_of-self : goal.invariant_of-self

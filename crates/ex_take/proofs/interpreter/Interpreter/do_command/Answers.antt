@@ -2,10 +2,10 @@ use Rattle.std.proofs.Common.{◌≡◌, None, refl, ◌∙◌}
 use Rattle.cm_run.specs.Cause.{ObeyCause}
 use Rattle.ex_take.specs.Interpreter.{deed_of}
 use Rattle.ex_take.specs.Outcome.{outcome_of}
-use Rattle.ex_take.proofs.Acting.{act_answers, act_free, act_obeys, act_target, may_act}
-use Rattle.ex_take.proofs.Waiting.{none_waits}
-use Rattle.cm_run.proofs.Obeying.{obeys_wanting}
-use Rattle.ex_take.proofs.Obeying.{answer_cause}
+use Rattle.ex_take.proofs.Acts.{act_answers, act_free, act_obeys, act_target, may_act}
+use Rattle.ex_take.proofs.PendingCommands.{none_waits}
+use Rattle.cm_run.proofs.Acts.{obeys_wanting}
+use Rattle.ex_take.proofs.CommandAnswers.{answer_cause}
 use Rattle.ex_take.proofs.interpreter.Interpreter.do_command.Goals as goal
 
 pub returns-clause-obeys : goal.returns-clause-obeys

@@ -1,7 +1,7 @@
 use Rattle.std.proofs.Common.{sym, ◌∙◌, refl}
 use Rattle.cm_run.specs.Cause.{ObeyCause}
 use Rattle.ex_take.specs.Outcome.{outcome_of}
-use Rattle.ex_take.proofs.Waiting.{acts_answer, goes_on, last_obeys, waits_answer}
+use Rattle.ex_take.proofs.PendingCommands.{acts_answer, goes_on, last_obeys, waits_answer}
 use Rattle.ex_take.proofs.interpreter.Interpreter.go_on.Goals as goal
 
 pub returns-then-is_pending-clause-obeys : goal.returns-then-is_pending-clause-obeys

@@ -1,10 +1,10 @@
 use Rattle.std.proofs.Common.{Some, Ok, refl, sym, subst, ◌∷◌, [], ◌∙◌}
 use Rattle.cm_run.specs.Cause.{ObeyCause}
 use Rattle.cm_run.specs.Obey.{Obeys, stage}
-use Rattle.ex_commands.proofs.Coming.{waits_for_subcommands}
+use Rattle.ex_commands.proofs.Outcomes.{waits_for_subcommands}
 use Rattle.ex_take.specs.Interpreter.{deed_of}
 use Rattle.ex_take.specs.InterpreterState.{InterpreterState}
-use Rattle.ex_take.proofs.Waiting.{pending_of, waits_obeys}
+use Rattle.ex_take.proofs.PendingCommands.{pending_of, waits_obeys}
 use Rattle.ex_take.proofs.interpreter.Interpreter.obey.Goals as goal
 
 pub returns-then-is_pending-clause-obeys : goal.returns-then-is_pending-clause-obeys

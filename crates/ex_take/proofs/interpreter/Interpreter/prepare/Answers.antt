@@ -1,6 +1,6 @@
 use Rattle.std.proofs.Common.{◌≡◌, OnOk, subst}
 use Rattle.ex_take.specs.InterpreterState.{InterpreterState}
-use Rattle.ex_take.proofs.Becoming.{copies, logout, otherwise}
+use Rattle.ex_take.proofs.States.{copies, logout, otherwise}
 use Rattle.ex_take.proofs.interpreter.Interpreter.prepare.Goals as goal
 
 pub returns-in-Logout-clause-ready : goal.returns-in-Logout-clause-ready

@@ -1,6 +1,6 @@
 use Rattle.std.proofs.Common.{refl}
 use Rattle.ex_take.specs.Outcome.{outcome_of}
-use Rattle.ex_take.proofs.Obeying.{answer_cause, write_answers, write_obeys}
+use Rattle.ex_take.proofs.CommandAnswers.{answer_cause, write_answers, write_obeys}
 use Rattle.ex_take.proofs.interpreter.Interpreter.write.Goals as goal
 
 pub returns-clause-obeys : goal.returns-clause-obeys

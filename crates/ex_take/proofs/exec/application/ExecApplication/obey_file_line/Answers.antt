@@ -1,5 +1,5 @@
 use Rattle.std.proofs.Common.{sym, ◌∙◌}
-use Rattle.ex_take.proofs.Following.{file_done, file_open, file_refused}
+use Rattle.ex_take.proofs.Sequels.{file_done, file_open, file_refused}
 use Rattle.ex_take.proofs.exec.application.ExecApplication.obey_file_line.Goals as goal
 
 pub returns-in-Done-clause-obeys : goal.returns-in-Done-clause-obeys

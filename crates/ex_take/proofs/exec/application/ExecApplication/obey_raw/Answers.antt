@@ -5,7 +5,7 @@ use Rattle.ex_take.specs.Interpreter.{raw_answer, raw_by}
 use Rattle.ex_take.specs.Outcome.{outcome_of}
 use Rattle.ex_take.specs.Exec.{raw_deeds}
 use Rattle.ex_take.specs.ExecState.{ExecState}
-use Rattle.ex_take.proofs.Following.{raw_obeys}
+use Rattle.ex_take.proofs.Sequels.{raw_obeys}
 use Rattle.ex_take.proofs.exec.application.ExecApplication.obey_raw.Goals as goal
 
 pub returns-clause-obeys : goal.returns-clause-obeys

@@ -1,0 +1,11 @@
+mod Courses
+mod Ends
+mod Hooks
+mod Jobs
+mod LawLemmas
+mod FileNames
+mod Printings
+mod Runs
+mod Outcomes
+mod Steps
+mod StepCuts

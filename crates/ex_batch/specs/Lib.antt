@@ -1,0 +1,10 @@
+pub mod Request
+pub mod Batch
+pub mod Heads
+pub mod Job
+pub mod ControlFile
+pub mod LineBytes
+pub mod Stands
+pub mod Takes
+pub mod LineCount
+pub mod Whole

@@ -1,0 +1,70 @@
+// The run over the lines of a control file.
+ghost use Rattle.std.specs.Prelude.{◌≡◌, ◌≤◌, ℕ, List, IsTrue, IfOk, slice_get};
+ghost use Rattle.cm_io.specs.Told.{Told};
+ghost use Rattle.cm_run.specs.Cause.{ObeyCause};
+ghost use Rattle.cm_run.specs.Cut.{Traces};
+ghost use Rattle.cm_run.specs.Observed.{observed};
+ghost use Rattle.cm_run.specs.Ready.{Serves};
+ghost use Rattle.ex_grammar.specs.ExecRules.{exec_meanings};
+ghost use Rattle.ex_batch.specs.Batch.{batch_of, limit_end};
+ghost use Rattle.ex_batch.specs.Job.{job_meaning};
+ghost use Rattle.ex_batch.specs.Takes.{went};
+
+use crate::job::Job;
+use crate::step::{Ended, Next, take_control};
+use cm_blocks::{Grammar, Steps};
+use cm_fields::Code;
+use cm_hooks::Hooks;
+use cm_io::{Clock, Sink};
+use cm_run::Stop;
+use ex_control::ControlFile;
+use ex_grammar::ExecRules;
+use std::sync::ledger::Ledger;
+
+/// The most lines of a control file that a run uses. A line that is used again is counted again.
+pub const CONTROL_LINES: u32 = 10_000;
+
+// How a run ends that has used as many lines as it may.
+fn limit_end(file: &ControlFile, place: usize) -> Ended
+    ensures { result ≡ limit_end (slice_get file.now place) }
+{
+    match file.line(place) {
+        Some(_) => Ended::Stopped(Code::LineLimit),
+        None => Ended::Finished,
+    }
+}
+
+/// Runs over the lines of a control file: shows each, and does what it is. A line of the EXEC's takes a moment, is
+/// parsed under the state that it finds, its trials are counted, and it does what a line of a command file does, with
+/// the command files that it takes. At most 10,000 lines are used.
+pub fn run_batch<S: Sink, C: Clock, L: Ledger>(
+    file: &ControlFile,
+    job: &mut Job,
+    grammar: &Grammar,
+    hooks: &Hooks<ExecRules>,
+    screen: &mut S,
+    clock: &mut C,
+    steps: &mut Steps<L>,
+) -> Result<Ended, Stop>
+    requires serves { Serves job_meaning grammar.now exec_meanings hooks.now }
+    // What stands is the trace of the run, or a cut of it.
+    ensures traces { IsTrue C.tells → (log : Told) → (keys : List ℕ) → (gets : ℕ) → Traces
+        (observed (S.told screen.old) log keys gets (C.left clock.old) steps.old job.old)
+        (observed (S.told screen.new) log keys gets (C.left clock.new) steps.new job.new)
+        (batch_of file.now (C.left clock.old) job.old).events (went result) }
+    // Where it was not cut, it ends as the run does.
+    ensures end { IsTrue C.tells
+        → IfOk result (λ end. end ≡ (batch_of file.now (C.left clock.old) job.old).end) }
+    ensures later { S.faults screen.old ≤ S.faults screen.new }
+    ensures cause { ObeyCause (S.faults screen.old) (S.faults screen.new) (went result) }
+{
+    let mut place = 0;
+    for _line in 0..CONTROL_LINES {
+        match take_control(file, place, job, grammar, hooks, screen, clock, steps) {
+            Ok(Next::Line(next)) => place = next,
+            Ok(Next::Over(end)) => return Ok(end),
+            Err(stop) => return Err(stop),
+        }
+    }
+    Ok(limit_end(file, place))
+}

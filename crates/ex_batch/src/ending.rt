@@ -1,0 +1,81 @@
+// The end of a run of a control file.
+ghost use Rattle.std.specs.Prelude.{◌≡◌, ◌≤◌, []};
+ghost use Rattle.cm_io.specs.Fault.{PutCause};
+ghost use Rattle.cm_io.specs.Told.{Adds};
+ghost use Rattle.cm_state.specs.Echo.{refusal};
+ghost use Rattle.ex_system.specs.Disk.{disk_of};
+ghost use Rattle.ex_system.specs.Saving.{IsEnd, Saves};
+ghost use Rattle.ex_system.specs.Trying.{Tried};
+ghost use Rattle.ex_batch.specs.Stands.{Closes, status_of, stop_of};
+
+use crate::step::Ended;
+use cm_fields::Code;
+use cm_io::{Host, Put, Sink, Status, Writer};
+use cm_run::Stop;
+use ex_commands::put_refusal;
+use ex_store::Store;
+use ex_system::finish;
+
+// The status of a run that went so.
+fn status_of(how: Result<Ended, Stop>) -> Status
+    ensures status { result ≡ status_of how }
+    ensures end { IsEnd result }
+{
+    match how {
+        Ok(Ended::Finished) => Status::Done,
+        Ok(Ended::Stopped(_)) => Status::Stopped,
+        Err(Stop::Memory) => Status::NoMemory,
+        Err(_) => Status::WriteFault,
+    }
+}
+
+// Why it was stopped, where that is what its status says.
+fn stop_of(how: Result<Ended, Stop>, status: Status) -> Option<Code>
+    ensures { result ≡ stop_of how status }
+{
+    match (how, status) {
+        (Ok(Ended::Stopped(code)), Status::Stopped) => Some(code),
+        _ => None,
+    }
+}
+
+// Puts why a run was stopped.
+fn put_stop<S: Sink>(code: Code, screen: &mut S) -> Put
+    ensures bytes { Adds (S.told screen.old) (S.told screen.new) (refusal code) result }
+    ensures cause { PutCause (S.faults screen.old) (S.faults screen.new) result }
+{
+    let mut out = Writer::new(screen);
+    put_refusal(code, &mut out);
+    out.went()
+}
+
+// Shows why a run was stopped. A screen that fails here changes nothing.
+fn show_stop<S: Sink>(code: Code, screen: &mut S)
+    ensures { Tried (S.told screen.old) (S.told screen.new)
+        (S.faults screen.old) (S.faults screen.new) [] (refusal code) }
+{
+    put_stop(code, screen);
+}
+
+/// Ends a run that went so: writes the image, and shows behind it why the run was stopped, or the message of the status
+/// that it comes to.
+pub(crate) fn close<H: Host, S: Sink>(
+    how: Result<Ended, Stop>,
+    store: &Store,
+    out: &str,
+    host: &mut H,
+    screen: &mut S,
+) -> Status
+    ensures closes { Closes how (S.told screen.old) (S.told screen.new)
+        (S.faults screen.old) (S.faults screen.new) result }
+    ensures saved { Saves (disk_of H.Host host.old) (disk_of H.Host host.new) out.now store.now.state result }
+{
+    let status = finish(status_of(how), store, out, host, screen);
+    match stop_of(how, status) {
+        Some(code) => {
+            show_stop(code, screen);
+            status
+        }
+        None => status,
+    }
+}

@@ -1,0 +1,64 @@
+//! Laws of control files. Each is a function that does nothing, whose contract is the law.
+ghost use Rattle.std.specs.Prelude.{◌≡◌, ◌≤◌, ◌∷◌, ℕ, List, [], true, false, None, Some, length};
+ghost use Rattle.cm_text.specs.Text.{finished};
+ghost use Rattle.cm_fields.specs.declared.code.Code.{Code};
+ghost use Rattle.cm_blocks.specs.Kept.{cost};
+ghost use Rattle.cm_blocks.specs.declared.field.Ending.TheVariants as endings;
+ghost use Rattle.cm_blocks.specs.declared.field.Fault.{Fault};
+ghost use Rattle.cm_state.specs.SessionState.{SessionState};
+ghost use Rattle.cm_run.specs.Event.{Trials, state_behind};
+ghost use Rattle.cm_run.specs.SingleLine.{handed_trace};
+ghost use Rattle.cm_run.specs.Meaning.{setting_of};
+ghost use Rattle.cm_run.specs.Obey.{left_by};
+ghost use Rattle.cm_run.specs.Trace.{file_session, line_trace, node_of};
+ghost use Rattle.ex_commands.specs.Act.{act_of};
+ghost use Rattle.ex_commands.specs.declared.acted.Acted.TheVariants as answers;
+ghost use Rattle.ex_commands.specs.declared.command.Command.{Command};
+ghost use Rattle.ex_control.specs.Control.{is_parsable};
+ghost use Rattle.ex_take.specs.Exec.{acts, exec_meaning};
+ghost use Rattle.ex_take.specs.ExecState.{ExecState};
+ghost use Rattle.ex_take.specs.Interpreter.{command_at};
+ghost use Rattle.ex_take.specs.Taking.{is_at_rest};
+ghost use Rattle.ex_batch.specs.Batch.{text_trace};
+ghost use Rattle.ex_batch.specs.Job.{bar_of, job_deeds, job_meaning, order_deeds};
+ghost use Rattle.ex_batch.specs.LineCount.{used_in};
+ghost use Rattle.ex_batch.specs.declared.batch.TheConstants.{CONTROL_LINES};
+
+use ex_take::laws as refused_acts;
+
+/// A run uses at most 10,000 lines.
+pub fn at_most_so_many_lines_are_used()
+    ensures number { CONTROL_LINES ≡ 10000 }
+    ensures few { (lines : List (List ℕ)) → (moments : List ℕ) → (at : ExecState)
+        → length (used_in lines moments at) ≤ CONTROL_LINES }
+{}
+
+/// A line of the EXEC's in a control file that is not refused does what the same line does where it is typed: where
+/// nothing is left to be done, and its parse is done and commands what may stand there, what happens is that of a
+/// confirmed line, with the lines of the command files that it takes. So a run over such lines differs from a typed one
+/// in what is shown of the lines alone.
+pub fn a_line_does_what_a_typed_one_does()
+    ensures { (at : ExecState) → (text : List ℕ) → (moment : ℕ) → is_at_rest at ≡ true
+        → (file_session job_meaning at text).ending ≡ endings.Done
+        → bar_of (command_at at.interpreter (file_session job_meaning at text)) ≡ None
+        → handed_trace job_meaning moment at text
+        ≡ Trials (cost (setting_of exec_meaning at) (node_of (exec_meaning.mode_of at)) [] (finished text))
+        ∷ line_trace exec_meaning at (file_session exec_meaning at text) moment }
+{}
+
+/// A refused line of the EXEC's changes no directory and no file: one that cannot be parsed, one whose parse ends in a
+/// fault, one whose command may not stand in a control file, and one whose command is refused itself. Of a TAKE that is
+/// refused later, the lines before have acted.
+pub fn a_refused_line_changes_nothing()
+    ensures text { (at : ExecState) → (text : List ℕ) → (moment : ℕ) → is_parsable text ≡ false
+        → (state_behind at (text_trace moment at text)).interpreter.state ≡ at.interpreter.state }
+    ensures parse { (at : ExecState) → (session : SessionState) → (moment : ℕ) → (fault : Fault)
+        → (left_by at (order_deeds at session moment (endings.Fault fault))).interpreter.state ≡ at.interpreter.state }
+    ensures barred { (at : ExecState) → (moment : ℕ) → (command : Command) → (code : Code) → bar_of command ≡ Some code
+        → (left_by at (job_deeds at moment command)).interpreter.state ≡ at.interpreter.state }
+    ensures act { (at : ExecState) → (moment : ℕ) → (command : Command) → (code : Code)
+        → (act_of command moment at.interpreter.state).answer ≡ answers.Refused code
+        → (left_by at (acts at moment command)).interpreter.state ≡ at.interpreter.state }
+{
+    refused_acts::a_refused_line_changes_nothing();
+}

@@ -1,0 +1,244 @@
+// The program over what is outside of it.
+ghost use Rattle.std.specs.Prelude.{◌≡◌, ◌⊎◌, ◌≤◌, ◌<◌, ◌↔◌, ◌+◌, ℕ, List, IfOk, None, Some, IsTrue};
+ghost use Rattle.std.specs.Option.{option_map};
+ghost use Rattle.cm_hooks.specs.Ties.{Ties, count};
+ghost use Rattle.cm_io.specs.Told.{Told};
+ghost use Rattle.cm_run.specs.Cause.{ObeyCause};
+ghost use Rattle.cm_run.specs.Cut.{Traces};
+ghost use Rattle.cm_run.specs.Event.{screen_bytes, state_behind, trials_of};
+ghost use Rattle.cm_run.specs.Observed.{observed};
+ghost use Rattle.cm_run.specs.Ready.{Serves};
+ghost use Rattle.ex_grammar.specs.ExecRules.{exec_meanings};
+ghost use Rattle.ex_image.specs.Image.{image_text};
+ghost use Rattle.ex_store.specs.State.{State};
+ghost use Rattle.ex_take.specs.ExecState.{exec_start};
+ghost use Rattle.ex_system.specs.Asked.{form_view};
+ghost use Rattle.ex_system.specs.Disk.{disk_of};
+ghost use Rattle.ex_system.specs.Quiet.{IsQuiet};
+ghost use Rattle.ex_system.specs.Saving.{HostCause};
+ghost use Rattle.ex_system.specs.Trying.{Tried};
+ghost use Rattle.ex_batch.specs.Request.{job_view};
+ghost use Rattle.ex_batch.specs.Heads.{Heads};
+ghost use Rattle.ex_batch.specs.Job.{job_meaning};
+ghost use Rattle.ex_batch.specs.Stands.{Asks, Course, IsBatch, IsWhole, JobForm as Asked, Ran, ScreenCause, Stands, StartCause, end_status, end_text, form_of, scene, usage, with_file};
+ghost use Rattle.ex_batch.specs.Whole.{whole_of};
+
+use crate::batch::run_batch;
+use crate::control_file::named_file;
+use crate::ending::close;
+use crate::job::Job;
+use crate::step::Ended;
+use cm_blocks::{Grammar, Steps};
+use cm_hooks::Hooks;
+use cm_io::{Clock, Host, Sink, Status, Words};
+use cm_run::Stop;
+use ex_commands::file_bytes;
+use ex_control::ControlFile;
+use ex_grammar::{ExecRules, grammar};
+use ex_system::{Form, as_triple, in_out, refuse, refuse_usage, start};
+use std::alloc::Global;
+use std::sync::ledger::Ledger;
+
+/// What the words of a run of a control file ask for.
+#[derive(Clone, Copy)]
+pub struct JobForm<'a> {
+    /// The file that the run begins from, and the one that the image is written to.
+    pub form: Form<'a>,
+    /// What names the control file.
+    pub file: &'a str,
+}
+
+// A form with what names a file, where that is not empty.
+fn with_file<'a>(file: &'a str, form: Option<Form<'a>>) -> Option<JobForm<'a>>
+    ensures { option_map job_view result ≡ with_file file.now (option_map form_view form.entry) }
+{
+    match form {
+        Some(form) => {
+            if file.is_empty() {
+                return None;
+            }
+            Some(JobForm { form, file })
+        }
+        None => None,
+    }
+}
+
+// What the words ask for.
+#[tactic(auto, unfolding(crate::specs::Stands::form_of))]
+fn form_of(words: &Words) -> Option<JobForm<'_>>
+    ensures { option_map job_view result ≡ form_of words.now }
+{
+    match as_triple(words) {
+        Some(triple) => with_file(triple.third, in_out(false, triple.first, triple.second)),
+        None => None,
+    }
+}
+
+// What is shown where the words ask for nothing that the program does.
+#[tactic(auto, unfolding(crate::specs::Stands::usage))]
+fn usage() -> &'static str
+    ensures { result.now ≡ usage }
+{
+    "Usage: batch20 IN OUT FILE"
+}
+
+// Runs the control file that a word names.
+fn run_file<S: Sink, C: Clock, L: Ledger>(
+    alloc: Global,
+    file: &[u8],
+    job: &mut Job,
+    grammar: &Grammar,
+    hooks: &Hooks<ExecRules>,
+    screen: &mut S,
+    clock: &mut C,
+    steps: &mut Steps<L>,
+) -> Result<Ended, Stop>
+    requires serves { Serves job_meaning grammar.now exec_meanings hooks.now }
+    ensures { (start : State) → job.old ≡ exec_start start → Ran (IsTrue C.tells) file.now start job.new result
+        (scene S.Sink screen.old C.Clock clock.old steps.old) (scene S.Sink screen.new C.Clock clock.new steps.new) }
+{
+    let held = job.store();
+    let place = match named_file(file, held) {
+        Ok(place) => place,
+        Err(code) => return Ok(Ended::Stopped(code)),
+    };
+    let Ok(file) = ControlFile::read(alloc, file_bytes(held, &place)) else {
+        return Err(Stop::Memory);
+    };
+    run_batch(&file, job, grammar, hooks, screen, clock, steps)
+}
+
+// Runs a control file as a form asks.
+#[tactic(auto, using(crate::proofs::Hooks::serves_job))]
+fn run_form<H: Host, S: Sink, C: Clock, L: Ledger>(
+    alloc: Global,
+    asked: &JobForm<'_>,
+    host: &mut H,
+    screen: &mut S,
+    clock: &mut C,
+    hooks: &Hooks<ExecRules>,
+    steps: &mut Steps<L>,
+) -> Status
+    requires hooks { Ties exec_meanings hooks.now }
+    requires three { 3 ≤ count hooks.now }
+    ensures { Course (IsTrue C.tells) (job_view asked.now)
+        (scene S.Sink screen.old C.Clock clock.old steps.old) (scene S.Sink screen.new C.Clock clock.new steps.new)
+        (disk_of H.Host host.old) (disk_of H.Host host.new) result }
+{
+    let store = match start(alloc, asked.form.input, host) {
+        Ok(store) => store,
+        Err(status) => return refuse(status, screen),
+    };
+    let Ok(grammar) = grammar(alloc) else {
+        return refuse(Status::NoMemory, screen);
+    };
+    let mut job = Job::new(alloc, store);
+    let how = run_file(
+        alloc,
+        asked.file.as_bytes(),
+        &mut job,
+        &grammar,
+        hooks,
+        screen,
+        clock,
+        steps,
+    );
+    let left = job.store();
+    close(how, left, asked.form.out, host, screen)
+}
+
+// Runs a control file as the words ask.
+fn run_words<H: Host, S: Sink, C: Clock, L: Ledger>(
+    alloc: Global,
+    words: &Words,
+    host: &mut H,
+    screen: &mut S,
+    clock: &mut C,
+    hooks: &Hooks<ExecRules>,
+    steps: &mut Steps<L>,
+) -> Status
+    requires hooks { Ties exec_meanings hooks.now }
+    requires three { 3 ≤ count hooks.now }
+    ensures { Heads (IsTrue C.tells) (form_of words.now)
+        (scene S.Sink screen.old C.Clock clock.old steps.old) (scene S.Sink screen.new C.Clock clock.new steps.new)
+        (disk_of H.Host host.old) (disk_of H.Host host.new) result }
+{
+    match form_of(words) {
+        Some(asked) => run_form(alloc, &asked, host, screen, clock, hooks, steps),
+        None => refuse_usage(usage(), screen),
+    }
+}
+
+/// The program `batch20`: runs a control file over a store, without keys, and writes the image at the end.
+///
+/// `words` are `IN OUT FILE`. The run begins from the image in the file IN of `host`. FILE names a file of that image,
+/// as an EXEC command names one that is to be read; its lines are shown on `screen` and done one after the other, each
+/// line of the EXEC's at a moment of `clock`, and the image is then written to the file OUT. Behind the save stands why
+/// the run was stopped, or the message of the status.
+///
+/// `hooks` answer the EXEC's rules. `steps` counts the trials.
+pub fn batch20<H: Host, S: Sink, C: Clock, L: Ledger>(
+    alloc: Global,
+    words: &Words,
+    host: &mut H,
+    screen: &mut S,
+    clock: &mut C,
+    hooks: &Hooks<ExecRules>,
+    steps: &mut Steps<L>,
+) -> Status
+    requires hooks { Ties exec_meanings hooks.now }
+    requires three { 3 ≤ count hooks.now }
+
+    // Done and Stopped come where the whole run ends so, from the state that it begins in, that whose image the file
+    // IN has: a run is stopped where FILE is refused, or at a line ..
+    ensures whole { IsTrue C.tells → IsWhole result → (asked : Asked) → (start : State)
+        → Asks (form_of words.now) (disk_of H.Host host.old) asked start
+        → result ≡ end_status (whole_of start asked.file (C.left clock.old)).end }
+    // .. the screen was given all that the run shows, and behind it why it was stopped, or a prefix of that where the
+    // screen fails there ..
+    ensures shown { IsTrue C.tells → IsWhole result → (asked : Asked) → (start : State)
+        → Asks (form_of words.now) (disk_of H.Host host.old) asked start
+        → Tried (S.told screen.old) (S.told screen.new) (S.faults screen.old) (S.faults screen.new)
+        (screen_bytes (whole_of start asked.file (C.left clock.old)).events)
+        (end_text (whole_of start asked.file (C.left clock.old)).end) }
+    // .. the counter has risen by what the trials of all lines cost ..
+    ensures counted { IsTrue C.tells → IsWhole result → (asked : Asked) → (start : State)
+        → Asks (form_of words.now) (disk_of H.Host host.old) asked start
+        → steps.new ≡ steps.old + trials_of (whole_of start asked.file (C.left clock.old)).events }
+    // .. and OUT holds the image of the state that the lines leave.
+    ensures saved { IsTrue C.tells → IsTrue H.tells → IsWhole result → (asked : Asked) → (start : State)
+        → Asks (form_of words.now) (disk_of H.Host host.old) asked start
+        → H.files host.new asked.form.out ≡ Some (image_text (state_behind (exec_start start)
+        (whole_of start asked.file (C.left clock.old)).events).interpreter.state) }
+
+    // What stands, whatever the status. Before FILE is looked at the message alone is shown, IN is loaded once, and OUT
+    // is not created. Past that the trace of the whole run stands, or a cut of it: what was shown, counted and left is
+    // exact there. Then OUT is created once, is closed, and holds the image of the state that the run left, and no
+    // other file changes; and behind that is shown how it went. So memory is wanting before any line is shown, or at an
+    // act that may want it, where the acts before it have been done, and no other.
+    ensures stands { Stands (IsTrue C.tells) (form_of words.now)
+        (scene S.Sink screen.old C.Clock clock.old steps.old) (scene S.Sink screen.new C.Clock clock.new steps.new)
+        (disk_of H.Host host.old) (disk_of H.Host host.new) result }
+    // The counter has risen by no more than the whole run costs.
+    ensures most { IsTrue C.tells → (asked : Asked) → (start : State)
+        → Asks (form_of words.now) (disk_of H.Host host.old) asked start
+        → steps.new ≤ steps.old + trials_of (whole_of start asked.file (C.left clock.old)).events }
+
+    // When each status may come.
+    ensures batch { IsBatch result }
+    ensures usage { (result ≡ Status.Usage) ↔ (form_of words.now ≡ None) }
+    ensures cause { ScreenCause (S.faults screen.old) (S.faults screen.new) result }
+    ensures host_cause { HostCause (H.faults host.old) (H.faults host.new) result }
+    // And by the file IN: NoImage exactly where there is none, ImageTooLarge exactly where it has more bytes than any
+    // image, BadImage exactly where its bytes are no image, with the place and the kind of the first wrong record.
+    ensures start { StartCause (disk_of H.Host host.old) (form_of words.now) result }
+
+    // With words of a form, an image in IN, and nothing outside that fails, the status is Stopped where FILE is refused
+    // or the run is stopped at a line, and else Done; or memory is wanting.
+    ensures complete { IsTrue C.tells → (asked : Asked) → (start : State)
+        → Asks (form_of words.now) (disk_of H.Host host.old) asked start
+        → IsQuiet (S.faults screen.old) (S.faults screen.new) → IsQuiet (H.faults host.old) (H.faults host.new)
+        → (result ≡ end_status (whole_of start asked.file (C.left clock.old)).end) ⊎ (result ≡ Status.NoMemory) }
+{
+    run_words(alloc, words, host, screen, clock, hooks, steps)
+}

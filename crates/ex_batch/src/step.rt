@@ -1,0 +1,314 @@
+// What one line of a control file comes to.
+ghost use Rattle.std.specs.Prelude.{◌≡◌, ◌≤◌, ◌<◌, ◌+◌, ◌^◌, ℕ, List, IsTrue, Some, slice_get};
+ghost use Rattle.cm_io.specs.Clock.{next_moment};
+ghost use Rattle.cm_io.specs.Told.{Told};
+ghost use Rattle.cm_run.specs.Cause.{ObeyCause};
+ghost use Rattle.cm_run.specs.Cut.{Traces};
+ghost use Rattle.cm_run.specs.Event.{Moment};
+ghost use Rattle.cm_run.specs.Observed.{observed};
+ghost use Rattle.cm_run.specs.Ready.{Serves};
+ghost use Rattle.ex_control.specs.Control.{AreNamed, IsNamed, control_view, order_view};
+ghost use Rattle.ex_grammar.specs.ExecRules.{exec_meanings};
+ghost use Rattle.ex_batch.specs.Batch.{behind_event, behind_text, condition_step, control_step, is_met, label_next, line_step, nothing_but, order_step, text_step, text_trace, unless_refused};
+ghost use Rattle.ex_batch.specs.Job.{job_meaning};
+ghost use Rattle.ex_batch.specs.Takes.{Takes, went};
+
+use crate::job::Job;
+use crate::line_bytes::show_line;
+use cm_blocks::{Grammar, Steps};
+use cm_fields::Code;
+use cm_hooks::Hooks;
+use cm_io::{Clock, Sink};
+use cm_run::{Stop, run_line};
+use ex_control::{Control, ControlFile, Order, control_of, parsable};
+use ex_grammar::ExecRules;
+use std::sync::ledger::Ledger;
+
+/// How a run over the lines of a control file ends.
+#[derive(Clone, Copy, Debug, PartialEq, Eq)]
+pub enum Ended {
+    /// At the last line, or at LOGOUT.
+    Finished,
+    /// At a line, for this reason.
+    Stopped(Code),
+}
+
+/// Where a run over the lines of a control file goes on.
+#[derive(Clone, Copy)]
+pub(crate) enum Next {
+    /// At the line with this place.
+    Line(usize),
+    /// Nowhere: it is over.
+    Over(Ended),
+}
+
+// Takes a line of the EXEC's.
+#[tactic(auto, using(crate::proofs::StepCuts::text_taken, crate::proofs::StepCuts::text_refused))]
+fn take_text<S: Sink, L: Ledger>(
+    text: &[u8],
+    job: &mut Job,
+    grammar: &Grammar,
+    hooks: &Hooks<ExecRules>,
+    moment: u64,
+    screen: &mut S,
+    steps: &mut Steps<L>,
+) -> Result<(), Stop>
+    requires serves { Serves job_meaning grammar.now exec_meanings hooks.now }
+    ensures traces { (log : Told) → (keys : List ℕ) → (gets : ℕ) → (moments : List ℕ) → Traces
+        (observed (S.told screen.old) log keys gets moments steps.old job.old)
+        (observed (S.told screen.new) log keys gets moments steps.new job.new)
+        (text_trace moment job.old text.now) result }
+    ensures later { S.faults screen.old ≤ S.faults screen.new }
+    ensures cause { ObeyCause (S.faults screen.old) (S.faults screen.new) result }
+{
+    match parsable(text) {
+        Some(line) => run_line(job, line, grammar, hooks, moment, screen, steps),
+        None => job.refuse_line(Code::BadLine, screen),
+    }
+}
+
+// Where the run goes on behind a line of the EXEC's.
+fn behind_text(place: usize, job: &Job) -> Next
+    requires { place + 1 < 2 ^ 64 }
+    ensures { result ≡ behind_text place job.now }
+{
+    if job.has_ended() {
+        Next::Over(Ended::Finished)
+    } else {
+        Next::Line(place + 1)
+    }
+}
+
+// Takes a line of the EXEC's, at a moment of its own.
+fn do_text<S: Sink, C: Clock, L: Ledger>(
+    place: usize,
+    text: &[u8],
+    job: &mut Job,
+    grammar: &Grammar,
+    hooks: &Hooks<ExecRules>,
+    screen: &mut S,
+    clock: &mut C,
+    steps: &mut Steps<L>,
+) -> Result<Next, Stop>
+    requires serves { Serves job_meaning grammar.now exec_meanings hooks.now }
+    requires within { place + 1 < 2 ^ 64 }
+    ensures takes { IsTrue C.tells → (log : Told) → (keys : List ℕ) → (gets : ℕ) → Takes
+        (observed (S.told screen.old) log keys gets (C.left clock.old) steps.old job.old)
+        (observed (S.told screen.new) log keys gets (C.left clock.new) steps.new job.new)
+        (behind_event Moment (text_step place (next_moment (C.left clock.old)) job.old text.now)) result }
+    ensures later { S.faults screen.old ≤ S.faults screen.new }
+    ensures cause { ObeyCause (S.faults screen.old) (S.faults screen.new) (went result) }
+{
+    let moment = clock.now();
+    match take_text(text, job, grammar, hooks, moment, screen, steps) {
+        Ok(()) => Ok(behind_text(place, job)),
+        Err(stop) => Err(stop),
+    }
+}
+
+// Where the run goes on at a label.
+fn label_next(place: Option<usize>) -> Next
+    ensures { result ≡ label_next place }
+{
+    match place {
+        Some(place) => Next::Line(place),
+        None => Next::Over(Ended::Stopped(Code::NoLabel)),
+    }
+}
+
+// Does an order.
+#[tactic(auto, using(crate::proofs::StepCuts::nothing_taken), unfolding(cm_run::specs::Cause::ObeyCause, crate::specs::Batch::order_step))]
+fn do_order<S: Sink, C: Clock, L: Ledger>(
+    file: &ControlFile,
+    place: usize,
+    order: Order<'_>,
+    job: &mut Job,
+    grammar: &Grammar,
+    hooks: &Hooks<ExecRules>,
+    screen: &mut S,
+    clock: &mut C,
+    steps: &mut Steps<L>,
+) -> Result<Next, Stop>
+    requires serves { Serves job_meaning grammar.now exec_meanings hooks.now }
+    requires within { place + 1 < 2 ^ 64 }
+    requires named { IsNamed (order_view order) }
+    ensures takes { IsTrue C.tells → (log : Told) → (keys : List ℕ) → (gets : ℕ) → Takes
+        (observed (S.told screen.old) log keys gets (C.left clock.old) steps.old job.old)
+        (observed (S.told screen.new) log keys gets (C.left clock.new) steps.new job.new)
+        (order_step file.now place (C.left clock.old) job.old (order_view order.entry)) result }
+    ensures later { S.faults screen.old ≤ S.faults screen.new }
+    ensures cause { ObeyCause (S.faults screen.old) (S.faults screen.new) (went result) }
+{
+    match order {
+        Order::Goto(name) => Ok(label_next(file.place(name))),
+        Order::Exec(text) => do_text(place, text, job, grammar, hooks, screen, clock, steps),
+        Order::Bad => Ok(Next::Over(Ended::Stopped(Code::BadControl))),
+    }
+}
+
+// Whether a condition is met.
+fn is_met(error: bool, why: Option<Code>) -> bool
+    ensures { result ≡ is_met error why }
+{
+    if error { why.is_some() } else { why.is_none() }
+}
+
+// Forgives a refusal, and does an order where the condition was met.
+#[tactic(auto, using(crate::proofs::StepCuts::nothing_taken), unfolding(cm_run::specs::Cause::ObeyCause))]
+fn do_condition<S: Sink, C: Clock, L: Ledger>(
+    met: bool,
+    file: &ControlFile,
+    place: usize,
+    order: Order<'_>,
+    job: &mut Job,
+    grammar: &Grammar,
+    hooks: &Hooks<ExecRules>,
+    screen: &mut S,
+    clock: &mut C,
+    steps: &mut Steps<L>,
+) -> Result<Next, Stop>
+    requires serves { Serves job_meaning grammar.now exec_meanings hooks.now }
+    requires within { place + 1 < 2 ^ 64 }
+    requires named { IsNamed (order_view order) }
+    ensures takes { IsTrue C.tells → (log : Told) → (keys : List ℕ) → (gets : ℕ) → Takes
+        (observed (S.told screen.old) log keys gets (C.left clock.old) steps.old job.old)
+        (observed (S.told screen.new) log keys gets (C.left clock.new) steps.new job.new)
+        (condition_step file.now place (C.left clock.old) job.old met (order_view order.entry)) result }
+    ensures later { S.faults screen.old ≤ S.faults screen.new }
+    ensures cause { ObeyCause (S.faults screen.old) (S.faults screen.new) (went result) }
+{
+    job.forgive();
+    if met {
+        do_order(
+            file, place, order, job, grammar, hooks, screen, clock, steps,
+        )
+    } else {
+        Ok(Next::Line(place + 1))
+    }
+}
+
+// Does an order, unless the line before was refused.
+#[tactic(auto, using(crate::proofs::StepCuts::nothing_taken), unfolding(cm_run::specs::Cause::ObeyCause))]
+fn do_unless_refused<S: Sink, C: Clock, L: Ledger>(
+    file: &ControlFile,
+    place: usize,
+    order: Order<'_>,
+    job: &mut Job,
+    grammar: &Grammar,
+    hooks: &Hooks<ExecRules>,
+    screen: &mut S,
+    clock: &mut C,
+    steps: &mut Steps<L>,
+) -> Result<Next, Stop>
+    requires serves { Serves job_meaning grammar.now exec_meanings hooks.now }
+    requires within { place + 1 < 2 ^ 64 }
+    requires named { IsNamed (order_view order) }
+    ensures takes { IsTrue C.tells → (log : Told) → (keys : List ℕ) → (gets : ℕ) → Takes
+        (observed (S.told screen.old) log keys gets (C.left clock.old) steps.old job.old)
+        (observed (S.told screen.new) log keys gets (C.left clock.new) steps.new job.new)
+        (unless_refused job.old.stop (order_step file.now place (C.left clock.old) job.old (order_view order.entry)))
+        result }
+    ensures later { S.faults screen.old ≤ S.faults screen.new }
+    ensures cause { ObeyCause (S.faults screen.old) (S.faults screen.new) (went result) }
+{
+    match job.stop() {
+        Some(code) => Ok(Next::Over(Ended::Stopped(code))),
+        None => do_order(
+            file, place, order, job, grammar, hooks, screen, clock, steps,
+        ),
+    }
+}
+
+// Where the run goes on behind a label.
+fn behind_label(place: usize, job: &Job) -> Next
+    requires { place + 1 < 2 ^ 64 }
+    ensures { result ≡ (unless_refused job.now.stop (nothing_but (Next.Line (place + 1)))).next }
+{
+    match job.stop() {
+        Some(code) => Next::Over(Ended::Stopped(code)),
+        None => Next::Line(place + 1),
+    }
+}
+
+// Does what a line is.
+#[tactic(auto, using(crate::proofs::StepCuts::nothing_taken), unfolding(cm_run::specs::Cause::ObeyCause, crate::specs::Batch::control_step))]
+fn do_control<S: Sink, C: Clock, L: Ledger>(
+    file: &ControlFile,
+    place: usize,
+    control: Control<'_>,
+    job: &mut Job,
+    grammar: &Grammar,
+    hooks: &Hooks<ExecRules>,
+    screen: &mut S,
+    clock: &mut C,
+    steps: &mut Steps<L>,
+) -> Result<Next, Stop>
+    requires serves { Serves job_meaning grammar.now exec_meanings hooks.now }
+    requires within { place + 1 < 2 ^ 64 }
+    requires named { AreNamed (control_view control) }
+    ensures takes { IsTrue C.tells → (log : Told) → (keys : List ℕ) → (gets : ℕ) → Takes
+        (observed (S.told screen.old) log keys gets (C.left clock.old) steps.old job.old)
+        (observed (S.told screen.new) log keys gets (C.left clock.new) steps.new job.new)
+        (control_step file.now place (C.left clock.old) job.old (control_view control.entry)) result }
+    ensures later { S.faults screen.old ≤ S.faults screen.new }
+    ensures cause { ObeyCause (S.faults screen.old) (S.faults screen.new) (went result) }
+{
+    match control {
+        Control::Nothing => Ok(Next::Line(place + 1)),
+        Control::Condition { error, order } => do_condition(
+            is_met(error, job.stop()),
+            file,
+            place,
+            order,
+            job,
+            grammar,
+            hooks,
+            screen,
+            clock,
+            steps,
+        ),
+        Control::Label(_) => Ok(behind_label(place, job)),
+        Control::Plain(order) => do_unless_refused(
+            file, place, order, job, grammar, hooks, screen, clock, steps,
+        ),
+    }
+}
+
+/// Takes the line at a place: shows it, and does what it is.
+#[tactic(auto, using(crate::proofs::StepCuts::nothing_taken), unfolding(cm_run::specs::Cause::ObeyCause, crate::specs::Batch::line_step))]
+pub(crate) fn take_control<S: Sink, C: Clock, L: Ledger>(
+    file: &ControlFile,
+    place: usize,
+    job: &mut Job,
+    grammar: &Grammar,
+    hooks: &Hooks<ExecRules>,
+    screen: &mut S,
+    clock: &mut C,
+    steps: &mut Steps<L>,
+) -> Result<Next, Stop>
+    requires serves { Serves job_meaning grammar.now exec_meanings hooks.now }
+    ensures takes { IsTrue C.tells → (log : Told) → (keys : List ℕ) → (gets : ℕ) → Takes
+        (observed (S.told screen.old) log keys gets (C.left clock.old) steps.old job.old)
+        (observed (S.told screen.new) log keys gets (C.left clock.new) steps.new job.new)
+        (line_step file.now place (C.left clock.old) job.old (slice_get file.now place)) result }
+    ensures later { S.faults screen.old ≤ S.faults screen.new }
+    ensures cause { ObeyCause (S.faults screen.old) (S.faults screen.new) (went result) }
+{
+    let Some(line) = file.line(place) else {
+        return Ok(Next::Over(Ended::Finished));
+    };
+    match show_line(line, screen) {
+        Ok(()) => do_control(
+            file,
+            place,
+            control_of(line),
+            job,
+            grammar,
+            hooks,
+            screen,
+            clock,
+            steps,
+        ),
+        Err(stop) => Err(stop),
+    }
+}

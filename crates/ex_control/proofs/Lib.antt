@@ -1,0 +1,2 @@
+mod LabelNames
+mod LabelIndex

@@ -1,0 +1,243 @@
+// Cases as texts.
+//
+// A case is a paragraph of lines. `file NAME|TEXT` is a file of OPERATOR, and lines with `#` say what the case is for.
+// Each other line is a step: what is asked, on a screen with so much room, what is answered and what is shown, with
+// bars between. `take NAME` asks `take` for a file, `keys TEXT` runs the engine over keys, and `lines` takes the lines
+// that wait. The steps are done in order, with the EXEC as the one before left it.
+ghost use Rattle.std.specs.Prelude.{◌≡◌, ◌<◌, ◌≤◌};
+ghost use Rattle.cm_run.specs.Ready.{Serves};
+ghost use Rattle.ex_grammar.specs.ExecRules.{exec_meanings};
+ghost use Rattle.ex_grammar.specs.Graph.{exec_graph};
+ghost use Rattle.ex_take.specs.Exec.{exec_meaning};
+
+use crate::files::{cut, exec_of, has, place, shown_as};
+use crate::rules::hooks;
+use cm_blocks::{Grammar, Steps};
+use cm_hooks::Hooks;
+use cm_io::{CountSink, MemSink, MemSource, NoMemory};
+use cm_run::{Application, NoClock, Stop, run, run_lines};
+use ex_grammar::{ExecRules, grammar};
+use ex_store::Place;
+use ex_take::{Exec, Took, take};
+use std::alloc::{AllocError, Global};
+use std::marker::Brand;
+use std::sync::ledger::{Blank, Ledger};
+use std::test::Fail;
+
+// The keys of a step, and its screen.
+#[derive(Drop)]
+struct Outside {
+    keys: MemSource,
+    screen: MemSink,
+}
+
+// What is answered to a step: by `take`, by the engine, or by none, where the EXEC is not at rest.
+#[derive(Clone, Copy)]
+enum Answer {
+    Took(Took),
+    Went(Result<(), Stop>),
+    None,
+}
+
+fn outside_of(alloc: Global, keys: &str, room: u32) -> Result<Outside, NoMemory> {
+    Ok(Outside {
+        keys: MemSource::new(alloc, keys.as_bytes(), None)?,
+        screen: MemSink::new(alloc, room)?,
+    })
+}
+
+// Runs an application over at most 100 keys, with no log.
+fn run_keys<A: Application, L: Ledger>(
+    app: &mut A,
+    outside: &mut Outside,
+    grammar: &Grammar,
+    hooks: &Hooks<A::Rules>,
+    steps: &mut Steps<L>,
+) -> Result<(), Stop>
+    requires { Serves A.means grammar.now A.Rules.meanings hooks.now }
+{
+    let mut log = CountSink::new();
+    run(
+        100,
+        false,
+        app,
+        grammar,
+        hooks,
+        &mut outside.keys,
+        &mut outside.screen,
+        &mut log,
+        &mut NoClock,
+        steps,
+    )
+}
+
+// Takes a file, where the EXEC is at rest.
+fn take_file<L: Ledger>(
+    exec: &mut Exec,
+    file: &Place,
+    screen: &mut MemSink,
+    grammar: &Grammar,
+    hooks: &Hooks<ExecRules>,
+    steps: &mut Steps<L>,
+) -> Answer
+    requires { Serves exec_meaning grammar.now exec_meanings hooks.now }
+{
+    if !exec.is_at_rest() {
+        return Answer::None;
+    }
+    if !has(exec.store(), &file.directory) {
+        return Answer::None;
+    }
+    Answer::Took(take(exec, file, 0, grammar, hooks, screen, steps))
+}
+
+// What is answered to a step.
+fn answer_of<L: Ledger>(
+    exec: &mut Exec,
+    step: &str,
+    name: &str,
+    outside: &mut Outside,
+    grammar: &Grammar,
+    hooks: &Hooks<ExecRules>,
+    steps: &mut Steps<L>,
+) -> Answer
+    requires { Serves exec_meaning grammar.now exec_meanings hooks.now }
+{
+    if step == "take" {
+        let file = place(name);
+        return take_file(exec, &file, &mut outside.screen, grammar, hooks, steps);
+    }
+    if step == "keys" {
+        return Answer::Went(run_keys(exec, outside, grammar, hooks, steps));
+    }
+    Answer::Went(run_lines(exec, grammar, hooks, 0, &mut outside.screen, steps))
+}
+
+// An answer, as a case writes it.
+fn answer_text(alloc: Global, answer: Answer) -> Result<String, AllocError> {
+    match answer {
+        Answer::Took(took) => format!(in alloc; "{took:?}"),
+        Answer::Went(went) => format!(in alloc; "{went:?}"),
+        Answer::None => format!(in alloc; "none"),
+    }
+}
+
+fn compare(
+    alloc: Global,
+    step: &str,
+    wanted: &str,
+    answer: Answer,
+    screen: &[u8],
+) -> Result<(), Fail> {
+    let (answered, shown) = cut(wanted);
+    let is = answer_text(alloc, answer)?;
+    let shown = shown_as(alloc, shown)?;
+    if is.as_str() == answered && screen == shown.as_slice() {
+        return Ok(());
+    }
+    let screen = String::from_utf8_lossy(alloc, screen)?;
+    Err(Fail::new(format_args!("{} {:?} at {step}", is.as_str(), screen.as_str())))
+}
+
+fn try_step<L: Ledger>(
+    alloc: Global,
+    exec: &mut Exec,
+    line: &str,
+    grammar: &Grammar,
+    hooks: &Hooks<ExecRules>,
+    steps: &mut Steps<L>,
+) -> Result<(), Fail>
+    requires { Serves exec_meaning grammar.now exec_meanings hooks.now }
+{
+    let (asked, rest) = cut(line);
+    let (room, wanted) = cut(rest);
+    let (step, text) = asked.split_once(' ').unwrap_or((asked, ""));
+    let mut outside = outside_of(alloc, text, room.parse().unwrap_or(0))?;
+    let answer = answer_of(exec, step, text, &mut outside, grammar, hooks, steps);
+    compare(alloc, line, wanted, answer, outside.screen.bytes())
+}
+
+// Whether a line of a case is a step.
+fn is_step(line: &str) -> bool {
+    line.starts_with("take ") || line.starts_with("keys ") || line.starts_with("lines|")
+}
+
+fn try_steps<L: Ledger>(
+    alloc: Global,
+    exec: &mut Exec,
+    case: &str,
+    grammar: &Grammar,
+    hooks: &Hooks<ExecRules>,
+    steps: &mut Steps<L>,
+) -> Result<(), Fail>
+    requires { Serves exec_meaning grammar.now exec_meanings hooks.now }
+{
+    for line in case.lines() {
+        if is_step(line) {
+            try_step(alloc, exec, line, grammar, hooks, steps)?;
+        }
+    }
+    Ok(())
+}
+
+fn try_case<L: Ledger>(
+    alloc: Global,
+    case: &str,
+    grammar: &Grammar,
+    hooks: &Hooks<ExecRules>,
+    steps: &mut Steps<L>,
+) -> Result<(), Fail>
+    requires { Serves exec_meaning grammar.now exec_meanings hooks.now }
+{
+    let mut exec = exec_of(alloc, case)?;
+    try_steps(alloc, &mut exec, case, grammar, hooks, steps)
+}
+
+fn try_all<L: Ledger>(
+    alloc: Global,
+    cases: &str,
+    grammar: &Grammar,
+    hooks: &Hooks<ExecRules>,
+    steps: &mut Steps<L>,
+) -> Result<(), Fail>
+    requires { Serves exec_meaning grammar.now exec_meanings hooks.now }
+{
+    for case in cases.split("\n\n") {
+        try_case(alloc, case, grammar, hooks, steps)?;
+    }
+    Ok(())
+}
+
+// Makes the rules and the counter, and tries the cases.
+fn try_with_rules<L: Ledger>(
+    rt: &HostRuntime,
+    blank: Blank,
+    cases: &str,
+    grammar: &Grammar,
+) -> Result<(), Fail>
+    requires name { blank.name ≡ L.name }
+    requires parts { blank.parts ≡ L.parts }
+    requires some { 0 < L.parts }
+    requires grammar { grammar.now ≡ exec_graph }
+{
+    let hooks = hooks(rt.alloc())?;
+    let mut steps: Steps<L> = Steps::new(rt, blank);
+    ex_grammar::laws::the_grammar_wants_three_hooks();
+    try_all(rt.alloc(), cases, grammar, &hooks, &mut steps)
+}
+
+// Makes the grammar, and tries the cases.
+fn try_with_grammar<L: Ledger>(rt: &HostRuntime, blank: Blank, cases: &[u8]) -> Result<(), Fail>
+    requires name { blank.name ≡ L.name }
+    requires parts { blank.parts ≡ L.parts }
+    requires some { 0 < L.parts }
+{
+    let cases = str::from_utf8(cases)?;
+    let grammar = grammar(rt.alloc())?;
+    try_with_rules::<L>(rt, blank, cases, &grammar)
+}
+
+/// Does the steps of each case, and fails where something is not as it is said.
+pub(crate) fn try_cases(rt: &HostRuntime, cases: &str) -> Result<(), Fail> {
+    try_with_grammar::<Brand>(rt, Blank::new(1), cases.as_bytes())
+}
