@@ -4,7 +4,6 @@ mod Hooks
 mod Jobs
 mod LawLemmas
 mod FileNames
-mod Printings
 mod Runs
 mod Outcomes
 mod Steps
