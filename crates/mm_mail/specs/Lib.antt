@@ -1,0 +1,13 @@
+pub mod Command
+pub mod Delivery
+pub mod Form
+pub mod Graph
+pub mod LineKeeping
+pub mod MailLaws
+pub mod MailRules
+pub mod MailRun
+pub mod MailState
+pub mod Mailbox
+pub mod Meaning
+pub mod MessageName
+pub mod TakesMemory
