@@ -32,6 +32,14 @@ others_keep bytes key other =
     (choice_keeps (key == 127) (rubbing (slice_get bytes (length bytes - 1))) _ (rubbing_keeps (slice_get bytes (length bytes - 1)))
     (last_keeps key other (key == 26) refl)))
 
+-- so a key that writes it is control-Z
+pub writes_at : (bytes : List ℕ) (key : ℕ) → turn_of (echo_of bytes key) ≡ turns.Write → key ≡ 26
+writes_at bytes key is = by (key == 26) refl where
+  by : (test : Bool) → (key == 26) ≡ test → key ≡ 26
+  by true same = grind (arith, nat_tests, same)
+  by false other =
+      absurd (others_keep bytes key (λ same. let both : false ≡ true = sym other ∙ grind (arith, nat_tests, same) in cc) is)
+
 -- a key with which the typing ends shows the end of a line
 echo_ends : (echo : Echo) → turn_of echo ≢ turns.More → Ended (echo_text echo)
 unfolding echo_text
