@@ -1,2 +1,6 @@
 mod Faultless
 mod Hooks
+mod LineFields
+mod MailKeys
+mod MemoryKeys
+mod Numbers
