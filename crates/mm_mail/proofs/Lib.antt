@@ -1,5 +1,6 @@
 mod Faultless
 mod Hooks
+mod KnownRuns
 mod LineFields
 mod MailKeys
 mod MemoryKeys
