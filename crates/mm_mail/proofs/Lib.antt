@@ -3,5 +3,7 @@ mod Hooks
 mod KnownRuns
 mod LineFields
 mod MailKeys
+mod Mailboxes
 mod MemoryKeys
+mod MessageNames
 mod Numbers

@@ -9,7 +9,8 @@ ghost use Rattle.ex_store.specs.declared.limits.TheConstants.{MOMENT_LIMIT};
 ghost use Rattle.ex_store.specs.Lent.{row_of_view};
 ghost use Rattle.ex_store.specs.Selection.{selected};
 ghost use Rattle.mm_mail.specs.declared.message_name.TheConstants.{MOST_MESSAGES};
-ghost use Rattle.mm_mail.specs.Mailbox.{deletes, first_line, greatest, greatest_among, header_if, header_line, header_lines, headers, is_rest, mailbox, message_place, messages_numbered, number_if, numbered_place, reads};
+ghost use Rattle.ex_commands.specs.Texts.{space};
+ghost use Rattle.mm_mail.specs.Mailbox.{deleted, deleted_line, deletes, first_line, greatest, greatest_among, header_if, header_line, header_lines, headers, is_rest, mailbox, message_place, messages_numbered, number_if, numbered_place, reads};
 
 use crate::message_name::{
     MOST_MESSAGES, digits_of, four_digits, is_message_name, message_name, name_number,
@@ -53,6 +54,14 @@ pub(crate) fn message_place(directory: &Name, number: u64, generation: Gen) -> P
     }
 }
 
+// A space.
+#[tactic(auto, unfolding(ex_commands::specs::Texts::space))]
+fn space() -> &'static [u8]
+    ensures { result.now ≡ space }
+{
+    b" "
+}
+
 // How many bytes stand before the first CR or LF.
 fn line_length(bytes: &[u8]) -> usize
     ensures size { result ≡ prefix_len is_rest bytes.now }
@@ -78,11 +87,11 @@ fn put_header<S: Sink>(row: RowView<'_>, out: &mut Writer<'_, S>)
     requires { (row_of_view row).file.moment ≤ MOMENT_LIMIT }
     ensures { Writes S.Sink out.old out.new (header_line (row_of_view row.entry)) }
 {
-    out.put(b" ");
+    out.put(space());
     out.put(digits_of(row.name.as_str().as_bytes()));
-    out.put(b" ");
+    out.put(space());
     put_day(row.file.moment, out);
-    out.put(b" ");
+    out.put(space());
     put_printing(first_line(row.file.bytes.as_slice()), out);
     out.put(end_of_line());
 }
@@ -123,12 +132,20 @@ pub(crate) fn put_message<S: Sink>(store: &Store, number: u64, out: &mut Writer<
     }
 }
 
+// What stands before the number of a message that is deleted.
+#[tactic(auto, unfolding(crate::specs::Mailbox::deleted))]
+fn deleted() -> &'static [u8]
+    ensures { result.now ≡ deleted }
+{
+    b" Deleted "
+}
+
 // Puts that a message is deleted.
-#[tactic(auto, using(cm_io::proofs::Texts::texts), unfolding(crate::specs::Mailbox::deleted_line, crate::specs::Mailbox::deleted))]
+#[tactic(auto, using(cm_io::proofs::Texts::texts), unfolding(crate::specs::Mailbox::deleted_line))]
 fn put_deleted<S: Sink>(number: u64, out: &mut Writer<'_, S>)
     ensures { Writes S.Sink out.old out.new (deleted_line number) }
 {
-    out.put(b" Deleted ");
+    out.put(deleted());
     out.put_line(&four_digits(number));
 }
 
@@ -182,6 +199,8 @@ pub(crate) fn greatest(store: &Store, directory: &Name) -> u64
     ensures value { result ≡ greatest directory.now store.now.state }
     ensures few { result ≤ MOST_MESSAGES }
 {
+    // A call for the proof: the state is well formed.
+    let _ = store.parts();
     let place = numbered_place(directory, Gen::All);
     greatest_with(store, &place, false).max(greatest_with(store, &place, true))
 }
