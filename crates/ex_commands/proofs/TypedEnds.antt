@@ -1,5 +1,5 @@
 -- The keys with which the typing of a file ends.
-use Rattle.std.proofs.Common.{◌≡◌, ◌≢◌, ℕ, ◌==◌, ◌||◌, Bool, true, false, cond, List, Option, None, Some, length, slice_get, codes, ◌-◌, arith, refl}
+use Rattle.std.proofs.Common.{◌≡◌, ◌≢◌, ℕ, ◌==◌, ◌||◌, Bool, true, false, cond, List, Option, None, Some, length, slice_get, codes, ◌-◌, arith, refl, sym, ◌∙◌}
 use Rattle.std.proofs.lemmas.Bool.Decides.{nat_tests}
 use Rattle.cm_text.specs.Shown.{control_c, end_of_line}
 use Rattle.ex_commands.specs.Typed.{adding, echo_of, echo_text, is_typed, rubbing, turn_of}
