@@ -17,18 +17,19 @@ use Rattle.ex_generations.specs.Retention.{live}
 use Rattle.ex_store.specs.declared.key.Key.{Key}
 use Rattle.ex_store.specs.declared.key.NamePair.{NamePair}
 use Rattle.ex_store.specs.declared.place.Place.{Place}
-use Rattle.ex_store.specs.declared.plan.Plan.{Plan}
 use Rattle.ex_store.specs.declared.plan.Plan.TheVariants as plans
 use Rattle.ex_store.specs.declared.row.Row.{Row}
 use Rattle.ex_generations.specs.declared.file.File.{File}
-use Rattle.ex_store.specs.Adding.{Outcome, admitted, and_then, keep_at, limited, new_row, numbered, placed}
-use Rattle.ex_store.specs.Copying.{moment_of, own_key, written}
+use Rattle.ex_store.specs.Adding.{admitted, and_then, keep_at, limited, new_row, numbered}
+use Rattle.ex_store.specs.Copying.{lacks_name, own_key}
 use Rattle.ex_store.specs.Plan.{Planned, planned, retention_at}
+use Rattle.ex_store.specs.Ready.{done_on}
 use Rattle.ex_store.specs.Rows.{added, by_key, by_row, files_of, full_of, inserted, is_in, is_of, kept_newest, total, with_mark}
 use Rattle.ex_store.specs.State.{State}
-use Rattle.ex_store.proofs.AdmittedLaws.{and_then_ok, limited_roomy}
+use Rattle.ex_store.proofs.AdmittedLaws.{limited_roomy, ok_same}
 use Rattle.ex_store.proofs.FamilyLaws.{key_is}
 use Rattle.ex_store.proofs.KeptLaws.{files_none, kept_upper, none_of}
+use Rattle.ex_store.proofs.WrittenLaws.{adds_one, write_ready, write_refused, written_row}
 use Rattle.ex_commands.specs.Act.{plays_by, refuses}
 use Rattle.ex_commands.specs.declared.acted.Acted.TheVariants as answers
 use Rattle.mm_mail.specs.Delivery.{message_bytes, number_for, sends, sends_as, sent_line}
@@ -201,63 +202,67 @@ first_generation key size generation rows none is =
     (files_none key rows none) is in
     (limited_roomy (length rows) (total rows) size 1 generation alone).1
 
--- what is made is one thing
-of_ok : {A : Type 0} {a b : A} → Ok {T = A} {E = Code} a ≡ Ok b → a ≡ b
-of_ok same = cc
-
 -- what is left of a state in which the file of a message is written
 abbrev IsRead : Message → State → State → Type 0
 IsRead message state left =
     (row : Row) × (messages_numbered message.receiver (number_for message state) left ≡ row ∷ [])
     × (row.file.bytes ≡ message_bytes state.connected message.subject message.typed)
 
--- the plan that writes it
-abbrev plan_of : Message → State → Plan
-plan_of message state =
-    plans.Write (message_place message.receiver (number_for message state) Next)
-    (message_bytes state.connected message.subject message.typed)
+-- the place of its file, what that holds, and its row
+abbrev place_of : Message → State → Place
+place_of message state = message_place message.receiver (number_for message state) Next
 
+abbrev bytes_of : Message → State → List ℕ
+bytes_of message state = message_bytes state.connected message.subject message.typed
+
+abbrev row_of : Message → State → ℕ → Row
+row_of message state generation =
+    written_row (place_of message state) (keep_at (retention_at (place_of message state) state) (own_key (place_of message state)) state.rows)
+    message.moment (bytes_of message state) generation
+
+has_name : (message : Message) (state : State) → lacks_name (place_of message state) ≡ false
+unfolding prefix mail_type
+has_name message state = refl
+
+-- the plan that writes it is done where the store takes the file
 written_alone : (message : Message) (state : State) (made : Planned) → number_for message state ≤ 9999
-    → planned (plan_of message state) message.moment state ≡ Ok made → IsRead message state made.state
-unfolding planned prefix mail_type
-written_alone message state made few is =
-    let number = number_for message state in
-    let to = message_place message.receiver number Next in
-    let bytes = message_bytes state.connected message.subject message.typed in
-    let key = message_key message.receiver number in
-    let keep = keep_at (retention_at to state) key state.rows in
-    let row = sent_row message.receiver number keep (moment_of message.moment) bytes in
-    let leaves : Outcome → Result Planned Code =
-    λ outcome. Ok (record { state = record state { rows = outcome.rows }; pairs = outcome.pairs }) in
-    let adds : ℕ → Result Outcome Code =
-    λ generation. Ok (placed (full_of (row generation)) (record { rows = state.rows; pairs = [] }) (row generation)) in
-    let outcome = and_then_ok leaves (written (retention_at to state) message.moment to bytes state.rows) made is in
-    let admits = and_then_ok adds (admitted key Next (length bytes) state.rows) outcome.0 outcome.1 in
+    → planned (plans.Write (place_of message state) (bytes_of message state)) message.moment state ≡ Ok made
+    → (answer : Result ℕ Code)
+    → admitted (own_key (place_of message state)) Next (length (bytes_of message state)) state.rows ≡ answer
+    → IsRead message state made.state
+written_alone message state made few is (Ok generation) admits =
+    let key = own_key (place_of message state) in
+    let row = row_of message state generation in
+    let ready = write_ready state (place_of message state) (bytes_of message state) message.moment row.file.keep generation
+    (adds_one row) (has_name message state) admits refl refl in
+    let same : done_on state (adds_one row) ≡ made = ok_same _ (done_on state (adds_one row)) made ready is in
     let none : none_of key state.rows ≡ true =
     none_passes (is_of key) state.rows [] state.rows refl (not_of message state few) in
-    let first = first_generation key (length bytes) admits.0 state.rows none admits.1 in
-    let same : added keep (row admits.0) state.rows ≡ outcome.0.rows = ap (λ (each : Outcome). each.rows) (of_ok admits.2) in
-    let left : outcome.0.rows ≡ made.state.rows = ap (λ (each : Planned). each.state.rows) (of_ok outcome.2) in
-    (row admits.0,
-    ap (filter (is_message_numbered message.receiver number)) (sym (same ∙ left))
-    ∙ sent_alone message state keep (moment_of message.moment) bytes admits.0 few first,
+    let first = first_generation key (length (bytes_of message state)) generation state.rows none admits in
+    let alone = sent_alone message state row.file.keep row.file.moment row.file.bytes generation few first in
+    (row,
+    subst (λ (left : Planned). messages_numbered message.receiver (number_for message state) left.state ≡ row ∷ []) same alone,
     refl)
+written_alone message state made few is (Err code) fails =
+    let never = write_refused state (place_of message state) (bytes_of message state) message.moment code
+    (has_name message state) fails in
+    absurd (cc)
 
 pub sent_is_read : (message : Message) (state : State) → (sends message state).answer ≡ answers.Ok
     → IsRead message state (sends message state).state
 unfolding sends
 sent_is_read message state ok = by (nat_lt MOST_MESSAGES (number_for message state)) refl ok
   where
-    plan : (made : Result Planned Code) → planned (plan_of message state) message.moment state ≡ made
+    plan : (made : Result Planned Code) → planned (plans.Write (place_of message state) (bytes_of message state)) message.moment state ≡ made
         → number_for message state ≤ 9999
         → (plays_by (λ (pairs : List NamePair). sent_line message.receiver (number_for message state)) made state).answer ≡ answers.Ok
         → IsRead message state
         (plays_by (λ (pairs : List NamePair). sent_line message.receiver (number_for message state)) made state).state
-    plan (Ok made) is few ok = written_alone message state made few is
+    plan (Ok made) is few ok = written_alone message state made few is _ refl
     plan (Err code) is few ok = absurd (cc)
 
     by : (past : Bool) → nat_lt MOST_MESSAGES (number_for message state) ≡ past
         → (cond past (refuses MailFull state) (sends_as (number_for message state) message state)).answer ≡ answers.Ok
         → IsRead message state (cond past (refuses MailFull state) (sends_as (number_for message state) message state)).state
     by true is ok = absurd (cc)
-    by false is ok = plan (planned (plan_of message state) message.moment state) refl (grind (arith, nat_tests)) ok
+    by false is ok = plan _ refl (grind (arith, nat_tests)) ok
