@@ -1,7 +1,6 @@
 -- A message is sent: where its file may be put, and whether its number is past the last.
-use Rattle.std.proofs.Common.{◌≡◌, ℕ, ◌+◌, ◌/◌, ◌%◌, ◌<◌, ◌≤◌, ◌&&◌, nat_le, nat_lt, not, true, false, List, ◌++◌, Result, Ok, refl, subst, sym, ◌∙◌, append_assoc, arith}
+use Rattle.std.proofs.Common.{◌≡◌, ℕ, ◌+◌, ◌/◌, ◌<◌, ◌≤◌, ◌&&◌, nat_lt, not, true, false, List, ◌++◌, Result, Ok, refl, subst, sym, ◌∙◌, append_assoc, arith}
 use Rattle.std.specs.Char.{is_ascii_lowercase}
-use Rattle.std.specs.List.{list_all}
 use Rattle.std.proofs.lemmas.Bool.{and_from, le-ltb, lt-ltb}
 use Rattle.std.proofs.lemmas.Bool.Decides.{nat_tests}
 use Rattle.cm_text.specs.Bytes.{is_name, is_word}

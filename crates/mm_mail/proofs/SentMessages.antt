@@ -1,5 +1,5 @@
 -- A message that is sent is one of its receiver's, the only one with its number.
-use Rattle.std.proofs.Common.{◌≡◌, ℕ, ◌+◌, ◌/◌, ◌%◌, ◌<◌, ◌≤◌, ◌==◌, ◌&&◌, nat_le, nat_lt, not, Bool, true, false, cond, filter, List, [], ◌∷◌, ◌++◌, length, Result, Ok, Err, refl, ap, sym, subst, ◌∙◌, append_assoc, arith}
+use Rattle.std.proofs.Common.{◌≡◌, ℕ, ◌+◌, ◌/◌, ◌%◌, ◌≤◌, ◌==◌, ◌&&◌, nat_le, nat_lt, not, Bool, true, false, cond, filter, List, [], ◌∷◌, ◌++◌, length, Result, Ok, Err, refl, ap, sym, subst, ◌∙◌, append_assoc, arith}
 use Rattle.std.specs.Char.{digit_value, is_ascii_digit}
 use Rattle.std.specs.List.{list_all}
 use Rattle.std.specs.Ordering.{is_eq, is_lt}
@@ -13,7 +13,6 @@ use Rattle.cm_fields.specs.declared.code.Code.TheVariants.{MailFull}
 use Rattle.cm_fields.specs.declared.value.Gen.TheVariants.{Next}
 use Rattle.cm_files.specs.Catalogue.{by_bytes}
 use Rattle.cm_files.proofs.RowOrder.{text_itself}
-use Rattle.ex_generations.specs.Retention.{live}
 use Rattle.ex_store.specs.declared.key.Key.{Key}
 use Rattle.ex_store.specs.declared.key.NamePair.{NamePair}
 use Rattle.ex_store.specs.declared.place.Place.{Place}
@@ -24,7 +23,7 @@ use Rattle.ex_store.specs.Adding.{admitted, and_then, keep_at, limited, new_row,
 use Rattle.ex_store.specs.Copying.{lacks_name, own_key}
 use Rattle.ex_store.specs.Plan.{Planned, planned, retention_at}
 use Rattle.ex_store.specs.Ready.{done_on}
-use Rattle.ex_store.specs.Rows.{added, by_key, by_row, files_of, full_of, inserted, is_in, is_of, kept_newest, total, with_mark}
+use Rattle.ex_store.specs.Rows.{added, by_row, inserted, is_of, kept_newest, total}
 use Rattle.ex_store.specs.State.{State}
 use Rattle.ex_store.proofs.AdmittedLaws.{limited_roomy, ok_same}
 use Rattle.ex_store.proofs.FamilyLaws.{key_is}
@@ -34,7 +33,7 @@ use Rattle.ex_commands.specs.Act.{plays_by, refuses}
 use Rattle.ex_commands.specs.declared.acted.Acted.TheVariants as answers
 use Rattle.mm_mail.specs.Delivery.{message_bytes, number_for, sends, sends_as, sent_line}
 use Rattle.mm_mail.specs.Mailbox.{is_message_in, is_message_numbered, is_numbered_in, mail_type, message_place, messages_numbered}
-use Rattle.mm_mail.specs.MessageName.{digit, four_digits, is_message_name, message_name, name_number, prefix}
+use Rattle.mm_mail.specs.MessageName.{digit, is_message_name, message_name, name_number, prefix}
 use Rattle.mm_mail.specs.declared.message.Message.{Message}
 use Rattle.mm_mail.specs.declared.message_name.TheConstants.{MOST_MESSAGES}
 use Rattle.mm_mail.proofs.Numbers.{own_number}
@@ -113,7 +112,7 @@ is_named number =
 value_of_digit : (number : ℕ) → digit_value (digit number) ≡ number % 10
 value_of_digit number = grind (arith, nat_tests)
 
-number_named : (number : ℕ) → number ≤ 9999 → name_number (message_name number) ≡ number
+number_named : (number : ℕ) → number ≤ MOST_MESSAGES → name_number (message_name number) ≡ number
 unfolding prefix
 number_named number few =
     omega (arith, value_of_digit (number / 1000), value_of_digit (number / 100), value_of_digit (number / 10), value_of_digit number)
@@ -129,12 +128,12 @@ numbered_own receiver number row own =
     (sym own)
     (and_from _ _ (and_from _ _ (ap is_eq (text_itself receiver)) (is_named number)) (bytes_eq_itself mail_type))
 
-number_own : (receiver : List ℕ) (number : ℕ) (row : Row) → number ≤ 9999 → row.key ≡ message_key receiver number
+number_own : (receiver : List ℕ) (number : ℕ) (row : Row) → number ≤ MOST_MESSAGES → row.key ≡ message_key receiver number
     → name_number row.key.name ≡ number
 number_own receiver number row few own = ap (λ (key : Key). name_number key.name) own ∙ number_named number few
 
 -- no file has its key yet, and no message its number
-not_of : (message : Message) (state : State) → number_for message state ≤ 9999 → (before behind : List Row) (row : Row)
+not_of : (message : Message) (state : State) → number_for message state ≤ MOST_MESSAGES → (before behind : List Row) (row : Row)
     → before ++ row ∷ behind ≡ state.rows → is_of (message_key message.receiver (number_for message state)) row ≡ false
 not_of message state few before behind row among =
     by (is_of (message_key message.receiver (number_for message state)) row) refl
@@ -167,14 +166,14 @@ abbrev sent_row : List ℕ → ℕ → ℕ → ℕ → List ℕ → ℕ → Row
 sent_row receiver number keep moment bytes generation =
     new_row (message_key receiver number) keep moment bytes generation
 
-sent_passes : (receiver : List ℕ) (number keep moment : ℕ) (bytes : List ℕ) → number ≤ 9999
+sent_passes : (receiver : List ℕ) (number keep moment : ℕ) (bytes : List ℕ) → number ≤ MOST_MESSAGES
     → is_message_numbered receiver number (sent_row receiver number keep moment bytes 1) ≡ true
 sent_passes receiver number keep moment bytes few =
     let row = sent_row receiver number keep moment bytes 1 in
     and_from _ _ (and_from _ _ (and_from _ _ (numbered_own receiver number row refl) refl) refl)
     (eq-eqb _ _ (number_own receiver number row few refl))
 
-sent_alone : (message : Message) (state : State) (keep moment : ℕ) (bytes : List ℕ) (generation : ℕ) → number_for message state ≤ 9999
+sent_alone : (message : Message) (state : State) (keep moment : ℕ) (bytes : List ℕ) (generation : ℕ) → number_for message state ≤ MOST_MESSAGES
     → 1 ≡ generation
     → filter (is_message_numbered message.receiver (number_for message state))
     (added keep (sent_row message.receiver (number_for message state) keep moment bytes generation) state.rows)
@@ -225,7 +224,7 @@ unfolding prefix mail_type
 has_name message state = refl
 
 -- the plan that writes it is done where the store takes the file
-written_alone : (message : Message) (state : State) (made : Planned) → number_for message state ≤ 9999
+written_alone : (message : Message) (state : State) (made : Planned) → number_for message state ≤ MOST_MESSAGES
     → planned (plans.Write (place_of message state) (bytes_of message state)) message.moment state ≡ Ok made
     → (answer : Result ℕ Code)
     → admitted (own_key (place_of message state)) Next (length (bytes_of message state)) state.rows ≡ answer
@@ -254,7 +253,7 @@ unfolding sends
 sent_is_read message state ok = by (nat_lt MOST_MESSAGES (number_for message state)) refl ok
   where
     plan : (made : Result Planned Code) → planned (plans.Write (place_of message state) (bytes_of message state)) message.moment state ≡ made
-        → number_for message state ≤ 9999
+        → number_for message state ≤ MOST_MESSAGES
         → (plays_by (λ (pairs : List NamePair). sent_line message.receiver (number_for message state)) made state).answer ≡ answers.Ok
         → IsRead message state
         (plays_by (λ (pairs : List NamePair). sent_line message.receiver (number_for message state)) made state).state
