@@ -1,3 +1,4 @@
+mod Deliveries
 mod Faultless
 mod Hooks
 mod KnownRuns
@@ -7,3 +8,4 @@ mod Mailboxes
 mod MemoryKeys
 mod MessageNames
 mod Numbers
+mod SentMessages

@@ -36,7 +36,7 @@ fn message_bytes(alloc: Global, store: &Store, message: &Message) -> Result<Vec<
 }
 
 // Puts that a message is sent.
-#[tactic(auto, using(cm_io::proofs::Texts::texts), unfolding(crate::specs::Delivery::sent_line, crate::specs::Delivery::sent_to, ex_commands::specs::Texts::space))]
+#[tactic(auto, using(crate::proofs::Deliveries::writes_sent), unfolding(crate::specs::Delivery::sent_to, ex_commands::specs::Texts::space))]
 fn put_sent<S: Sink>(receiver: &[u8], number: u64, out: &mut Writer<'_, S>)
     ensures { Writes S.Sink out.old out.new (sent_line receiver.now number) }
 {
