@@ -10,7 +10,7 @@ ghost use Rattle.ex_store.specs.Lent.{row_of_view};
 ghost use Rattle.ex_store.specs.Selection.{selected};
 ghost use Rattle.mm_mail.specs.declared.message_name.TheConstants.{MOST_MESSAGES};
 ghost use Rattle.ex_commands.specs.Texts.{space};
-ghost use Rattle.mm_mail.specs.Mailbox.{deleted, deleted_line, deletes, first_line, greatest, greatest_among, header_if, header_line, header_lines, headers, is_rest, mailbox, message_place, messages_numbered, number_if, numbered_place, reads};
+ghost use Rattle.mm_mail.specs.Mailbox.{deleted, deleted_line, deletes, first_line, greatest, greatest_among, header_if, header_line, headers, is_rest, mailbox, message_place, messages_numbered, number_if, numbered_place, reads};
 
 use crate::message_name::{
     MOST_MESSAGES, digits_of, four_digits, is_message_name, message_name, name_number,
