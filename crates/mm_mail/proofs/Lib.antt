@@ -1,2 +1,7 @@
 mod Faultless
 mod Hooks
+mod KnownRuns
+mod LineFields
+mod MailKeys
+mod MemoryKeys
+mod Numbers

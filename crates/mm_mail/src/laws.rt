@@ -1,13 +1,11 @@
 //! Laws of mail. Each is a function that does nothing, whose contract is the law.
 ghost use Rattle.std.specs.Prelude.{◌≡◌, ◌≢◌, ◌<◌, ◌++◌, ◌∷◌, ℕ, List, [], false, true};
-ghost use Rattle.cm_text.specs.Text.{IsLine};
 ghost use Rattle.cm_line.specs.Keys.{class_at};
 ghost use Rattle.cm_line.specs.declared.key.KeyClass.TheVariants as classes;
 ghost use Rattle.cm_blocks.specs.Parse.{IsParse};
 ghost use Rattle.cm_blocks.specs.Setting.{setting};
 ghost use Rattle.cm_blocks.specs.declared.field.Ending.TheVariants as ending;
 ghost use Rattle.cm_fields.specs.declared.code.Code.{Code};
-ghost use Rattle.cm_files.specs.Catalogue.{IsCatalogue};
 ghost use Rattle.cm_state.specs.Edit.{edited};
 ghost use Rattle.cm_state.specs.SessionState.{SessionState, met_line, text_of};
 ghost use Rattle.cm_state.specs.declared.turn.Turn.TheVariants as turn;
