@@ -1,11 +1,14 @@
 mod Courses
 mod Ends
+mod HandedLines
 mod Hooks
 mod Jobs
 mod LawLemmas
 mod FileNames
 mod Printings
+mod Rests
 mod Runs
 mod Outcomes
 mod Steps
 mod StepCuts
+mod TypedLines

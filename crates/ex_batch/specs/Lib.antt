@@ -6,5 +6,6 @@ pub mod ControlFile
 pub mod LineBytes
 pub mod Stands
 pub mod Takes
+pub mod Typed
 pub mod LineCount
 pub mod Whole
