@@ -4,6 +4,7 @@ mod HandedLines
 mod Hooks
 mod Jobs
 mod LawLemmas
+mod LineKeys
 mod FileNames
 mod Printings
 mod Rests
@@ -12,3 +13,4 @@ mod Outcomes
 mod Steps
 mod StepCuts
 mod TypedLines
+mod TypedRuns

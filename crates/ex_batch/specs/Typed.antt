@@ -1,13 +1,17 @@
 -- Lines of the EXEC's that are typed one after the other, and a control file of the same lines.
-use Rattle.std.specs.Prelude.{◌≡◌, ℕ, false, List, [], ◌∷◌, None, if◌then◌else◌}
+use Rattle.std.specs.Prelude.{◌≡◌, ℕ, Bool, false, List, [], ◌∷◌, ◌++◌, map, None, if◌then◌else◌}
 use Rattle.std.specs.List.{flat_map}
+use Rattle.cm_text.specs.Shown.{end_of_line, screen_byte}
 use Rattle.cm_text.specs.Text.{finished}
 use Rattle.cm_io.specs.Clock.{next_moment}
 use Rattle.cm_blocks.specs.Kept.{cost}
 use Rattle.cm_blocks.specs.declared.field.Ending.TheVariants as endings
-use Rattle.cm_run.specs.Event.{Event, Moment, Screen, Trials, moments_behind, state_behind, trials_of}
+use Rattle.cm_state.specs.Echo.{prompt_text}
+use Rattle.cm_state.specs.declared.prompt.Prompt.TheVariants.{Main}
+use Rattle.cm_run.specs.Event.{Event, Moment, Screen, Trials, moments_behind, screen_bytes, state_behind, trials_of}
 use Rattle.cm_run.specs.Meaning.{setting_of}
-use Rattle.cm_run.specs.Trace.{file_session, line_trace, node_of}
+use Rattle.cm_run.specs.Progress.{progress}
+use Rattle.cm_run.specs.Trace.{file_session, line_trace, node_of, run_trace, starting}
 use Rattle.ex_control.specs.Control.{Exec, Plain, control_of}
 use Rattle.ex_take.specs.Exec.{exec_meaning}
 use Rattle.ex_take.specs.ExecState.{ExecState}
@@ -72,3 +76,30 @@ pub record ComesTo (clock : List ℕ) (at : ExecState) (lines : List TypedLine) 
   pub state : state_behind at batch.events ≡ state_behind at (all_events lines)
   pub moments : moments_behind clock batch.events ≡ moments_behind clock (all_events lines)
   pub trials : trials_of batch.events ≡ trials_of (all_events lines)
+
+-- the keys with which lines are typed, each ended by a carriage return
+abbrev pub line_keys : List (List ℕ) → List ℕ
+line_keys texts = flat_map finished texts
+
+-- what is shown of a line that is typed: the prompt, its echo, and what it comes to
+abbrev pub typed_bytes : TypedLine → List ℕ
+typed_bytes line = prompt_text Main ++ (map screen_byte line.text ++ (end_of_line ++ screen_bytes line.events))
+
+-- and in a control file
+abbrev pub file_bytes : TypedLine → List ℕ
+file_bytes line = shown (in_file line.text) ++ screen_bytes line.events
+
+-- behind the last line the next prompt, but behind LOGOUT none
+abbrev pub last_prompt : ExecState → List ℕ
+last_prompt at = if at.interpreter.ended then [] else prompt_text Main
+
+-- the run over the keys of lines leaves what a control file of them leaves, and takes as many moments; both show the
+-- same of all that the lines come to
+pub record RunsAlike (clock : List ℕ) (at : ExecState) (logging : Bool) (texts : List (List ℕ)) (batch : Batch)
+    : Type 0 where
+  pub state : state_behind at (run_trace exec_meaning logging at clock (line_keys texts)) ≡ state_behind at batch.events
+  pub moments : (progress exec_meaning (starting exec_meaning at clock) (line_keys texts)).moments
+      ≡ moments_behind clock batch.events
+  pub typed : screen_bytes (run_trace exec_meaning logging at clock (line_keys texts))
+      ≡ flat_map typed_bytes (typed_lines clock at texts) ++ last_prompt (state_behind at batch.events)
+  pub shown : screen_bytes batch.events ≡ flat_map file_bytes (typed_lines clock at texts)

@@ -1,6 +1,7 @@
 //! Laws of control files. Each is a function that does nothing, whose contract is the law.
-ghost use Rattle.std.specs.Prelude.{◌≡◌, ◌≤◌, ◌∷◌, ℕ, List, [], true, false, Option, None, Some, length, map};
-ghost use Rattle.cm_text.specs.Text.{finished};
+ghost use Rattle.std.specs.Prelude.{◌≡◌, ◌≤◌, ◌∷◌, ℕ, Bool, List, [], true, false, Option, None, Some, length, map};
+ghost use Rattle.std.specs.List.{list_any};
+ghost use Rattle.cm_text.specs.Text.{ends_in_hyphen, finished};
 ghost use Rattle.cm_fields.specs.declared.code.Code.{Code};
 ghost use Rattle.cm_blocks.specs.Kept.{cost};
 ghost use Rattle.cm_blocks.specs.declared.field.Ending.TheVariants as endings;
@@ -23,7 +24,7 @@ ghost use Rattle.ex_take.specs.Taking.{RestsUnlessEnded, is_at_rest};
 ghost use Rattle.ex_batch.specs.Batch.{batch_from, batch_of, line_step, text_trace};
 ghost use Rattle.ex_batch.specs.Job.{bar_of, job_deeds, job_meaning, order_deeds};
 ghost use Rattle.ex_batch.specs.LineCount.{used_in};
-ghost use Rattle.ex_batch.specs.Typed.{AreAccepted, ComesTo, in_file, typed_lines};
+ghost use Rattle.ex_batch.specs.Typed.{AreAccepted, ComesTo, RunsAlike, in_file, typed_lines};
 ghost use Rattle.ex_batch.specs.declared.batch.TheConstants.{CONTROL_LINES};
 ghost use Rattle.ex_batch.specs.declared.step.Next.TheVariants.{Line};
 
@@ -56,6 +57,18 @@ pub fn a_control_file_does_what_typed_lines_do()
     ensures { (texts : List (List ℕ)) → (moments : List ℕ) → (at : ExecState) → is_at_rest at ≡ true → at.stop ≡ None
         → length texts ≤ CONTROL_LINES → AreAccepted moments at texts
         → ComesTo moments at (typed_lines moments at texts) (batch_of (map in_file texts) moments at) }
+{}
+
+/// So it comes to what exec20 comes to over the keys of the same lines, each ended by a carriage return, and none by a
+/// hyphen, which would continue it. The run over these keys, with a log or without, leaves the same state and takes as
+/// many moments. It shows the prompt before each line, the line as it is echoed, and then what the line comes to, where
+/// the control file shows the line, and then the same. Behind the last line it shows the next prompt, unless LOGOUT has
+/// acted. The trials alone are others: of keys they are counted key by key.
+pub fn a_control_file_does_what_the_keys_of_its_lines_do()
+    ensures { (texts : List (List ℕ)) → (moments : List ℕ) → (at : ExecState) → (logging : Bool)
+        → is_at_rest at ≡ true → at.stop ≡ None → length texts ≤ CONTROL_LINES → AreAccepted moments at texts
+        → list_any ends_in_hyphen texts ≡ false
+        → RunsAlike moments at logging texts (batch_of (map in_file texts) moments at) }
 {}
 
 /// Nothing is left to be done between two lines of a control file: no command waits, no file is typed in, and no
