@@ -6,7 +6,6 @@ mod Jobs
 mod LawLemmas
 mod LineKeys
 mod FileNames
-mod Printings
 mod Rests
 mod Runs
 mod Outcomes

@@ -3,7 +3,6 @@ pub mod Batch
 pub mod Heads
 pub mod Job
 pub mod ControlFile
-pub mod LineBytes
 pub mod Stands
 pub mod Takes
 pub mod Typed

@@ -1,7 +1,5 @@
 // A line as it is shown.
-ghost use Rattle.std.specs.Prelude.{◌≡◌, ◌≤◌, ℕ, List, [], ◌∷◌, map, drop, length};
-ghost use Rattle.std.specs.List.{prefix_len};
-ghost use Rattle.cm_text.specs.Shown.{printing_byte};
+ghost use Rattle.std.specs.Prelude.{◌≤◌, ℕ, List, [], ◌∷◌};
 ghost use Rattle.cm_io.specs.Fault.{PutCause};
 ghost use Rattle.cm_io.specs.Told.{Adds, Told};
 ghost use Rattle.cm_io.specs.Writer.{Writes};
@@ -11,63 +9,18 @@ ghost use Rattle.cm_run.specs.Event.{Screen};
 ghost use Rattle.cm_run.specs.Observed.{observed};
 ghost use Rattle.ex_take.specs.ExecState.{ExecState};
 ghost use Rattle.ex_batch.specs.Batch.{shown};
-ghost use Rattle.ex_batch.specs.LineBytes.{first_shown, is_printing};
 
 use cm_io::{Put, Sink, Writer};
 use cm_run::Stop;
-use cm_text::{end_of_line, printing_byte};
-
-// Whether a byte is shown as it is.
-fn is_printing(byte: u8) -> bool
-    ensures { result ≡ is_printing byte }
-{
-    printing_byte(byte) == byte
-}
-
-// How many bytes from the first on are shown as they are.
-fn printing_len(line: &[u8]) -> usize
-    ensures size { result ≡ prefix_len is_printing line.now }
-    ensures within { result ≤ length line.now }
-{
-    line.iter().take_while(|byte| is_printing(**byte)).count()
-}
-
-// Puts the first byte as it is shown, if there is one, and gives what stands behind it.
-fn put_first<'a, S: Sink>(line: &'a [u8], out: &mut Writer<'_, S>) -> &'a [u8]
-    ensures rest { result.now ≡ drop 1 line.now }
-    ensures written { Writes S.Sink out.old out.new (first_shown line.now) }
-{
-    match line {
-        [first, rest @ ..] => {
-            out.put(&[printing_byte(*first)]);
-            rest
-        }
-        [] => {
-            out.put(b"");
-            line
-        }
-    }
-}
-
-// Puts the bytes of a line as they are shown: those that are shown as they are at once.
-#[tactic(auto, using(cm_io::proofs::Texts::turns))]
-fn put_bytes<S: Sink>(line: &[u8], out: &mut Writer<'_, S>)
-    ensures { Writes S.Sink out.old out.new (map printing_byte line.now) }
-{
-    let mut rest = line;
-    while !rest.is_empty() {
-        let (run, more) = rest.split_at(printing_len(rest));
-        out.put(run);
-        rest = put_first(more, out);
-    }
-}
+use cm_text::end_of_line;
+use ex_commands::put_printing;
 
 // Puts a line as it is shown.
 #[tactic(auto, using(cm_io::proofs::Texts::texts), unfolding(crate::specs::Batch::shown))]
 fn put_shown<S: Sink>(line: &[u8], out: &mut Writer<'_, S>)
     ensures { Writes S.Sink out.old out.new (shown line.now) }
 {
-    put_bytes(line, out);
+    put_printing(line, out);
     out.put(end_of_line());
 }
 

@@ -119,7 +119,7 @@ pair_ends Files pair = inr (behind (space ++ full_text pair.source ++ arrow ++ f
 pair_ends Terminal pair = inr (behind (from_terminal ++ full_text pair.target) done_text done_ends)
 pair_ends Queue pair = inr (behind (queued ++ full_text pair.source) end_of_line eol_ends)
 
-held_ends : (row : Row) → Ends (held_text row)
+pub held_ends : (row : Row) → Ends (held_text row)
 unfolding held_text
 held_ends row = by (ends_line row.file.bytes) refl
   where

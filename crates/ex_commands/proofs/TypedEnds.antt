@@ -1,5 +1,5 @@
 -- The keys with which the typing of a file ends.
-use Rattle.std.proofs.Common.{◌≡◌, ◌≢◌, ℕ, ◌==◌, ◌||◌, Bool, true, false, cond, List, Option, None, Some, length, slice_get, codes, ◌-◌, arith, refl}
+use Rattle.std.proofs.Common.{◌≡◌, ◌≢◌, ℕ, ◌==◌, ◌||◌, Bool, true, false, cond, List, Option, None, Some, length, slice_get, codes, ◌-◌, arith, refl, sym, ◌∙◌}
 use Rattle.std.proofs.lemmas.Bool.Decides.{nat_tests}
 use Rattle.cm_text.specs.Shown.{control_c, end_of_line}
 use Rattle.ex_commands.specs.Typed.{adding, echo_of, echo_text, is_typed, rubbing, turn_of}
@@ -31,6 +31,14 @@ others_keep bytes key other =
     (choice_keeps (key == 13 || key == 10) (adding bytes echoes.Line) _ (choice_keeps _ echoes.Line echoes.Bell (λ is. cc) (λ is. cc))
     (choice_keeps (key == 127) (rubbing (slice_get bytes (length bytes - 1))) _ (rubbing_keeps (slice_get bytes (length bytes - 1)))
     (last_keeps key other (key == 26) refl)))
+
+-- so a key that writes it is control-Z
+pub writes_at : (bytes : List ℕ) (key : ℕ) → turn_of (echo_of bytes key) ≡ turns.Write → key ≡ 26
+writes_at bytes key is = by (key == 26) refl where
+  by : (test : Bool) → (key == 26) ≡ test → key ≡ 26
+  by true same = grind (arith, nat_tests, same)
+  by false other =
+      absurd (others_keep bytes key (λ same. let both : false ≡ true = sym other ∙ grind (arith, nat_tests, same) in cc) is)
 
 -- a key with which the typing ends shows the end of a line
 echo_ends : (echo : Echo) → turn_of echo ≢ turns.More → Ended (echo_text echo)

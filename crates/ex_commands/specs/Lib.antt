@@ -5,6 +5,7 @@ pub mod Commands
 pub mod Effect
 pub mod Line
 pub mod Outcome
+pub mod PrintingBytes
 pub mod Replies
 pub mod Said
 pub mod Texts

@@ -50,7 +50,8 @@ use Rattle.ex_program.proofs.Fronts.{Front, OfC, OfD, OfE, OfI, OfU, OfLi, lette
 use Rattle.ex_program.proofs.GeneratedKeyLaws.{GoesOn, line_on}
 use Rattle.ex_program.proofs.Harmless.{is_safe, line_safe}
 use Rattle.ex_program.proofs.LineKeys.{Edits, Ends, Is, Where, Fresh, Begun, Far, Ell, Lined, after, by_letter, go, is_edit, is_letter}
-use Rattle.ex_program.proofs.MemoryKeys.{is_written, no_lines, of_line, of_raw, writes_at}
+use Rattle.ex_commands.proofs.TypedEnds.{writes_at}
+use Rattle.ex_program.proofs.MemoryKeys.{no_lines, of_line, of_raw}
 
 -- how the run stands before a key
 pub record Holds (w : Where) (at : RunState ExecState) : Type 0 where
@@ -337,7 +338,7 @@ ends_typing w v interpreter key None is on typing raw line = let both : true ≡
 ends_typing w v interpreter key (Some it) is on typing raw line = by (typed.turn_of (echo_of it.typed key)) refl where
   by : (to : DataTurn) → typed.turn_of (echo_of it.typed key) ≡ to → Fresh ≡ v
   by turns.More to = absurd (still_raw interpreter (record it { typed = bytes_behind it.typed key }) _ to line on)
-  by turns.Write to = goes_26 w v (ap (λ (key : ℕ). go w key) (sym (writes_at it.typed key (ap (λ (it : DataTurn). is_written it) to))) ∙ is)
+  by turns.Write to = goes_26 w v (ap (λ (key : ℕ). go w key) (sym (writes_at it.typed key to)) ∙ is)
   by turns.Dropped to = absurd (three (key == 3) refl) where
     is_three : (key == 3) ≡ true → key ≡ 3
     is_three same = grind (arith, nat_tests, same)

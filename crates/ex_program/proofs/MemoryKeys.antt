@@ -1,7 +1,6 @@
 -- At which keys of the EXEC memory is asked for.
-use Rattle.std.proofs.Common.{◌≡◌, inl, inr, ℕ, zero, suc, ◌==◌, ◌||◌, Bool, true, false, cond, List, [], ◌∷◌, ◌++◌, map, Option, None, Some, IsTrue, Result, Err, refl, sym, ap, subst, ◌∙◌, arith}
+use Rattle.std.proofs.Common.{◌≡◌, inl, inr, ℕ, zero, suc, ◌||◌, Bool, true, false, cond, List, [], ◌∷◌, ◌++◌, map, Option, None, Some, IsTrue, Result, Err, refl, sym, ap, subst, ◌∙◌}
 use Rattle.std.specs.List.{list_any}
-use Rattle.std.proofs.lemmas.Bool.Decides.{nat_tests}
 use Rattle.std.proofs.lemmas.List.{append-nil}
 use Rattle.std.proofs.lemmas.List.Folds.{list_any-append}
 use Rattle.cm_state.specs.SessionState.{SessionState}
@@ -36,7 +35,7 @@ use Rattle.ex_commands.specs.declared.command.Command.{Command}
 use Rattle.ex_commands.specs.declared.command.Command.TheVariants as commands
 use Rattle.ex_commands.specs.declared.data.DataTurn.{DataTurn}
 use Rattle.ex_commands.specs.declared.data.DataTurn.TheVariants as turns
-use Rattle.ex_commands.proofs.TypedEnds.{others_keep}
+use Rattle.ex_commands.proofs.TypedEnds.{writes_at}
 use Rattle.ex_take.specs.Exec.{acts, command_deeds, counts, exec_meaning, fault_deeds, end_deeds, followed, follows, innermost, is_over, lifted, line_by as deeds_by, line_deeds, line_in, next_fault, raw_deeds, settles, looks_ahead, unwaiting}
 use Rattle.ex_take.specs.ExecState.{ExecState, exec_start}
 use Rattle.ex_take.specs.Interpreter.{allocates, completion_answer, deed_of, mode_of, pending_with, raw_answer, raw_by, subcommand_deeds, typed_deeds}
@@ -166,7 +165,7 @@ confirmed_keeps at session moment none free =
     ∙ ap (λ it. asks it) files
 
 -- of the keys of a file that is typed in control-Z alone writes it
-abbrev pub is_written : DataTurn → Bool
+abbrev is_written : DataTurn → Bool
 is_written turns.Write = true
 is_written turn = false
 
@@ -174,14 +173,6 @@ written : (turn : DataTurn) → is_written turn ≡ true → turn ≡ turns.Writ
 written turns.More is = absurd (cc)
 written turns.Write is = refl
 written turns.Dropped is = absurd (cc)
-
-pub writes_at : (bytes : List ℕ) (key : ℕ) → is_written (turn_of (echo_of bytes key)) ≡ true → key ≡ 26
-writes_at bytes key is = by (key == 26) refl where
-  by : (test : Bool) → (key == 26) ≡ test → key ≡ 26
-  by true same = grind (arith, nat_tests, same)
-  by false other =
-      absurd (others_keep bytes key (λ same. let both : false ≡ true = sym other ∙ grind (arith, nat_tests, same) in cc)
-      (written (turn_of (echo_of bytes key)) is))
 
 typed_wants : (interpreter : InterpreterState) (typing : Typing) (turn : DataTurn) → wants (typed_deeds interpreter typing turn) ≡ is_written turn
 unfolding typed_deeds
@@ -193,7 +184,8 @@ keys_want : (interpreter : InterpreterState) (key : ℕ) (typing : Option Typing
 keys_want interpreter key None is = absurd (cc)
 keys_want interpreter key (Some typing) is =
     writes_at typing.typed key
-    (sym (typed_wants interpreter (record typing { typed = bytes_behind typing.typed key }) (turn_of (echo_of typing.typed key))) ∙ is)
+    (written (turn_of (echo_of typing.typed key))
+    (sym (typed_wants interpreter (record typing { typed = bytes_behind typing.typed key }) (turn_of (echo_of typing.typed key))) ∙ is))
 
 counts_want : (at : ExecState) (answer : Acted) → wants (counts at answer) ≡ false
 counts_want at (answers.Refused code) = refl

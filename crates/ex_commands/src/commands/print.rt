@@ -139,8 +139,8 @@ fn job_in<N: Names>(session: &Session<ExecRules>, grammar: &Grammar, names: &N) 
     }
 }
 
-// What a quoted text says.
-fn quoted_by(text: &[u8], value: &Value) -> Name
+/// What a quoted text says, a quote that stands twice as one. Another value says nothing.
+pub fn quoted_by(text: &[u8], value: &Value) -> Name
     requires { IsAscii text.now }
     ensures { result ≡ quoted_by text.now value.now }
 {

@@ -1,9 +1,9 @@
--- The bytes of a line, as they are shown.
+-- Bytes, as they are shown.
 use Rattle.std.proofs.Common.{◌≡◌, ℕ, suc, ◌+◌, Bool, true, false, List, [], ◌∷◌, ◌++◌, map, take, drop, refl, sym, ap, ◌∙◌, arith}
 use Rattle.std.specs.List.{prefix_len}
 use Rattle.std.proofs.lemmas.Bool.{eqb-true}
 use Rattle.cm_text.specs.Shown.{printing_byte}
-use Rattle.ex_batch.specs.LineBytes.{first_shown, is_printing}
+use Rattle.ex_commands.specs.PrintingBytes.{first_shown, is_printing}
 
 -- those that are shown as they are, the byte behind them, and the rest
 pub run_shown : (line : List ℕ)

@@ -1,4 +1,4 @@
--- The bytes of a line that are shown as they are.
+-- Bytes that are shown as they are.
 use Rattle.std.specs.Prelude.{ℕ, ◌==◌, Bool, List, [], ◌∷◌}
 use Rattle.cm_text.specs.Shown.{printing_byte}
 

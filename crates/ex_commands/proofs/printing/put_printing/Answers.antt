@@ -1,6 +1,6 @@
 use Rattle.cm_io.proofs.Texts.{left_less}
-use Rattle.ex_batch.proofs.Printings.{first_left, run_left}
-use Rattle.ex_batch.proofs.line_bytes.put_bytes.Goals as goal
+use Rattle.ex_commands.proofs.Printings.{first_left, run_left}
+use Rattle.ex_commands.proofs.printing.put_printing.Goals as goal
 
 pub loop-rest-preserved : goal.loop-rest-preserved
 loop-rest-preserved g c =
