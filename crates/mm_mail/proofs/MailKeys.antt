@@ -162,3 +162,18 @@ send_waits receiver subject state = refl
 pub quit_stays : (state : State) → (act_of commands.Quit state).state ≡ state
 unfolding act_of
 quit_stays state = refl
+
+-- no command changes the directories
+deletes_keep : (number : ℕ) (rows : List Row) (state : State) → (deletes_first number rows state).state.directories ≡ state.directories
+deletes_keep number [] state = refl
+deletes_keep number (row ∷ more) state = refl
+
+pub directories_stay : (command : Command) (state : State) → (act_of command state).state.directories ≡ state.directories
+unfolding act_of reads deletes
+directories_stay commands.Empty state = refl
+directories_stay (commands.Delete number) state = deletes_keep number (messages_numbered state.connected number state) state
+directories_stay commands.Headers state = refl
+directories_stay commands.Quit state = refl
+directories_stay (commands.Read number) state =
+    ap (λ (it : State). it.directories) (reads_stay (messages_numbered state.connected number state) state)
+directories_stay (commands.Send receiver subject) state = refl

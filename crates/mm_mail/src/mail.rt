@@ -142,6 +142,7 @@ impl Mail {
     }
 
     // Does what a line commands.
+    #[tactic(auto, using(cm_run::proofs::Acts::obeys_done, cm_run::proofs::Acts::obeys_cut, cm_run::proofs::Acts::obeys_wanting), unfolding(cm_run::specs::Cause::ObeyCause))]
     pub(crate) fn obey<S: Sink>(
         &mut self,
         command: &Command,
@@ -165,6 +166,7 @@ impl Mail {
     }
 
     // Sends a message that was typed in.
+    #[tactic(auto, using(cm_run::proofs::Acts::obeys_done, cm_run::proofs::Acts::obeys_cut, cm_run::proofs::Acts::obeys_wanting), unfolding(cm_run::specs::Cause::ObeyCause))]
     fn send<S: Sink>(&mut self, message: &Message, screen: &mut S) -> Result<(), Stop>
         requires there { has_directory message.now.receiver self.old.state.directories ≡ true }
         requires over { self.old.writing ≡ None }
