@@ -1,6 +1,7 @@
 -- What the places of messages select in a store.
-use Rattle.std.proofs.Common.{◌≡◌, ℕ, ◌≤◌, ◌==◌, ◌&&◌, max, Bool, true, false, not, cond, if◌then◌else◌, List, [], ◌∷◌, ◌++◌, filter, map, refl, ap, sym, subst, ◌∙◌, arith}
+use Rattle.std.proofs.Common.{◌≡◌, ℕ, ◌≤◌, ◌==◌, ◌&&◌, max, Bool, true, false, not, cond, if◌then◌else◌, List, [], ◌∷◌, ◌++◌, filter, map, Option, None, Some, is_some, take, refl, ap, sym, subst, ◌∙◌, arith}
 use Rattle.std.specs.List.{flat_map, list_all}
+use Rattle.std.specs.Option.{MatchOption}
 use Rattle.std.specs.Str.{bytes_eq}
 use Rattle.std.proofs.lemmas.Bool.{and_parts}
 use Rattle.cm_lists.proofs.Bools.{and-false, and-true}
@@ -15,6 +16,8 @@ use Rattle.ex_generations.specs.declared.file.Remark.TheVariants as remarks
 use Rattle.ex_store.specs.declared.directory.Directory.{Directory}
 use Rattle.ex_store.specs.declared.place.Place.{Place}
 use Rattle.ex_store.specs.declared.row.Row.{Row}
+use Rattle.ex_store.specs.declared.row.RowView.{RowView}
+use Rattle.ex_store.specs.Lent.{row_of_view}
 use Rattle.ex_store.specs.Rows.{is_in, with_mark}
 use Rattle.ex_store.specs.Selection.{is_selected_by, rows_with_remark, selected}
 use Rattle.ex_store.specs.State.{State}
@@ -241,14 +244,40 @@ greatest_of_all state directory well =
     (is_selected_by true (numbered_place directory All) state) (is_numbered_in directory)
     (λ row is. asks_either state.directories directory state row is) state.rows well.draft.rows.within
 
--- what the first of the files of one message says
-pub found_one : (state : State) (number : ℕ) (place : Place) (rows found : List Row) → IsWellFormed state → number ≤ MOST_MESSAGES
-    → place ≡ message_place state.connected number (Number FIRST_GENERATION) → rows ≡ selected false place state → rows ≡ found
-    → messages_numbered state.connected number state ≡ found
-found_one state number place rows found well few at chosen is =
-    sym (selects_one state state.connected number well few)
-    ∙ ap (λ (other : Place). selected false other state) (sym at) ∙ sym chosen ∙ is
+-- how a command finds them
+place_at : (state parts : State) (number : ℕ) (directory : List ℕ) (place : Place) → parts ≡ state → directory ≡ parts.connected
+    → place ≡ message_place directory number (Number FIRST_GENERATION) → place ≡ message_place state.connected number (Number FIRST_GENERATION)
+place_at state parts number directory place same connected at =
+    at ∙ ap (λ (name : List ℕ). message_place name number (Number FIRST_GENERATION)) (connected ∙ ap (λ (other : State). other.connected) same)
 
+pub found_at : (state parts : State) (number : ℕ) (directory : List ℕ) (place : Place) (rows found : List Row) → IsWellFormed state
+    → number ≤ MOST_MESSAGES → parts ≡ state → directory ≡ parts.connected → place ≡ message_place directory number (Number FIRST_GENERATION)
+    → rows ≡ selected false place state → rows ≡ found → messages_numbered state.connected number state ≡ found
+found_at state parts number directory place rows found well few same connected at chosen is =
+    sym (selects_one state state.connected number well few)
+    ∙ ap (λ (other : Place). selected false other state) (sym (place_at state parts number directory place same connected at))
+    ∙ sym chosen ∙ is
+
+pub marked_at : (state parts : State) (number : ℕ) (directory : List ℕ) (place : Place) → IsWellFormed state → number ≤ MOST_MESSAGES
+    → parts ≡ state → directory ≡ parts.connected → place ≡ message_place directory number (Number FIRST_GENERATION)
+    → record state { rows = rows_with_remark (remarks.Deleted true) place state } ≡ with_deleted number state
+marked_at state parts number directory place well few same connected at =
+    ap (λ (other : Place). record state { rows = rows_with_remark (remarks.Deleted true) other state })
+    (place_at state parts number directory place same connected at)
+    ∙ marks_one state number well few
+
+pub none_left : (found : Option RowView) (rows rest : List Row) (none : Bool)
+    → MatchOption found ((rows ≡ []) × (rest ≡ [])) (λ row. rows ≡ row_of_view row ∷ rest) → is_some found ≡ not none → none ≡ true → rows ≡ []
+none_left None rows rest none yields is yes_none = yields.0
+none_left (Some row) rows rest none yields is yes_none = let never : true ≡ false = is ∙ ap not yes_none in absurd (cc)
+
+pub some_left : (found : Option RowView) (rows rest : List Row) (none : Bool)
+    → MatchOption found ((rows ≡ []) × (rest ≡ [])) (λ row. rows ≡ row_of_view row ∷ rest) → is_some found ≡ not none → none ≡ false
+    → (row : RowView) × (rows ≡ row_of_view row ∷ rest)
+some_left None rows rest none yields is not_none = let never : false ≡ true = is ∙ ap not not_none in absurd (cc)
+some_left (Some row) rows rest none yields is not_none = (row, yields)
+
+-- what the first of them makes of a command
 pub reads_none : (number : ℕ) (state : State) → messages_numbered state.connected number state ≡ [] → (reads number state).reply ≡ refusal NoMessage
 unfolding reads
 reads_none number state none = ap (λ (rows : List Row). (reads_first rows state).reply) none

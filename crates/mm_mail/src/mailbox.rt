@@ -148,7 +148,8 @@ fn put_deleted<S: Sink>(number: u64, out: &mut Writer<'_, S>)
     ensures { Writes S.Sink out.old out.new (deleted_line number) }
 {
     out.put(deleted());
-    out.put_line(&four_digits(number));
+    out.put(&four_digits(number));
+    out.put(end_of_line());
 }
 
 /// Marks the message of the connected directory with a number as deleted, and puts that, or that there is none.
