@@ -1,10 +1,15 @@
 mod Courses
 mod Ends
+mod HandedLines
 mod Hooks
 mod Jobs
 mod LawLemmas
+mod LineKeys
 mod FileNames
+mod Rests
 mod Runs
 mod Outcomes
 mod Steps
 mod StepCuts
+mod TypedLines
+mod TypedRuns

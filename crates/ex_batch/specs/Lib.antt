@@ -5,5 +5,6 @@ pub mod Job
 pub mod ControlFile
 pub mod Stands
 pub mod Takes
+pub mod Typed
 pub mod LineCount
 pub mod Whole

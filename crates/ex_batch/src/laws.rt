@@ -1,6 +1,7 @@
 //! Laws of control files. Each is a function that does nothing, whose contract is the law.
-ghost use Rattle.std.specs.Prelude.{◌≡◌, ◌≤◌, ◌∷◌, ℕ, List, [], true, false, None, Some, length};
-ghost use Rattle.cm_text.specs.Text.{finished};
+ghost use Rattle.std.specs.Prelude.{◌≡◌, ◌≤◌, ◌∷◌, ℕ, Bool, List, [], true, false, Option, None, Some, length, map};
+ghost use Rattle.std.specs.List.{list_any};
+ghost use Rattle.cm_text.specs.Text.{ends_in_hyphen, finished};
 ghost use Rattle.cm_fields.specs.declared.code.Code.{Code};
 ghost use Rattle.cm_blocks.specs.Kept.{cost};
 ghost use Rattle.cm_blocks.specs.declared.field.Ending.TheVariants as endings;
@@ -14,15 +15,18 @@ ghost use Rattle.cm_run.specs.Trace.{file_session, line_trace, node_of};
 ghost use Rattle.ex_commands.specs.Act.{act_of};
 ghost use Rattle.ex_commands.specs.declared.acted.Acted.TheVariants as answers;
 ghost use Rattle.ex_commands.specs.declared.command.Command.{Command};
+ghost use Rattle.ex_store.specs.State.{State};
 ghost use Rattle.ex_control.specs.Control.{is_parsable};
 ghost use Rattle.ex_take.specs.Exec.{acts, exec_meaning};
-ghost use Rattle.ex_take.specs.ExecState.{ExecState};
+ghost use Rattle.ex_take.specs.ExecState.{ExecState, exec_start};
 ghost use Rattle.ex_take.specs.Interpreter.{command_at};
-ghost use Rattle.ex_take.specs.Taking.{is_at_rest};
-ghost use Rattle.ex_batch.specs.Batch.{text_trace};
+ghost use Rattle.ex_take.specs.Taking.{RestsUnlessEnded, is_at_rest};
+ghost use Rattle.ex_batch.specs.Batch.{batch_from, batch_of, line_step, text_trace};
 ghost use Rattle.ex_batch.specs.Job.{bar_of, job_deeds, job_meaning, order_deeds};
 ghost use Rattle.ex_batch.specs.LineCount.{used_in};
+ghost use Rattle.ex_batch.specs.Typed.{AreAccepted, ComesTo, RunsAlike, in_file, typed_lines};
 ghost use Rattle.ex_batch.specs.declared.batch.TheConstants.{CONTROL_LINES};
+ghost use Rattle.ex_batch.specs.declared.step.Next.TheVariants.{Line};
 
 use ex_take::laws as refused_acts;
 
@@ -35,8 +39,7 @@ pub fn at_most_so_many_lines_are_used()
 
 /// A line of the EXEC's in a control file that is not refused does what the same line does where it is typed: where
 /// nothing is left to be done, and its parse is done and commands what may stand there, what happens is that of a
-/// confirmed line, with the lines of the command files that it takes. So a run over such lines differs from a typed one
-/// in what is shown of the lines alone.
+/// confirmed line, with the lines of the command files that it takes.
 pub fn a_line_does_what_a_typed_one_does()
     ensures { (at : ExecState) → (text : List ℕ) → (moment : ℕ) → is_at_rest at ≡ true
         → (file_session job_meaning at text).ending ≡ endings.Done
@@ -44,6 +47,44 @@ pub fn a_line_does_what_a_typed_one_does()
         → handed_trace job_meaning moment at text
         ≡ Trials (cost (setting_of exec_meaning at) (node_of (exec_meaning.mode_of at)) [] (finished text))
         ∷ line_trace exec_meaning at (file_session exec_meaning at text) moment }
+{}
+
+/// A control file of the EXEC's lines alone, none of which is refused, comes to what the same lines come to where they
+/// are typed one after the other. Each line is shown before it is done. All else that happens is, event by event, what
+/// the typed lines come to: so the same state is left, and the same moments are taken and trials counted. The run ends
+/// behind the last line, or at LOGOUT.
+pub fn a_control_file_does_what_typed_lines_do()
+    ensures { (texts : List (List ℕ)) → (moments : List ℕ) → (at : ExecState) → is_at_rest at ≡ true → at.stop ≡ None
+        → length texts ≤ CONTROL_LINES → AreAccepted moments at texts
+        → ComesTo moments at (typed_lines moments at texts) (batch_of (map in_file texts) moments at) }
+{}
+
+/// So it comes to what exec20 comes to over the keys of the same lines, each ended by a carriage return, and none by a
+/// hyphen, which would continue it. The run over these keys, with a log or without, leaves the same state and takes as
+/// many moments. It shows the prompt before each line, the line as it is echoed, and then what the line comes to, where
+/// the control file shows the line, and then the same. Behind the last line it shows the next prompt, unless LOGOUT has
+/// acted. The trials alone are others: of keys they are counted key by key.
+pub fn a_control_file_does_what_the_keys_of_its_lines_do()
+    ensures { (texts : List (List ℕ)) → (moments : List ℕ) → (at : ExecState) → (logging : Bool)
+        → is_at_rest at ≡ true → at.stop ≡ None → length texts ≤ CONTROL_LINES → AreAccepted moments at texts
+        → list_any ends_in_hyphen texts ≡ false
+        → RunsAlike moments at logging texts (batch_of (map in_file texts) moments at) }
+{}
+
+/// Nothing is left to be done between two lines of a control file: no command waits, no file is typed in, and no
+/// command file is open. So it is where a run begins. A line that begins so leaves nothing, unless LOGOUT has acted,
+/// behind which no line is used; and so it is behind any number of lines.
+pub fn nothing_is_left_between_two_lines()
+    ensures start { (start : State) → is_at_rest (exec_start start) ≡ true }
+    ensures line { (lines : List (List ℕ)) → (place : ℕ) → (moments : List ℕ) → (at : ExecState)
+        → (found : Option (List ℕ)) → is_at_rest at ≡ true
+        → RestsUnlessEnded (state_behind at (line_step lines place moments at found).events) }
+    ensures next { (lines : List (List ℕ)) → (place : ℕ) → (moments : List ℕ) → (at : ExecState)
+        → (found : Option (List ℕ)) → (next : ℕ) → is_at_rest at ≡ true
+        → (line_step lines place moments at found).next ≡ Line next
+        → is_at_rest (state_behind at (line_step lines place moments at found).events) ≡ true }
+    ensures run { (lines : List (List ℕ)) → (most : ℕ) → (moments : List ℕ) → (at : ExecState) → is_at_rest at ≡ true
+        → RestsUnlessEnded (state_behind at (batch_from lines most moments at (Line 0)).events) }
 {}
 
 /// A refused line of the EXEC's changes no directory and no file: one that cannot be parsed, one whose parse ends in a

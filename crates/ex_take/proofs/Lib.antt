@@ -13,6 +13,7 @@ mod Quiet
 pub mod QuietKeys
 mod QuietLines
 mod Replies
+pub mod Rests
 pub mod Sequels
 mod States
 mod TypedKeys

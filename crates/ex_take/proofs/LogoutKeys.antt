@@ -23,7 +23,7 @@ use Rattle.ex_take.specs.Logout.{ConfirmsLogout, HasLogout, IsLogout, behind_lin
 use Rattle.ex_take.specs.Quiet.{IsQuiet}
 use Rattle.ex_take.proofs.Changes.{ends_at_a_line, goes_on_unconfirmed}
 use Rattle.ex_take.proofs.LogoutLines.{ended_of, file_line_logout, line_logout, no_end}
-use Rattle.ex_take.proofs.Quiet.{IsOpen, Stands, quiet_stands}
+use Rattle.ex_take.proofs.Quiet.{IsOpen, Stands, closed_stands, quiet_stands}
 use Rattle.ex_take.proofs.QuietKeys.{behind, either, line_typing, next_of, none_behind, open_next, quiet_next, turn_none, turn_some}
 use Rattle.ex_take.proofs.QuietLines.{file_line_stands, line_quiet}
 
@@ -67,7 +67,7 @@ module _ (moment : ℕ) where
     stands : Stands (suc taken) (next_of moment at line)
     stands =
         subst (λ (n : ℕ). Stands n (next_of moment at line)) (counted taken few)
-        (file_line_stands at (file_session exec_meaning at line) moment taken held)
+        (closed_stands (next_count taken) (next_of moment at line) (file_line_stands at (file_session exec_meaning at line) moment taken held))
 
     by : (ended : Bool) → ended_of (next_of moment at line) ≡ ended → HasLogout (suc lines) moment at
     by true is = here lines at line some (file_line_logout at (file_session exec_meaning at line) moment held.waits on is)

@@ -39,9 +39,38 @@ pub record IsOpen (taken : ℕ) (at : ExecState) : Type 0 where
 abbrev pub Stands : ℕ → ExecState → Type 0
 Stands taken at = at.interpreter.ended ≡ false → IsQuiet at ⊎ IsOpen taken at
 
+-- none is open, no command waits, and no file is typed in
+pub record AreClosed (at : ExecState) : Type 0 where
+  pub files : at.files ≡ []
+  pub taken : at.taken ≡ 0
+  pub line : at.interpreter.typing ≡ None
+  pub free : at.interpreter.pending ≡ None
+
+abbrev pub StandsClosed : ℕ → ExecState → Type 0
+StandsClosed taken at = at.interpreter.ended ≡ false → AreClosed at ⊎ IsOpen taken at
+
+none_waits : (pending : Option Pending) → pending ≡ None → Waits pending
+none_waits pending none = subst (λ (it : Option Pending). Waits it) (sym none) tt
+
+pub closed_quiet : (at : ExecState) → AreClosed at → IsQuiet at
+closed_quiet at closed = record {
+  files = closed.files;
+  taken = closed.taken;
+  waits = none_waits at.interpreter.pending closed.free;
+}
+
+pub closed_stands : (taken : ℕ) (at : ExecState) → StandsClosed taken at → Stands taken at
+closed_stands taken at stands = λ going. by (stands going) where
+  by : AreClosed at ⊎ IsOpen taken at → IsQuiet at ⊎ IsOpen taken at
+  by (inl closed) = inl (closed_quiet at closed)
+  by (inr held) = inr held
+
 -- a refusal closes all files
 pub stopped_stands : (taken : ℕ) (code : Code) (at : ExecState) → Stands taken (stopped code at)
 stopped_stands taken code at = λ going. inl (record { files = refl; taken = refl; waits = tt })
+
+pub stopped_closed : (taken : ℕ) (code : Code) (at : ExecState) → at.interpreter.typing ≡ None → StandsClosed taken (stopped code at)
+stopped_closed taken code at line = λ going. inl (record { files = refl; taken = refl; line = line; free = refl })
 
 pub quiet_stands : (taken : ℕ) (at : ExecState) → IsQuiet at → Stands taken at
 quiet_stands taken at quiet = λ going. inl quiet
@@ -67,12 +96,12 @@ last_is_on (one ∷ files) = by (open_files files) (length one == 0) refl (last_
 
 -- the next line is looked at
 looks_stand : (at : ExecState) → at.interpreter.typing ≡ None → Waits at.interpreter.pending → (length at.files == 0) ≡ false
-    → is_over (innermost at.files) ≡ false → Stands at.taken (left_by at (looks_ahead at))
+    → is_over (innermost at.files) ≡ false → StandsClosed at.taken (left_by at (looks_ahead at))
 unfolding looks_ahead
 looks_stand at line waits some on = by (next_fault at.taken (innermost at.files)) refl where
-  by : (fault : Option Code) → next_fault at.taken (innermost at.files) ≡ fault → Stands at.taken (left_by at (fault_deeds at fault))
+  by : (fault : Option Code) → next_fault at.taken (innermost at.files) ≡ fault → StandsClosed at.taken (left_by at (fault_deeds at fault))
   by None is = λ going. inr (record { line = line; waits = waits; some = some; on = on; fault = is; count = refl })
-  by (Some code) is = stopped_stands at.taken code at
+  by (Some code) is = stopped_closed at.taken code at line
 
 -- where no file is open none has a next line
 looks_none : (at : ExecState) → at.files ≡ [] → looks_ahead at ≡ []
@@ -83,26 +112,25 @@ looks_none at none = ap (λ (files : List (List (List ℕ))). fault_deeds at (ne
 abbrev with_files : ExecState → List (List (List ℕ)) → ExecState
 with_files at files = record at { files = files; taken = taken_by files at.taken }
 
-goes_on_with : (at : ExecState) (files : List (List (List ℕ))) → at.interpreter.typing ≡ None → Waits at.interpreter.pending
-    → is_over (innermost files) ≡ false → Stands at.taken (left_by (with_files at files) (looks_ahead (with_files at files)))
-goes_on_with at [] line waits on =
-    subst (λ (deeds : List (Deed ExecState)). Stands at.taken (left_by (with_files at []) deeds)) (sym (looks_none (with_files at []) refl))
-    (λ going. inl (record { files = refl; taken = refl; waits = waits }))
-goes_on_with at (file ∷ files) line waits on =
-    subst (λ (n : ℕ). Stands n (left_by (with_files at (file ∷ files)) (looks_ahead (with_files at (file ∷ files)))))
+goes_on_with : (at : ExecState) (files : List (List (List ℕ))) → at.interpreter.typing ≡ None → at.interpreter.pending ≡ None
+    → is_over (innermost files) ≡ false → StandsClosed at.taken (left_by (with_files at files) (looks_ahead (with_files at files)))
+goes_on_with at [] line free on =
+    subst (λ (deeds : List (Deed ExecState)). StandsClosed at.taken (left_by (with_files at []) deeds)) (sym (looks_none (with_files at []) refl))
+    (λ going. inl (record { files = refl; taken = refl; line = line; free = free }))
+goes_on_with at (file ∷ files) line free on =
+    subst (λ (n : ℕ). StandsClosed n (left_by (with_files at (file ∷ files)) (looks_ahead (with_files at (file ∷ files)))))
     (ap (λ (none : Bool). cond none 0 at.taken) (cons_is_not_empty file files))
-    (looks_stand (with_files at (file ∷ files)) line waits (cons_is_not_empty file files) on)
+    (looks_stand (with_files at (file ∷ files)) line (none_waits at.interpreter.pending free) (cons_is_not_empty file files) on)
 
-closes_stand : (at : ExecState) → at.interpreter.typing ≡ None → at.interpreter.pending ≡ None → Stands at.taken (left_by at (closes at))
+closes_stand : (at : ExecState) → at.interpreter.typing ≡ None → at.interpreter.pending ≡ None → StandsClosed at.taken (left_by at (closes at))
 unfolding closes
-closes_stand at line free =
-    goes_on_with at (open_files at.files) line (subst (λ (it : Option Pending). Waits it) (sym free) tt) (last_is_on at.files)
+closes_stand at line free = goes_on_with at (open_files at.files) line free (last_is_on at.files)
 
 -- behind the end of a file
 behind_stands : (at : ExecState) (answer : Acted) → at.interpreter.typing ≡ None → at.interpreter.pending ≡ None
-    → Stands at.taken (left_by at (behind_end at answer))
+    → StandsClosed at.taken (left_by at (behind_end at answer))
 unfolding behind_end
-behind_stands at (answers.Refused code) line free = stopped_stands at.taken code at
+behind_stands at (answers.Refused code) line free = stopped_closed at.taken code at line
 behind_stands at answers.Ok line free = closes_stand at line free
 behind_stands at answers.Pending line free = closes_stand at line free
 behind_stands at answers.Data line free = closes_stand at line free
@@ -175,7 +203,7 @@ followed_left at deeds more =
 
 -- at the end of a file a command that waits acts
 completion_stands : (at : ExecState) (pending : Pending) → at.interpreter.typing ≡ None → is_pending pending.command ≡ true
-    → Stands at.taken (left_by at (completion_deeds (unwaiting at) (pending_complete pending)))
+    → StandsClosed at.taken (left_by at (completion_deeds (unwaiting at) (pending_complete pending)))
 completion_stands at pending line waits =
     let on = unwaiting at in
     let whole = pending_complete pending in
@@ -186,25 +214,25 @@ completion_stands at pending line waits =
     let left : left_by on.interpreter deeds ≡ (deed_of on.interpreter whole.moment whole.command).state
     = ap (λ (more : Bool). left_by (record on.interpreter { pending = Some whole })
     (cond more [] (deed_of on.interpreter whole.moment whole.command ∷ []))) over in
-    subst (λ (it : ExecState). Stands at.taken it) (sym (followed_left on deeds (behind_end (record on { interpreter = left_by on.interpreter deeds }) answer)))
+    subst (λ (it : ExecState). StandsClosed at.taken it) (sym (followed_left on deeds (behind_end (record on { interpreter = left_by on.interpreter deeds }) answer)))
     (behind_stands (record on { interpreter = left_by on.interpreter deeds }) answer
     (ap (λ (it : InterpreterState). it.typing) left ∙ sub_line on.interpreter whole.moment whole.command takes over ∙ line)
     (ap (λ (it : InterpreterState). it.pending) left ∙ sub_free on.interpreter whole.moment whole.command takes over))
 
 end_stands : (at : ExecState) → at.interpreter.typing ≡ None → Waits at.interpreter.pending
-    → Stands at.taken (left_by at (end_deeds at at.interpreter.pending))
+    → StandsClosed at.taken (left_by at (end_deeds at at.interpreter.pending))
 end_stands at line waits = by at.interpreter.pending refl waits where
-  by : (pending : Option Pending) → at.interpreter.pending ≡ pending → Waits pending → Stands at.taken (left_by at (end_deeds at pending))
+  by : (pending : Option Pending) → at.interpreter.pending ≡ pending → Waits pending → StandsClosed at.taken (left_by at (end_deeds at pending))
   by None is free = closes_stand at line is
   by (Some pending) is waits = completion_stands at pending line waits
 
 -- behind an act the files that are open go on
 pub settles_stand : (at : ExecState) → at.interpreter.typing ≡ None → Waits at.interpreter.pending → (length at.files == 0) ≡ false
-    → Stands at.taken (left_by at (settles at))
+    → StandsClosed at.taken (left_by at (settles at))
 unfolding settles
 settles_stand at line waits some = by (is_over (innermost at.files)) refl where
   by : (over : Bool) → is_over (innermost at.files) ≡ over
-      → Stands at.taken (left_by at (cond over (end_deeds at at.interpreter.pending) (looks_ahead at)))
+      → StandsClosed at.taken (left_by at (cond over (end_deeds at at.interpreter.pending) (looks_ahead at)))
   by true is = end_stands at line waits
   by false is = looks_stand at line waits some is
 
@@ -219,6 +247,10 @@ settles_quiet : (at : ExecState) (taken : ℕ) → IsQuiet at → Stands taken (
 settles_quiet at taken quiet =
     subst (λ (deeds : List (Deed ExecState)). Stands taken (left_by at deeds)) (sym (settles_none at quiet.files)) (quiet_stands taken at quiet)
 
+settles_closed : (at : ExecState) (taken : ℕ) → AreClosed at → StandsClosed taken (left_by at (settles at))
+settles_closed at taken closed =
+    subst (λ (deeds : List (Deed ExecState)). StandsClosed taken (left_by at deeds)) (sym (settles_none at closed.files)) (λ going. inl closed)
+
 pub follows_quiet : (at : ExecState) (taken : ℕ) (answer : Acted) → IsQuiet at → Stands taken (left_by at (follows at answer))
 unfolding follows
 follows_quiet at taken (answers.Refused code) quiet = stopped_stands taken code at
@@ -230,13 +262,24 @@ follows_quiet at taken answers.Take quiet = settles_quiet at taken quiet
 follows_quiet at taken answers.NoMemory quiet = settles_quiet at taken quiet
 follows_quiet at taken answers.Failed quiet = settles_quiet at taken quiet
 
-pub ended_not : (at : ExecState) (taken : ℕ) → at.interpreter.ended ≡ true → Stands taken at
+pub follows_closed : (at : ExecState) (taken : ℕ) (answer : Acted) → AreClosed at → StandsClosed taken (left_by at (follows at answer))
+unfolding follows
+follows_closed at taken (answers.Refused code) closed = stopped_closed taken code at closed.line
+follows_closed at taken answers.Logout closed = λ going. inl closed
+follows_closed at taken answers.Ok closed = settles_closed at taken closed
+follows_closed at taken answers.Pending closed = settles_closed at taken closed
+follows_closed at taken answers.Data closed = settles_closed at taken closed
+follows_closed at taken answers.Take closed = settles_closed at taken closed
+follows_closed at taken answers.NoMemory closed = settles_closed at taken closed
+follows_closed at taken answers.Failed closed = settles_closed at taken closed
+
+pub ended_not : (at : ExecState) (taken : ℕ) → at.interpreter.ended ≡ true → StandsClosed taken at
 ended_not at taken ended = λ going. let wrong : true ≡ false = sym ended ∙ going in absurd (cc)
 
 pub follows_stand : (at : ExecState) (answer : Acted) → at.interpreter.typing ≡ None → Waits at.interpreter.pending → (length at.files == 0) ≡ false
-    → (answer ≡ answers.Logout → at.interpreter.ended ≡ true) → Stands at.taken (left_by at (follows at answer))
+    → (answer ≡ answers.Logout → at.interpreter.ended ≡ true) → StandsClosed at.taken (left_by at (follows at answer))
 unfolding follows
-follows_stand at (answers.Refused code) line waits some ends = stopped_stands at.taken code at
+follows_stand at (answers.Refused code) line waits some ends = stopped_closed at.taken code at line
 follows_stand at answers.Logout line waits some ends = ended_not at at.taken (ends refl)
 follows_stand at answers.Ok line waits some ends = settles_stand at line waits some
 follows_stand at answers.Pending line waits some ends = settles_stand at line waits some

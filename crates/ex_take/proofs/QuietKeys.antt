@@ -33,7 +33,7 @@ use Rattle.ex_take.specs.declared.pending.Pending.{Pending}
 use Rattle.ex_take.specs.declared.typing.Typing.{Typing}
 use Rattle.ex_take.proofs.Files.{some_last}
 use Rattle.ex_take.proofs.Sequels.{left_lifted}
-use Rattle.ex_take.proofs.Quiet.{IsOpen, Stands, ended_not, quiet_stands}
+use Rattle.ex_take.proofs.Quiet.{AreClosed, IsOpen, Stands, StandsClosed, closed_quiet, ended_not}
 use Rattle.ex_take.proofs.QuietLines.{file_line_stands, line_quiet}
 
 -- where no file is open none of its lines is next
@@ -94,6 +94,10 @@ pub either : (A : Type 0) (at : ExecState) (taken : ℕ) → IsQuiet at ⊎ IsOp
 either A at taken (inl quiet) one other = one quiet
 either A at taken (inr held) one other = other held
 
+-- nothing is left, unless LOGOUT has acted
+abbrev pub AreClosedUnlessEnded : ExecState → Type 0
+AreClosedUnlessEnded at = at.interpreter.ended ≡ false → AreClosed at
+
 module _ (moment : ℕ) where
   abbrev pub behind : ℕ → ExecState → ExecState
   behind lines at = state_behind at (file_trace exec_meaning lines moment at)
@@ -129,37 +133,61 @@ module _ (moment : ℕ) where
   unfolding file_trace
   none_behind at = refl
 
+  pub none_next : (lines : ℕ) (at : ExecState) → next_line exec_meaning at ≡ None → behind lines at ≡ at
+  none_next zero at none = none_behind at
+  none_next (suc lines) at none = turn_none lines at none ∙ none_next lines at none
+
   -- a turn more
-  turn_quiet : (lines taken : ℕ) (at : ExecState) → taken < FILE_LINES → Stands taken at
-      → ((next : ExecState) → Stands (suc taken) next → IsQuietUnlessEnded (behind lines next)) → IsQuietUnlessEnded (behind (suc lines) at)
-  turn_quiet lines taken at few stands more = by at.interpreter.ended refl where
-    stay : next_line exec_meaning at ≡ None → Stands (suc taken) at → IsQuietUnlessEnded (behind (suc lines) at)
-    stay none next = subst (λ (it : ExecState). IsQuietUnlessEnded it) (sym (turn_none lines at none)) (more at next)
+  turn_closed : (lines taken : ℕ) (at : ExecState) → taken < FILE_LINES → StandsClosed taken at
+      → ((next : ExecState) → StandsClosed (suc taken) next → AreClosedUnlessEnded (behind lines next)) → AreClosedUnlessEnded (behind (suc lines) at)
+  turn_closed lines taken at few stands more = by at.interpreter.ended refl where
+    stay : next_line exec_meaning at ≡ None → StandsClosed (suc taken) at → AreClosedUnlessEnded (behind (suc lines) at)
+    stay none next = subst (λ (it : ExecState). AreClosedUnlessEnded it) (sym (turn_none lines at none)) (more at next)
 
     counted : next_count taken ≡ suc taken
     counted = min-eq_left (omega (arith, few)) ∙ omega arith
 
-    go : at.interpreter.ended ≡ false → IsOpen taken at → IsQuietUnlessEnded (behind (suc lines) at)
+    go : at.interpreter.ended ≡ false → IsOpen taken at → AreClosedUnlessEnded (behind (suc lines) at)
     go going held =
         let found = open_next at taken going held in
-        subst (λ (it : ExecState). IsQuietUnlessEnded it) (sym (turn_some lines at found.0 found.1))
+        subst (λ (it : ExecState). AreClosedUnlessEnded it) (sym (turn_some lines at found.0 found.1))
         (more (next_of at found.0)
-        (subst (λ (n : ℕ). Stands n (next_of at found.0)) counted
+        (subst (λ (n : ℕ). StandsClosed n (next_of at found.0)) counted
         (file_line_stands at (file_session exec_meaning at found.0) moment taken held)))
 
-    by : (ended : Bool) → at.interpreter.ended ≡ ended → IsQuietUnlessEnded (behind (suc lines) at)
-    by true is = stay (ended_next at is) (ended_not at (suc taken) is)
-    by false is =
-        either (IsQuietUnlessEnded (behind (suc lines) at)) at taken (stands is)
-        (λ quiet. stay (quiet_next at quiet.files) (quiet_stands (suc taken) at quiet)) (λ held. go is held)
+    of_stand : at.interpreter.ended ≡ false → AreClosed at ⊎ IsOpen taken at → AreClosedUnlessEnded (behind (suc lines) at)
+    of_stand going (inl closed) = stay (quiet_next at closed.files) (λ on. inl closed)
+    of_stand going (inr held) = go going held
 
-  files_quiet : (lines taken : ℕ) (at : ExecState) → taken + lines ≡ FILE_LINES → Stands taken at → IsQuietUnlessEnded (behind lines at)
-  files_quiet zero taken at all stands =
-      subst (λ (it : ExecState). IsQuietUnlessEnded it) (sym (none_behind at))
-      (λ going. either (IsQuiet at) at taken (stands going) (λ quiet. quiet)
-      (λ held. absurd (full_faults at.taken (innermost at.files) (held.count ∙ omega (arith, all)) held.on held.fault (no_last at.files held.some))))
-  files_quiet (suc lines) taken at all stands =
-      turn_quiet lines taken at (omega (arith, all)) stands (λ next after. files_quiet lines (suc taken) next (omega (arith, all)) after)
+    by : (ended : Bool) → at.interpreter.ended ≡ ended → AreClosedUnlessEnded (behind (suc lines) at)
+    by true is = stay (ended_next at is) (ended_not at (suc taken) is)
+    by false is = of_stand is (stands is)
+
+  files_closed : (lines taken : ℕ) (at : ExecState) → taken + lines ≡ FILE_LINES → StandsClosed taken at → AreClosedUnlessEnded (behind lines at)
+  files_closed zero taken at all stands = subst (λ (it : ExecState). AreClosedUnlessEnded it) (sym (none_behind at)) (λ going. by (stands going)) where
+    by : AreClosed at ⊎ IsOpen taken at → AreClosed at
+    by (inl closed) = closed
+    by (inr held) = absurd (full_faults at.taken (innermost at.files) (held.count ∙ omega (arith, all)) held.on held.fault (no_last at.files held.some))
+  files_closed (suc lines) taken at all stands =
+      turn_closed lines taken at (omega (arith, all)) stands (λ next after. files_closed lines (suc taken) next (omega (arith, all)) after)
+
+  -- as many lines as may be taken of the files that a line has opened
+  pub all_closed : (at : ExecState) → StandsClosed 0 at → AreClosedUnlessEnded (behind FILE_LINES at)
+  all_closed at stands = files_closed FILE_LINES 0 at (omega arith) stands
+
+  files_quiet : (at : ExecState) → Stands 0 at → IsQuietUnlessEnded (behind FILE_LINES at)
+  files_quiet at stands = by at.interpreter.ended refl where
+    stay : next_line exec_meaning at ≡ None → IsQuietUnlessEnded at → IsQuietUnlessEnded (behind FILE_LINES at)
+    stay none quiet = subst (λ (it : ExecState). IsQuietUnlessEnded it) (sym (none_next FILE_LINES at none)) quiet
+
+    taking : IsOpen 0 at → IsQuietUnlessEnded (behind FILE_LINES at)
+    taking held = λ going. closed_quiet (behind FILE_LINES at) (all_closed at (λ on. inr held) going)
+
+    by : (ended : Bool) → at.interpreter.ended ≡ ended → IsQuietUnlessEnded (behind FILE_LINES at)
+    by true is = stay (ended_next at is) (λ going. let wrong : true ≡ false = sym is ∙ going in absurd (cc))
+    by false is =
+        either (IsQuietUnlessEnded (behind FILE_LINES at)) at 0 (stands is)
+        (λ quiet. stay (quiet_next at quiet.files) (λ going. quiet)) (λ held. taking held)
 
 -- a raw key
 raw_waits : (interpreter : InterpreterState) (to : Typing) (turn : DataTurn)
@@ -207,7 +235,7 @@ step_quiet at key quiet = by (is_line (mode_of at.state.interpreter)) refl where
   confirmed line is =
       let left = left_by at.state (exec_meaning.line_deeds at.state (session_at exec_meaning at key) (moment_of exec_meaning at)) in
       subst (λ (it : ExecState). IsQuietUnlessEnded it) (sym (confirmed_leads exec_meaning at key line is))
-      (files_quiet (moment_of exec_meaning at) FILE_LINES 0 left (omega arith)
+      (files_quiet (moment_of exec_meaning at) left
       (line_quiet at.state (session_at exec_meaning at key) (moment_of exec_meaning at)
       (line_typing at.state.interpreter.ended at.state.interpreter.typing at.state.interpreter.pending line) quiet))
 

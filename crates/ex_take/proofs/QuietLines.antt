@@ -27,7 +27,7 @@ use Rattle.ex_take.specs.Quiet.{IsQuiet, Waits}
 use Rattle.ex_take.specs.declared.exec.TheConstants.{MOST_FILES}
 use Rattle.ex_take.specs.declared.pending.Pending.{Pending}
 use Rattle.ex_take.proofs.Files.{some_last}
-use Rattle.ex_take.proofs.Quiet.{IsOpen, Stands, added_stays, follows_quiet, follows_stand, no_logout, settles_stand, stopped_stands, sub_free, sub_line, takes_subs}
+use Rattle.ex_take.proofs.Quiet.{AreClosed, IsOpen, Stands, StandsClosed, added_stays, closed_quiet, closed_stands, follows_closed, follows_quiet, follows_stand, no_logout, settles_stand, stopped_closed, stopped_stands, sub_free, sub_line, takes_subs}
 
 -- behind an act a command waits only for its subcommands
 pub waits_by : (interpreter : InterpreterState) (moment : ℕ) (command : Command) (act : Act) → Comes command interpreter.state act
@@ -63,6 +63,22 @@ line_by_act interpreter moment command act (Comes.taken file named is) other lin
 line_by_act interpreter moment command act (Comes.ended named is) other line =
     subst (λ (it : Acted). (becomes interpreter moment command it).typing ≡ None) (sym is) line
 
+-- and only one with subcommands waits
+free_by_act : (interpreter : InterpreterState) (moment : ℕ) (command : Command) (act : Act) → Comes command interpreter.state act
+    → is_pending command ≡ false → interpreter.pending ≡ None → (becomes interpreter moment command act.answer).pending ≡ None
+unfolding becomes
+free_by_act interpreter moment command act (Comes.done is) acts free =
+    subst (λ (it : Acted). (becomes interpreter moment command it).pending ≡ None) (sym is) free
+free_by_act interpreter moment command act (Comes.refused code is) acts free =
+    subst (λ (it : Acted). (becomes interpreter moment command it).pending ≡ None) (sym (ap (λ (it : Act). it.answer) is)) free
+free_by_act interpreter moment command act (Comes.waits pending is) acts free = let wrong : true ≡ false = sym pending ∙ acts in absurd (cc)
+free_by_act interpreter moment command act (Comes.begun to named is) acts free =
+    subst (λ (it : Acted). (becomes interpreter moment command it).pending ≡ None) (sym is) free
+free_by_act interpreter moment command act (Comes.taken file named is) acts free =
+    subst (λ (it : Acted). (becomes interpreter moment command it).pending ≡ None) (sym is) free
+free_by_act interpreter moment command act (Comes.ended named is) acts free =
+    subst (λ (it : Acted). (becomes interpreter moment command it).pending ≡ None) (sym is) free
+
 ends_by_answer : (interpreter : InterpreterState) (moment : ℕ) (command : Command) (answer : Acted) → answer ≡ answers.Logout
     → (becomes interpreter moment command answer).ended ≡ true
 unfolding becomes
@@ -84,8 +100,18 @@ module _ (at : ExecState) (moment : ℕ) (command : Command) where
         waits = waits_by at.interpreter moment command act (comes command moment at.interpreter.state) quiet.waits;
       })
 
+  acts_closed : AreClosed at → ((to : Place) → command ≡ commands.CopyTty to → ⊥) → is_pending command ≡ false
+      → StandsClosed 0 (left_by at (acts at moment command))
+  acts_closed closed other done =
+      follows_closed acted 0 act.answer (record {
+        files = closed.files;
+        taken = closed.taken;
+        line = line_by_act at.interpreter moment command act (comes command moment at.interpreter.state) other closed.line;
+        free = free_by_act at.interpreter moment command act (comes command moment at.interpreter.state) done closed.free;
+      })
+
   acts_stand : at.interpreter.typing ≡ None → Waits at.interpreter.pending → (length at.files == 0) ≡ false
-      → ((to : Place) → command ≡ commands.CopyTty to → ⊥) → Stands at.taken (left_by at (acts at moment command))
+      → ((to : Place) → command ≡ commands.CopyTty to → ⊥) → StandsClosed at.taken (left_by at (acts at moment command))
   acts_stand line waits some other =
       follows_stand acted act.answer
       (line_by_act at.interpreter moment command act (comes command moment at.interpreter.state) other line)
@@ -93,16 +119,17 @@ module _ (at : ExecState) (moment : ℕ) (command : Command) where
       some (λ is. ends_by_answer at.interpreter moment command act.answer is)
 
 module _ (at : ExecState) where
-  take_stands : (file : Place) → at.interpreter.typing ≡ None → Waits at.interpreter.pending → Stands at.taken (left_by at (take_deeds at file))
+  take_stands : (file : Place) → at.interpreter.typing ≡ None → Waits at.interpreter.pending → StandsClosed at.taken (left_by at (take_deeds at file))
   take_stands file line waits = by (length at.files == MOST_FILES) where
-    by : (full : Bool) → Stands at.taken (left_by at (cond full (refuses TakeDepth at ∷ []) (opens at file ∷ settles (opened at file))))
-    by true = stopped_stands at.taken TakeDepth at
+    by : (full : Bool) → StandsClosed at.taken (left_by at (cond full (refuses TakeDepth at ∷ []) (opens at file ∷ settles (opened at file))))
+    by true = stopped_closed at.taken TakeDepth at line
     by false = settles_stand (opened at file) line waits (push_is_not_empty at.files (file_lines (bytes_of file at.interpreter.state)))
 
-  typing_stands : (moment : ℕ) (to : Place) → (length at.files == 0) ≡ false → Stands at.taken (left_by at (typing_deeds at moment to))
-  typing_stands moment to some =
-      subst (λ (none : Bool). Stands at.taken (left_by at (cond none (acts at moment (commands.CopyTty to)) (refuses NotInTake at ∷ []))))
-      (sym some) (stopped_stands at.taken NotInTake at)
+  typing_stands : (moment : ℕ) (to : Place) → at.interpreter.typing ≡ None → (length at.files == 0) ≡ false
+      → StandsClosed at.taken (left_by at (typing_deeds at moment to))
+  typing_stands moment to line some =
+      subst (λ (none : Bool). StandsClosed at.taken (left_by at (cond none (acts at moment (commands.CopyTty to)) (refuses NotInTake at ∷ []))))
+      (sym some) (stopped_closed at.taken NotInTake at line)
 
   typing_quiet : (moment : ℕ) (to : Place) → IsQuiet at → Stands 0 (left_by at (typing_deeds at moment to))
   typing_quiet moment to quiet = by (length at.files == 0) where
@@ -119,19 +146,29 @@ no_copy command other to is = let wrong : false ≡ true = sym other ∙ ap is_c
 
 -- what a line commands
 commands_stand : (at : ExecState) (moment : ℕ) (command : Command) → at.interpreter.typing ≡ None → Waits at.interpreter.pending
-    → (length at.files == 0) ≡ false → Stands at.taken (left_by at (command_deeds at moment command))
+    → (length at.files == 0) ≡ false → StandsClosed at.taken (left_by at (command_deeds at moment command))
 unfolding command_deeds
 commands_stand at moment (commands.Take file) line waits some = take_stands at file line waits
-commands_stand at moment (commands.CopyTty to) line waits some = typing_stands at moment to some
+commands_stand at moment (commands.CopyTty to) line waits some = typing_stands at moment to line some
 commands_stand at moment command line waits some = acts_stand at moment command line waits some (no_copy command refl)
 
 commands_quiet : (at : ExecState) (moment : ℕ) (command : Command) → at.interpreter.typing ≡ None → IsQuiet at
     → Stands 0 (left_by at (command_deeds at moment command))
 unfolding command_deeds
 commands_quiet at moment (commands.Take file) line quiet =
-    subst (λ (n : ℕ). Stands n (left_by at (take_deeds at file))) quiet.taken (take_stands at file line quiet.waits)
+    subst (λ (n : ℕ). Stands n (left_by at (take_deeds at file))) quiet.taken
+    (closed_stands at.taken (left_by at (take_deeds at file)) (take_stands at file line quiet.waits))
 commands_quiet at moment (commands.CopyTty to) line quiet = typing_quiet at moment to quiet
 commands_quiet at moment command line quiet = acts_quiet at moment command quiet
+
+-- one that neither types a file in nor waits
+pub commands_closed : (at : ExecState) (moment : ℕ) (command : Command) → AreClosed at → ((to : Place) → command ≡ commands.CopyTty to → ⊥)
+    → is_pending command ≡ false → StandsClosed 0 (left_by at (command_deeds at moment command))
+unfolding command_deeds
+commands_closed at moment (commands.Take file) closed other done =
+    subst (λ (n : ℕ). StandsClosed n (left_by at (take_deeds at file))) closed.taken (take_stands at file closed.line (closed_quiet at closed).waits)
+commands_closed at moment (commands.CopyTty to) closed other done = absurd (other to refl)
+commands_closed at moment command closed other done = acts_closed at moment command closed other done
 
 -- a line of subcommands: the command waits on, or acts
 module _ (at : ExecState) (session : SessionState) (pending : Pending) (waits : is_pending pending.command ≡ true) where
@@ -173,10 +210,10 @@ module _ (at : ExecState) (session : SessionState) (pending : Pending) (waits : 
   pub free : is_pending more.command ≡ false → Waits done.interpreter.pending
   free over = subst (λ (it : Option Pending). Waits it) (sym (sub_free on.interpreter more.moment more.command takes over)) tt
 
-  pending_stands : at.interpreter.typing ≡ None → (length at.files == 0) ≡ false → Stands at.taken (left_by at (pending_deeds on session pending))
+  pending_stands : at.interpreter.typing ≡ None → (length at.files == 0) ≡ false → StandsClosed at.taken (left_by at (pending_deeds on session pending))
   pending_stands line some =
-      subst (λ (deeds : List (Deed ExecState)). Stands at.taken (left_by at deeds)) (sym pending_as) (by (is_pending more.command) refl) where
-        by : (test : Bool) → is_pending more.command ≡ test → Stands at.taken (left_by at (by_test test))
+      subst (λ (deeds : List (Deed ExecState)). StandsClosed at.taken (left_by at deeds)) (sym pending_as) (by (is_pending more.command) refl) where
+        by : (test : Bool) → is_pending more.command ≡ test → StandsClosed at.taken (left_by at (by_test test))
         by true is = follows_stand waiting answers.Pending line is some (λ (other : answers.Pending ≡ answers.Logout). absurd (cc))
         by false is =
             follows_stand done answer (sub_line on.interpreter more.moment more.command takes is ∙ line) (free is) some (λ logout. absurd (no_end logout))
@@ -189,10 +226,10 @@ module _ (at : ExecState) (session : SessionState) (pending : Pending) (waits : 
         by false is = follows_quiet done 0 answer (record { files = quiet.files; taken = quiet.taken; waits = free is })
 
 module _ (at : ExecState) (session : SessionState) (moment : ℕ) (line : at.interpreter.typing ≡ None) where
-  line_stands : Waits at.interpreter.pending → (length at.files == 0) ≡ false → Stands at.taken (left_by at (line_deeds at session moment))
+  line_stands : Waits at.interpreter.pending → (length at.files == 0) ≡ false → StandsClosed at.taken (left_by at (line_deeds at session moment))
   unfolding line_deeds
   line_stands waits some = by at.interpreter.pending waits where
-    by : (pending : Option Pending) → Waits pending → Stands at.taken (left_by at (line_by at session moment pending))
+    by : (pending : Option Pending) → Waits pending → StandsClosed at.taken (left_by at (line_by at session moment pending))
     by None none = commands_stand at moment (command_at at.interpreter session) line waits some
     by (Some pending) is = pending_stands at session pending is line some
 
@@ -211,13 +248,13 @@ passed_some [] None is some = absurd (cc)
 passed_some (file ∷ files) None is some = absurd (some_last file files is)
 
 endings_stand : (at : ExecState) (session : SessionState) (moment : ℕ) (ending : Ending) → at.interpreter.typing ≡ None
-    → Waits at.interpreter.pending → (length at.files == 0) ≡ false → Stands at.taken (left_by at (ending_deeds at session moment ending))
+    → Waits at.interpreter.pending → (length at.files == 0) ≡ false → StandsClosed at.taken (left_by at (ending_deeds at session moment ending))
 endings_stand at session moment endings.Done line waits some = line_stands at session moment line waits some
-endings_stand at session moment (endings.Fault fault) line waits some = stopped_stands at.taken fault.code at
+endings_stand at session moment (endings.Fault fault) line waits some = stopped_closed at.taken fault.code at line
 endings_stand at session moment (endings.Open place) line waits some = settles_stand at line waits some
 
 pub file_line_stands : (at : ExecState) (session : SessionState) (moment taken : ℕ) → IsOpen taken at
-    → Stands (next_count taken) (left_by at (file_line_deeds at session moment))
+    → StandsClosed (next_count taken) (left_by at (file_line_deeds at session moment))
 file_line_stands at session moment taken held =
-    subst (λ (n : ℕ). Stands (next_count n) (left_by at (file_line_deeds at session moment))) held.count
+    subst (λ (n : ℕ). StandsClosed (next_count n) (left_by at (file_line_deeds at session moment))) held.count
     (endings_stand (passed at) session moment session.ending held.line held.waits (passed_some at.files (innermost at.files) refl held.some))

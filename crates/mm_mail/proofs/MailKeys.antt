@@ -95,7 +95,7 @@ module _ (at : RunState MailState) (key : ℕ) (on : at.state.ended ≡ false) (
   abbrev command : Command
   command = command_of (catalogue_of at.state.state) (edited (setting_of mail_meaning at.state) at.session key)
 
-  left : MailState
+  abbrev left : MailState
   left = left_by at.state (mail_meaning.line_deeds at.state (session_at mail_meaning at key) (moment_of mail_meaning at))
 
   stays : (turn_at mail_meaning at key ≡ turn.Confirmed → ⊥) → ⊥

@@ -267,3 +267,38 @@ pub deletes_one : (number : ℕ) (state : State) (row : Row) (more : List Row) �
     → deletes number state ≡ does (deleted_line number) (with_deleted number state)
 unfolding deletes
 deletes_one number state row more one = ap (λ (rows : List Row). deletes_first number rows state) one
+
+-- a walk over the messages, of which lines are put
+pub lines_at : (state : State) (directory : List ℕ) (place : Place) (rows : List Row) → IsWellFormed state → directory ≡ state.connected
+    → place ≡ numbered_place directory (Number FIRST_GENERATION) → rows ≡ selected false place state
+    → flat_map header_if rows ≡ flat_map header_line (mailbox state.connected state)
+lines_at state directory place rows well connected at are =
+    ap (flat_map header_if) (are ∙ ap (λ (other : Place). selected false other state)
+    (at ∙ ap (λ (name : List ℕ). numbered_place name (Number FIRST_GENERATION)) connected))
+    ∙ lines_of_all state state.connected well
+
+-- and one that keeps the greatest number
+pub greatest_whole : (rows other : List Row) → rows ≡ other → max 0 (greatest_among rows) ≡ greatest_among other
+greatest_whole rows other same = let step = ap greatest_among same in omega arith
+
+pub greatest_next : (rows rest : List Row) (row : Row) (before number now whole : ℕ) → rows ≡ row ∷ rest → number ≡ number_if row
+    → now ≡ max number before → max before (greatest_among rows) ≡ whole → max now (greatest_among rest) ≡ whole
+greatest_next rows rest row before number now whole next is more so_far =
+    let step : greatest_among rows ≡ max (number_if row) (greatest_among rest) = ap greatest_among next in
+    three_max before (number_if row) (greatest_among rest) number now (greatest_among rows) whole is more step so_far
+  where
+    three_max : (a b c number now rows whole : ℕ) → number ≡ b → now ≡ max number a → rows ≡ max b c → max a rows ≡ whole → max now c ≡ whole
+    three_max a b c number now rows whole is more step so_far = omega arith
+
+-- of those that are marked, and of those that are not
+pub greatest_at : (state : State) (directory : List ℕ) (place : Place) (first second most : ℕ) → IsWellFormed state
+    → place ≡ numbered_place directory All → first ≡ greatest_among (selected false place state)
+    → second ≡ greatest_among (selected true place state) → most ≡ max first second → most ≡ greatest directory state
+greatest_at state directory place first second most well at unmarked marked is =
+    let one : first ≡ greatest_among (selected false (numbered_place directory All) state) =
+    unmarked ∙ ap (λ (other : Place). greatest_among (selected false other state)) at in
+    let two : second ≡ greatest_among (selected true (numbered_place directory All) state) =
+    marked ∙ ap (λ (other : Place). greatest_among (selected true other state)) at in
+    is ∙ ap (λ (number : ℕ). max number second) one
+    ∙ ap (λ (number : ℕ). max (greatest_among (selected false (numbered_place directory All) state)) number) two
+    ∙ greatest_of_all state directory well

@@ -10,7 +10,7 @@ ghost use Rattle.ex_store.specs.Lent.{row_of_view};
 ghost use Rattle.ex_store.specs.Selection.{selected};
 ghost use Rattle.mm_mail.specs.declared.message_name.TheConstants.{MOST_MESSAGES};
 ghost use Rattle.ex_commands.specs.Texts.{space};
-ghost use Rattle.mm_mail.specs.Mailbox.{deleted, deleted_line, deletes, first_line, greatest, greatest_among, header_if, header_line, header_lines, headers, is_rest, mailbox, message_place, messages_numbered, number_if, numbered_place, reads};
+ghost use Rattle.mm_mail.specs.Mailbox.{deleted, deleted_line, deletes, first_line, greatest, greatest_among, header_if, header_line, headers, is_rest, mailbox, message_place, messages_numbered, number_if, numbered_place, reads};
 
 use crate::message_name::{
     MOST_MESSAGES, digits_of, four_digits, is_message_name, message_name, name_number,
@@ -29,6 +29,7 @@ const HEADER_BYTES: usize = 90;
 const FIRST_GENERATION: u32 = 1;
 
 /// Where the files of messages of a directory stand, of these generations, whatever their numbers.
+#[tactic(auto, unfolding(crate::specs::Mailbox::any_number, crate::specs::Mailbox::mail_type))]
 pub(crate) fn numbered_place(directory: &Name, generation: Gen) -> Place
     ensures { result ≡ numbered_place directory.now generation }
 {
@@ -42,6 +43,7 @@ pub(crate) fn numbered_place(directory: &Name, generation: Gen) -> Place
 }
 
 /// Where the message of a directory with a number stands.
+#[tactic(auto, unfolding(crate::specs::Mailbox::mail_type))]
 pub(crate) fn message_place(directory: &Name, number: u64, generation: Gen) -> Place
     ensures { result ≡ message_place directory.now number generation }
 {
@@ -183,12 +185,12 @@ fn number_if(row: RowView<'_>) -> u64
 
 // The greatest number of the files of messages of a directory with this mark, and 0 with none.
 #[tactic(auto)]
-fn greatest_with(store: &Store, place: &Place, deleted: bool) -> u64
-    ensures value { result ≡ greatest_among (selected deleted place.now store.now.state) }
+fn greatest_with(store: &Store, place: &Place, marked: bool) -> u64
+    ensures value { result ≡ greatest_among (selected marked place.now store.now.state) }
     ensures few { result ≤ MOST_MESSAGES }
 {
     let mut greatest = 0;
-    for row in store.selection(place, deleted) {
+    for row in store.selection(place, marked) {
         greatest = number_if(row).max(greatest);
     }
     greatest

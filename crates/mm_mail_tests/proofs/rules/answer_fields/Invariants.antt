@@ -1,0 +1,5 @@
+use Rattle.mm_mail_tests.proofs.rules.answer_fields.Given as goal
+
+-- the ledger that was just opened
+abbrev pub ghosts-answer_counted : goal.ghosts-answer_counted
+ghosts-answer_counted a = record { name = a.blank.name; parts = a.blank.parts }
