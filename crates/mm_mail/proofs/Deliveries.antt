@@ -1,5 +1,6 @@
--- A message is sent: where its file may be put, and whether its number is past the last.
-use Rattle.std.proofs.Common.{◌≡◌, ℕ, ◌+◌, ◌/◌, ◌<◌, ◌≤◌, ◌&&◌, nat_lt, not, true, false, List, ◌++◌, Result, Ok, refl, subst, sym, ◌∙◌, append_assoc, arith}
+-- A message is sent: where its file may be put, whether its number is past the last, and what is left. One is read: all
+-- stays.
+use Rattle.std.proofs.Common.{◌≡◌, ℕ, ◌+◌, ◌/◌, ◌<◌, ◌≤◌, ◌&&◌, nat_lt, not, true, false, List, [], ◌∷◌, ◌++◌, Result, Ok, refl, subst, sym, ◌∙◌, append_assoc, arith}
 use Rattle.std.specs.Char.{is_ascii_lowercase}
 use Rattle.std.proofs.lemmas.Bool.{and_from, le-ltb, lt-ltb}
 use Rattle.std.proofs.lemmas.Bool.Decides.{nat_tests}
@@ -19,6 +20,7 @@ use Rattle.ex_store.specs.declared.place.Place.{Place}
 use Rattle.ex_store.specs.declared.plan.Plan.TheVariants as plans
 use Rattle.ex_store.specs.declared.plan.Refusal.{Refusal}
 use Rattle.ex_store.specs.declared.plan.Refusal.TheVariants as refusals
+use Rattle.ex_store.specs.declared.row.Row.{Row}
 use Rattle.ex_store.specs.Plan.{IsRefused, IsTarget, Planned, planned}
 use Rattle.ex_store.specs.Ready.{Change, applied, done_on}
 use Rattle.ex_store.specs.State.{State, has_directory}
@@ -28,7 +30,7 @@ use Rattle.ex_commands.specs.Outcome.{Replies}
 use Rattle.ex_commands.specs.Texts.{space}
 use Rattle.ex_commands.proofs.Plays.{play_done, play_refused}
 use Rattle.mm_mail.specs.Delivery.{message_bytes, number_for, sends, sends_as, sent_line, sent_to}
-use Rattle.mm_mail.specs.Mailbox.{mail_type, message_place}
+use Rattle.mm_mail.specs.Mailbox.{mail_type, message_place, messages_numbered, reads, reads_first}
 use Rattle.mm_mail.specs.MessageName.{digit, four_digits, message_name, prefix}
 use Rattle.mm_mail.specs.declared.message.Message.{Message}
 use Rattle.mm_mail.specs.declared.message_name.TheConstants.{MOST_MESSAGES}
@@ -110,3 +112,12 @@ refused s before now message state left number place given refusal code there ho
     (answers.Refused code)
     (subst (λ (plan : Result Planned Code). IsRefused plan refusal) (is_planned message state number place given there holds) fails)
     is_code refl same (record { answer_is = refl; reply = writes; state = refl })
+
+-- a message that is shown, or is not there, changes nothing
+shown_stays : (rows : List Row) (state : State) → state ≡ (reads_first rows state).state
+shown_stays [] state = refl
+shown_stays (row ∷ rows) state = refl
+
+pub reads_stays : (number : ℕ) (state : State) → state ≡ (reads number state).state
+unfolding reads
+reads_stays number state = shown_stays (messages_numbered state.connected number state) state

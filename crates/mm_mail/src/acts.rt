@@ -14,7 +14,7 @@ use cm_io::{Put, Sink, Writer};
 use ex_store::Store;
 
 // Does a command, and writes its reply.
-#[tactic(auto, using(cm_io::proofs::Texts::each, cm_io::proofs::Texts::writes_none), unfolding(crate::specs::Meaning::act_of))]
+#[tactic(auto, using(cm_io::proofs::Texts::each, cm_io::proofs::Texts::writes_none, crate::proofs::Deliveries::reads_stays), unfolding(crate::specs::Meaning::act_of))]
 fn do_command<S: Sink>(store: &mut Store, command: &Command, out: &mut Writer<'_, S>)
     requires { MayAct command.now store.old.state }
     ensures written { Writes S.Sink out.old out.new (act_of command.now store.old.state).reply }
