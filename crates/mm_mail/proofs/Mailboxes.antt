@@ -1,13 +1,12 @@
 -- What the places of messages select in a store.
-use Rattle.std.proofs.Common.{◌≡◌, ℕ, ◌≤◌, ◌==◌, ◌&&◌, max, Bool, true, false, not, cond, if◌then◌else◌, List, [], ◌∷◌, ◌++◌, filter, map, Option, None, Some, is_some, take, refl, ap, sym, subst, ◌∙◌, arith}
+use Rattle.std.proofs.Common.{◌≡◌, ℕ, ◌≤◌, ◌==◌, ◌&&◌, max, Bool, true, false, not, cond, if◌then◌else◌, List, [], ◌∷◌, ◌++◌, filter, map, Option, None, Some, is_some, refl, ap, sym, subst, ◌∙◌, arith}
 use Rattle.std.specs.List.{flat_map, list_all}
 use Rattle.std.specs.Option.{MatchOption}
 use Rattle.std.specs.Str.{bytes_eq}
 use Rattle.std.proofs.lemmas.Bool.{and_parts}
-use Rattle.cm_lists.proofs.Bools.{and-false, and-true}
+use Rattle.cm_lists.proofs.Bools.{and-false}
 use Rattle.cm_lists.proofs.Filters.{filter_same}
 use Rattle.cm_text.specs.Bytes.{is_name, is_word}
-use Rattle.cm_fields.specs.declared.value.Gen.{Gen}
 use Rattle.cm_fields.specs.declared.value.Gen.TheVariants.{All, Number}
 use Rattle.cm_files.specs.Catalogue.{is_upper_name}
 use Rattle.cm_files.specs.Pattern.{matches}

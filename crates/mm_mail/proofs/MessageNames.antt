@@ -1,5 +1,5 @@
 -- The names of the files of messages, and their numbers.
-use Rattle.std.proofs.Common.{◌≡◌, ℕ, ◌+◌, ◌-◌, ◌*◌, ◌/◌, ◌%◌, ◌<◌, ◌≤◌, ◌==◌, ◌&&◌, nat_eq, Bool, true, false, not, inr, if◌then◌else◌, nat_le, List, [], ◌∷◌, ◌++◌, Option, None, Some, length, take, drop, refl, ap, sym, subst, cond, ◌∙◌, arith, eq-eqb}
+use Rattle.std.proofs.Common.{◌≡◌, ℕ, ◌+◌, ◌*◌, ◌/◌, ◌%◌, ◌<◌, ◌≤◌, ◌==◌, ◌&&◌, nat_eq, Bool, true, false, not, inr, if◌then◌else◌, nat_le, List, [], ◌∷◌, ◌++◌, Option, None, Some, length, take, refl, ap, sym, subst, cond, ◌∙◌, arith, eq-eqb}
 use Rattle.std.specs.Char.{digit_value, is_ascii_digit, is_ascii_lowercase}
 use Rattle.std.specs.Int.{IsInRange}
 use Rattle.std.specs.List.{list_all, list_any, starts_with}
@@ -72,8 +72,14 @@ four_parts number small = omega arith
 
 value_of_four_digits : (number : ℕ) → number ≤ 9999 → digits_value 10 (four_digits number) ≡ number
 value_of_four_digits number small =
-    omega (arith, four_parts number small, value_of_digit (number / 1000), value_of_digit (number / 100),
-    value_of_digit (number / 10), value_of_digit number)
+    omega (
+      arith,
+      four_parts number small,
+      value_of_digit (number / 1000),
+      value_of_digit (number / 100),
+      value_of_digit (number / 10),
+      value_of_digit number,
+    )
 
 -- the name of a message is one of a message, of its number
 digit_is : (number : ℕ) → is_ascii_digit (digit number) ≡ true

@@ -1,5 +1,5 @@
 -- A message that is sent is one of its receiver's, the only one with its number.
-use Rattle.std.proofs.Common.{◌≡◌, ℕ, ◌+◌, ◌/◌, ◌%◌, ◌≤◌, ◌==◌, ◌&&◌, nat_le, nat_lt, not, Bool, true, false, cond, filter, List, [], ◌∷◌, ◌++◌, length, Result, Ok, Err, refl, ap, sym, subst, ◌∙◌, append_assoc, arith}
+use Rattle.std.proofs.Common.{◌≡◌, ℕ, ◌/◌, ◌%◌, ◌≤◌, ◌==◌, ◌&&◌, nat_le, nat_lt, not, Bool, true, false, cond, filter, List, [], ◌∷◌, ◌++◌, length, Result, Ok, Err, refl, ap, sym, subst, ◌∙◌, append_assoc, arith}
 use Rattle.std.specs.Char.{digit_value, is_ascii_digit}
 use Rattle.std.specs.List.{list_all}
 use Rattle.std.specs.Ordering.{is_eq, is_lt}
@@ -238,10 +238,11 @@ written_alone message state made few is (Ok generation) admits =
     let none : none_of key state.rows ≡ true =
     none_passes (is_of key) state.rows [] state.rows refl (not_of message state few) in
     let first = first_generation key (length (bytes_of message state)) generation state.rows none admits in
-    let alone = sent_alone message state row.file.keep row.file.moment row.file.bytes generation few first in
-    (row,
-    subst (λ (left : Planned). messages_numbered message.receiver (number_for message state) left.state ≡ row ∷ []) same alone,
-    refl)
+    let alone = sent_alone message state row.file.keep row.file.moment row.file.bytes generation few first in (
+      row,
+      subst (λ (left : Planned). messages_numbered message.receiver (number_for message state) left.state ≡ row ∷ []) same alone,
+      refl,
+    )
 written_alone message state made few is (Err code) fails =
     let never = write_refused state (place_of message state) (bytes_of message state) message.moment code
     (has_name message state) fails in

@@ -35,8 +35,9 @@ use ex_store::Store;
 use std::alloc::Global;
 use std::marker::Model;
 
-/// Mail in its course: directories and files, the message that is being typed in, and whether QUIT has acted. The reader
-/// and sender is the connected directory. Contracts see these, with the state of the file machine in place of the store.
+/// Mail in its course: directories and files, the message that is being typed in, and whether QUIT has acted. The
+/// reader and sender is the connected directory. Contracts see these, with the state of the file machine in place of
+/// the store.
 #[derive(Drop)]
 pub struct Mail {
     alloc: Global,
