@@ -2,7 +2,9 @@
 #![tactic(auto)]
 
 mod part_sink;
+mod pieces;
 mod trace;
 
 pub use part_sink::{Part, PartSink};
+pub use pieces::{count_calls, first_pieces, is_written};
 pub use trace::{Faults, Stands, Stop, push_text, stands_at};

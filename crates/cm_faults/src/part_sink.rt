@@ -6,12 +6,12 @@ ghost use Rattle.cm_io.specs.Told.{Adds, AddsPart, Bytes};
 use cm_io::{MemSink, NoMemory, Put, Sink};
 use std::alloc::Global;
 
-/// How much a put that fails takes of its bytes.
+/// How much a put that fails takes of its bytes: never all of them.
 #[derive(Clone, Copy, Debug, PartialEq, Eq)]
 pub enum Part {
     /// Not one of them.
     Nothing,
-    /// The first alone.
+    /// The first alone, or of one byte nothing.
     First,
     /// All but the last.
     AllButLast,
@@ -23,7 +23,7 @@ fn size_of(part: Part, size: usize) -> usize
 {
     match part {
         Part::Nothing => 0,
-        Part::First => 1.min(size),
+        Part::First => 1.min(size.saturating_sub(1)),
         Part::AllButLast => size.saturating_sub(1),
     }
 }
