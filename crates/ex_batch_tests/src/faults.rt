@@ -37,8 +37,6 @@ show _<OPERATOR>JOB.CTL.1 [OK]~";
 // As many calls as the longest save has, and one more.
 const CALLS: u32 = 18;
 
-const PARTS: [Part; 3] = [Part::Nothing, Part::First, Part::AllButLast];
-
 // What fails: the put on the screen, and the call of the host, with these numbers.
 #[derive(Clone, Copy, Debug, PartialEq, Eq)]
 struct Failing {
@@ -193,14 +191,15 @@ fn try_calls(runtime: &HostRuntime, failing: Failing, whole: &Outcome) -> Result
     Ok(())
 }
 
-fn try_screen(runtime: &HostRuntime, part: Part, whole: &Outcome) -> Result<(), Fail> {
+fn try_screen(runtime: &HostRuntime, part: Part) -> Result<(), Fail> {
+    let whole = run(runtime, &NOTHING)?;
     for put in 0..whole.screen.puts() {
         let failing = Failing {
             screen: Some(put),
             part,
             call: None,
         };
-        try_calls(runtime, failing, whole)?;
+        try_calls(runtime, failing, &whole)?;
     }
     Ok(())
 }
@@ -213,10 +212,16 @@ fn stands_where_the_host_fails(rt: HostRuntime) -> Result<(), Fail> {
 }
 
 #[test]
-fn stands_where_screen_and_host_fail(rt: HostRuntime) -> Result<(), Fail> {
-    let whole = run(&rt, &NOTHING)?;
-    for part in PARTS {
-        try_screen(&rt, part, &whole)?;
-    }
-    Ok(())
+fn stands_where_a_put_takes_nothing(rt: HostRuntime) -> Result<(), Fail> {
+    try_screen(&rt, Part::Nothing)
+}
+
+#[test]
+fn stands_where_a_put_takes_one_byte(rt: HostRuntime) -> Result<(), Fail> {
+    try_screen(&rt, Part::First)
+}
+
+#[test]
+fn stands_where_a_put_takes_all_but_one(rt: HostRuntime) -> Result<(), Fail> {
+    try_screen(&rt, Part::AllButLast)
 }

@@ -53,8 +53,6 @@ show Logged out~";
 // As many calls as the longest save has, and one more.
 const CALLS: u32 = 11;
 
-const PARTS: [Part; 3] = [Part::Nothing, Part::First, Part::AllButLast];
-
 // What fails: the get, the put on the screen, the put on the log and the call of the host with these numbers.
 #[derive(Clone, Copy, Debug, PartialEq, Eq)]
 struct Failing {
@@ -270,26 +268,28 @@ fn try_gets(runtime: &HostRuntime, whole: &Outcome) -> Result<(), Fail> {
     Ok(())
 }
 
-fn try_screen(runtime: &HostRuntime, part: Part, whole: &Outcome) -> Result<(), Fail> {
+fn try_screen(runtime: &HostRuntime, part: Part) -> Result<(), Fail> {
+    let whole = session(runtime, &NOTHING)?;
     for put in 0..whole.screen.puts() {
         let failing = Failing {
             screen: Some(put),
             part,
             ..NOTHING
         };
-        try_calls(runtime, failing, whole)?;
+        try_calls(runtime, failing, &whole)?;
     }
     Ok(())
 }
 
-fn try_log(runtime: &HostRuntime, part: Part, whole: &Outcome) -> Result<(), Fail> {
+fn try_log(runtime: &HostRuntime, part: Part) -> Result<(), Fail> {
+    let whole = session(runtime, &NOTHING)?;
     for put in 0..whole.log.puts() {
         let failing = Failing {
             log: Some(put),
             part,
             ..NOTHING
         };
-        try_calls(runtime, failing, whole)?;
+        try_calls(runtime, failing, &whole)?;
     }
     Ok(())
 }
@@ -307,19 +307,31 @@ fn stands_where_keys_and_host_fail(rt: HostRuntime) -> Result<(), Fail> {
 }
 
 #[test]
-fn stands_where_screen_and_host_fail(rt: HostRuntime) -> Result<(), Fail> {
-    let whole = session(&rt, &NOTHING)?;
-    for part in PARTS {
-        try_screen(&rt, part, &whole)?;
-    }
-    Ok(())
+fn stands_where_a_put_on_the_screen_takes_nothing(rt: HostRuntime) -> Result<(), Fail> {
+    try_screen(&rt, Part::Nothing)
 }
 
 #[test]
-fn stands_where_log_and_host_fail(rt: HostRuntime) -> Result<(), Fail> {
-    let whole = session(&rt, &NOTHING)?;
-    for part in PARTS {
-        try_log(&rt, part, &whole)?;
-    }
-    Ok(())
+fn stands_where_a_put_on_the_screen_takes_one_byte(rt: HostRuntime) -> Result<(), Fail> {
+    try_screen(&rt, Part::First)
+}
+
+#[test]
+fn stands_where_a_put_on_the_screen_takes_all_but_one(rt: HostRuntime) -> Result<(), Fail> {
+    try_screen(&rt, Part::AllButLast)
+}
+
+#[test]
+fn stands_where_a_put_on_the_log_takes_nothing(rt: HostRuntime) -> Result<(), Fail> {
+    try_log(&rt, Part::Nothing)
+}
+
+#[test]
+fn stands_where_a_put_on_the_log_takes_one_byte(rt: HostRuntime) -> Result<(), Fail> {
+    try_log(&rt, Part::First)
+}
+
+#[test]
+fn stands_where_a_put_on_the_log_takes_all_but_one(rt: HostRuntime) -> Result<(), Fail> {
+    try_log(&rt, Part::AllButLast)
 }

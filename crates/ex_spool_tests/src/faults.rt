@@ -1,4 +1,5 @@
-// A run over a queue of three, with each put on the screen failing, each call of the host, and each put with each call.
+// A run over a queue of three, with each put on the screen failing, each call of the host, and each of the first puts
+// with each call.
 //
 // What must stand is the trace of the whole run, cut where a put fails. The screen fails in one put alone, and would
 // take what is put behind it.
@@ -26,7 +27,8 @@ const MOMENT: u64 = 864_000;
 // As many calls as the save has, and one more.
 const CALLS: u32 = 11;
 
-const PARTS: [Part; 3] = [Part::Nothing, Part::First, Part::AllButLast];
+// How many puts fail together with each call.
+const FIRST: usize = 5;
 
 // What fails: the put on the screen, and the call of the host, with these numbers.
 #[derive(Clone, Copy, Debug, PartialEq, Eq)]
@@ -180,14 +182,23 @@ fn try_calls(alloc: Global, failing: Failing, whole: &Outcome) -> Result<(), Fai
     Ok(())
 }
 
-fn try_screen(alloc: Global, part: Part, whole: &Outcome) -> Result<(), Fail> {
-    for put in 0..whole.screen.puts() {
-        let failing = Failing {
-            screen: Some(put),
-            part,
-            call: None,
-        };
+fn try_put(alloc: Global, put: usize, part: Part, whole: &Outcome) -> Result<(), Fail> {
+    let failing = Failing {
+        screen: Some(put),
+        part,
+        call: None,
+    };
+    try_one(alloc, &failing, whole)?;
+    if put < FIRST {
         try_calls(alloc, failing, whole)?;
+    }
+    Ok(())
+}
+
+fn try_screen(alloc: Global, part: Part) -> Result<(), Fail> {
+    let whole = run(alloc, &NOTHING)?;
+    for put in 0..whole.screen.puts() {
+        try_put(alloc, put, part, &whole)?;
     }
     Ok(())
 }
@@ -200,10 +211,16 @@ fn stands_where_the_host_fails(rt: HostRuntime) -> Result<(), Fail> {
 }
 
 #[test]
-fn stands_where_screen_and_host_fail(rt: HostRuntime) -> Result<(), Fail> {
-    let whole = run(rt.alloc(), &NOTHING)?;
-    for part in PARTS {
-        try_screen(rt.alloc(), part, &whole)?;
-    }
-    Ok(())
+fn stands_where_a_put_takes_nothing(rt: HostRuntime) -> Result<(), Fail> {
+    try_screen(rt.alloc(), Part::Nothing)
+}
+
+#[test]
+fn stands_where_a_put_takes_one_byte(rt: HostRuntime) -> Result<(), Fail> {
+    try_screen(rt.alloc(), Part::First)
+}
+
+#[test]
+fn stands_where_a_put_takes_all_but_one(rt: HostRuntime) -> Result<(), Fail> {
+    try_screen(rt.alloc(), Part::AllButLast)
 }
