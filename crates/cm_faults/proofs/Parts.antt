@@ -9,5 +9,5 @@ pub adds_part_of_part : (given bytes : List ℕ) (n m : ℕ)
     → AddsPart (Bytes given) (Bytes (given ++ take m (take n bytes))) bytes
 adds_part_of_part given bytes n m =
     subst (λ whole. AddsPart (Bytes given) (Bytes (given ++ take m (take n bytes))) whole) (take-append-drop n bytes)
-        (adds_early (Bytes given) (Bytes (given ++ take m (take n bytes))) (take n bytes) (drop n bytes)
-            (adds_prefix given (take n bytes) m))
+    (adds_early (Bytes given) (Bytes (given ++ take m (take n bytes))) (take n bytes) (drop n bytes)
+    (adds_prefix given (take n bytes) m))

@@ -28,6 +28,15 @@ fn size_of(part: Part, size: usize) -> usize
     }
 }
 
+// The count after one more. It stays at its last value once that is reached.
+#[tactic(auto, unfolding(cm_io::specs::Fault::Rose))]
+fn raised(count: u64) -> u64
+    ensures later { count ≤ result }
+    ensures rose { Rose count result }
+{
+    count.saturating_add(1)
+}
+
 /// A sink in memory of which one put fails, and takes a part of its bytes. It takes all that is put behind that. A put
 /// of no bytes is none.
 #[derive(Drop)]
@@ -79,7 +88,7 @@ impl PartSink {
     }
 
     // Puts the part, and fails.
-    #[tactic(auto, using(crate::proofs::Parts::adds_part_of_part), unfolding(cm_io::specs::Fault::Rose))]
+    #[tactic(auto, using(crate::proofs::Parts::adds_part_of_part))]
     fn put_part(&mut self, bytes: &[u8]) -> Put
         ensures part { AddsPart (Bytes self.old.held.bytes) (Bytes self.new.held.bytes) bytes.now }
         ensures later { self.old.faults ≤ self.new.faults }
@@ -88,12 +97,12 @@ impl PartSink {
     {
         let size = size_of(self.part, bytes.len());
         let _ = self.held.put(&bytes[..size]);
-        self.faults = self.faults.saturating_add(1);
+        self.faults = raised(self.faults);
         Put::Failed
     }
 
     // Puts all of the bytes, or what there is room for.
-    #[tactic(auto, using(cm_io::proofs::Additions::adds_prefix), unfolding(cm_io::specs::Told::add, cm_io::specs::Fault::Rose))]
+    #[tactic(auto, using(cm_io::proofs::Additions::adds_prefix), unfolding(cm_io::specs::Told::add))]
     fn put_whole(&mut self, bytes: &[u8]) -> Put
         ensures nothing { bytes.now ≡ [] → result ≡ Put.Done }
         ensures bytes { Adds (Bytes self.old.held.bytes) (Bytes self.new.held.bytes) bytes.now result }
@@ -103,7 +112,7 @@ impl PartSink {
         match self.held.put(bytes) {
             Put::Done => Put::Done,
             Put::Failed => {
-                self.faults = self.faults.saturating_add(1);
+                self.faults = raised(self.faults);
                 Put::Failed
             }
         }

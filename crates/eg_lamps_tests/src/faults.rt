@@ -104,10 +104,12 @@ fn status_of(stop: Stop) -> Status {
 fn is_cut(alloc: Global, outcome: &Outcome, faults: &Faults) -> Result<bool, AllocError> {
     let wanted = stands_at(alloc, TRACE, faults)?;
     let level = format!(in alloc; "{}", outcome.level)?;
-    Ok(outcome.screen.bytes() == wanted.screen.as_slice()
-        && level.as_bytes() == wanted.state.as_slice()
-        && outcome.left.saturating_add(wanted.gets) == KEYS.len()
-        && outcome.status == status_of(wanted.stop))
+    Ok(
+        outcome.screen.bytes() == wanted.screen.as_slice()
+            && level.as_bytes() == wanted.state.as_slice()
+            && outcome.left.saturating_add(wanted.gets) == KEYS.len()
+            && outcome.status == status_of(wanted.stop),
+    )
 }
 
 fn try_get(runtime: &HostRuntime, get: u32) -> Result<(), Fail> {

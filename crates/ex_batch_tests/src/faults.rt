@@ -1,5 +1,4 @@
-// A run that takes a command file, with each put on the screen failing, each call of the host, and each put with each
-// call.
+// A run that takes a command file, with each put on the screen failing, each call of the host, and both together.
 //
 // What must stand is the trace of the whole run, cut where a put fails. The screen fails in one put alone, and would
 // take what is put behind it.
@@ -14,7 +13,8 @@ use std::marker::Brand;
 use std::sync::ledger::Blank;
 use std::test::Fail;
 
-const INPUT: &str = "EXEC20 2|D OPERATOR 1|C OPERATOR|F OPERATOR B.CMD.1 U 1 0 - 27|BUILD <X>|COPY B.CMD C.CMD||\
+const INPUT: &str =
+    "EXEC20 2|D OPERATOR 1|C OPERATOR|F OPERATOR B.CMD.1 U 1 0 - 27|BUILD <X>|COPY B.CMD C.CMD||\
     F OPERATOR JOB.CTL.1 U 1 0 - 25|@TAKE B.CMD|@DEL JOB.CTL||E|";
 
 // Behind `act` is the image, with `/` between its writes: as it was, with a directory more, with a file more, and with
@@ -34,8 +34,11 @@ act EXEC20 2|/D OPERATOR 1|/D X 1|/C OPERATOR|/F OPERATOR B.CMD.1 U 1 0 1 27|/\
     F OPERATOR JOB.CTL.1 D 1 0 - 25|/@TAKE B.CMD|@DEL JOB.CTL|/|/E|
 show _<OPERATOR>JOB.CTL.1 [OK]~";
 
-// As many calls as the longest save has, and one more.
+// More than the calls of the longest save: a call that is not made fails nothing.
 const CALLS: u32 = 18;
+
+// How many puts fail together with each call.
+const FIRST: usize = 5;
 
 // What fails: the put on the screen, and the call of the host, with these numbers.
 #[derive(Clone, Copy, Debug, PartialEq, Eq)]
@@ -128,10 +131,12 @@ fn is_cut(
     push_text(message, &mut wanted.screen)?;
     let input = bytes_of(alloc, INPUT)?;
     let out = outcome.host.file("OUT");
-    Ok(is_written(alloc, out, &wanted.state, call)?
-        && outcome.screen.bytes() == wanted.screen.as_slice()
-        && outcome.host.file("IN") == Some(input.as_slice())
-        && outcome.status == status)
+    Ok(
+        is_written(alloc, out, &wanted.state, call)?
+            && outcome.screen.bytes() == wanted.screen.as_slice()
+            && outcome.host.file("IN") == Some(input.as_slice())
+            && outcome.status == status,
+    )
 }
 
 // Whether nothing was done where the image could not be read: a screen that fails has a beginning of the message.
@@ -174,9 +179,12 @@ fn try_one(runtime: &HostRuntime, failing: &Failing, whole: &Outcome) -> Result<
     }
     let screen = String::from_utf8_lossy(alloc, outcome.screen.bytes())?;
     let out = String::from_utf8_lossy(alloc, outcome.host.output().unwrap_or(b"none"))?;
-    Err(Fail::new(
-        format_args!("{failing:?} {:?} {:?} {:?}", outcome.status, screen.as_str(), out.as_str()),
-    ))
+    Err(Fail::new(format_args!(
+        "{failing:?} {:?} {:?} {:?}",
+        outcome.status,
+        screen.as_str(),
+        out.as_str()
+    )))
 }
 
 // With each call of the host, and behind these with one that is not made.
@@ -191,15 +199,26 @@ fn try_calls(runtime: &HostRuntime, failing: Failing, whole: &Outcome) -> Result
     Ok(())
 }
 
-fn try_screen(runtime: &HostRuntime, part: Part) -> Result<(), Fail> {
-    let whole = run(runtime, &NOTHING)?;
-    for put in 0..whole.screen.puts() {
+// With each call of the host, or with each third behind the first puts.
+fn try_put(runtime: &HostRuntime, put: usize, part: Part, whole: &Outcome) -> Result<(), Fail> {
+    let left = (put % 3) as u32;
+    for call in 0..CALLS.saturating_add(1) {
         let failing = Failing {
             screen: Some(put),
             part,
-            call: None,
+            call: Some(call),
         };
-        try_calls(runtime, failing, &whole)?;
+        if put < FIRST || call % 3 == left {
+            try_one(runtime, &failing, whole)?;
+        }
+    }
+    Ok(())
+}
+
+fn try_screen(runtime: &HostRuntime, part: Part) -> Result<(), Fail> {
+    let whole = run(runtime, &NOTHING)?;
+    for put in 0..whole.screen.puts() {
+        try_put(runtime, put, part, &whole)?;
     }
     Ok(())
 }

@@ -199,10 +199,12 @@ fn is_cut(
     let out = outcome.host.file("OUT");
     let is_written = is_written(alloc, out, &wanted.state, call)?;
     let is_left = is_left(alloc, outcome, wanted.gets)?;
-    Ok(is_written
-        && is_left
-        && is_shown(outcome, wanted)
-        && outcome.status == status_of(wanted.stop, loses))
+    Ok(
+        is_written
+            && is_left
+            && is_shown(outcome, wanted)
+            && outcome.status == status_of(wanted.stop, loses),
+    )
 }
 
 // Whether nothing was done where the image could not be read: a screen that fails has a beginning of the message.
@@ -240,9 +242,12 @@ fn try_one(runtime: &HostRuntime, failing: &Failing, whole: &Outcome) -> Result<
     }
     let screen = String::from_utf8_lossy(runtime.alloc(), outcome.screen.bytes())?;
     let log = String::from_utf8_lossy(runtime.alloc(), outcome.log.bytes())?;
-    Err(Fail::new(
-        format_args!("{failing:?} {:?} {:?} {:?}", outcome.status, screen.as_str(), log.as_str()),
-    ))
+    Err(Fail::new(format_args!(
+        "{failing:?} {:?} {:?} {:?}",
+        outcome.status,
+        screen.as_str(),
+        log.as_str()
+    )))
 }
 
 // With each call of the host, and behind these with none.

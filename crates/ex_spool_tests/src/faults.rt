@@ -11,7 +11,8 @@ use ex_spool::{Status, Words, spool20};
 use std::alloc::{AllocError, Global};
 use std::test::Fail;
 
-const INPUT: &str = "EXEC20 2|D OPERATOR 1|C OPERATOR|F OPERATOR A..1 U 1 0 - 4|HI~|Q OPERATOR A..1 2 NARROW - A_|\
+const INPUT: &str =
+    "EXEC20 2|D OPERATOR 1|C OPERATOR|F OPERATOR A..1 U 1 0 - 4|HI~|Q OPERATOR A..1 2 NARROW - A_|\
     Q OPERATOR A..1 1 WIDE 11 B_|Q OPERATOR B..1 1 WIDE 10 C_|E|";
 
 // The pages of the first entry, and of the third, whose file is not there. Behind `act` is the image, with `/` between
@@ -123,10 +124,12 @@ fn is_cut(
     push_text(message, &mut wanted.screen)?;
     let input = bytes_of(alloc, INPUT)?;
     let is_saved = is_saved(alloc, &outcome.host, wanted, call)?;
-    Ok(is_saved
-        && outcome.screen.bytes() == wanted.screen.as_slice()
-        && outcome.host.file("IN") == Some(input.as_slice())
-        && outcome.status == status)
+    Ok(
+        is_saved
+            && outcome.screen.bytes() == wanted.screen.as_slice()
+            && outcome.host.file("IN") == Some(input.as_slice())
+            && outcome.status == status,
+    )
 }
 
 // Whether nothing was done where the image could not be read: a screen that fails has a beginning of the message.

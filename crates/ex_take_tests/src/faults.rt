@@ -27,7 +27,8 @@ const FILES: &str = "file A.CMD|TAKE B.CMD~BUILD <Y>~
 file B.CMD|INF VER~BUILD <X>~COPY A.CMD C.CMD~";
 
 // Behind `act` is the image: as it was, with a directory more, with a file more, and with another directory.
-const TRACE: &str = "act EXEC20 2|D OPERATOR 1|C OPERATOR|F OPERATOR A.CMD.1 U 1 0 - 21|TAKE B.CMD|BUILD <Y>||\
+const TRACE: &str =
+    "act EXEC20 2|D OPERATOR 1|C OPERATOR|F OPERATOR A.CMD.1 U 1 0 - 21|TAKE B.CMD|BUILD <Y>||\
     F OPERATOR B.CMD.1 U 1 0 - 35|INF VER|BUILD <X>|COPY A.CMD C.CMD||E|
 show _EXEC20 1~
 act EXEC20 2|D OPERATOR 1|D X 1|C OPERATOR|F OPERATOR A.CMD.1 U 1 0 - 21|TAKE B.CMD|BUILD <Y>||\
@@ -112,10 +113,12 @@ fn is_cut(alloc: Global, outcome: &Outcome, screen: Option<usize>) -> Result<boo
         log: None,
     };
     let wanted = stands_at(alloc, TRACE, &faults)?;
-    Ok(outcome.screen.bytes() == wanted.screen.as_slice()
-        && outcome.host.output() == Some(wanted.state.as_slice())
-        && outcome.took == took_of(wanted.stop)
-        && outcome.is_at_rest)
+    Ok(
+        outcome.screen.bytes() == wanted.screen.as_slice()
+            && outcome.host.output() == Some(wanted.state.as_slice())
+            && outcome.took == took_of(wanted.stop)
+            && outcome.is_at_rest,
+    )
 }
 
 fn try_put<L: Ledger>(
@@ -134,9 +137,11 @@ fn try_put<L: Ledger>(
         return Ok(());
     }
     let screen = String::from_utf8_lossy(alloc, outcome.screen.bytes())?;
-    Err(Fail::new(
-        format_args!("put {put} {part:?}: {:?} {:?}", outcome.took, screen.as_str()),
-    ))
+    Err(Fail::new(format_args!(
+        "put {put} {part:?}: {:?} {:?}",
+        outcome.took,
+        screen.as_str()
+    )))
 }
 
 // With each put failing, and with one that is not made.

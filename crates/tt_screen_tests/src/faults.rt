@@ -103,9 +103,11 @@ fn stands(alloc: Global, get: usize, outcome: &Outcome) -> Result<bool, NoMemory
         _ => TRACE,
     };
     let taken = wanted.gets.min(KEYS.len());
-    Ok(shows(alloc, events, None, outcome.screen.bytes())?
-        && outcome.left.saturating_add(taken) == KEYS.len()
-        && outcome.status == status_of(wanted.stop))
+    Ok(
+        shows(alloc, events, None, outcome.screen.bytes())?
+            && outcome.left.saturating_add(taken) == KEYS.len()
+            && outcome.status == status_of(wanted.stop),
+    )
 }
 
 fn try_get(alloc: Global, get: u32) -> Result<(), Fail> {
