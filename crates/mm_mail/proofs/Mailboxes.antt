@@ -11,6 +11,7 @@ use Rattle.cm_fields.specs.declared.value.Gen.TheVariants.{All, Number}
 use Rattle.cm_files.specs.Catalogue.{is_upper_name}
 use Rattle.cm_files.specs.Pattern.{matches}
 use Rattle.cm_files.specs.Selection.{agree, is_seen, is_selected}
+use Rattle.cm_state.specs.Echo.{refusal}
 use Rattle.ex_generations.specs.declared.file.Remark.TheVariants as remarks
 use Rattle.ex_store.specs.declared.directory.Directory.{Directory}
 use Rattle.ex_store.specs.declared.place.Place.{Place}
@@ -22,15 +23,13 @@ use Rattle.ex_store.specs.Selection.{is_selected_by, rows_with_remark, selected}
 use Rattle.ex_store.specs.State.{State}
 use Rattle.ex_store.specs.WellFormed.{IsWellFormed, is_row_among}
 use Rattle.ex_store.proofs.AllCopiedLaws.{formed}
-use Rattle.cm_fields.specs.declared.code.Code.TheVariants.{NoMessage}
-use Rattle.cm_state.specs.Echo.{refusal}
 use Rattle.ex_commands.specs.Act.{does, refuses}
 use Rattle.ex_commands.specs.Replies.{held_text}
 use Rattle.mm_mail.specs.declared.mailbox.TheConstants.{FIRST_GENERATION}
 use Rattle.mm_mail.specs.declared.message_name.TheConstants.{MOST_MESSAGES}
 use Rattle.mm_mail.specs.Mailbox.{any_number, deleted_line, deletes, deletes_first, greatest, greatest_among, header_if, header_line, is_message_in, is_message_numbered, is_numbered_in, mail_type, mailbox, message_place, messages_numbered, number_if, numbered_place, place_in, reads, reads_first, with_deleted}
 use Rattle.mm_mail.specs.MessageName.{is_message_name, message_name, name_number, prefix}
-use Rattle.mm_mail.proofs.MessageNames.{fixed_matches, name_is, name_matches}
+use Rattle.mm_mail.proofs.MessageNames.{fixed_matches, name_is, number_matches}
 
 -- the pattern of all numbers means the name of each message
 any_means : (number : ℕ) → matches any_number (message_name number) ≡ true
@@ -97,7 +96,7 @@ asks_one directories directory number state row few is =
     ∙ ap (λ (mark : Bool). is_in directory row && ((mark && matches (message_name number) row.key.name && matches mail_type row.key.kind) && g))
     (unmarked row.file.deleted)
     ∙ ap (λ (name : Bool). is_in directory row && ((not row.file.deleted && name && matches mail_type row.key.kind) && g))
-    (name_matches number row.key.name few up.name)
+    (number_matches number row.key.name few up.name)
     ∙ ap (λ (kind : Bool). is_in directory row && ((not row.file.deleted && (is_message_name row.key.name && name_number row.key.name == number) && kind) && g))
     (kind_matches row.key.kind up.kind)
     ∙ one_asked (is_in directory row) (not row.file.deleted) (is_message_name row.key.name) (name_number row.key.name == number)
@@ -297,12 +296,14 @@ unfolding deletes
 deletes_one number state row more one = ap (λ (rows : List Row). deletes_first number rows state) one
 
 -- a walk over the messages, of which lines are put
-pub lines_at : (state : State) (directory : List ℕ) (place : Place) (rows : List Row) → IsWellFormed state → directory ≡ state.connected
-    → place ≡ numbered_place directory (Number FIRST_GENERATION) → rows ≡ selected false place state
-    → flat_map header_if rows ≡ flat_map header_line (mailbox state.connected state)
-lines_at state directory place rows well connected at are =
-    ap (flat_map header_if) (are ∙ ap (λ (other : Place). selected false other state)
-    (at ∙ ap (λ (name : List ℕ). numbered_place name (Number FIRST_GENERATION)) connected))
+pub lines_at : (state parts : State) (directory : List ℕ) (place : Place) (items rows : List Row) → IsWellFormed state → parts ≡ state
+    → directory ≡ parts.connected → place ≡ numbered_place directory (Number FIRST_GENERATION) → items ≡ selected false place state
+    → rows ≡ items → flat_map header_if rows ≡ flat_map header_line (mailbox state.connected state)
+lines_at state parts directory place items rows well same connected at chosen are =
+    let own : directory ≡ state.connected = connected ∙ ap (λ (other : State). other.connected) same in
+    ap (flat_map header_if) (are ∙ chosen)
+    ∙ ap (λ (other : Place). flat_map header_if (selected false other state)) at
+    ∙ ap (λ (name : List ℕ). flat_map header_if (selected false (numbered_place name (Number FIRST_GENERATION)) state)) own
     ∙ lines_of_all state state.connected well
 
 -- and one that keeps the greatest number
