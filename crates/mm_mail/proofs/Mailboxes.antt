@@ -7,6 +7,7 @@ use Rattle.std.proofs.lemmas.Bool.{and_parts}
 use Rattle.cm_lists.proofs.Bools.{and-false}
 use Rattle.cm_lists.proofs.Filters.{filter_same}
 use Rattle.cm_text.specs.Bytes.{is_name, is_word}
+use Rattle.cm_fields.specs.declared.code.Code.TheVariants.{NoMessage}
 use Rattle.cm_fields.specs.declared.value.Gen.TheVariants.{All, Number}
 use Rattle.cm_files.specs.Catalogue.{is_upper_name}
 use Rattle.cm_files.specs.Pattern.{matches}
