@@ -24,7 +24,7 @@ use Rattle.ex_take.specs.ExecState.{ExecState, exec_start}
 use Rattle.ex_batch.specs.Batch.{Batch}
 use Rattle.ex_batch.specs.Heads.{Heads}
 use Rattle.cm_text.specs.Shown.{end_of_line}
-use Rattle.ex_batch.specs.Stands.{Course, Follows, IsBatch, IsWhole, JobForm, Past, Scene, ScreenCause, Stands, StartCause, closing, end_status, end_text, seen, status_of, usage, with_screen}
+use Rattle.ex_batch.specs.Stands.{Course, Follows, IsBatch, IsWhole, JobForm, Past, Scene, ScreenCause, ShowsEnd, Stands, StartCause, closing, end_status, end_text, seen, status_of, usage, with_screen}
 use Rattle.ex_batch.specs.Takes.{went}
 use Rattle.ex_batch.specs.Whole.{whole_of}
 use Rattle.ex_batch.specs.declared.step.Ended.{Ended}
@@ -139,14 +139,17 @@ module _ (told : Type 0) (asked : JobForm) (a b : Scene) (before now : Disk) (re
     whole_status : result ≡ end_status job.end
     whole_status = went_to.status_is ∙ ap (λ (it : Ended). end_status it) ends
 
-    closes_so : closing past.how result ≡ end_text job.end
-    closes_so = ap (λ (it : Result Ended Stop). closing it result) went_to.how_is
-        ∙ ap (λ (it : Status). closing (Ok went_to.end) it) went_to.status_is ∙ closing_end went_to.end
+    closes_so : closing (Ok went_to.end) result ≡ end_text job.end
+    closes_so = ap (λ (it : Status). closing (Ok went_to.end) it) went_to.status_is ∙ closing_end went_to.end
         ∙ ap (λ (it : Ended). end_text it) ends
+
+    closes_end : Tried at.screen b.screen at.faults b.faults [] (closing (Ok went_to.end) result)
+    closes_end = subst (λ (it : Result Ended Stop). ShowsEnd it at.screen b.screen at.faults b.faults result)
+        went_to.how_is past.closes.shown
 
     whole_shown : Tried a.screen b.screen a.faults b.faults (screen_bytes job.events) (end_text job.end)
     whole_shown = tried_behind a.screen at.screen b.screen a.faults at.faults b.faults (screen_bytes job.events) (end_text job.end)
-        all.screen stays (subst (λ (it : List ℕ). Tried at.screen b.screen at.faults b.faults [] it) closes_so past.closes.shown)
+        all.screen stays (subst (λ (it : List ℕ). Tried at.screen b.screen at.faults b.faults [] it) closes_so closes_end)
 
     whole_counted : b.trials ≡ a.trials + trials_of job.events
     whole_counted = counts ∙ all.trials

@@ -99,16 +99,20 @@ closing_by (Some code) result = refusal code
 abbrev pub closing : Result Ended Stop → Status → List ℕ
 closing how result = closing_by (stop_of how result) result
 
--- nothing is shown
+-- nothing is shown where the run is Done
 abbrev pub ClosesQuietly : Told → Told → ℕ → ℕ → Status → Type 0
 ClosesQuietly before now f g status.Done = (now ≡ before) × (g ≡ f)
-ClosesQuietly before now f g status.WriteFault = (now ≡ before) × (g ≡ f)
 ClosesQuietly before now f g result = Unit {0}
+
+-- that is shown; on a screen that has failed nothing is, whatever the status
+abbrev pub ShowsEnd : Result Ended Stop → Told → Told → ℕ → ℕ → Status → Type 0
+ShowsEnd (Err stop.Screen) before now f g result = (now ≡ before) × (g ≡ f)
+ShowsEnd how before now f g result = Tried before now f g [] (closing how result)
 
 -- a run that went so is closed: it comes to its status, or to HostFault in its place, and that is shown
 pub record Closes (how : Result Ended Stop) (before now : Told) (f g : ℕ) (result : Status) : Type 0 where
   pub ends : IsOr result (status_of how)
-  pub shown : Tried before now f g [] (closing how result)
+  pub shown : ShowsEnd how before now f g result
   pub quiet : ClosesQuietly before now f g result
 
 -- before any line a text is tried on the screen, and nothing else is touched

@@ -14,7 +14,7 @@ use cm_io::{Host, Put, Sink, Status, Writer};
 use cm_run::Stop;
 use ex_commands::put_refusal;
 use ex_store::Store;
-use ex_system::finish;
+use ex_system::{finish, save_image};
 
 // The status of a run that went so.
 fn status_of(how: Result<Ended, Stop>) -> Status
@@ -58,7 +58,7 @@ fn show_stop<S: Sink>(code: Code, screen: &mut S)
 }
 
 /// Ends a run that went so: writes the image, and shows behind it why the run was stopped, or the message of the status
-/// that it comes to.
+/// that it comes to. A screen that has failed is given nothing more.
 pub(crate) fn close<H: Host, S: Sink>(
     how: Result<Ended, Stop>,
     store: &Store,
@@ -70,6 +70,9 @@ pub(crate) fn close<H: Host, S: Sink>(
         (S.faults screen.old) (S.faults screen.new) result }
     ensures saved { Saves (disk_of H.Host host.old) (disk_of H.Host host.new) out.now store.now.state result }
 {
+    if let Err(Stop::Screen) = how {
+        return save_image(Status::WriteFault, store, out, host);
+    }
     let status = finish(status_of(how), store, out, host, screen);
     match stop_of(how, status) {
         Some(code) => {

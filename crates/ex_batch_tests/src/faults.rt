@@ -103,12 +103,13 @@ fn run(runtime: &HostRuntime, failing: &Failing) -> Result<Outcome, NoMemory> {
     Ok(outcome)
 }
 
-// The status, and what is shown behind the trace: the message of a host that failed is tried on any screen.
+// The status, and what is shown behind the trace: a screen that has failed is given nothing more.
 fn ending(stop: Stop, loses: bool) -> (Status, &'static str) {
     match (stop, loses) {
         (Stop::End, false) => (Status::Done, ""),
         (_, false) => (Status::WriteFault, ""),
-        (_, true) => (Status::HostFault, "?Host fault~"),
+        (Stop::End, true) => (Status::HostFault, "?Host fault~"),
+        (_, true) => (Status::HostFault, ""),
     }
 }
 
