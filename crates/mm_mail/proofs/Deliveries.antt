@@ -1,8 +1,7 @@
--- A message is sent: where its file may be put, whether its number is past the last, and what is left. One is read: all
--- stays.
-use Rattle.std.proofs.Common.{◌≡◌, ℕ, ◌+◌, ◌/◌, ◌<◌, ◌≤◌, ◌&&◌, nat_lt, not, true, false, List, [], ◌∷◌, ◌++◌, Result, Ok, refl, subst, sym, ◌∙◌, append_assoc, arith}
+-- A message is sent: where its file may be put, and what is left; and where one is read, all stays.
+use Rattle.std.proofs.Common.{◌≡◌, ℕ, ◌+◌, ◌/◌, ◌&&◌, not, true, List, [], ◌∷◌, ◌++◌, Result, Ok, refl, subst, sym, ◌∙◌, append_assoc, arith}
 use Rattle.std.specs.Char.{is_ascii_lowercase}
-use Rattle.std.proofs.lemmas.Bool.{and_from, le-ltb, lt-ltb}
+use Rattle.std.proofs.lemmas.Bool.{and_from}
 use Rattle.std.proofs.lemmas.Bool.Decides.{nat_tests}
 use Rattle.cm_text.specs.Bytes.{is_name, is_word}
 use Rattle.cm_text.specs.Shown.{end_of_line}
@@ -11,7 +10,6 @@ use Rattle.cm_io.specs.declared.writer.Writer.{Writer}
 use Rattle.cm_io.specs.Writer.{Writes}
 use Rattle.cm_io.proofs.Texts.{writes_both}
 use Rattle.cm_fields.specs.declared.code.Code.{Code}
-use Rattle.cm_fields.specs.declared.code.Code.TheVariants.{MailFull}
 use Rattle.cm_fields.specs.declared.value.Gen.TheVariants.{Next}
 use Rattle.cm_files.specs.Catalogue.{is_upper_name}
 use Rattle.ex_store.specs.declared.directory.Directory.{Directory}
@@ -29,11 +27,10 @@ use Rattle.ex_commands.specs.Act.{refuses}
 use Rattle.ex_commands.specs.Outcome.{Replies}
 use Rattle.ex_commands.specs.Texts.{space}
 use Rattle.ex_commands.proofs.Plays.{play_done, play_refused}
-use Rattle.mm_mail.specs.Delivery.{message_bytes, number_for, sends, sends_as, sent_line, sent_to}
+use Rattle.mm_mail.specs.Delivery.{message_bytes, sends_as, sent_line, sent_to}
 use Rattle.mm_mail.specs.Mailbox.{mail_type, message_place, messages_numbered, reads, reads_first}
 use Rattle.mm_mail.specs.MessageName.{digit, four_digits, message_name, prefix}
 use Rattle.mm_mail.specs.declared.message.Message.{Message}
-use Rattle.mm_mail.specs.declared.message_name.TheConstants.{MOST_MESSAGES}
 
 -- a digit is a byte of a name, and no small letter
 is_upper_digit : (number : ℕ) → (is_name (digit number) && not (is_ascii_lowercase (digit number))) ≡ true
@@ -52,21 +49,6 @@ pub is_target : (directories : List Directory) (receiver : List ℕ) (number : �
 unfolding prefix mail_type is_name is_word
 is_target directories receiver number there =
     record { there = there; name = is_upper_message number; kind = refl; generation = refl }
-
--- a message with a number past the last is refused, and any other is sent under its number
-pub sends_full : (message : Message) (state : State) (number : ℕ) → number ≡ number_for message state → MOST_MESSAGES < number
-    → sends message state ≡ refuses MailFull state
-unfolding sends
-sends_full message state number is past =
-    let full : nat_lt MOST_MESSAGES (number_for message state) ≡ true = lt-ltb _ _ (omega (arith, is, past)) in
-    rw full refl
-
-pub sends_numbered : (message : Message) (state : State) (number : ℕ) → number ≡ number_for message state → number ≤ MOST_MESSAGES
-    → sends message state ≡ sends_as number message state
-unfolding sends
-sends_numbered message state number is few =
-    let left : nat_lt MOST_MESSAGES (number_for message state) ≡ false = le-ltb _ _ (omega (arith, is, few)) in
-    rw (left, is) refl
 
 -- that a message is sent, piece by piece
 pub writes_sent : {T : Type 0} (s : Ghosts T) (a b c d e : Writer T) (receiver : List ℕ) (number : ℕ)

@@ -1,7 +1,6 @@
 -- A message is sent.
-use Rattle.std.specs.Prelude.{ℕ, ◌+◌, nat_lt, if◌then◌else◌, List, ◌++◌, codes, Result, Ok, Err}
+use Rattle.std.specs.Prelude.{ℕ, ◌+◌, nat_lt, if◌then◌else◌, List, ◌++◌, codes}
 use Rattle.cm_text.specs.Shown.{end_of_line}
-use Rattle.cm_fields.specs.declared.code.Code.{Code}
 use Rattle.cm_fields.specs.declared.code.Code.TheVariants.{MailFull}
 use Rattle.cm_fields.specs.declared.value.Gen.TheVariants.{Next}
 use Rattle.ex_store.specs.declared.key.NamePair.{NamePair}
