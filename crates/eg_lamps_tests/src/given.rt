@@ -94,7 +94,7 @@ fn is_so(runtime: &HostRuntime, case: &Case<'_>) -> Result<bool, NoMemory> {
 }
 
 // Boxes the hook, makes the grammar and the counter of trials, and runs the program, as its `main` does.
-fn run_with_hook<K: Source, S: Sink, L: Ledger>(
+pub(crate) fn run_with_hook<K: Source, S: Sink, L: Ledger>(
     rt: &HostRuntime,
     blank: Blank,
     program: &mut Program,

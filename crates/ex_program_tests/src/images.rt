@@ -242,6 +242,47 @@ fn begins_from_nothing_but_an_image(rt: HostRuntime) -> Result<(), Fail> {
     try_cases(&rt, BEGINS_FROM_NOTHING_BUT_AN_IMAGE)
 }
 
+const TELLS_WHERE_AN_IMAGE_GOES_WRONG: &str = "# A byte behind its end.
+words IN,OUT
+in {HEAD}E{LF}X
+keys X
+status BadImage { at: 35, kind: Form }
+screen ?Image is bad at 35: Form{EOL}
+out none
+left X
+
+# A logical name that is the terminal's.
+words IN,OUT
+in {HEAD}L TTY OPERATOR{LF}
+keys X
+status BadImage { at: 33, kind: Form }
+screen ?Image is bad at 33: Form{EOL}
+out none
+left X
+
+# A file that says to have more bytes than there are, more than 32 bits count.
+words IN,OUT
+in {HEAD}F OPERATOR A..1 U 1 0 - 4294967296{LF}
+keys X
+status BadImage { at: 33, kind: Cut }
+screen ?Image is bad at 33: Cut{EOL}
+out none
+left X
+
+# A file that has one byte too many.
+words IN,OUT
+in {HEAD}F OPERATOR A..1 U 1 0 - 65537{LF}{65537*A}{LF}
+keys X
+status BadImage { at: 33, kind: Range }
+screen ?Image is bad at 33: Range{EOL}
+out none
+left X";
+
+#[test]
+fn tells_where_an_image_goes_wrong(rt: HostRuntime) -> Result<(), Fail> {
+    try_cases(&rt, TELLS_WHERE_AN_IMAGE_GOES_WRONG)
+}
+
 const ACTS_BEHIND_A_WHOLE_ECHO: &str = "words -w,IN,OUT
 in {HEAD}F OPERATOR A.TXT.1 U 1 0 - 0{LF}{LF}E{LF}
 clock 0

@@ -28,6 +28,8 @@ mod limit;
 #[cfg(test)]
 mod notation;
 #[cfg(test)]
+mod pairs;
+#[cfg(test)]
 mod printing;
 #[cfg(test)]
 mod subcommands;

@@ -6,6 +6,8 @@ mod case;
 #[cfg(test)]
 mod ends;
 #[cfg(test)]
+mod faults;
+#[cfg(test)]
 mod notation;
 #[cfg(test)]
 mod pages;

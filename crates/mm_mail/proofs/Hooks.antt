@@ -1,5 +1,5 @@
 -- What the grammar of mail asks of its hooks.
-use Rattle.std.proofs.Common.{◌≡◌, ℕ, ◌<◌, List, refl, arith}
+use Rattle.std.proofs.Common.{ℕ, ◌<◌, List, refl, arith}
 use Rattle.std.specs.Borrow.{Bor}
 use Rattle.std.specs.Fn.{Mut}
 use Rattle.cm_hooks.specs.declared.answer.Answer.{Answer}

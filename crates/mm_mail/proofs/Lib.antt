@@ -6,6 +6,7 @@ mod LineFields
 mod MailKeys
 mod Mailboxes
 mod MemoryKeys
+mod MessageKeys
 mod MessageNames
 mod Numbers
 mod SentMessages

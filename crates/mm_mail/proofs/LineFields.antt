@@ -1,5 +1,5 @@
 -- What the fields of a line of mail can be: its number is one that a message may have, and its receiver is there.
-use Rattle.std.proofs.Common.{◌≡◌, ℕ, ◌<◌, ◌≤◌, ◌||◌, ◌&&◌, ◌==◌, nat_le, nat_lt, Bool, true, false, if◌then◌else◌, List, [], ◌∷◌, drop, length, take, Option, Some, None, option_map, Result, Ok, Err, refl, ap, sym, subst, ◌∙◌, arith}
+use Rattle.std.proofs.Common.{◌≡◌, ℕ, ◌<◌, ◌≤◌, ◌||◌, ◌&&◌, ◌==◌, nat_le, nat_lt, Bool, true, false, if◌then◌else◌, List, [], ◌∷◌, drop, length, take, Option, Some, None, option_map, Ok, Err, refl, ap, sym, subst, ◌∙◌, arith}
 use Rattle.std.specs.Char.{is_ascii_digit}
 use Rattle.std.specs.List.{list_all, prefix_len}
 use Rattle.std.specs.Str.Parse.{digits_value}
@@ -40,7 +40,7 @@ use Rattle.mm_mail.specs.Graph.{blocks, command_entries, confirm, mail_graph, ma
 use Rattle.mm_mail.specs.MailRules.{mail_meanings, mail_verdict}
 use Rattle.mm_mail.specs.declared.command.Command.{Command}
 use Rattle.mm_mail.specs.declared.command.Command.TheVariants as commands
-use Rattle.mm_mail.specs.declared.grammar.TheConstants.{COMMANDS, DELETE, HEADERS, LINE_END, MESSAGE, QUIT, READ, RECEIVER, SEND}
+use Rattle.mm_mail.specs.declared.grammar.TheConstants.{COMMANDS, DELETE, HEADERS, LINE_END, QUIT, READ, SEND}
 use Rattle.mm_mail.specs.declared.message_name.TheConstants.{MOST_MESSAGES}
 
 -- a line begins with a command

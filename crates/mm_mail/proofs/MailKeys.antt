@@ -1,5 +1,5 @@
 -- What keys and refused commands change of mail.
-use Rattle.std.proofs.Common.{◌≡◌, ◌≢◌, ℕ, Bool, true, false, cond, nat_lt, List, [], ◌∷◌, ◌++◌, Option, None, Some, Result, Ok, Err, refl, sym, ap, ◌∙◌}
+use Rattle.std.proofs.Common.{◌≡◌, ◌≢◌, ℕ, Bool, true, false, cond, nat_lt, List, [], ◌∷◌, Option, None, Some, Result, Ok, Err, refl, sym, ap, ◌∙◌}
 use Rattle.cm_fields.specs.declared.code.Code.{Code}
 use Rattle.cm_fields.specs.declared.code.Code.TheVariants.{MailFull}
 use Rattle.cm_state.specs.Edit.{edited}
@@ -29,7 +29,7 @@ use Rattle.mm_mail.specs.Command.{command_of}
 use Rattle.mm_mail.specs.Delivery.{number_for, sends, sends_as, sent_line}
 use Rattle.mm_mail.specs.Mailbox.{deletes, deletes_first, messages_numbered, reads, reads_first}
 use Rattle.mm_mail.specs.MailState.{MailState}
-use Rattle.mm_mail.specs.Meaning.{act_of, becomes, mail_meaning, mode_by, raw_by, typed_deeds}
+use Rattle.mm_mail.specs.Meaning.{act_of, becomes, mail_meaning, raw_by, typed_deeds}
 use Rattle.mm_mail.specs.declared.command.Command.{Command}
 use Rattle.mm_mail.specs.declared.command.Command.TheVariants as commands
 use Rattle.mm_mail.specs.declared.message.Message.{Message}
@@ -162,3 +162,18 @@ send_waits receiver subject state = refl
 pub quit_stays : (state : State) → (act_of commands.Quit state).state ≡ state
 unfolding act_of
 quit_stays state = refl
+
+-- no command changes the directories
+deletes_keep : (number : ℕ) (rows : List Row) (state : State) → (deletes_first number rows state).state.directories ≡ state.directories
+deletes_keep number [] state = refl
+deletes_keep number (row ∷ more) state = refl
+
+pub directories_stay : (command : Command) (state : State) → (act_of command state).state.directories ≡ state.directories
+unfolding act_of reads deletes
+directories_stay commands.Empty state = refl
+directories_stay (commands.Delete number) state = deletes_keep number (messages_numbered state.connected number state) state
+directories_stay commands.Headers state = refl
+directories_stay commands.Quit state = refl
+directories_stay (commands.Read number) state =
+    ap (λ (it : State). it.directories) (reads_stay (messages_numbered state.connected number state) state)
+directories_stay (commands.Send receiver subject) state = refl

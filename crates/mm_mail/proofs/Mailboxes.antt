@@ -1,34 +1,36 @@
 -- What the places of messages select in a store.
-use Rattle.std.proofs.Common.{◌≡◌, ℕ, ◌≤◌, ◌==◌, ◌&&◌, max, Bool, true, false, not, cond, if◌then◌else◌, List, [], ◌∷◌, ◌++◌, filter, map, refl, ap, sym, subst, ◌∙◌, arith}
+use Rattle.std.proofs.Common.{◌≡◌, ℕ, ◌≤◌, ◌==◌, ◌&&◌, max, Bool, true, false, not, cond, if◌then◌else◌, List, [], ◌∷◌, ◌++◌, filter, map, Option, None, Some, is_some, refl, ap, sym, subst, ◌∙◌, arith}
 use Rattle.std.specs.List.{flat_map, list_all}
+use Rattle.std.specs.Option.{MatchOption}
 use Rattle.std.specs.Str.{bytes_eq}
 use Rattle.std.proofs.lemmas.Bool.{and_parts}
-use Rattle.cm_lists.proofs.Bools.{and-false, and-true}
+use Rattle.cm_lists.proofs.Bools.{and-false}
 use Rattle.cm_lists.proofs.Filters.{filter_same}
 use Rattle.cm_text.specs.Bytes.{is_name, is_word}
-use Rattle.cm_fields.specs.declared.value.Gen.{Gen}
+use Rattle.cm_fields.specs.declared.code.Code.TheVariants.{NoMessage}
 use Rattle.cm_fields.specs.declared.value.Gen.TheVariants.{All, Number}
 use Rattle.cm_files.specs.Catalogue.{is_upper_name}
 use Rattle.cm_files.specs.Pattern.{matches}
 use Rattle.cm_files.specs.Selection.{agree, is_seen, is_selected}
+use Rattle.cm_state.specs.Echo.{refusal}
 use Rattle.ex_generations.specs.declared.file.Remark.TheVariants as remarks
 use Rattle.ex_store.specs.declared.directory.Directory.{Directory}
 use Rattle.ex_store.specs.declared.place.Place.{Place}
 use Rattle.ex_store.specs.declared.row.Row.{Row}
+use Rattle.ex_store.specs.declared.row.RowView.{RowView}
+use Rattle.ex_store.specs.Lent.{row_of_view}
 use Rattle.ex_store.specs.Rows.{is_in, with_mark}
 use Rattle.ex_store.specs.Selection.{is_selected_by, rows_with_remark, selected}
 use Rattle.ex_store.specs.State.{State}
 use Rattle.ex_store.specs.WellFormed.{IsWellFormed, is_row_among}
 use Rattle.ex_store.proofs.AllCopiedLaws.{formed}
-use Rattle.cm_fields.specs.declared.code.Code.TheVariants.{NoMessage}
-use Rattle.cm_state.specs.Echo.{refusal}
 use Rattle.ex_commands.specs.Act.{does, refuses}
 use Rattle.ex_commands.specs.Replies.{held_text}
 use Rattle.mm_mail.specs.declared.mailbox.TheConstants.{FIRST_GENERATION}
 use Rattle.mm_mail.specs.declared.message_name.TheConstants.{MOST_MESSAGES}
 use Rattle.mm_mail.specs.Mailbox.{any_number, deleted_line, deletes, deletes_first, greatest, greatest_among, header_if, header_line, is_message_in, is_message_numbered, is_numbered_in, mail_type, mailbox, message_place, messages_numbered, number_if, numbered_place, place_in, reads, reads_first, with_deleted}
 use Rattle.mm_mail.specs.MessageName.{is_message_name, message_name, name_number, prefix}
-use Rattle.mm_mail.proofs.MessageNames.{fixed_matches, name_is, name_matches}
+use Rattle.mm_mail.proofs.MessageNames.{fixed_matches, name_is, number_matches}
 
 -- the pattern of all numbers means the name of each message
 any_means : (number : ℕ) → matches any_number (message_name number) ≡ true
@@ -95,7 +97,7 @@ asks_one directories directory number state row few is =
     ∙ ap (λ (mark : Bool). is_in directory row && ((mark && matches (message_name number) row.key.name && matches mail_type row.key.kind) && g))
     (unmarked row.file.deleted)
     ∙ ap (λ (name : Bool). is_in directory row && ((not row.file.deleted && name && matches mail_type row.key.kind) && g))
-    (name_matches number row.key.name few up.name)
+    (number_matches number row.key.name few up.name)
     ∙ ap (λ (kind : Bool). is_in directory row && ((not row.file.deleted && (is_message_name row.key.name && name_number row.key.name == number) && kind) && g))
     (kind_matches row.key.kind up.kind)
     ∙ one_asked (is_in directory row) (not row.file.deleted) (is_message_name row.key.name) (name_number row.key.name == number)
@@ -241,14 +243,40 @@ greatest_of_all state directory well =
     (is_selected_by true (numbered_place directory All) state) (is_numbered_in directory)
     (λ row is. asks_either state.directories directory state row is) state.rows well.draft.rows.within
 
--- what the first of the files of one message says
-pub found_one : (state : State) (number : ℕ) (place : Place) (rows found : List Row) → IsWellFormed state → number ≤ MOST_MESSAGES
-    → place ≡ message_place state.connected number (Number FIRST_GENERATION) → rows ≡ selected false place state → rows ≡ found
-    → messages_numbered state.connected number state ≡ found
-found_one state number place rows found well few at chosen is =
-    sym (selects_one state state.connected number well few)
-    ∙ ap (λ (other : Place). selected false other state) (sym at) ∙ sym chosen ∙ is
+-- how a command finds them
+place_at : (state parts : State) (number : ℕ) (directory : List ℕ) (place : Place) → parts ≡ state → directory ≡ parts.connected
+    → place ≡ message_place directory number (Number FIRST_GENERATION) → place ≡ message_place state.connected number (Number FIRST_GENERATION)
+place_at state parts number directory place same connected at =
+    at ∙ ap (λ (name : List ℕ). message_place name number (Number FIRST_GENERATION)) (connected ∙ ap (λ (other : State). other.connected) same)
 
+pub found_at : (state parts : State) (number : ℕ) (directory : List ℕ) (place : Place) (rows found : List Row) → IsWellFormed state
+    → number ≤ MOST_MESSAGES → parts ≡ state → directory ≡ parts.connected → place ≡ message_place directory number (Number FIRST_GENERATION)
+    → rows ≡ selected false place state → rows ≡ found → messages_numbered state.connected number state ≡ found
+found_at state parts number directory place rows found well few same connected at chosen is =
+    sym (selects_one state state.connected number well few)
+    ∙ ap (λ (other : Place). selected false other state) (sym (place_at state parts number directory place same connected at))
+    ∙ sym chosen ∙ is
+
+pub marked_at : (state parts : State) (number : ℕ) (directory : List ℕ) (place : Place) → IsWellFormed state → number ≤ MOST_MESSAGES
+    → parts ≡ state → directory ≡ parts.connected → place ≡ message_place directory number (Number FIRST_GENERATION)
+    → record state { rows = rows_with_remark (remarks.Deleted true) place state } ≡ with_deleted number state
+marked_at state parts number directory place well few same connected at =
+    ap (λ (other : Place). record state { rows = rows_with_remark (remarks.Deleted true) other state })
+    (place_at state parts number directory place same connected at)
+    ∙ marks_one state number well few
+
+pub none_left : (found : Option RowView) (rows rest : List Row) (none : Bool)
+    → MatchOption found ((rows ≡ []) × (rest ≡ [])) (λ row. rows ≡ row_of_view row ∷ rest) → is_some found ≡ not none → none ≡ true → rows ≡ []
+none_left None rows rest none yields is yes_none = yields.0
+none_left (Some row) rows rest none yields is yes_none = let never : true ≡ false = is ∙ ap not yes_none in absurd (cc)
+
+pub some_left : (found : Option RowView) (rows rest : List Row) (none : Bool)
+    → MatchOption found ((rows ≡ []) × (rest ≡ [])) (λ row. rows ≡ row_of_view row ∷ rest) → is_some found ≡ not none → none ≡ false
+    → (row : RowView) × (rows ≡ row_of_view row ∷ rest)
+some_left None rows rest none yields is not_none = let never : false ≡ true = is ∙ ap not not_none in absurd (cc)
+some_left (Some row) rows rest none yields is not_none = (row, yields)
+
+-- what the first of them makes of a command
 pub reads_none : (number : ℕ) (state : State) → messages_numbered state.connected number state ≡ [] → (reads number state).reply ≡ refusal NoMessage
 unfolding reads
 reads_none number state none = ap (λ (rows : List Row). (reads_first rows state).reply) none
@@ -269,12 +297,14 @@ unfolding deletes
 deletes_one number state row more one = ap (λ (rows : List Row). deletes_first number rows state) one
 
 -- a walk over the messages, of which lines are put
-pub lines_at : (state : State) (directory : List ℕ) (place : Place) (rows : List Row) → IsWellFormed state → directory ≡ state.connected
-    → place ≡ numbered_place directory (Number FIRST_GENERATION) → rows ≡ selected false place state
-    → flat_map header_if rows ≡ flat_map header_line (mailbox state.connected state)
-lines_at state directory place rows well connected at are =
-    ap (flat_map header_if) (are ∙ ap (λ (other : Place). selected false other state)
-    (at ∙ ap (λ (name : List ℕ). numbered_place name (Number FIRST_GENERATION)) connected))
+pub lines_at : (state parts : State) (directory : List ℕ) (place : Place) (items rows : List Row) → IsWellFormed state → parts ≡ state
+    → directory ≡ parts.connected → place ≡ numbered_place directory (Number FIRST_GENERATION) → items ≡ selected false place state
+    → rows ≡ items → flat_map header_if rows ≡ flat_map header_line (mailbox state.connected state)
+lines_at state parts directory place items rows well same connected at chosen are =
+    let own : directory ≡ state.connected = connected ∙ ap (λ (other : State). other.connected) same in
+    ap (flat_map header_if) (are ∙ chosen)
+    ∙ ap (λ (other : Place). flat_map header_if (selected false other state)) at
+    ∙ ap (λ (name : List ℕ). flat_map header_if (selected false (numbered_place name (Number FIRST_GENERATION)) state)) own
     ∙ lines_of_all state state.connected well
 
 -- and one that keeps the greatest number

@@ -1,5 +1,5 @@
 -- The names of the files of messages, and their numbers.
-use Rattle.std.proofs.Common.{◌≡◌, ℕ, ◌+◌, ◌-◌, ◌*◌, ◌/◌, ◌%◌, ◌<◌, ◌≤◌, ◌==◌, ◌&&◌, nat_eq, Bool, true, false, not, inr, if◌then◌else◌, nat_le, List, [], ◌∷◌, ◌++◌, Option, None, Some, length, take, drop, refl, ap, sym, subst, cond, ◌∙◌, arith, eq-eqb}
+use Rattle.std.proofs.Common.{◌≡◌, ℕ, ◌+◌, ◌*◌, ◌/◌, ◌%◌, ◌<◌, ◌≤◌, ◌==◌, ◌&&◌, nat_eq, Bool, true, false, not, inr, if◌then◌else◌, nat_le, List, [], ◌∷◌, ◌++◌, Option, None, Some, length, take, refl, ap, sym, subst, cond, ◌∙◌, arith, eq-eqb}
 use Rattle.std.specs.Char.{digit_value, is_ascii_digit, is_ascii_lowercase}
 use Rattle.std.specs.Int.{IsInRange}
 use Rattle.std.specs.List.{list_all, list_any, starts_with}
@@ -13,20 +13,20 @@ use Rattle.cm_lists.proofs.Bools.{or_from_either, same_truth}
 use Rattle.cm_lists.proofs.Digits.{value_of_four}
 use Rattle.cm_lists.proofs.Texts.{bytes_eq-true, bytes_eq_itself}
 use Rattle.cm_text.specs.Bytes.{is_name, is_word}
-use Rattle.cm_files.specs.Catalogue.{is_upper_name}
 use Rattle.cm_fields.specs.Phrase.{same_letter}
+use Rattle.cm_files.specs.Catalogue.{is_upper_name}
 use Rattle.cm_files.specs.Pattern.{is_wild, matches, one_and, some_end, stands_for}
 use Rattle.ex_commands.proofs.Single.{one_name}
 use Rattle.mm_mail.specs.declared.message_name.TheConstants.{MOST_MESSAGES}
 use Rattle.mm_mail.specs.MessageName.{digit, digits_of, four_digits, is_message_name, message_name, name_number, prefix}
 
 -- what a name of a message has
-pub record IsMessage (name : List ℕ) : Type 0 where
-  pub front : bytes_eq (take 4 name) prefix ≡ true
-  pub four : length (digits_of name) ≡ 4
-  pub digits : list_all is_ascii_digit (digits_of name) ≡ true
+record IsMessage (name : List ℕ) : Type 0 where
+  front : bytes_eq (take 4 name) prefix ≡ true
+  four : length (digits_of name) ≡ 4
+  digits : list_all is_ascii_digit (digits_of name) ≡ true
 
-pub message_parts : (name : List ℕ) → is_message_name name ≡ true → IsMessage name
+message_parts : (name : List ℕ) → is_message_name name ≡ true → IsMessage name
 message_parts name is =
     let both = and_parts (bytes_eq (take 4 name) prefix && length (digits_of name) == 4) (list_all is_ascii_digit (digits_of name)) is in
     let one = and_parts (bytes_eq (take 4 name) prefix) (length (digits_of name) == 4) both.0 in
@@ -72,8 +72,14 @@ four_parts number small = omega arith
 
 value_of_four_digits : (number : ℕ) → number ≤ 9999 → digits_value 10 (four_digits number) ≡ number
 value_of_four_digits number small =
-    omega (arith, four_parts number small, value_of_digit (number / 1000), value_of_digit (number / 100),
-    value_of_digit (number / 10), value_of_digit number)
+    omega (
+      arith,
+      four_parts number small,
+      value_of_digit (number / 1000),
+      value_of_digit (number / 100),
+      value_of_digit (number / 10),
+      value_of_digit number,
+    )
 
 -- the name of a message is one of a message, of its number
 digit_is : (number : ℕ) → is_ascii_digit (digit number) ≡ true
@@ -183,9 +189,9 @@ name_upper number =
     (and_from _ _ (digit_upper (number / 10)) (and_from _ true (digit_upper number) refl)))
 
 -- the pattern of one number means the name that has it
-pub name_matches : (number : ℕ) (name : List ℕ) → number ≤ MOST_MESSAGES → is_upper_name name ≡ true
+pub number_matches : (number : ℕ) (name : List ℕ) → number ≤ MOST_MESSAGES → is_upper_name name ≡ true
     → matches (message_name number) name ≡ (is_message_name name && name_number name == number)
-name_matches number name few up =
+number_matches number name few up =
     fixed_matches (message_name number) name (name_fixed number) (name_upper number) up
     ∙ same_truth (bytes_eq name (message_name number)) (is_message_name name && name_number name == number)
     (λ is. rw (bytes_eq-true name (message_name number) is) (and_from _ _ (is_message number) (eq-eqb _ number (number_of_name number few))))

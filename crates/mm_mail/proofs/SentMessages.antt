@@ -220,10 +220,11 @@ written_alone message state made few is (Ok generation) admits =
     let none : none_of key state.rows ≡ true =
     none_passes (is_of key) state.rows [] state.rows refl (not_of message state few) in
     let first = first_generation key (length (bytes_of message state)) generation state.rows none admits in
-    let alone = sent_alone message state row.file.keep row.file.moment row.file.bytes generation few first in
-    (row,
-    subst (λ (left : Planned). messages_numbered message.receiver (number_for message state) left.state ≡ row ∷ []) same alone,
-    refl)
+    let alone = sent_alone message state row.file.keep row.file.moment row.file.bytes generation few first in (
+      row,
+      subst (λ (left : Planned). messages_numbered message.receiver (number_for message state) left.state ≡ row ∷ []) same alone,
+      refl,
+    )
 written_alone message state made few is (Err code) fails =
     let never = write_refused state (place_of message state) (bytes_of message state) message.moment code
     (has_name message state) fails in

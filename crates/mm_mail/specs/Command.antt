@@ -1,5 +1,5 @@
 -- What a confirmed line commands.
-use Rattle.std.specs.Prelude.{ℕ, ◌≡◌, ◌≤◌, ◌==◌, true, if◌then◌else◌, List, [], Option, None, Some, option_and_then, option_map}
+use Rattle.std.specs.Prelude.{ℕ, ◌≡◌, ◌≤◌, ◌==◌, true, if◌then◌else◌, List, [], Option, None, Some, option_map}
 use Rattle.std.specs.Option.{option_map_or}
 use Rattle.cm_fields.specs.declared.value.Value.{Value}
 use Rattle.cm_fields.specs.declared.value.Value.TheVariants as values

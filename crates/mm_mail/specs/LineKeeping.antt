@@ -23,7 +23,7 @@ use Rattle.ex_commands.specs.declared.data.DataTurn.TheVariants as turns
 use Rattle.ex_commands.proofs.LineEnds.{Ended, Ends, held_ends, refusal_ends}
 use Rattle.ex_commands.proofs.TypedEnds.{last_key_ends}
 use Rattle.mm_mail.specs.Delivery.{number_for, sends, sends_as, sent_line, sent_to}
-use Rattle.mm_mail.specs.Mailbox.{deleted, deleted_line, deletes, deletes_first, first_line, header_line, headers, mailbox, messages_numbered, reads, reads_first, with_deleted}
+use Rattle.mm_mail.specs.Mailbox.{deleted, deleted_line, deletes, deletes_first, first_line, header_line, mailbox, messages_numbered, reads, reads_first}
 use Rattle.mm_mail.specs.MailState.{MailState}
 use Rattle.mm_mail.specs.Meaning.{act_of, deed_of, echo_by, mail_meaning, mode_by, mode_of, raw_by, sent, typed_deeds}
 use Rattle.mm_mail.specs.MessageName.{digits_of, four_digits}
@@ -103,7 +103,8 @@ no_line true message is = cc
 no_line false message is = cc
 
 -- a key with which the typing ends shows the end of a line, and the reply of the message ends its own
-by_turn : (mail : MailState) (message : Message) (shown : List ℕ) (turn : DataTurn) → (turn ≢ turns.More → IsEnded shown)
+by_turn : (mail : MailState) (message : Message) (shown : List ℕ) (turn : DataTurn)
+    → (turn ≢ turns.More → IsEnded shown)
     → is_line (mode_of (left_by mail (typed_deeds mail message turn))) ≡ true
     → IsEnded (shown ++ replies (typed_deeds mail message turn))
 unfolding typed_deeds

@@ -33,8 +33,8 @@ pub enum Command {
     },
 }
 
-/// What the line that a session holds commands, where it is confirmed: the field of role Verb names the command, that of
-/// role Files who receives, and that of role Value the number of a message or a subject.
+/// What the line that a session holds commands, where it is confirmed: the field of role Verb names the command, that
+/// of role Files who receives, and that of role Value the number of a message or a subject.
 pub fn command_of<N: Names>(session: &Session<MailRules>, names: &N) -> Command
     ensures { result ≡ command_of (N.catalogue names.now) session.now }
 {

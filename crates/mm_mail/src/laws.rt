@@ -87,8 +87,8 @@ pub fn a_message_has_a_number_of_its_own()
         → name_number row.key.name < number_for message state }
 {}
 
-/// What is sent is read: a message that is sent is a message of its receiver's, the only one with its number, not marked
-/// as deleted, and its file holds sender, subject and what was typed in, byte for byte.
+/// What is sent is read: a message that is sent is a message of its receiver's, the only one with its number, not
+/// marked as deleted, and its file holds sender, subject and what was typed in, byte for byte.
 pub fn what_is_sent_is_read()
     ensures { (message : Message) → (state : State) → IsWellFormed state
         → (sends message state).answer ≡ answers.Ok

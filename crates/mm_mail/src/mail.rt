@@ -35,8 +35,9 @@ use ex_store::Store;
 use std::alloc::Global;
 use std::marker::Model;
 
-/// Mail in its course: directories and files, the message that is being typed in, and whether QUIT has acted. The reader
-/// and sender is the connected directory. Contracts see these, with the state of the file machine in place of the store.
+/// Mail in its course: directories and files, the message that is being typed in, and whether QUIT has acted. The
+/// reader and sender is the connected directory. Contracts see these, with the state of the file machine in place of
+/// the store.
 #[derive(Drop)]
 pub struct Mail {
     alloc: Global,
@@ -142,6 +143,7 @@ impl Mail {
     }
 
     // Does what a line commands.
+    #[tactic(auto, using(cm_run::proofs::Acts::obeys_done, cm_run::proofs::Acts::obeys_cut, cm_run::proofs::Acts::obeys_wanting), unfolding(cm_run::specs::Cause::ObeyCause))]
     pub(crate) fn obey<S: Sink>(
         &mut self,
         command: &Command,
@@ -165,6 +167,7 @@ impl Mail {
     }
 
     // Sends a message that was typed in.
+    #[tactic(auto, using(cm_run::proofs::Acts::obeys_done, cm_run::proofs::Acts::obeys_cut, cm_run::proofs::Acts::obeys_wanting), unfolding(cm_run::specs::Cause::ObeyCause))]
     fn send<S: Sink>(&mut self, message: &Message, screen: &mut S) -> Result<(), Stop>
         requires there { has_directory message.now.receiver self.old.state.directories ≡ true }
         requires over { self.old.writing ≡ None }

@@ -1,16 +1,15 @@
 // The mailbox of a directory.
 #![tactic(auto, using(cm_io::proofs::Texts::each))]
 
-ghost use Rattle.std.specs.Prelude.{◌≡◌, ◌≤◌, false, length};
-ghost use Rattle.std.specs.List.{flat_map, prefix_len};
-ghost use Rattle.cm_text.specs.Shown.{printing_byte};
+ghost use Rattle.std.specs.Prelude.{◌≡◌, ◌≤◌, length};
+ghost use Rattle.std.specs.List.{prefix_len};
 ghost use Rattle.cm_io.specs.Writer.{Writes};
 ghost use Rattle.ex_store.specs.declared.limits.TheConstants.{MOMENT_LIMIT};
 ghost use Rattle.ex_store.specs.Lent.{row_of_view};
 ghost use Rattle.ex_store.specs.Selection.{selected};
-ghost use Rattle.mm_mail.specs.declared.message_name.TheConstants.{MOST_MESSAGES};
 ghost use Rattle.ex_commands.specs.Texts.{space};
-ghost use Rattle.mm_mail.specs.Mailbox.{deleted, deleted_line, deletes, first_line, greatest, greatest_among, header_if, header_line, headers, is_rest, mailbox, message_place, messages_numbered, number_if, numbered_place, reads};
+ghost use Rattle.mm_mail.specs.declared.message_name.TheConstants.{MOST_MESSAGES};
+ghost use Rattle.mm_mail.specs.Mailbox.{deleted, deleted_line, deletes, first_line, greatest, greatest_among, header_if, header_line, headers, is_rest, mailbox, message_place, number_if, numbered_place, reads};
 
 use crate::message_name::{
     MOST_MESSAGES, digits_of, four_digits, is_message_name, message_name, name_number,
@@ -148,7 +147,8 @@ fn put_deleted<S: Sink>(number: u64, out: &mut Writer<'_, S>)
     ensures { Writes S.Sink out.old out.new (deleted_line number) }
 {
     out.put(deleted());
-    out.put_line(&four_digits(number));
+    out.put(&four_digits(number));
+    out.put(end_of_line());
 }
 
 /// Marks the message of the connected directory with a number as deleted, and puts that, or that there is none.

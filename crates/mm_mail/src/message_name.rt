@@ -1,5 +1,5 @@
 // The names of the files of messages.
-ghost use Rattle.std.specs.Prelude.{◌≡◌, ◌<◌, ◌≤◌, true, length};
+ghost use Rattle.std.specs.Prelude.{◌≡◌, ◌<◌, ◌≤◌, true};
 ghost use Rattle.mm_mail.specs.declared.message_name.TheConstants.{MOST_MESSAGES};
 ghost use Rattle.mm_mail.specs.MessageName.{digit, digits_of, four_digits, is_message_name, message_name, name_number, prefix};
 

@@ -90,14 +90,14 @@ fn run_form<H: Host, K: Source, S: Sink, C: Clock, L: Ledger>(
 /// The program `mm20`: mail over the files of a system, in the mailbox of its connected directory. It takes the keys in
 /// turn, shows what they come to, does what confirmed lines command, and writes the image at the end.
 ///
-/// `words` are `IN OUT`. The run begins from the image in the file IN of `host`, and its own is written to the file OUT.
-/// A key edits the line on `screen`; a line that is confirmed acts, at a moment of `clock`; a message that is typed in
-/// is sent at control-Z. There is no log. The status is Usage exactly where the words are others, before anything else
-/// is touched, and NoMemory where memory is wanting, before the first prompt, at a line of SEND or where its message is
-/// sent. The others are said of below, clause by clause.
+/// `words` are `IN OUT`. The run begins from the image in the file IN of `host`, and its own is written to the file
+/// OUT. A key edits the line on `screen`; a line that is confirmed acts, at a moment of `clock`; a message that is
+/// typed in is sent at control-Z. There is no log. The status is Usage exactly where the words are others, before
+/// anything else is touched, and NoMemory where memory is wanting, before the first prompt, at a line of SEND or where
+/// its message is sent. The others are said of below, clause by clause.
 ///
-/// `hooks` answer the rules of mail. `steps` counts the trials: a key costs those of its line behind the fields that the
-/// unchanged front of the line decides.
+/// `hooks` answer the rules of mail. `steps` counts the trials: a key costs those of its line behind the fields that
+/// the unchanged front of the line decides.
 pub fn mm20<H: Host, K: Source, S: Sink, C: Clock, L: Ledger>(
     alloc: Global,
     words: &Words,

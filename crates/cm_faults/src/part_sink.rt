@@ -1,0 +1,138 @@
+// A sink of which one put fails.
+ghost use Rattle.std.specs.Prelude.{◌≡◌, ◌≤◌, []};
+ghost use Rattle.cm_io.specs.Fault.{PutCause, Rose};
+ghost use Rattle.cm_io.specs.Told.{Adds, AddsPart, Bytes};
+
+use cm_io::{MemSink, NoMemory, Put, Sink};
+use std::alloc::Global;
+
+/// How much a put that fails takes of its bytes: never all of them.
+#[derive(Clone, Copy, Debug, PartialEq, Eq)]
+pub enum Part {
+    /// Not one of them.
+    Nothing,
+    /// The first alone, or of one byte nothing.
+    First,
+    /// All but the last.
+    AllButLast,
+}
+
+// How many of so many bytes these are.
+fn size_of(part: Part, size: usize) -> usize
+    ensures { result ≤ size }
+{
+    match part {
+        Part::Nothing => 0,
+        Part::First => 1.min(size.saturating_sub(1)),
+        Part::AllButLast => size.saturating_sub(1),
+    }
+}
+
+// The count after one more. It stays at its last value once that is reached.
+#[tactic(auto, unfolding(cm_io::specs::Fault::Rose))]
+fn raised(count: u64) -> u64
+    ensures later { count ≤ result }
+    ensures rose { Rose count result }
+{
+    count.saturating_add(1)
+}
+
+/// A sink in memory of which one put fails, and takes a part of its bytes. It takes all that is put behind that. A put
+/// of no bytes is none.
+#[derive(Drop)]
+pub struct PartSink {
+    held: MemSink,
+    // how many bytes were held before each put
+    starts: Vec<usize>,
+    // the number of the put that fails
+    failing: Option<usize>,
+    part: Part,
+    faults: u64,
+}
+
+impl PartSink {
+    /// A sink with room for a number of bytes, of which the put with the number `failing`, counted from 0, fails.
+    pub fn new(
+        alloc: Global,
+        room: u32,
+        failing: Option<usize>,
+        part: Part,
+    ) -> Result<PartSink, NoMemory> {
+        Ok(PartSink {
+            held: MemSink::new(alloc, room)?,
+            starts: Vec::new(alloc),
+            failing,
+            part,
+            faults: 0,
+        })
+    }
+
+    /// The bytes that were taken.
+    pub fn bytes(&self) -> &[u8] {
+        self.held.bytes()
+    }
+
+    /// How many puts there were.
+    pub fn puts(&self) -> usize {
+        self.starts.len()
+    }
+
+    /// How many bytes would be held behind a put of those that there were, if it had taken this part alone.
+    pub fn held_behind(&self, put: usize, part: Part) -> Option<usize> {
+        let start = *self.starts.get(put)?;
+        let end = match self.starts.get(put.saturating_add(1)) {
+            Some(next) => *next,
+            None => self.held.bytes().len(),
+        };
+        Some(start.saturating_add(size_of(part, end.saturating_sub(start))))
+    }
+
+    // Puts the part, and fails.
+    #[tactic(auto, using(crate::proofs::Parts::adds_part_of_part))]
+    fn put_part(&mut self, bytes: &[u8]) -> Put
+        ensures part { AddsPart (Bytes self.old.held.bytes) (Bytes self.new.held.bytes) bytes.now }
+        ensures later { self.old.faults ≤ self.new.faults }
+        ensures counted { Rose self.old.faults self.new.faults }
+        ensures failed { result ≡ Put.Failed }
+    {
+        let size = size_of(self.part, bytes.len());
+        let _ = self.held.put(&bytes[..size]);
+        self.faults = raised(self.faults);
+        Put::Failed
+    }
+
+    // Puts all of the bytes, or what there is room for.
+    #[tactic(auto, using(cm_io::proofs::Additions::adds_prefix), unfolding(cm_io::specs::Told::add))]
+    fn put_whole(&mut self, bytes: &[u8]) -> Put
+        ensures nothing { bytes.now ≡ [] → result ≡ Put.Done }
+        ensures bytes { Adds (Bytes self.old.held.bytes) (Bytes self.new.held.bytes) bytes.now result }
+        ensures later { self.old.faults ≤ self.new.faults }
+        ensures cause { PutCause self.old.faults self.new.faults result }
+    {
+        match self.held.put(bytes) {
+            Put::Done => Put::Done,
+            Put::Failed => {
+                self.faults = raised(self.faults);
+                Put::Failed
+            }
+        }
+    }
+}
+
+impl Sink for PartSink {
+    ghost told = { λ sink. Bytes sink.held.bytes };
+
+    ghost faults = { λ sink. sink.faults };
+
+    fn put(&mut self, bytes: &[u8]) -> Put {
+        if bytes.is_empty() {
+            return self.put_whole(bytes);
+        }
+        let number = self.starts.len();
+        let _ = self.starts.push(self.held.bytes().len());
+        if self.failing == Some(number) {
+            return self.put_part(bytes);
+        }
+        self.put_whole(bytes)
+    }
+}

@@ -1,0 +1,229 @@
+// A run over a queue of three, with each put on the screen failing, each call of the host, and each of the first puts
+// with each call.
+//
+// What must stand is the trace of the whole run, cut where a put fails. The screen fails in one put alone, and would
+// take what is put behind it.
+use cm_faults::{
+    Faults, Part, PartSink, Stands, Stop, count_calls, is_written, push_text, stands_at,
+};
+use cm_io::{MemClock, MemHost, NoMemory};
+use ex_spool::{Status, Words, spool20};
+use std::alloc::{AllocError, Global};
+use std::test::Fail;
+
+const INPUT: &str =
+    "EXEC20 2|D OPERATOR 1|C OPERATOR|F OPERATOR A..1 U 1 0 - 4|HI~|Q OPERATOR A..1 2 NARROW - A_|\
+    Q OPERATOR A..1 1 WIDE 11 B_|Q OPERATOR B..1 1 WIDE 10 C_|E|";
+
+// The pages of the first entry, and of the third, whose file is not there. Behind `act` is the image, with `/` between
+// its writes.
+const TRACE: &str = "show _JOB A~ FILE <OPERATOR>A..1~ FORM NARROW~ COPY 1 OF 2~\x0cHI~\x0c
+show _JOB A~ FILE <OPERATOR>A..1~ FORM NARROW~ COPY 2 OF 2~\x0cHI~\x0c
+show _FILE <OPERATOR>B..1 IS NOT THERE~\x0c
+act EXEC20 2|/D OPERATOR 1|/C OPERATOR|/F OPERATOR A..1 U 1 0 - 4|/HI~/|/Q OPERATOR A..1 1 WIDE 11 B_|/E|";
+
+// The day 10 has begun.
+const MOMENT: u64 = 864_000;
+
+// As many calls as the save has, and one more.
+const CALLS: u32 = 11;
+
+// How many puts fail together with each call.
+const FIRST: usize = 5;
+
+// What fails: the put on the screen, and the call of the host, with these numbers.
+#[derive(Clone, Copy, Debug, PartialEq, Eq)]
+struct Failing {
+    screen: Option<usize>,
+    part: Part,
+    call: Option<u32>,
+}
+
+const NOTHING: Failing = Failing {
+    screen: None,
+    part: Part::Nothing,
+    call: None,
+};
+
+// What stands at the end of a run.
+#[derive(Drop)]
+struct Outcome {
+    status: Status,
+    screen: PartSink,
+    host: MemHost,
+}
+
+fn bytes_of(alloc: Global, text: &str) -> Result<Vec<u8>, AllocError> {
+    let mut bytes = Vec::new(alloc);
+    push_text(text, &mut bytes)?;
+    Ok(bytes)
+}
+
+fn host_of(alloc: Global, call: Option<u32>) -> Result<MemHost, NoMemory> {
+    let input = bytes_of(alloc, INPUT)?;
+    match call {
+        Some(call) => MemHost::new(alloc, "IN", Some(&input), 512, &[call]),
+        None => MemHost::new(alloc, "IN", Some(&input), 512, &[]),
+    }
+}
+
+fn run(alloc: Global, failing: &Failing) -> Result<Outcome, NoMemory> {
+    let mut words = Words::new();
+    words.push("IN");
+    words.push("OUT");
+    let mut host = host_of(alloc, failing.call)?;
+    let mut screen = PartSink::new(alloc, 4096, failing.screen, failing.part)?;
+    let mut clock = MemClock::new(alloc, &[MOMENT])?;
+    let status = spool20(alloc, &words, &mut host, &mut screen, &mut clock);
+    Ok(Outcome {
+        status,
+        screen,
+        host,
+    })
+}
+
+// The status, and what is shown behind the trace.
+fn ending(stop: Stop, loses: bool) -> (Status, &'static str) {
+    match (stop, loses) {
+        (Stop::End, false) => (Status::Done, ""),
+        (Stop::End, true) => (Status::HostFault, "?Host fault~"),
+        _ => (Status::WriteFault, ""),
+    }
+}
+
+// Whether the host fails where it saves this image.
+fn loses(image: &[u8], call: Option<u32>) -> bool {
+    match call {
+        Some(call) => call < count_calls(image),
+        None => false,
+    }
+}
+
+// Whether OUT is what it must be: it is not there where the pages were cut.
+fn is_saved(
+    alloc: Global,
+    host: &MemHost,
+    wanted: &Stands,
+    call: Option<u32>,
+) -> Result<bool, AllocError> {
+    let out = host.file("OUT");
+    if wanted.stop == Stop::End {
+        return is_written(alloc, out, &wanted.state, call);
+    }
+    Ok(out.is_none())
+}
+
+// Whether all stands that must where the image was read.
+fn is_cut(
+    alloc: Global,
+    outcome: &Outcome,
+    wanted: &mut Stands,
+    call: Option<u32>,
+) -> Result<bool, AllocError> {
+    let (status, message) = ending(wanted.stop, loses(&wanted.state, call));
+    push_text(message, &mut wanted.screen)?;
+    let input = bytes_of(alloc, INPUT)?;
+    let is_saved = is_saved(alloc, &outcome.host, wanted, call)?;
+    Ok(
+        is_saved
+            && outcome.screen.bytes() == wanted.screen.as_slice()
+            && outcome.host.file("IN") == Some(input.as_slice())
+            && outcome.status == status,
+    )
+}
+
+// Whether nothing was done where the image could not be read: a screen that fails has a beginning of the message.
+fn is_refused(outcome: &Outcome, screen: Option<usize>) -> bool {
+    let shown = outcome.screen.bytes();
+    let is_told = match screen {
+        Some(_) => b"?Host fault\r\n".starts_with(shown),
+        None => shown == b"?Host fault\r\n".as_slice(),
+    };
+    is_told && outcome.status == Status::HostFault && outcome.host.file("OUT").is_none()
+}
+
+fn stands(
+    alloc: Global,
+    failing: &Failing,
+    outcome: &Outcome,
+    whole: &Outcome,
+) -> Result<bool, AllocError> {
+    if failing.call == Some(0) {
+        return Ok(is_refused(outcome, failing.screen));
+    }
+    let screen = match failing.screen {
+        Some(put) => whole.screen.held_behind(put, failing.part),
+        None => None,
+    };
+    let faults = Faults {
+        gets: None,
+        screen,
+        log: None,
+    };
+    let mut wanted = stands_at(alloc, TRACE, &faults)?;
+    is_cut(alloc, outcome, &mut wanted, failing.call)
+}
+
+fn try_one(alloc: Global, failing: &Failing, whole: &Outcome) -> Result<(), Fail> {
+    let outcome = run(alloc, failing)?;
+    if stands(alloc, failing, &outcome, whole)? {
+        return Ok(());
+    }
+    let screen = String::from_utf8_lossy(alloc, outcome.screen.bytes())?;
+    Err(Fail::new(format_args!("{failing:?} {:?} {:?}", outcome.status, screen.as_str())))
+}
+
+// With each call of the host, and behind these with one that is not made.
+fn try_calls(alloc: Global, failing: Failing, whole: &Outcome) -> Result<(), Fail> {
+    for call in 0..CALLS.saturating_add(1) {
+        let both = Failing {
+            call: Some(call),
+            ..failing
+        };
+        try_one(alloc, &both, whole)?;
+    }
+    Ok(())
+}
+
+fn try_put(alloc: Global, put: usize, part: Part, whole: &Outcome) -> Result<(), Fail> {
+    let failing = Failing {
+        screen: Some(put),
+        part,
+        call: None,
+    };
+    try_one(alloc, &failing, whole)?;
+    if put < FIRST {
+        try_calls(alloc, failing, whole)?;
+    }
+    Ok(())
+}
+
+fn try_screen(alloc: Global, part: Part) -> Result<(), Fail> {
+    let whole = run(alloc, &NOTHING)?;
+    for put in 0..whole.screen.puts() {
+        try_put(alloc, put, part, &whole)?;
+    }
+    Ok(())
+}
+
+#[test]
+fn stands_where_the_host_fails(rt: HostRuntime) -> Result<(), Fail> {
+    let whole = run(rt.alloc(), &NOTHING)?;
+    try_one(rt.alloc(), &NOTHING, &whole)?;
+    try_calls(rt.alloc(), NOTHING, &whole)
+}
+
+#[test]
+fn stands_where_a_put_takes_nothing(rt: HostRuntime) -> Result<(), Fail> {
+    try_screen(rt.alloc(), Part::Nothing)
+}
+
+#[test]
+fn stands_where_a_put_takes_one_byte(rt: HostRuntime) -> Result<(), Fail> {
+    try_screen(rt.alloc(), Part::First)
+}
+
+#[test]
+fn stands_where_a_put_takes_all_but_one(rt: HostRuntime) -> Result<(), Fail> {
+    try_screen(rt.alloc(), Part::AllButLast)
+}

@@ -1,0 +1,209 @@
+// A command file that takes another, with each put on the screen failing.
+//
+// What must stand is the trace of the whole, cut where a put fails, and the EXEC is at rest behind it. The screen fails
+// in one put alone, and would take what is put behind it.
+ghost use Rattle.std.specs.Prelude.{◌≡◌, ◌<◌, ◌≤◌};
+ghost use Rattle.cm_run.specs.Ready.{Serves};
+ghost use Rattle.ex_grammar.specs.ExecRules.{exec_meanings};
+ghost use Rattle.ex_grammar.specs.Graph.{exec_graph};
+ghost use Rattle.ex_take.specs.Exec.{exec_meaning};
+
+use crate::files::{exec_of, has, place};
+use crate::rules::hooks;
+use cm_blocks::{Grammar, Steps};
+use cm_faults::{Faults, Part, PartSink, Stop, stands_at};
+use cm_hooks::Hooks;
+use cm_io::{MemHost, NoMemory};
+use ex_grammar::{ExecRules, grammar};
+use ex_image::encode;
+use ex_store::Store;
+use ex_take::{Exec, Took, take};
+use std::alloc::Global;
+use std::marker::Brand;
+use std::sync::ledger::{Blank, Ledger};
+use std::test::Fail;
+
+const FILES: &str = "file A.CMD|TAKE B.CMD~BUILD <Y>~
+file B.CMD|INF VER~BUILD <X>~COPY A.CMD C.CMD~";
+
+// Behind `act` is the image: as it was, with a directory more, with a file more, and with another directory.
+const TRACE: &str =
+    "act EXEC20 2|D OPERATOR 1|C OPERATOR|F OPERATOR A.CMD.1 U 1 0 - 21|TAKE B.CMD|BUILD <Y>||\
+    F OPERATOR B.CMD.1 U 1 0 - 35|INF VER|BUILD <X>|COPY A.CMD C.CMD||E|
+show _EXEC20 1~
+act EXEC20 2|D OPERATOR 1|D X 1|C OPERATOR|F OPERATOR A.CMD.1 U 1 0 - 21|TAKE B.CMD|BUILD <Y>||\
+    F OPERATOR B.CMD.1 U 1 0 - 35|INF VER|BUILD <X>|COPY A.CMD C.CMD||E|
+act EXEC20 2|D OPERATOR 1|D X 1|C OPERATOR|F OPERATOR A.CMD.1 U 1 0 0 21|TAKE B.CMD|BUILD <Y>||\
+    F OPERATOR B.CMD.1 U 1 0 - 35|INF VER|BUILD <X>|COPY A.CMD C.CMD||\
+    F OPERATOR C.CMD.1 U 1 0 - 21|TAKE B.CMD|BUILD <Y>||E|
+show _<OPERATOR>A.CMD.1 => <OPERATOR>C.CMD.1 [OK]~
+act EXEC20 2|D OPERATOR 1|D X 1|D Y 1|C OPERATOR|F OPERATOR A.CMD.1 U 1 0 0 21|TAKE B.CMD|BUILD <Y>||\
+    F OPERATOR B.CMD.1 U 1 0 - 35|INF VER|BUILD <X>|COPY A.CMD C.CMD||\
+    F OPERATOR C.CMD.1 U 1 0 - 21|TAKE B.CMD|BUILD <Y>||E|";
+
+// What stands behind a file that was taken.
+#[derive(Drop)]
+struct Outcome {
+    took: Option<Took>,
+    is_at_rest: bool,
+    screen: PartSink,
+    host: MemHost,
+}
+
+// Writes the image of a store to OUT.
+fn saved(alloc: Global, store: &Store) -> Result<MemHost, NoMemory> {
+    let mut host = MemHost::new(alloc, "IN", None, 1024, &[])?;
+    encode(store, &mut host, "OUT");
+    Ok(host)
+}
+
+// Takes A.CMD, where the EXEC is at rest.
+fn take_first<L: Ledger>(
+    exec: &mut Exec,
+    screen: &mut PartSink,
+    grammar: &Grammar,
+    hooks: &Hooks<ExecRules>,
+    steps: &mut Steps<L>,
+) -> Option<Took>
+    requires { Serves exec_meaning grammar.now exec_meanings hooks.now }
+{
+    let file = place("A.CMD");
+    if !exec.is_at_rest() {
+        return None;
+    }
+    if !has(exec.store(), &file.directory) {
+        return None;
+    }
+    Some(take(exec, &file, 0, grammar, hooks, screen, steps))
+}
+
+fn outcome_of<L: Ledger>(
+    alloc: Global,
+    put: Option<usize>,
+    part: Part,
+    grammar: &Grammar,
+    hooks: &Hooks<ExecRules>,
+    steps: &mut Steps<L>,
+) -> Result<Outcome, Fail>
+    requires { Serves exec_meaning grammar.now exec_meanings hooks.now }
+{
+    let mut exec = exec_of(alloc, FILES)?;
+    let mut screen = PartSink::new(alloc, 4096, put, part)?;
+    let took = take_first(&mut exec, &mut screen, grammar, hooks, steps);
+    Ok(Outcome {
+        took,
+        is_at_rest: exec.is_at_rest(),
+        screen,
+        host: saved(alloc, exec.store())?,
+    })
+}
+
+fn took_of(stop: Stop) -> Option<Took> {
+    match stop {
+        Stop::End => Some(Took::Ok),
+        _ => Some(Took::Failed),
+    }
+}
+
+// Whether what stands is the trace, cut where the screen has taken so many bytes.
+fn is_cut(alloc: Global, outcome: &Outcome, screen: Option<usize>) -> Result<bool, NoMemory> {
+    let faults = Faults {
+        gets: None,
+        screen,
+        log: None,
+    };
+    let wanted = stands_at(alloc, TRACE, &faults)?;
+    Ok(
+        outcome.screen.bytes() == wanted.screen.as_slice()
+            && outcome.host.output() == Some(wanted.state.as_slice())
+            && outcome.took == took_of(wanted.stop)
+            && outcome.is_at_rest,
+    )
+}
+
+fn try_put<L: Ledger>(
+    alloc: Global,
+    put: usize,
+    part: Part,
+    whole: &Outcome,
+    grammar: &Grammar,
+    hooks: &Hooks<ExecRules>,
+    steps: &mut Steps<L>,
+) -> Result<(), Fail>
+    requires { Serves exec_meaning grammar.now exec_meanings hooks.now }
+{
+    let outcome = outcome_of(alloc, Some(put), part, grammar, hooks, steps)?;
+    if is_cut(alloc, &outcome, whole.screen.held_behind(put, part))? {
+        return Ok(());
+    }
+    let screen = String::from_utf8_lossy(alloc, outcome.screen.bytes())?;
+    Err(Fail::new(format_args!(
+        "put {put} {part:?}: {:?} {:?}",
+        outcome.took,
+        screen.as_str()
+    )))
+}
+
+// With each put failing, and with one that is not made.
+fn try_puts<L: Ledger>(
+    alloc: Global,
+    part: Part,
+    grammar: &Grammar,
+    hooks: &Hooks<ExecRules>,
+    steps: &mut Steps<L>,
+) -> Result<(), Fail>
+    requires { Serves exec_meaning grammar.now exec_meanings hooks.now }
+{
+    let whole = outcome_of(alloc, None, part, grammar, hooks, steps)?;
+    for put in 0..whole.screen.puts().saturating_add(1) {
+        try_put(alloc, put, part, &whole, grammar, hooks, steps)?;
+    }
+    Ok(())
+}
+
+// Makes the rules and the counter.
+fn try_with_rules<L: Ledger>(
+    rt: &HostRuntime,
+    blank: Blank,
+    part: Part,
+    grammar: &Grammar,
+) -> Result<(), Fail>
+    requires name { blank.name ≡ L.name }
+    requires parts { blank.parts ≡ L.parts }
+    requires some { 0 < L.parts }
+    requires grammar { grammar.now ≡ exec_graph }
+{
+    let hooks = hooks(rt.alloc())?;
+    let mut steps: Steps<L> = Steps::new(rt, blank);
+    ex_grammar::laws::the_grammar_wants_three_hooks();
+    try_puts(rt.alloc(), part, grammar, &hooks, &mut steps)
+}
+
+// Makes the grammar.
+fn try_with_grammar<L: Ledger>(rt: &HostRuntime, blank: Blank, part: Part) -> Result<(), Fail>
+    requires name { blank.name ≡ L.name }
+    requires parts { blank.parts ≡ L.parts }
+    requires some { 0 < L.parts }
+{
+    let grammar = grammar(rt.alloc())?;
+    try_with_rules::<L>(rt, blank, part, &grammar)
+}
+
+fn try_part(rt: &HostRuntime, part: Part) -> Result<(), Fail> {
+    try_with_grammar::<Brand>(rt, Blank::new(1), part)
+}
+
+#[test]
+fn stands_where_a_put_takes_nothing(rt: HostRuntime) -> Result<(), Fail> {
+    try_part(&rt, Part::Nothing)
+}
+
+#[test]
+fn stands_where_a_put_takes_one_byte(rt: HostRuntime) -> Result<(), Fail> {
+    try_part(&rt, Part::First)
+}
+
+#[test]
+fn stands_where_a_put_takes_all_but_one(rt: HostRuntime) -> Result<(), Fail> {
+    try_part(&rt, Part::AllButLast)
+}
