@@ -1,5 +1,5 @@
 -- A message is sent: where its file may be put, and what is left. One is read: all stays.
-use Rattle.std.proofs.Common.{◌≡◌, ℕ, ◌/◌, ◌&&◌, not, true, false, List, [], ◌∷◌, ◌++◌, Result, Ok, refl, subst, sym, ◌∙◌, append_assoc, arith}
+use Rattle.std.proofs.Common.{◌≡◌, ℕ, ◌/◌, ◌&&◌, not, true, List, [], ◌∷◌, ◌++◌, Result, Ok, refl, subst, sym, ◌∙◌, append_assoc, arith}
 use Rattle.std.specs.Char.{is_ascii_lowercase}
 use Rattle.std.proofs.lemmas.Bool.{and_from}
 use Rattle.std.proofs.lemmas.Bool.Decides.{nat_tests}

@@ -1,6 +1,5 @@
 -- A message that is sent is one of its receiver's, the only one with its number.
-use Rattle.std.proofs.Common.{◌≡◌, ℕ, ◌/◌, ◌%◌, ◌≤◌, ◌==◌, ◌&&◌, nat_le, nat_lt, not, Bool, true, false, cond, filter, List, [], ◌∷◌, ◌++◌, length, Result, Ok, Err, refl, ap, sym, subst, ◌∙◌, append_assoc, arith}
-use Rattle.std.specs.Char.{digit_value, is_ascii_digit}
+use Rattle.std.proofs.Common.{◌≡◌, ℕ, ◌≤◌, ◌==◌, ◌&&◌, nat_le, nat_lt, not, Bool, true, false, cond, filter, List, [], ◌∷◌, ◌++◌, length, Result, Ok, Err, refl, ap, sym, subst, ◌∙◌, append_assoc, arith}
 use Rattle.std.specs.List.{list_all}
 use Rattle.std.specs.Ordering.{is_eq, is_lt}
 use Rattle.std.specs.Str.{bytes_eq}
@@ -33,9 +32,10 @@ use Rattle.ex_commands.specs.Act.{plays_by, refuses}
 use Rattle.ex_commands.specs.declared.acted.Acted.TheVariants as answers
 use Rattle.mm_mail.specs.Delivery.{message_bytes, number_for, sends, sends_as, sent_line}
 use Rattle.mm_mail.specs.Mailbox.{is_message_in, is_message_numbered, is_numbered_in, mail_type, message_place, messages_numbered}
-use Rattle.mm_mail.specs.MessageName.{digit, is_message_name, message_name, name_number, prefix}
+use Rattle.mm_mail.specs.MessageName.{is_message_name, name_number, prefix}
 use Rattle.mm_mail.specs.declared.message.Message.{Message}
 use Rattle.mm_mail.specs.declared.message_name.TheConstants.{MOST_MESSAGES}
+use Rattle.mm_mail.proofs.MessageNames.{is_message, number_of_name}
 use Rattle.mm_mail.proofs.Numbers.{own_number}
 
 -- where no element passes, however it stands among the others, none does
@@ -99,24 +99,6 @@ added_alone keep row rows none = by (keep == 0) refl
     by true is = refl
     by false is = kept_alone keep row rows is none
 
--- the name of the file of a message is one, and has its number
-is_digit : (number : ℕ) → is_ascii_digit (digit number) ≡ true
-is_digit number = grind (arith, nat_tests)
-
-is_named : (number : ℕ) → is_message_name (message_name number) ≡ true
-unfolding prefix
-is_named number =
-    and_from _ _ (is_digit (number / 1000)) (and_from _ _ (is_digit (number / 100))
-    (and_from _ _ (is_digit (number / 10)) (and_from _ _ (is_digit number) refl)))
-
-value_of_digit : (number : ℕ) → digit_value (digit number) ≡ number % 10
-value_of_digit number = grind (arith, nat_tests)
-
-number_named : (number : ℕ) → number ≤ MOST_MESSAGES → name_number (message_name number) ≡ number
-unfolding prefix
-number_named number few =
-    omega (arith, value_of_digit (number / 1000), value_of_digit (number / 100), value_of_digit (number / 10), value_of_digit number)
-
 -- the key of the file of a message
 abbrev message_key : List ℕ → ℕ → Key
 message_key receiver number = own_key (message_place receiver number Next)
@@ -126,11 +108,11 @@ numbered_own : (receiver : List ℕ) (number : ℕ) (row : Row) → row.key ≡ 
 numbered_own receiver number row own =
     subst (λ (key : Key). (is_eq (by_bytes key.directory receiver) && is_message_name key.name && bytes_eq key.kind mail_type) ≡ true)
     (sym own)
-    (and_from _ _ (and_from _ _ (ap is_eq (text_itself receiver)) (is_named number)) (bytes_eq_itself mail_type))
+    (and_from _ _ (and_from _ _ (ap is_eq (text_itself receiver)) (is_message number)) (bytes_eq_itself mail_type))
 
 number_own : (receiver : List ℕ) (number : ℕ) (row : Row) → number ≤ MOST_MESSAGES → row.key ≡ message_key receiver number
     → name_number row.key.name ≡ number
-number_own receiver number row few own = ap (λ (key : Key). name_number key.name) own ∙ number_named number few
+number_own receiver number row few own = ap (λ (key : Key). name_number key.name) own ∙ number_of_name number few
 
 -- no file has its key yet, and no message its number
 not_of : (message : Message) (state : State) → number_for message state ≤ MOST_MESSAGES → (before behind : List Row) (row : Row)

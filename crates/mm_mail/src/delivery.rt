@@ -1,12 +1,12 @@
 // A message is sent.
 #![tactic(auto, using(cm_io::proofs::Texts::texts))]
 
-ghost use Rattle.std.specs.Prelude.{◌≡◌, ◌≤◌, ◌<◌, true, IfOk, OnErr, OnOk, nat_lt};
+ghost use Rattle.std.specs.Prelude.{◌≡◌, ◌≤◌, true, IfOk, OnErr, OnOk};
 ghost use Rattle.cm_io.specs.Fault.{PutCause};
 ghost use Rattle.cm_io.specs.Told.{Adds};
 ghost use Rattle.cm_io.specs.Writer.{Writes};
 ghost use Rattle.ex_store.specs.State.{has_directory};
-ghost use Rattle.mm_mail.specs.Delivery.{message_bytes, number_for, sends, sends_as, sent_line};
+ghost use Rattle.mm_mail.specs.Delivery.{message_bytes, sends, sends_as, sent_line};
 ghost use Rattle.mm_mail.specs.declared.message_name.TheConstants.{MOST_MESSAGES};
 
 use crate::mailbox::{greatest, message_place};

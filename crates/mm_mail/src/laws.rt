@@ -15,7 +15,6 @@ ghost use Rattle.cm_run.specs.Keeping.{IsLineKeeping, is_line};
 ghost use Rattle.cm_run.specs.Meaning.{setting_of};
 ghost use Rattle.cm_run.specs.Trace.{RunState, step};
 ghost use Rattle.ex_store.specs.State.{State, catalogue_of};
-ghost use Rattle.ex_store.specs.WellFormed.{IsWellFormed};
 ghost use Rattle.ex_store.specs.declared.row.Row.{Row};
 ghost use Rattle.ex_commands.specs.declared.acted.Acted.TheVariants as answers;
 ghost use Rattle.mm_mail.specs.Command.{MayAct, command_of};
@@ -90,8 +89,7 @@ pub fn a_message_has_a_number_of_its_own()
 /// What is sent is read: a message that is sent is a message of its receiver's, the only one with its number, not
 /// marked as deleted, and its file holds sender, subject and what was typed in, byte for byte.
 pub fn what_is_sent_is_read()
-    ensures { (message : Message) → (state : State) → IsWellFormed state
-        → (sends message state).answer ≡ answers.Ok
+    ensures { (message : Message) → (state : State) → (sends message state).answer ≡ answers.Ok
         → (row : Row) × (messages_numbered message.receiver (number_for message state) (sends message state).state
         ≡ row ∷ []) × (row.file.bytes ≡ message_bytes state.connected message.subject message.typed) }
 {}
