@@ -98,10 +98,9 @@ class Runner:
             return wrong
         if case.screen is not None and self.read("screen") != case.screen:
             wrong.append(f"shows {self.read('screen')[:200]!r}, and not {case.screen[:200]!r}")
-        wrong += self.wrong_files(case, status)
         if case.program == "exec20" and case.words[:1] == [b"-w"] and status == 0:
             wrong += self.wrong_log(case.keys)
-        return wrong
+        return wrong + self.wrong_files(case, status)
 
     def wrong_status(self, case, status):
         """What is wrong with a status."""
