@@ -96,8 +96,8 @@ def controlled(chance, programs):
 
 
 def printed(chance, programs):
-    """A print queue."""
-    image = images.some(chance, 6)
+    """A print queue, of few bytes, as each row of each copy is written by itself."""
+    image = images.some(chance, 6, 4_000)
     out = image.printed() if image.version == 2 else None
     return Case("a print queue", "spool20", ["IN", "OUT"], b"", {"IN": image.whole()}, (0,), out=out)
 
@@ -106,8 +106,9 @@ def broken(chance, programs):
     """An image with faults at random bytes, a large one now and then."""
     program = chance.choice([it for it in programs if it in FROM_IMAGE])
     large = chance.random() < 0.02
-    image = images.some(chance, 4_000 if large else 12, 8_388_608 if large else 100_000).whole()
-    return over(program, "an image with faults", images.damaged(chance, image))
+    image = images.some(chance, 4_000 if large else 12, 8_388_608 if large else 100_000)
+    whole = image.whole(image.entries[:2] if program == "spool20" else None)
+    return over(program, "an image with faults", images.damaged(chance, whole))
 
 
 def other_keys(chance, programs):

@@ -5,10 +5,12 @@ import shutil
 import signal
 import subprocess
 
-# What a run may have of addresses, in bytes, and of seconds for each MiB that it is given, and at least.
+# What a run may have of addresses, in bytes; of seconds of a processor, and of those for each MiB of its keys; and how many
+# times as long it may take by the clock on the wall, beside other work.
 MOST_MEMORY = 128 << 20
 SECONDS = 60
 SECONDS_A_MIB = 120
+BESIDE_OTHERS = 20
 # How much of a screen is looked at.
 MOST_SCREEN = 16 << 20
 # The statuses that docs/REFERENCE.md lists. Under the limit memory is never wanting, so that 6 (3 of lamps) may not come.
@@ -38,9 +40,10 @@ class Case:
         return os.fsdecode(self.words[place]) if len(self.words) > 1 else ""
 
 
-def limited():
+def limited(seconds):
     """Sets the limits of a program that is about to begin."""
     resource.setrlimit(resource.RLIMIT_AS, (MOST_MEMORY, MOST_MEMORY))
+    resource.setrlimit(resource.RLIMIT_CPU, (seconds, seconds + 1))
     resource.setrlimit(resource.RLIMIT_CORE, (0, 0))
     signal.signal(signal.SIGPIPE, signal.SIG_IGN)
 
@@ -74,13 +77,14 @@ class Runner:
     def start(self, program, words, keys, screen="screen"):
         """The status of a run, or None where the clock ran out."""
         self.write("keys", keys)
-        seconds = SECONDS + SECONDS_A_MIB * len(keys) / (1 << 20)
+        seconds = SECONDS + SECONDS_A_MIB * len(keys) // (1 << 20)
         with open(self.path("keys"), "rb") as given, open(self.path(screen), "wb") as shown, \
                 open(self.path("log"), "wb") as log:
             child = subprocess.Popen([self.programs[program], *words], stdin=given, stdout=shown, stderr=log,
-                                     cwd=self.folder, env={}, preexec_fn=limited)
+                                     cwd=self.folder, env={}, preexec_fn=lambda: limited(seconds))
             try:
-                return child.wait(seconds)
+                ended = child.wait(BESIDE_OTHERS * seconds)
+                return None if ended == -signal.SIGXCPU else ended
             except subprocess.TimeoutExpired:
                 child.kill()
                 child.wait()
