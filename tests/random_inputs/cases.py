@@ -13,6 +13,10 @@ FROM_IMAGE = {
 }
 TYPED = ("exec20", "lamps", "tt_program", "mm20")
 KEY_LIMIT = 16_777_216
+# A key of each class: what is printed, blanks, what begins a comment or joins lines, the ends of a line, each editing key,
+# and others.
+CLASSES = b"A1 \t-;!(\"/<*\r\n\x7f\x17\x15\x12\x08\x03\x1b\x06?\x1a\x01\x80\xff"
+FEW_KEYS = 8_192
 NO_FILE = b"?No such file\r\n"
 
 
@@ -38,9 +42,9 @@ def alike(program, key, count):
     return Case(f"{count} times the key {key}", program, words, bytes([key]) * count, files, (status,))
 
 
-def each_time(programs, count):
-    """The cases of every run: the small images with a fault at each byte, each single key so many times, the largest image
-    and what is too large."""
+def each_time(programs, is_long):
+    """The cases of every run: the small images with a fault at each byte, each single key many times, the largest image
+    and what is too large. In a long run a key of each class comes until the limit."""
     for version, image in images.SMALL.items():
         for place, (name, broken) in enumerate(images.at_every_byte(image)):
             for program in programs:
@@ -49,8 +53,8 @@ def each_time(programs, count):
     for key in range(256):
         for program in programs:
             if program in TYPED:
-                yield alike(program, key, count)
-        held = bytes([key]) * min(count, 66_000)
+                yield alike(program, key, FEW_KEYS)
+        held = bytes([key]) * (66_000 if is_long else FEW_KEYS)
         yield Case(f"a file of the key {key}", "exec20", ["-n", "OUT"], b"COPY TTY: A\r" + held + b"\x1a", {}, (0,))
     full = images.fullest()
     for program in programs:
@@ -59,9 +63,10 @@ def each_time(programs, count):
             for byte in (0, 10, 69, 255):
                 yield over(program, f"an image that is all {byte}", bytes([byte]) * MOST_BYTES)
             yield over(program, "an image that is too large", bytes(MOST_BYTES + 1))
-    for program in programs:
-        if program in TYPED:
-            yield alike(program, 1, KEY_LIMIT)
+    for key in CLASSES if is_long else b"\x01":
+        for program in programs:
+            if program in TYPED:
+                yield alike(program, key, KEY_LIMIT)
 
 
 def typed_in(chance, programs):
