@@ -71,8 +71,9 @@ def control_file(chance):
 def word(chance):
     """A word of a program: a name of a file, a flag, a number, or of another shape."""
     return chance.choice((
-        b"IN", b"OUT", b"IN", b"OUT", b"-n", b"-w", b"-g", b"", b"-", b"--", b"-n-w", b"-W", b"ABSENT", b"FOLDER", b"FOLDER/OUT",
-        b"ABSENT/OUT", b"1", b"2", b"0", b"007", b"000001", b"0000001", b"100000", b"100001", b"-1", b"+1", b"1.0", b"A.CTL", b"NONE.CTL",
+        b"IN", b"OUT", b"IN", b"OUT", b"-n", b"-w", b"-g", b"", b"-", b"--", b"-n-w", b"-W", b"ABSENT", b"FOLDER",
+        b"FOLDER/OUT", b"ABSENT/OUT", b"1", b"2", b"0", b"007", b"000001", b"0000001", b"100000", b"100001", b"-1", b"+1", b"1.0",
+        b"A.CTL", b"NONE.CTL",
         b"A" * 255, b"A" * 256, b"\xff", b"\xc3\xa9", b" ", b"A B", b"\n", b"<SMITH.SRC>B", b"%s%n",
     ))
 
