@@ -1,0 +1,100 @@
+"""Programs in which one allocation of a run fails, and what stands behind a run of them."""
+import os
+import re
+import subprocess
+import tempfile
+import time
+
+# The number of the allocation that `rt try` is told to let fail: one that no run reaches, and that stands in the program
+# nowhere else than in its two tests, of a first allocation and of one that grows.
+NUMBER = 1_592_631_580
+TESTS = 2
+SECONDS = 60
+STAMP = re.compile(rb"^(F \S+ \S+ [DU] \d+) \d+ (\d+|-) ", re.MULTILINE)
+
+
+def compiled(crate, folder):
+    """The program of a crate as `rt try` compiles it, kept in this folder. It is there only while it runs, so that it is
+    looked for meanwhile."""
+    kept = os.path.join(folder, os.path.basename(crate))
+    if os.path.exists(kept):
+        return kept
+    with tempfile.TemporaryDirectory(dir=folder) as here:
+        words = ["rt", "try", "--fail-alloc", str(NUMBER)]
+        child = subprocess.Popen(words, cwd=crate, env={**os.environ, "TMPDIR": here}, stdin=subprocess.DEVNULL,
+                                 stdout=subprocess.DEVNULL, stderr=subprocess.PIPE)
+        seen = set()
+        while child.poll() is None:
+            look_for_program(here, seen)
+            time.sleep(0.01)
+        said = child.stderr.read().decode(errors="replace")
+        for number in sorted(seen):
+            found = os.path.join(here, f"{number}.kept")
+            with open(found, "rb") as file:
+                if is_whole(file.read()):
+                    os.replace(found, kept)
+                    return kept
+    raise SystemExit(f"rt try left no program of {crate} to be found: {said[-500:]}")
+
+
+def look_for_program(here, seen):
+    """Keeps each file of the name that `rt try` gives to a program, once."""
+    for folder, _, names in os.walk(here):
+        if "program" not in names:
+            continue
+        path = os.path.join(folder, "program")
+        try:
+            number = os.stat(path).st_ino
+            if number not in seen:
+                os.link(path, os.path.join(here, f"{number}.kept"))
+                seen.add(number)
+        except OSError:
+            continue
+
+
+def is_whole(held):
+    """Whether these are the bytes of a program with both of its tests."""
+    return held[:4] == b"\x7fELF" and held.count(NUMBER.to_bytes(4, "little")) == TESTS
+
+
+class Program:
+    """A program that is run with any one allocation failing, in a folder of its own."""
+
+    def __init__(self, path, folder):
+        self.folder, self.path = folder, os.path.join(folder, "failing")
+        with open(path, "rb") as file:
+            self.held = file.read()
+        if not is_whole(self.held):
+            raise SystemExit(f"{path} does not let an allocation fail as rt try does")
+
+    def run(self, words, keys, image, failing=0):
+        """The status, the screen and the image of a run over these keys, and over this image if there is one."""
+        with open(self.path, "wb") as file:
+            file.write(self.held.replace(NUMBER.to_bytes(4, "little"), failing.to_bytes(4, "little")))
+        os.chmod(self.path, 0o755)
+        with tempfile.TemporaryDirectory(dir=self.folder) as here:
+            if image is not None:
+                with open(os.path.join(here, "IN"), "wb") as file:
+                    file.write(image)
+            done = subprocess.run([self.path, *words], input=keys, stdout=subprocess.PIPE, stderr=subprocess.PIPE, cwd=here,
+                                  env={}, timeout=SECONDS, check=False)
+            others = sorted(set(os.listdir(here)) - {"IN", "OUT"})
+            if others or (image is not None and read(here, "IN") != image):
+                return done.returncode, done.stdout, b"other files are changed"
+            return done.returncode, done.stdout, unstamped(read(here, "OUT"))
+
+
+def read(folder, name):
+    """The bytes of a file, or None where it is not there."""
+    try:
+        with open(os.path.join(folder, name), "rb") as file:
+            return file.read()
+    except FileNotFoundError:
+        return None
+
+
+def unstamped(image):
+    """An image with each moment made alike, whether a file was read being left to be seen."""
+    if image is None:
+        return None
+    return STAMP.sub(lambda found: found[1] + b" WHEN " + (b"-" if found[2] == b"-" else b"READ") + b" ", image)
