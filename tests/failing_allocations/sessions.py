@@ -158,7 +158,7 @@ SESSIONS = (
     Printed("a print queue", START + files((b"A.TXT", b"HI\r\n" * 200))
             + b"Q OPERATOR A.TXT.1 2 NORMAL - A as said\nQ OPERATOR A.TXT.1 1 WIDE 47481 A \nE\n"),
     Typed("mail", "mm20", ["IN", "OUT"], (
-        Step(b"HEADERS\r", False), Step(b"SEND SMITH \"HELLO\"\r", False), Step(b"HI\r\x1a", True), Step(b"READ 1\r", False),
-        Step(b"HEADERS\r", False), Step(b"DELETE 1\r", False),
+        Step(b"HEADERS\r"), Step(b"SEND OPERATOR \"HELLO\"\r", True), Step(b"HI\r\x1a", True), Step(b"READ 1\r"),
+        Step(b"HEADERS\r"), Step(b"SEND SMITH \"AGAIN\"\r", True), Step(b"YO\r\x03"), Step(b"DELETE 1\r"),
     ), START + b"E\n"),
 )
