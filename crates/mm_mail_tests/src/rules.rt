@@ -124,6 +124,7 @@ const FIELDS: &str = "123|Fault(Fault { code: Rejected, node: 2, at: 0 })
 ABCDE|Hook { id: 0, value: 5 } 0..5
 |Fault(Fault { code: NoField, node: 2, at: 0 })";
 
+#[tactic(auto, unfolding(cm_text::specs::Bytes::is_name, cm_text::specs::Bytes::is_word))]
 fn answer_field<L: Ledger>(
     alloc: Global,
     grammar: &Grammar,
