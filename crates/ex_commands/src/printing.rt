@@ -40,7 +40,8 @@ fn put_first<'a, S: Sink>(bytes: &'a [u8], out: &mut Writer<'_, S>) -> &'a [u8]
     }
 }
 
-/// Puts bytes as they are shown: a byte that is not 32 to 126 as a dot. Those that are shown as they are go out at once.
+/// Puts bytes as they are shown: a byte that is not 32 to 126 as a dot. Those that are shown as they are go out
+/// together.
 #[tactic(auto, using(cm_io::proofs::Texts::turns))]
 pub fn put_printing<S: Sink>(bytes: &[u8], out: &mut Writer<'_, S>)
     ensures { Writes S.Sink out.old out.new (map printing_byte bytes.now) }
