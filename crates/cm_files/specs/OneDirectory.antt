@@ -1,5 +1,5 @@
 -- The catalogue of one directory, which is connected, with no logical name.
-use Rattle.std.specs.Prelude.{ℕ, List, [], ◌∷◌, Option, None}
+use Rattle.std.specs.Prelude.{ℕ, List, [], ◌∷◌, codes, Option, None}
 use Rattle.std.specs.Option.{option_to_list}
 use Rattle.cm_files.specs.declared.row.FileRow.{FileRow}
 use Rattle.cm_files.specs.Catalogue.{Catalogue}
@@ -16,3 +16,7 @@ directory_with name file = record {
 -- with no file
 unfoldable pub one_directory : List ℕ → Catalogue
 one_directory name = directory_with name None
+
+-- the catalogue of a program whose lines name no files
+unfoldable pub no_files : Catalogue
+no_files = one_directory (codes "NONE")

@@ -1,7 +1,7 @@
 // A catalogue of one directory.
 ghost use Rattle.std.specs.Prelude.{◌≡◌, true, [], length};
 ghost use Rattle.cm_files.specs.Catalogue.{IsCatalogue, is_directory_name};
-ghost use Rattle.cm_files.specs.OneDirectory.{one_directory};
+ghost use Rattle.cm_files.specs.OneDirectory.{no_files, one_directory};
 
 use crate::{FileRow, Names, Row};
 use cm_text::Name;
@@ -40,6 +40,14 @@ impl OneDirectory {
             name: Name::new(name),
             file: None,
         }
+    }
+
+    /// The directory `NONE`, for a program whose lines name no files.
+    #[tactic(auto, unfolding(crate::specs::OneDirectory::no_files, cm_text::specs::Bytes::is_name, cm_text::specs::Bytes::is_word))]
+    pub fn nothing() -> OneDirectory
+        ensures { result ≡ no_files }
+    {
+        OneDirectory::new("NONE")
     }
 
     // What it keeps: facts for the proofs of those calls whose answers ask no field.
