@@ -28,10 +28,11 @@ use Rattle.ex_store.proofs.AdmittedLaws.{limited_roomy, ok_same}
 use Rattle.ex_store.proofs.FamilyLaws.{key_is}
 use Rattle.ex_store.proofs.KeptLaws.{files_none, kept_upper, none_of}
 use Rattle.ex_store.proofs.WrittenLaws.{adds_one, write_ready, write_refused, written_row}
-use Rattle.ex_commands.specs.Act.{plays_by, refuses}
+use Rattle.ex_commands.specs.Act.{does, plays_by, refuses}
+use Rattle.ex_commands.specs.Replies.{held_text}
 use Rattle.ex_commands.specs.declared.acted.Acted.TheVariants as answers
-use Rattle.mm_mail.specs.Delivery.{message_bytes, number_for, sends, sends_as, sent_line}
-use Rattle.mm_mail.specs.Mailbox.{is_message_in, is_message_numbered, is_numbered_in, mail_type, message_place, messages_numbered}
+use Rattle.mm_mail.specs.Delivery.{IsRead, at_receiver, message_bytes, number_for, sends, sends_as, sent_line}
+use Rattle.mm_mail.specs.Mailbox.{is_message_in, is_message_numbered, is_numbered_in, mail_type, message_place, messages_numbered, reads, reads_first}
 use Rattle.mm_mail.specs.MessageName.{is_message_name, name_number, prefix}
 use Rattle.mm_mail.specs.declared.message.Message.{Message}
 use Rattle.mm_mail.specs.declared.message_name.TheConstants.{MOST_MESSAGES}
@@ -183,11 +184,11 @@ first_generation key size generation rows none is =
     (files_none key rows none) is in
     (limited_roomy (length rows) (total rows) size 1 generation alone).1
 
--- what is left of a state in which the file of a message is written
-abbrev IsRead : Message → State → State → Type 0
-IsRead message state left =
-    (row : Row) × (messages_numbered message.receiver (number_for message state) left ≡ row ∷ [])
-    × (row.file.bytes ≡ message_bytes state.connected message.subject message.typed)
+-- where a number names one file alone READ of it shows its text
+shows_alone : (number : ℕ) (state : State) (row : Row) → messages_numbered state.connected number state ≡ row ∷ []
+    → reads number state ≡ does (held_text row) state
+unfolding reads
+shows_alone number state row alone = ap (λ (rows : List Row). reads_first rows state) alone
 
 -- the place of its file, what that holds, and its row
 abbrev place_of : Message → State → Place
@@ -220,11 +221,15 @@ written_alone message state made few is (Ok generation) admits =
     let none : none_of key state.rows ≡ true =
     none_passes (is_of key) state.rows [] state.rows refl (not_of message state few) in
     let first = first_generation key (length (bytes_of message state)) generation state.rows none admits in
-    let alone = sent_alone message state row.file.keep row.file.moment row.file.bytes generation few first in (
-      row,
-      subst (λ (left : Planned). messages_numbered message.receiver (number_for message state) left.state ≡ row ∷ []) same alone,
-      refl,
-    )
+    let alone : messages_numbered message.receiver (number_for message state) made.state ≡ row ∷ [] =
+    subst (λ (left : Planned). messages_numbered message.receiver (number_for message state) left.state ≡ row ∷ []) same
+    (sent_alone message state row.file.keep row.file.moment row.file.bytes generation few first) in
+    record {
+      row = row;
+      alone = alone;
+      bytes = refl;
+      shown = shows_alone (number_for message state) (at_receiver message made.state) row alone;
+    }
 written_alone message state made few is (Err code) fails =
     let never = write_refused state (place_of message state) (bytes_of message state) message.moment code
     (has_name message state) fails in

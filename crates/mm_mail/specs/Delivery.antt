@@ -1,15 +1,17 @@
 -- A message is sent.
-use Rattle.std.specs.Prelude.{ℕ, ◌+◌, nat_lt, if◌then◌else◌, List, ◌++◌, codes}
+use Rattle.std.specs.Prelude.{ℕ, ◌≡◌, ◌+◌, nat_lt, if◌then◌else◌, List, [], ◌∷◌, ◌++◌, codes}
 use Rattle.cm_text.specs.Shown.{end_of_line}
 use Rattle.cm_fields.specs.declared.code.Code.TheVariants.{MailFull}
 use Rattle.cm_fields.specs.declared.value.Gen.TheVariants.{Next}
 use Rattle.ex_store.specs.declared.key.NamePair.{NamePair}
 use Rattle.ex_store.specs.declared.plan.Plan.TheVariants as plans
+use Rattle.ex_store.specs.declared.row.Row.{Row}
 use Rattle.ex_store.specs.Plan.{planned}
 use Rattle.ex_store.specs.State.{State}
-use Rattle.ex_commands.specs.Act.{Act, plays_by, refuses}
+use Rattle.ex_commands.specs.Act.{Act, does, plays_by, refuses}
+use Rattle.ex_commands.specs.Replies.{held_text}
 use Rattle.ex_commands.specs.Texts.{space}
-use Rattle.mm_mail.specs.Mailbox.{greatest, message_place}
+use Rattle.mm_mail.specs.Mailbox.{greatest, message_place, messages_numbered, reads}
 use Rattle.mm_mail.specs.MessageName.{four_digits}
 use Rattle.mm_mail.specs.declared.message.Message.{Message}
 use Rattle.mm_mail.specs.declared.message_name.TheConstants.{MOST_MESSAGES}
@@ -42,3 +44,16 @@ unfoldable pub sends : Message → State → Act
 sends message state =
     let number = number_for message state in
     if nat_lt MOST_MESSAGES number then refuses MailFull state else sends_as number message state
+
+-- a state, where the receiver of the message is the one who is connected
+abbrev pub at_receiver : Message → State → State
+at_receiver message left = record left { connected = message.receiver }
+
+-- a message that was sent is read in the state that is left: its number names one file of its receiver's, which holds
+-- it, and READ of that number by its receiver shows the text of that file and changes nothing
+pub record IsRead (message : Message) (state left : State) : Type 0 where
+  pub row : Row
+  pub alone : messages_numbered message.receiver (number_for message state) left ≡ row ∷ []
+  pub bytes : row.file.bytes ≡ message_bytes state.connected message.subject message.typed
+  pub shown : reads (number_for message state) (at_receiver message left)
+      ≡ does (held_text row) (at_receiver message left)

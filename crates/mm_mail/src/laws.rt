@@ -1,5 +1,5 @@
 //! Laws of mail. Each is a function that does nothing, whose contract is the law.
-ghost use Rattle.std.specs.Prelude.{◌≡◌, ◌≢◌, ◌<◌, ◌++◌, ◌∷◌, ℕ, List, [], false, true};
+ghost use Rattle.std.specs.Prelude.{◌≡◌, ◌≢◌, ◌<◌, ◌++◌, ◌∷◌, ℕ, List, false, true};
 ghost use Rattle.cm_line.specs.Keys.{class_at};
 ghost use Rattle.cm_line.specs.declared.key.KeyClass.TheVariants as classes;
 ghost use Rattle.cm_blocks.specs.Parse.{IsParse};
@@ -18,9 +18,9 @@ ghost use Rattle.ex_store.specs.State.{State, catalogue_of};
 ghost use Rattle.ex_store.specs.declared.row.Row.{Row};
 ghost use Rattle.ex_commands.specs.declared.acted.Acted.TheVariants as answers;
 ghost use Rattle.mm_mail.specs.Command.{MayAct, command_of};
-ghost use Rattle.mm_mail.specs.Delivery.{message_bytes, number_for, sends};
+ghost use Rattle.mm_mail.specs.Delivery.{IsRead, number_for, sends};
 ghost use Rattle.mm_mail.specs.Graph.{mail_graph};
-ghost use Rattle.mm_mail.specs.Mailbox.{is_numbered_in, messages_numbered};
+ghost use Rattle.mm_mail.specs.Mailbox.{is_numbered_in};
 ghost use Rattle.mm_mail.specs.MailRules.{mail_meanings};
 ghost use Rattle.mm_mail.specs.MailRun.{mail_trace};
 ghost use Rattle.mm_mail.specs.MailState.{MailState};
@@ -87,11 +87,11 @@ pub fn a_message_has_a_number_of_its_own()
 {}
 
 /// What is sent is read: a message that is sent is a message of its receiver's, the only one with its number, not
-/// marked as deleted, and its file holds sender, subject and what was typed in, byte for byte.
+/// marked as deleted; its file holds sender, subject and what was typed in, byte for byte; and READ of that number by
+/// its receiver shows it.
 pub fn what_is_sent_is_read()
     ensures { (message : Message) → (state : State) → (sends message state).answer ≡ answers.Ok
-        → (row : Row) × (messages_numbered message.receiver (number_for message state) (sends message state).state
-        ≡ row ∷ []) × (row.file.bytes ≡ message_bytes state.connected message.subject message.typed) }
+        → IsRead message state (sends message state).state }
 {}
 
 /// Past the first prompt memory is wanting at two kinds of keys alone: one that finishes a line of SEND, and control-Z,

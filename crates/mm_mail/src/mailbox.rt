@@ -9,7 +9,7 @@ ghost use Rattle.ex_store.specs.Lent.{row_of_view};
 ghost use Rattle.ex_store.specs.Selection.{selected};
 ghost use Rattle.ex_commands.specs.Texts.{space};
 ghost use Rattle.mm_mail.specs.declared.message_name.TheConstants.{MOST_MESSAGES};
-ghost use Rattle.mm_mail.specs.Mailbox.{deleted, deleted_line, deletes, first_line, greatest, greatest_among, header_if, header_line, headers, is_rest, mailbox, message_place, number_if, numbered_place, reads};
+ghost use Rattle.mm_mail.specs.Mailbox.{deleted, deleted_line, deletes, first_line, greatest, greatest_among, header_if, header_line, headers, is_rest, mailbox, message_place, number_if, numbered_place, place_in, reads};
 
 use crate::message_name::{
     MOST_MESSAGES, digits_of, four_digits, is_message_name, message_name, name_number,
@@ -27,32 +27,33 @@ const HEADER_BYTES: usize = 90;
 // The generation that a message has.
 const FIRST_GENERATION: u32 = 1;
 
-/// Where the files of messages of a directory stand, of these generations, whatever their numbers.
-#[tactic(auto, unfolding(crate::specs::Mailbox::any_number, crate::specs::Mailbox::mail_type))]
-pub(crate) fn numbered_place(directory: &Name, generation: Gen) -> Place
-    ensures { result ≡ numbered_place directory.now generation }
+// Where the files of messages of a directory stand, of this name and of these generations.
+#[tactic(auto, unfolding(crate::specs::Mailbox::mail_type))]
+fn place_in(directory: &Name, name: Name, generation: Gen) -> Place
+    ensures { result ≡ place_in directory.now name generation }
 {
     Place {
         directory: Name::new(directory.as_str()),
-        name: Some(Name::new("MSG-%%%%")),
+        name: Some(name),
         kind: Some(Name::new("MAIL")),
         generation,
         flags: Flags::default(),
     }
 }
 
+/// Where the files of messages of a directory stand, of these generations, whatever their numbers.
+#[tactic(auto, unfolding(crate::specs::Mailbox::any_number))]
+pub(crate) fn numbered_place(directory: &Name, generation: Gen) -> Place
+    ensures { result ≡ numbered_place directory.now generation }
+{
+    place_in(directory, Name::new("MSG-%%%%"), generation)
+}
+
 /// Where the message of a directory with a number stands.
-#[tactic(auto, unfolding(crate::specs::Mailbox::mail_type))]
 pub(crate) fn message_place(directory: &Name, number: u64, generation: Gen) -> Place
     ensures { result ≡ message_place directory.now number generation }
 {
-    Place {
-        directory: Name::new(directory.as_str()),
-        name: Some(message_name(number)),
-        kind: Some(Name::new("MAIL")),
-        generation,
-        flags: Flags::default(),
-    }
+    place_in(directory, message_name(number), generation)
 }
 
 // A space.
