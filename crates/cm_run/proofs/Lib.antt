@@ -14,6 +14,7 @@ pub mod Joins
 mod Keys
 mod LawLemmas
 pub mod LineEnds
+pub mod LinePrograms
 pub mod LineTurns
 mod Lines
 mod Memory

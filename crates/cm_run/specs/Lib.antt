@@ -5,6 +5,8 @@ pub mod SingleLine
 pub mod Idle
 pub mod Keeping
 pub mod LastKey
+pub mod LineMeaning
+pub mod LineRun
 pub mod Meaning
 pub mod Moments
 pub mod Obey

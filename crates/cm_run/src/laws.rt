@@ -23,6 +23,7 @@ ghost use Rattle.cm_run.specs.Observed.{Observed};
 ghost use Rattle.cm_run.specs.Progress.{keys_cost, progress, stroke_cost, MeetSound};
 ghost use Rattle.cm_run.specs.Trace.{RunState, events_if, key_trace, run_trace, starting, stroke, turn_outcome};
 ghost use Rattle.cm_run.specs.declared.engine.TheConstants.{FILE_LINES};
+ghost use Rattle.cm_run.specs.declared.line_program.TheConstants.{LINE_KEYS};
 ghost use Rattle.cm_run.specs.Keeping.{IsLineKeeping, KeepsLine};
 ghost use Rattle.cm_run.specs.Shows.{EndsLine, IsClear, Shows, ShowsBehind, row_behind};
 ghost use Rattle.cm_run.specs.Sound.{IsSound};
@@ -101,9 +102,11 @@ pub fn a_quiet_run_goes_to_its_end()
         → (result ≡ Ok tt) ⊎ (result ≡ Err Stop.Memory) }
 {}
 
-/// The numbers of the engine: the most lines of command files that are taken for one typed line.
+/// The numbers of the engine: the most lines of command files that are taken for one typed line, and the most keys that
+/// a program of lines alone takes.
 pub fn these_are_the_numbers()
     ensures lines { FILE_LINES ≡ 10000 }
+    ensures keys { LINE_KEYS ≡ 2 ^ 64 - 1 }
 {}
 
 /// The prompts `@` and `@@` are printed bytes. A program sees to it that a prompt of its own is.

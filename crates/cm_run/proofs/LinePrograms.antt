@@ -1,0 +1,106 @@
+-- Programs that act by lines alone: what keys leave of them, what stays on the screen, and how a run ends.
+use Rattle.std.proofs.Common.{◌≡◌, ◌≢◌, ℕ, true, List, [], ◌++◌, Result, Ok, Err, inl, refl, sym, ap, ◌∙◌, arith}
+use Rattle.std.specs.Prelude.{Option, None, Some, IfSome}
+use Rattle.cm_io.specs.Display.{ArePrinted}
+use Rattle.cm_io.specs.Fault.{Rose}
+use Rattle.cm_state.specs.Echo.{prompt_text}
+use Rattle.cm_state.specs.SessionState.{SessionState}
+use Rattle.cm_state.specs.declared.prompt.Prompt.{Prompt}
+use Rattle.cm_state.specs.declared.turn.Turn.{Turn}
+use Rattle.cm_state.specs.declared.turn.Turn.TheVariants as turn
+use Rattle.cm_run.specs.Cause.{Counts, RunCause, counts}
+use Rattle.cm_run.specs.Event.{Event, state_behind}
+use Rattle.cm_run.specs.Idle.{IsIdle, turn_at}
+use Rattle.cm_run.specs.Keeping.{HasPrintedPrompt, IsLineKeeping, is_line}
+use Rattle.cm_run.specs.LineMeaning.{LineMeaning, line_deed, line_mode, lines_only}
+use Rattle.cm_run.specs.LineRun.{LineCause}
+use Rattle.cm_run.specs.Meaning.{IsSparing}
+use Rattle.cm_run.specs.Shows.{EndsLine}
+use Rattle.cm_run.specs.Trace.{RunState, step}
+use Rattle.cm_run.specs.declared.engine.TheConstants.{FILE_LINES}
+use Rattle.cm_run.specs.declared.mode.Mode.TheVariants as mode
+use Rattle.cm_run.specs.declared.stop.Stop.{Stop}
+use Rattle.cm_run.specs.declared.stop.Stop.TheVariants as stop
+use Rattle.cm_run.proofs.Fileless.{no_files}
+use Rattle.cm_run.proofs.LineEnds.{ends_deed}
+use Rattle.cm_run.proofs.LineTurns.{confirmed_leads, idle_stays, moment_of, session_at}
+
+-- a log that counts no fault does not fail
+never_rises : Rose 0 0 → ⊥
+unfolding Rose
+never_rises rose = omega (arith, rose)
+
+same_keys : {a b : Counts} → a ≡ b → a.keys ≡ b.keys
+same_keys same = ap (λ (it : Counts). it.keys) same
+
+same_screen : {a b : Counts} → a ≡ b → a.screen ≡ b.screen
+same_screen same = ap (λ (it : Counts). it.screen) same
+
+module _ {S : Type 0} (p : LineMeaning S) where
+  -- a line that is confirmed leaves its state
+  pub confirmed_leaves : (at : RunState S) (key : ℕ) → is_line ((lines_only p).mode_of at.state) ≡ true
+      → turn_at (lines_only p) at key ≡ turn.Confirmed
+      → (step (lines_only p) at key).state ≡ p.state_of at.state (session_at (lines_only p) at key)
+  confirmed_leaves at key line is =
+      let left : S = p.state_of at.state (session_at (lines_only p) at key) in
+      confirmed_leads (lines_only p) at key line is
+      ∙ ap (λ (events : List (Event S)). state_behind left events)
+      (no_files (lines_only p) (λ state. refl) FILE_LINES (moment_of (lines_only p) at) left)
+
+  -- and nothing else changes the state
+  pub unconfirmed_stays : (at : RunState S) (key : ℕ) → is_line ((lines_only p).mode_of at.state) ≡ true
+      → (turn_at (lines_only p) at key ≡ turn.Confirmed → ⊥) → (step (lines_only p) at key).state ≡ at.state
+  unconfirmed_stays at key line other =
+      idle_stays (lines_only p) (λ (state : S). state) (record { refusal = λ state. refl; abandonment = λ state. refl }) at key line other
+
+  -- so where it changes, it is by such a line
+  pub change_confirms : (at : RunState S) (key : ℕ) → is_line ((lines_only p).mode_of at.state) ≡ true
+      → ((step (lines_only p) at key).state ≡ at.state → ⊥) → turn_at (lines_only p) at key ≡ turn.Confirmed
+  change_confirms at key line change = by (turn_at (lines_only p) at key) refl where
+    stays : (turn_at (lines_only p) at key ≡ turn.Confirmed → ⊥) → ⊥
+    stays other = change (unconfirmed_stays at key line other)
+
+    by : (to : Turn) → turn_at (lines_only p) at key ≡ to → turn_at (lines_only p) at key ≡ turn.Confirmed
+    by turn.Confirmed is = is
+    by (turn.Refused fault) is = absurd (stays (λ done. let wrong : turn.Refused fault ≡ turn.Confirmed = sym is ∙ done in absurd (cc)))
+    by turn.Abandoned is = absurd (stays (λ done. let wrong : turn.Abandoned ≡ turn.Confirmed = sym is ∙ done in absurd (cc)))
+    by turn.Edited is = absurd (stays (λ done. let wrong : turn.Edited ≡ turn.Confirmed = sym is ∙ done in absurd (cc)))
+    by turn.Failed is = absurd (stays (λ done. let wrong : turn.Failed ≡ turn.Confirmed = sym is ∙ done in absurd (cc)))
+
+  -- its lines stay on the screen, where its prompts are printed and its replies end their lines
+  printed : (line : Option (ℕ × Prompt)) → IfSome line (λ (it : ℕ × Prompt). ArePrinted (prompt_text it.1)) → HasPrintedPrompt (line_mode line)
+  printed (Some line) is = is
+  printed None is = tt
+
+  never_raw : (line : Option (ℕ × Prompt)) → line_mode line ≡ mode.Raw → ⊥
+  never_raw (Some line) is = cc
+  never_raw None is = cc
+
+  pub keeps_lines : ((state : S) → IfSome (p.line_of state) (λ (it : ℕ × Prompt). ArePrinted (prompt_text it.1)))
+      → ((state : S) (session : SessionState) → EndsLine (p.reply_of state session)) → IsLineKeeping (lines_only p)
+  keeps_lines prompts ends = record {
+    prompts = λ state. printed (p.line_of state) (prompts state);
+    lines = λ state session moment. ends_deed (line_deed p state session) (ends state session);
+    file_lines = λ state session moment. inl refl;
+    raw_keys = λ state key is line. absurd (never_raw (p.line_of state) is);
+  }
+
+  -- memory may be wanting for none of its acts
+  pub line_spares : IsSparing (lines_only p)
+  line_spares = record {
+    line_deeds = λ state session moment. refl;
+    raw_deeds = λ state key. refl;
+    file_line_deeds = λ state session moment. refl;
+  }
+
+  -- why its run ends, by the counts, of which that of the log cannot rise
+  pub line_cause : (keys keys' screen screen' : ℕ) (went : Result Unit Stop)
+      → RunCause (counts screen 0 keys) (counts screen' 0 keys') went → (IsSparing (lines_only p) → went ≢ Err stop.Memory)
+      → LineCause keys keys' screen screen' went
+  unfolding RunCause LineCause
+  line_cause keys keys' screen screen' (Ok value) same spares = (same_keys same, same_screen same)
+  line_cause keys keys' screen screen' (Err stop.Limit) same spares = (same_keys same, same_screen same)
+  line_cause keys keys' screen screen' (Err stop.Keys) cause spares = (cause.0, same_screen cause.1)
+  line_cause keys keys' screen screen' (Err stop.Screen) cause spares = (same_keys cause.1, cause.0)
+  line_cause keys keys' screen screen' (Err stop.Log) cause spares = never_rises cause.0
+  line_cause keys keys' screen screen' (Err stop.Memory) same spares = spares line_spares refl

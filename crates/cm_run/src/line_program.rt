@@ -1,0 +1,158 @@
+// Programs that act by lines alone.
+ghost use Rattle.std.specs.Prelude.{◌≡◌, [], IsTrue};
+ghost use Rattle.cm_io.specs.Told.{Number};
+ghost use Rattle.cm_run.specs.LineMeaning.{lines_only};
+ghost use Rattle.cm_run.specs.LineRun.{LineCause, LineRun};
+ghost use Rattle.cm_run.specs.Observed.{observed};
+ghost use Rattle.cm_run.specs.Ready.{Serves};
+
+use crate::{Application, Mode, NoClock, Stop, run};
+use cm_blocks::{Grammar, Steps};
+use cm_files::Names;
+use cm_hooks::{Hooks, Rules};
+use cm_io::{CountSink, Put, Sink, Source};
+use cm_state::{Prompt, Session};
+use std::sync::ledger::Ledger;
+
+/// The most keys that the run of such a program takes.
+pub const LINE_KEYS: u64 = u64::MAX;
+
+/// A program that acts by lines alone: a line that is confirmed changes its state and shows a reply, and nothing else
+/// does. It takes no raw keys, no command files, no moments and no memory. Each such program is an `Application`, and
+/// `run_line_program` runs it.
+pub trait LineProgram {
+    ghost use Rattle.std.specs.Prelude.{◌≡◌, ◌≤◌, ◌<◌, IfSome, length};
+    ghost use Rattle.cm_io.specs.Fault.{PutCause};
+    ghost use Rattle.cm_io.specs.Told.{Adds};
+    ghost use Rattle.cm_blocks.specs.Parse.{IsParse};
+    ghost use Rattle.cm_blocks.specs.declared.field.Ending.TheVariants as ending;
+    ghost use Rattle.cm_state.specs.SessionState.{text_of};
+    ghost use Rattle.cm_run.specs.LineMeaning.{LineMeaning, line_mode, lines_only};
+    ghost use Rattle.cm_run.specs.Meaning.{IsLineAt, setting_of};
+
+    /// What its hooks mean.
+    type Rules: Rules;
+
+    /// The directories and files that its lines may name.
+    type Names: Names;
+
+    /// What it means.
+    ghost means: { LineMeaning Self };
+
+    /// The directories and files that a line may name now.
+    fn names(&self) -> &Self::Names
+        ensures { Self.Names.catalogue result.now ≡ means.catalogue_of self.now };
+
+    /// The node at which the next line begins, and what it is asked for with. There is none where the program has
+    /// ended.
+    fn line(&self) -> Option<(u16, Prompt)>
+        ensures line { result ≡ means.line_of self.now }
+        ensures node { IfSome result (λ line. line.0 < length means.graph.nodes) };
+
+    /// Does what a confirmed line commands, and shows the reply. The state is that of the line also where the screen
+    /// fails. Where the program has ended by then, it has before it puts its reply.
+    fn obey<S: Sink>(&mut self, session: &Session<Self::Rules>, screen: &mut S) -> Put
+        requires line { IsLineAt (line_mode (means.line_of self.old)) session.now.node }
+        requires parse { IsParse (setting_of (lines_only means) self.old) session.now.node (text_of session.now)
+            session.now.fields ending.Done }
+        ensures state { self.new ≡ means.state_of self.old session.now }
+        ensures reply { Adds (S.told screen.old) (S.told screen.new) (means.reply_of self.old session.now) result }
+        ensures later { S.faults screen.old ≤ S.faults screen.new }
+        ensures cause { PutCause (S.faults screen.old) (S.faults screen.new) result };
+}
+
+impl<P: LineProgram> Application for P {
+    ghost use Rattle.cm_run.specs.LineMeaning.{lines_only};
+
+    type Rules = P::Rules;
+
+    type Names = P::Names;
+
+    ghost means = { lines_only P.means };
+
+    fn names(&self) -> &P::Names {
+        LineProgram::names(self)
+    }
+
+    fn mode(&self) -> Mode {
+        match self.line() {
+            Some((node, prompt)) => Mode::Line {
+                node,
+                prompt,
+                takes_moment: false,
+            },
+            None => Mode::Ended,
+        }
+    }
+
+    #[tactic(auto, using(crate::proofs::Acts::obeys_done, crate::proofs::Acts::obeys_cut), unfolding(crate::specs::Cause::ObeyCause))]
+    fn obey_line<S: Sink>(
+        &mut self,
+        session: &Session<P::Rules>,
+        _grammar: &Grammar,
+        _moment: u64,
+        screen: &mut S,
+    ) -> Result<(), Stop> {
+        match self.obey(session, screen) {
+            Put::Done => Ok(()),
+            Put::Failed => Err(Stop::Screen),
+        }
+    }
+
+    fn refuse(&mut self) {}
+
+    fn abandon(&mut self) {}
+
+    #[tactic(auto, using(cm_io::proofs::Additions::add_none))]
+    fn echo_raw<S: Sink>(&self, _key: u8, _screen: &mut S) -> Put {
+        Put::Done
+    }
+
+    #[tactic(auto, using(crate::proofs::Acts::obeys_nothing), unfolding(crate::specs::Cause::ObeyCause))]
+    fn obey_raw<S: Sink>(&mut self, _key: u8, _screen: &mut S) -> Result<(), Stop> {
+        Ok(())
+    }
+
+    fn file_line(&self) -> Option<&[u8]> {
+        None
+    }
+
+    #[tactic(auto, using(crate::proofs::Acts::obeys_nothing), unfolding(crate::specs::Cause::ObeyCause))]
+    fn obey_file_line<S: Sink>(
+        &mut self,
+        _session: &Session<P::Rules>,
+        _grammar: &Grammar,
+        _moment: u64,
+        _screen: &mut S,
+    ) -> Result<(), Stop> {
+        Ok(())
+    }
+}
+
+/// Runs a program of lines alone: shows the first prompt and takes the keys in turn, until the program has ended, no key
+/// is left, or keys or screen fail. There is no log and no clock.
+pub fn run_line_program<P: LineProgram, K: Source, S: Sink, L: Ledger>(
+    program: &mut P,
+    grammar: &Grammar,
+    hooks: &Hooks<P::Rules>,
+    keys: &mut K,
+    screen: &mut S,
+    steps: &mut Steps<L>,
+) -> Result<(), Stop>
+    // The grammar is that of the program, and the hooks answer its rules.
+    requires serves { Serves (lines_only P.means) grammar.now P.Rules.meanings hooks.now }
+    // What stands is the trace of the run, or a cut of it.
+    ensures stands { IsTrue K.tells → LineRun P.means
+        (observed (S.told screen.old) (Number 0) (K.left keys.old) (K.gets keys.old) [] steps.old program.old)
+        (observed (S.told screen.new) (Number 0) (K.left keys.new) (K.gets keys.new) [] steps.new program.new)
+        result }
+    // When it ends so.
+    ensures cause { LineCause (K.faults keys.old) (K.faults keys.new)
+        (S.faults screen.old) (S.faults screen.new) result }
+{
+    let mut log = CountSink::new();
+    let mut clock = NoClock;
+    run(
+        LINE_KEYS, false, program, grammar, hooks, keys, screen, &mut log, &mut clock, steps,
+    )
+}
