@@ -1,5 +1,4 @@
 pub mod Changes
-pub mod Ends
 pub mod Faultless
 mod Keys
 pub mod Replies

@@ -1,5 +1,5 @@
 -- What a confirmed line commands.
-use Rattle.std.specs.Prelude.{ℕ, ◌==◌, List, [], drop, take, if◌then◌else◌, Option, Some}
+use Rattle.std.specs.Prelude.{ℕ, ◌==◌, List, drop, take, if◌then◌else◌, Option, Some}
 use Rattle.std.specs.Option.{option_map}
 use Rattle.cm_text.specs.declared.name.TheConstants.{NAME_LIMIT}
 use Rattle.cm_fields.specs.Quoted.{unquoted}
@@ -11,11 +11,12 @@ use Rattle.cm_blocks.specs.declared.function.Role.TheVariants as roles
 use Rattle.cm_blocks.specs.FieldView.{FieldView}
 use Rattle.cm_state.specs.SessionState.{SessionState, text_of}
 use Rattle.cm_state.specs.Roles.{field_of}
+use Rattle.eg_lamps.specs.declared.lamps.Change.{Change}
 use Rattle.eg_lamps.specs.declared.lamps.Change.TheVariants.{Set, Dim, Note}
 use Rattle.eg_lamps.specs.declared.lamps.Command.{Command}
 use Rattle.eg_lamps.specs.declared.lamps.Command.TheVariants as commands
 use Rattle.eg_lamps.specs.declared.command.TheConstants.{NO_ROOM, STEP}
-use Rattle.eg_lamps.specs.declared.grammar.TheConstants.{DIM, LIST, NAME, QUIT}
+use Rattle.eg_lamps.specs.declared.grammar.TheConstants.{DIM, LIST, QUIT}
 
 -- what the first field of a role stands for
 abbrev pub value_of : Role → List FieldView → Option Value
@@ -26,31 +27,23 @@ abbrev pub room_of : Option Value → ℕ
 room_of (Some (values.Hook id room)) = room
 room_of value = NO_ROOM
 
--- the number that is given, or else this one
-abbrev pub number_or : ℕ → Option Value → ℕ
-number_or default (Some (values.Number number)) = number
-number_or default value = default
-
 -- a part of a text
 abbrev pub part : List ℕ → Span → List ℕ
 part text span = drop span.start (take span.end text)
 
--- the note that a quoted text says, at most 39 bytes of it
-abbrev pub note_of : List ℕ → Option Value → List ℕ
-note_of text (Some (values.Quoted span)) = take NAME_LIMIT (unquoted (part text span))
-note_of text value = []
+-- what a value changes: a quoted text is a note, of at most 39 bytes; a number is by how much DIM dims, or else how
+-- bright a lamp is to be; and where none is given DIM goes by a step
+abbrev pub change_of : ℕ → Option Value → List ℕ → Change
+change_of verb (Some (values.Quoted span)) text = Note (take NAME_LIMIT (unquoted (part text span)))
+change_of verb (Some (values.Number number)) text = if verb == DIM then Dim number else Set number
+change_of verb value text = Dim STEP
 
 -- the command that a keyword names, with its room and its value
-abbrev pub named : ℕ → ℕ → Option Value → List ℕ → Command
-named verb room value text =
-    if verb == DIM then commands.Change room (Dim (number_or STEP value))
-    else (if verb == LIST then commands.List
-    else (if verb == NAME then commands.Change room (Note (note_of text value))
-    else (if verb == QUIT then commands.Quit
-    else commands.Change room (Set (number_or 0 value)))))
-
 abbrev pub by_verb : Option Value → ℕ → Option Value → List ℕ → Command
-by_verb (Some (values.Key entry code)) room value text = named code room value text
+by_verb (Some (values.Key entry code)) room value text =
+    if code == LIST then commands.List
+    else (if code == QUIT then commands.Quit
+    else commands.Change room (change_of code value text))
 by_verb verb room value text = commands.Nothing
 
 -- the field of role Verb names the command, that of role What its room, and that of role Value how much or what

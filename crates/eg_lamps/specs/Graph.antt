@@ -1,7 +1,6 @@
 -- The grammar of the lamps: nodes, each a chain of blocks, and the keyword tables that they name.
-use Rattle.std.specs.Prelude.{ℕ, List, [], ◌∷◌, codes, map}
+use Rattle.std.specs.Prelude.{List, [], ◌∷◌, codes, map}
 use Rattle.cm_tables.specs.declared.entry.Entry.{Entry}
-use Rattle.cm_blocks.specs.declared.function.Function.{Function}
 use Rattle.cm_blocks.specs.declared.function.Function.TheVariants.{Key, Switch, Noise, Number, Quoted, Confirm, Hook}
 use Rattle.cm_blocks.specs.declared.function.Role.TheVariants.{None, Verb, What, Value}
 use Rattle.cm_blocks.specs.declared.node.Block.{Block}
@@ -14,30 +13,19 @@ use Rattle.cm_blocks.specs.Words.{block, node}
 abbrev pub confirm : Block
 confirm = block Confirm None LINE_END
 
-abbrev pub guide : List ℕ → ℕ → Block
-guide word next = block (Noise word) None next
-
--- a room, which the hook 0 reads
-abbrev pub room : ℕ → Block
-room next = block (Hook 0) What next
-
--- what a line ends with: a number or a quoted text
-abbrev pub value : Function → Block
-value function = block function Value LINE_END
-
--- nodes 2 to 11, of one block each: the end of a line; SET; DIM; NAME
+-- nodes 2 to 11, of one block each: the end of a line; SET; DIM; NAME; the hook 0 reads a room
 unfoldable pub blocks : List Block
 blocks =
     confirm
-    ∷ guide (codes "LAMP IN") 4
-    ∷ room 5
-    ∷ guide (codes "TO") 6
-    ∷ value Number
-    ∷ guide (codes "LAMP IN") 8
-    ∷ room 1
-    ∷ guide (codes "LAMP IN") 10
-    ∷ room 11
-    ∷ value Quoted
+    ∷ block (Noise (codes "LAMP IN")) None 4
+    ∷ block (Hook 0) What 5
+    ∷ block (Noise (codes "TO")) None 6
+    ∷ block Number Value LINE_END
+    ∷ block (Noise (codes "LAMP IN")) None 8
+    ∷ block (Hook 0) What 1
+    ∷ block (Noise (codes "LAMP IN")) None 10
+    ∷ block (Hook 0) What 11
+    ∷ block Quoted Value LINE_END
     ∷ []
 
 -- at node 0 a line begins, with nothing or a command; node 1 stands behind the room that DIM names: there the line

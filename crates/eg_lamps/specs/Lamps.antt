@@ -27,22 +27,18 @@ changed (Note note) lamp = record lamp { note = note }
 
 -- what a command makes of the lamps; where there is no such room they stay
 abbrev pub obeyed : Command → List Lamp → List Lamp
-obeyed commands.Nothing lamps = lamps
 obeyed (commands.Change room change) lamps =
     option_map_or (λ (lamp : Lamp). slice_set lamps room (changed change lamp)) (slice_get lamps room) lamps
-obeyed commands.List lamps = lamps
-obeyed commands.Quit lamps = lamps
+obeyed command lamps = lamps
 
 unfoldable pub blank : List ℕ
 blank = codes " "
 
--- a blank and a note, where there is one
-unfoldable pub note_shown : List ℕ → List ℕ
-note_shown note = if length note == 0 then [] else blank ++ note
-
 -- the line of a lamp: `HALL 40`, and its note
 unfoldable pub lamp_line : Lamp → List ℕ
-lamp_line lamp = lamp.room ++ blank ++ decimal lamp.brightness ++ note_shown lamp.note ++ end_of_line
+lamp_line lamp =
+    lamp.room ++ blank ++ decimal lamp.brightness ++ (if length lamp.note == 0 then [] else blank) ++ lamp.note
+    ++ end_of_line
 
 unfoldable pub lamp_lines : List Lamp → List ℕ
 lamp_lines lamps = flat_map lamp_line lamps
@@ -50,15 +46,8 @@ lamp_lines lamps = flat_map lamp_line lamps
 unfoldable pub too_bright : List ℕ
 too_bright = codes "?Brightness is 0 to 100"
 
--- why a change is refused
-abbrev pub refusal : Change → List ℕ
-refusal (Set level) = if nat_le level BRIGHTEST then [] else too_bright ++ end_of_line
-refusal (Dim by) = []
-refusal (Note note) = []
-
--- what a command shows: LIST the lamps, which it leaves as they are
+-- what a command shows: SET past the limit that it is refused, and LIST the lamps, which it leaves as they are
 abbrev pub reply : Command → List Lamp → List ℕ
-reply commands.Nothing lamps = []
-reply (commands.Change room change) lamps = refusal change
+reply (commands.Change room (Set level)) lamps = if nat_le level BRIGHTEST then [] else too_bright ++ end_of_line
 reply commands.List lamps = lamp_lines lamps
-reply commands.Quit lamps = []
+reply command lamps = []

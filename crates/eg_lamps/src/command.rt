@@ -1,14 +1,13 @@
 // What a confirmed line commands, by the roles of its fields.
 ghost use Rattle.std.specs.Prelude.{◌≡◌};
 ghost use Rattle.std.specs.Str.{IsAscii};
-ghost use Rattle.eg_lamps.specs.Command.{command_of, named, note_of, number_or, part, room_of, value_of};
+ghost use Rattle.eg_lamps.specs.Command.{change_of, command_of, part, room_of, value_of};
 
-use crate::grammar::{DIM, LIST, NAME, QUIT};
+use crate::grammar::{DIM, LIST, QUIT};
 use crate::{Change, Command, RoomRules};
 use cm_blocks::Role;
 use cm_fields::{Span, Value, unquoted};
 use cm_state::Session;
-use cm_text::Name;
 
 // By how much a lamp is dimmed where the line does not say.
 const STEP: u64 = 10;
@@ -24,24 +23,28 @@ pub fn command_of(session: &Session<RoomRules>) -> Command
     let room = room_of(value_of(session, Role::What));
     let value = value_of(session, Role::Value);
     match value_of(session, Role::Verb) {
-        Some(Value::Key { code, .. }) => named(code, room, value, session.text()),
+        Some(Value::Key { code: LIST, .. }) => Command::List,
+        Some(Value::Key { code: QUIT, .. }) => Command::Quit,
+        Some(Value::Key { code, .. }) => Command::Change {
+            room,
+            change: change_of(code, value, session.text()),
+        },
         _ => Command::Nothing,
     }
 }
 
-// The command that a keyword names, with its room and its value.
-fn named(verb: u16, room: u64, value: Option<Value>, text: &[u8]) -> Command
+// What a value changes: a quoted text is a note; a number is by how much DIM dims, or else how bright a lamp is to be;
+// and where none is given DIM goes by a step.
+fn change_of(verb: u16, value: Option<Value>, text: &[u8]) -> Change
     requires { IsAscii text.now }
-    ensures { result ≡ named verb room value text.now }
+    ensures { result ≡ change_of verb value text.now }
 {
-    let change = match verb {
-        DIM => Change::Dim(number_or(STEP, value)),
-        LIST => return Command::List,
-        NAME => Change::Note(note_of(text, value)),
-        QUIT => return Command::Quit,
-        _ => Change::Set(number_or(0, value)),
-    };
-    Command::Change { room, change }
+    match value {
+        Some(Value::Quoted(span)) => Change::Note(unquoted(part(text, span))),
+        Some(Value::Number(by)) if verb == DIM => Change::Dim(by),
+        Some(Value::Number(level)) => Change::Set(level),
+        _ => Change::Dim(STEP),
+    }
 }
 
 // What the first field of a role stands for.
@@ -61,27 +64,6 @@ fn room_of(value: Option<Value>) -> u64
     match value {
         Some(Value::Hook { value, .. }) => value,
         _ => NO_ROOM,
-    }
-}
-
-// The number that is given, or else this one.
-fn number_or(default: u64, value: Option<Value>) -> u64
-    ensures { result ≡ number_or default value }
-{
-    match value {
-        Some(Value::Number(number)) => number,
-        _ => default,
-    }
-}
-
-// The note that a quoted text says.
-fn note_of(text: &[u8], value: Option<Value>) -> Name
-    requires { IsAscii text.now }
-    ensures { result ≡ note_of text.now value }
-{
-    match value {
-        Some(Value::Quoted(span)) => unquoted(part(text, span)),
-        _ => Name::new(""),
     }
 }
 

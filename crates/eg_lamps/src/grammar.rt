@@ -1,11 +1,11 @@
 // The grammar of the lamps.
-ghost use Rattle.std.specs.Prelude.{◌≡◌, ◌≤◌, IfOk, length};
-ghost use Rattle.eg_lamps.specs.Graph.{blocks, command_entries, confirm, guide, lamp_graph, lamp_nodes, room, switch_entries, value};
+ghost use Rattle.std.specs.Prelude.{◌≡◌, IfOk};
+ghost use Rattle.eg_lamps.specs.Graph.{blocks, command_entries, confirm, lamp_graph, lamp_nodes, switch_entries};
 
 use cm_blocks::{Block, Function, Grammar, Node, Role};
 use cm_io::NoMemory;
 use cm_tables::{Entry, Table};
-use cm_text::{NAME_LIMIT, Name};
+use cm_text::Name;
 use std::alloc::Global;
 
 // The codes of the commands.
@@ -80,15 +80,15 @@ fn blocks(alloc: Global) -> Result<Vec<Block>, NoMemory>
 {
     Ok(vec![in alloc;
         confirm(),
-        guide("LAMP IN", 4),
-        room(5),
-        guide("TO", 6),
-        value(Function::Number),
-        guide("LAMP IN", 8),
-        room(1),
-        guide("LAMP IN", 10),
-        room(11),
-        value(Function::Quoted),
+        Block::new(Function::Noise(Name::new("LAMP IN")), Role::None, 4),
+        Block::new(Function::Hook(0), Role::What, 5),
+        Block::new(Function::Noise(Name::new("TO")), Role::None, 6),
+        Block::new(Function::Number, Role::Value, LINE_END),
+        Block::new(Function::Noise(Name::new("LAMP IN")), Role::None, 8),
+        Block::new(Function::Hook(0), Role::What, 1),
+        Block::new(Function::Noise(Name::new("LAMP IN")), Role::None, 10),
+        Block::new(Function::Hook(0), Role::What, 11),
+        Block::new(Function::Quoted, Role::Value, LINE_END),
     ]?)
 }
 
@@ -96,25 +96,4 @@ fn confirm() -> Block
     ensures { result ≡ confirm }
 {
     Block::new(Function::Confirm, Role::None, LINE_END)
-}
-
-fn guide(word: &str, next: u16) -> Block
-    requires { length word.now ≤ NAME_LIMIT }
-    ensures { result ≡ guide word.now next }
-{
-    Block::new(Function::Noise(Name::new(word)), Role::None, next)
-}
-
-// A room, which the hook 0 reads.
-fn room(next: u16) -> Block
-    ensures { result ≡ room next }
-{
-    Block::new(Function::Hook(0), Role::What, next)
-}
-
-// What a line ends with: a number or a quoted text.
-fn value(function: Function) -> Block
-    ensures { result ≡ value function }
-{
-    Block::new(function, Role::Value, LINE_END)
 }

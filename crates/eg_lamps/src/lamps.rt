@@ -4,7 +4,7 @@ ghost use Rattle.cm_io.specs.Fault.{PutCause};
 ghost use Rattle.cm_io.specs.Told.{Adds};
 ghost use Rattle.cm_io.specs.Writer.{Writes};
 ghost use Rattle.cm_text.specs.declared.name.TheConstants.{NAME_LIMIT};
-ghost use Rattle.eg_lamps.specs.Lamps.{blank, changed, dark, dark_lamps, lamp_line, lamp_lines, note_shown, obeyed, refusal, reply};
+ghost use Rattle.eg_lamps.specs.Lamps.{blank, changed, dark, dark_lamps, lamp_line, lamp_lines, obeyed, reply};
 
 use crate::rooms::ROOMS;
 use cm_io::{Put, Sink, Writer};
@@ -107,25 +107,16 @@ fn apply(change: Change, lamp: &mut Lamp)
 }
 
 // Shows the reply of a command.
-#[tactic(auto, using(cm_io::proofs::Texts::writes_none))]
+#[tactic(auto, using(cm_io::proofs::Texts::writes_none), unfolding(crate::specs::Lamps::too_bright))]
 fn put_reply<S: Sink>(command: &Command, lamps: &[Lamp], out: &mut Writer<'_, S>)
     ensures { Writes S.Sink out.old out.new (reply command.now lamps.now) }
 {
     match command {
-        Command::Change { change, .. } => put_refusal(change, out),
+        Command::Change {
+            change: Change::Set(level),
+            ..
+        } if *level > BRIGHTEST => out.put_line(b"?Brightness is 0 to 100"),
         Command::List => put_lamps(lamps, out),
-        Command::Nothing => {}
-        Command::Quit => {}
-    }
-}
-
-// Shows why a change is refused, where it is.
-#[tactic(auto, using(cm_io::proofs::Texts::writes_none), unfolding(crate::specs::Lamps::too_bright))]
-fn put_refusal<S: Sink>(change: &Change, out: &mut Writer<'_, S>)
-    ensures { Writes S.Sink out.old out.new (refusal change.now) }
-{
-    match change {
-        Change::Set(level) if *level > BRIGHTEST => out.put_line(b"?Brightness is 0 to 100"),
         _ => {}
     }
 }
@@ -148,20 +139,10 @@ fn put_lamp<S: Sink>(lamp: &Lamp, out: &mut Writer<'_, S>)
     out.put(lamp.room.as_bytes());
     out.put(blank());
     out.put_decimal(lamp.brightness);
-    put_note(lamp.note.as_bytes(), out);
-    out.put(end_of_line());
-}
-
-// Shows a blank and a note, where there is one.
-#[tactic(auto, using(cm_io::proofs::Texts::texts, cm_io::proofs::Texts::writes_none), unfolding(crate::specs::Lamps::note_shown))]
-fn put_note<S: Sink>(note: &[u8], out: &mut Writer<'_, S>)
-    ensures { Writes S.Sink out.old out.new (note_shown note.now) }
-{
-    if note.is_empty() {
-        return;
-    }
-    out.put(blank());
+    let note = lamp.note.as_bytes();
+    out.put(if note.is_empty() { b"" } else { blank() });
     out.put(note);
+    out.put(end_of_line());
 }
 
 #[tactic(auto, unfolding(crate::specs::Lamps::blank))]

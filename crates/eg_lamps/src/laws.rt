@@ -4,6 +4,7 @@ ghost use Rattle.cm_state.specs.Edit.{edited};
 ghost use Rattle.cm_state.specs.declared.turn.Turn.TheVariants as turn;
 ghost use Rattle.cm_run.specs.Idle.{turn_at};
 ghost use Rattle.cm_run.specs.Keeping.{IsLineKeeping};
+ghost use Rattle.cm_run.specs.LineMeaning.{lines_only};
 ghost use Rattle.cm_run.specs.Meaning.{setting_of};
 ghost use Rattle.cm_run.specs.Trace.{RunState, step};
 ghost use Rattle.eg_lamps.specs.Command.{command_of};
@@ -13,34 +14,33 @@ ghost use Rattle.eg_lamps.specs.declared.grammar.TheConstants.{COMMANDS, DIM, LI
 ghost use Rattle.eg_lamps.specs.declared.lamps.Command.TheVariants as commands;
 ghost use Rattle.eg_lamps.specs.declared.lamps.TheConstants.{BRIGHTEST};
 ghost use Rattle.eg_lamps.specs.declared.program.Program.{Program};
-ghost use Rattle.eg_lamps.specs.declared.program.TheConstants.{KEY_LIMIT};
 
 /// Each reply of the lamps is nothing, or ends with a line feed, and their prompt is printed bytes: so the screen shows
 /// prompt and line between keys.
 pub fn the_lamps_keep_their_lines()
-    ensures { IsLineKeeping lamp_meaning }
+    ensures { IsLineKeeping (lines_only lamp_meaning) }
 {}
 
 /// Until QUIT only a key that confirms a line changes the lamps: a line that is refused, or given up, changes nothing.
 pub fn a_refused_line_changes_nothing()
     ensures { (at : RunState Program) → (key : ℕ) → at.state.has_quit ≡ false
-        → turn_at lamp_meaning at key ≢ turn.Confirmed → (step lamp_meaning at key).state ≡ at.state }
+        → turn_at (lines_only lamp_meaning) at key ≢ turn.Confirmed
+        → (step (lines_only lamp_meaning) at key).state ≡ at.state }
 {}
 
 /// A key ends the run only where it confirms a line that commands QUIT.
 pub fn only_quit_ends_the_run()
     ensures { (at : RunState Program) → (key : ℕ) → at.state.has_quit ≡ false
-        → (step lamp_meaning at key).state.has_quit ≡ true → (turn_at lamp_meaning at key ≡ turn.Confirmed)
-        × (command_of (edited (setting_of lamp_meaning at.state) at.session key) ≡ commands.Quit) }
+        → (step (lines_only lamp_meaning) at key).state.has_quit ≡ true
+        → (turn_at (lines_only lamp_meaning) at key ≡ turn.Confirmed)
+        × (command_of (edited (setting_of (lines_only lamp_meaning) at.state) at.session key) ≡ commands.Quit) }
 {}
 
-/// The numbers of the lamps: how bright one may be, by how much DIM goes where the line does not say, the most keys
-/// that a run takes, the number that no room has, the codes of the commands, and the nodes where a line begins and
-/// where it ends.
+/// The numbers of the lamps: how bright one may be, by how much DIM goes where the line does not say, the number that
+/// no room has, the codes of the commands, and the nodes where a line begins and where it ends.
 pub fn these_are_the_numbers()
     ensures brightest { BRIGHTEST ≡ 100 }
     ensures step { STEP ≡ 10 }
-    ensures keys { KEY_LIMIT ≡ 2 ^ 64 - 1 }
     ensures no_room { NO_ROOM ≡ 2 ^ 64 - 1 }
     ensures codes { (DIM ≡ 1) × (LIST ≡ 2) × (NAME ≡ 3) × (QUIT ≡ 4) × (SET ≡ 5) }
     ensures nodes { (COMMANDS ≡ 0) × (LINE_END ≡ 2) }

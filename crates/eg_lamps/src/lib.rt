@@ -1,4 +1,4 @@
-//! The lamps of named rooms, and the run that dims them: keys in, the screen and a status out.
+//! The lamps of named rooms, and the run that dims them: keys in, the screen out.
 #![tactic(auto)]
 
 mod command;
@@ -10,5 +10,5 @@ pub mod rooms;
 
 pub use command::command_of;
 pub use lamps::{Change, Command, Lamp, dark_lamps, obey};
-pub use program::{Program, Status};
+pub use program::{Program, status_of};
 pub use rooms::RoomRules;

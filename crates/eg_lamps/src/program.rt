@@ -1,13 +1,15 @@
-// The program: the lamps as an application of the engine.
+// The program: the lamps, which act by lines alone, and their run.
 ghost use Rattle.std.specs.Prelude.{◌≡◌, ◌<◌, ◌++◌, ℕ, List, [], IsTrue};
 ghost use Rattle.cm_hooks.specs.Ties.{Ties, count};
 ghost use Rattle.cm_io.specs.Told.{Number};
 ghost use Rattle.cm_run.specs.Keeping.{KeepsLine};
+ghost use Rattle.cm_run.specs.LineMeaning.{lines_only};
+ghost use Rattle.cm_run.specs.LineRun.{LineCause, LineRun};
 ghost use Rattle.cm_run.specs.Observed.{observed};
 ghost use Rattle.tt_screen.specs.Grid.{feed};
 ghost use Rattle.tt_screen.specs.Holds.{Holds};
 ghost use Rattle.eg_lamps.specs.Graph.{lamp_graph};
-ghost use Rattle.eg_lamps.specs.Program.{EndCause, Ends, lamp_meaning, lamp_start, number_of, status_of};
+ghost use Rattle.eg_lamps.specs.Program.{lamp_meaning, lamp_start, status_of};
 ghost use Rattle.eg_lamps.specs.Rooms.{room_meanings};
 
 use crate::grammar::COMMANDS;
@@ -15,40 +17,10 @@ use crate::{Command, Lamp, RoomRules, command_of, dark_lamps, obey};
 use cm_blocks::{Grammar, Steps};
 use cm_files::OneDirectory;
 use cm_hooks::Hooks;
-use cm_io::{CountSink, Put, Sink, Source};
-use cm_run::{Application, Mode, NoClock, Stop, run};
+use cm_io::{Put, Sink, Source};
+use cm_run::{LineProgram, Stop, run_line_program};
 use cm_state::{Prompt, Session};
 use std::sync::ledger::Ledger;
-
-/// The most keys that a run takes.
-pub const KEY_LIMIT: u64 = u64::MAX;
-
-/// How a run of the program ended.
-#[derive(Clone, Copy, Debug, PartialEq, Eq)]
-pub enum Status {
-    /// QUIT acted, the keys were read to their end, or as many were taken as a run takes.
-    Done,
-    /// The keys could not be read on.
-    ReadFault,
-    /// The screen could not be written on.
-    WriteFault,
-    /// Memory was wanting, before the first prompt.
-    NoMemory,
-}
-
-impl Status {
-    /// The number that the process ends with.
-    pub fn number(self) -> u8
-        ensures { result ≡ number_of self }
-    {
-        match self {
-            Status::Done => 0,
-            Status::ReadFault => 1,
-            Status::WriteFault => 2,
-            Status::NoMemory => 3,
-        }
-    }
-}
 
 /// The program in its course.
 #[derive(Drop)]
@@ -78,7 +50,6 @@ impl Program {
     /// lamps and shows its reply. It ends where QUIT has acted, no key is left, or keys or screen fail.
     ///
     /// The hooks have one that reads rooms, and `steps` counts the trials.
-    #[tactic(auto, using(crate::proofs::Ends::end_cause))]
     pub fn run<K: Source, S: Sink, L: Ledger>(
         &mut self,
         grammar: &Grammar,
@@ -86,47 +57,28 @@ impl Program {
         keys: &mut K,
         screen: &mut S,
         steps: &mut Steps<L>,
-    ) -> Status
+    ) -> Result<(), Stop>
         requires grammar { grammar.now ≡ lamp_graph }
         requires ties { Ties room_meanings hooks.now }
         requires hook { 0 < count hooks.now }
         // What stands is the trace of the run, or a cut of it.
-        ensures ends { IsTrue K.tells → Ends
+        ensures stands { IsTrue K.tells → LineRun lamp_meaning
             (observed (S.told screen.old) (Number 0) (K.left keys.old) (K.gets keys.old) [] steps.old self.old)
             (observed (S.told screen.new) (Number 0) (K.left keys.new) (K.gets keys.new) [] steps.new self.new)
             result }
         // Behind each beginning of the keys taken the screen shows the prompt and the line, until QUIT.
         ensures screen { IsTrue K.tells → (taken rest : List ℕ)
             → (taken ++ rest) ++ K.left keys.new ≡ K.left keys.old
-            → KeepsLine feed Holds lamp_meaning self.old [] taken }
-        // When each status comes.
-        ensures cause { EndCause (K.faults keys.old) (K.faults keys.new)
+            → KeepsLine feed Holds (lines_only lamp_meaning) self.old [] taken }
+        // When it ends so.
+        ensures cause { LineCause (K.faults keys.old) (K.faults keys.new)
             (S.faults screen.old) (S.faults screen.new) result }
     {
-        let mut log = CountSink::new();
-        let mut clock = NoClock;
-        let went = run(
-            KEY_LIMIT, false, self, grammar, hooks, keys, screen, &mut log, &mut clock, steps,
-        );
-        status_of(went)
+        run_line_program(self, grammar, hooks, keys, screen, steps)
     }
 }
 
-// The status of a run that went so.
-fn status_of(went: Result<(), Stop>) -> Status
-    ensures { result ≡ status_of went }
-{
-    match went {
-        Ok(()) => Status::Done,
-        Err(Stop::Limit) => Status::Done,
-        Err(Stop::Keys) => Status::ReadFault,
-        Err(Stop::Screen) => Status::WriteFault,
-        Err(Stop::Log) => Status::WriteFault,
-        Err(Stop::Memory) => Status::NoMemory,
-    }
-}
-
-impl Application for Program {
+impl LineProgram for Program {
     ghost use Rattle.eg_lamps.specs.Program.{lamp_meaning};
 
     type Rules = RoomRules;
@@ -140,60 +92,30 @@ impl Application for Program {
     }
 
     #[tactic(auto, using(crate::proofs::Faultless::graph_nodes))]
-    fn mode(&self) -> Mode {
+    fn line(&self) -> Option<(u16, Prompt)> {
         if self.has_quit {
-            Mode::Ended
+            None
         } else {
-            Mode::Line {
-                node: COMMANDS,
-                prompt: Prompt::Main,
-                takes_moment: false,
-            }
+            Some((COMMANDS, Prompt::Main))
         }
     }
 
-    #[tactic(auto, using(cm_run::proofs::Acts::obeys_done, cm_run::proofs::Acts::obeys_cut), unfolding(cm_run::specs::Cause::ObeyCause))]
-    fn obey_line<S: Sink>(
-        &mut self,
-        session: &Session<RoomRules>,
-        _grammar: &Grammar,
-        _moment: u64,
-        screen: &mut S,
-    ) -> Result<(), Stop> {
+    fn obey<S: Sink>(&mut self, session: &Session<RoomRules>, screen: &mut S) -> Put {
         let command = command_of(session);
         self.has_quit = matches!(command, Command::Quit);
-        match obey(command, &mut self.lamps, screen) {
-            Put::Done => Ok(()),
-            Put::Failed => Err(Stop::Screen),
-        }
+        obey(command, &mut self.lamps, screen)
     }
+}
 
-    fn refuse(&mut self) {}
-
-    fn abandon(&mut self) {}
-
-    #[tactic(auto, using(cm_io::proofs::Additions::add_none))]
-    fn echo_raw<S: Sink>(&self, _key: u8, _screen: &mut S) -> Put {
-        Put::Done
-    }
-
-    #[tactic(auto, using(cm_run::proofs::Acts::obeys_nothing), unfolding(cm_run::specs::Cause::ObeyCause))]
-    fn obey_raw<S: Sink>(&mut self, _key: u8, _screen: &mut S) -> Result<(), Stop> {
-        Ok(())
-    }
-
-    fn file_line(&self) -> Option<&[u8]> {
-        None
-    }
-
-    #[tactic(auto, using(cm_run::proofs::Acts::obeys_nothing), unfolding(cm_run::specs::Cause::ObeyCause))]
-    fn obey_file_line<S: Sink>(
-        &mut self,
-        _session: &Session<RoomRules>,
-        _grammar: &Grammar,
-        _moment: u64,
-        _screen: &mut S,
-    ) -> Result<(), Stop> {
-        Ok(())
+/// The number that the process ends with: 0 where a run went to its end or as many keys were taken as it takes, 1 where
+/// the keys failed, 2 where the screen did, and 3 for want of memory, which may be before the first prompt.
+pub fn status_of(went: Result<(), Stop>) -> u8
+    ensures { result ≡ status_of went }
+{
+    match went {
+        Ok(()) | Err(Stop::Limit) => 0,
+        Err(Stop::Keys) => 1,
+        Err(Stop::Screen | Stop::Log) => 2,
+        Err(Stop::Memory) => 3,
     }
 }

@@ -1,7 +1,8 @@
 // Runs that a fault of the outside cuts short.
 use crate::given::{are_at, leaves, outcome_of};
 use cm_io::NoMemory;
-use eg_lamps::Status;
+use cm_run::Stop;
+use eg_lamps::status_of;
 use std::test::Fail;
 
 const KEYS: &[u8] = b"S H 50\rS H 101\r";
@@ -11,7 +12,7 @@ const KEYS: &[u8] = b"S H 50\rS H 101\r";
 struct Cut<'a> {
     failing_get: Option<u32>,
     room: u32,
-    status: Status,
+    why: Stop,
     screen: &'a [u8],
     brightness: u64,
     left: &'a [u8],
@@ -20,7 +21,7 @@ struct Cut<'a> {
 fn is_so(runtime: &HostRuntime, cut: &Cut<'_>) -> Result<bool, NoMemory> {
     let mut outcome = outcome_of(runtime, KEYS, cut.failing_get, cut.room)?;
     Ok(
-        outcome.status == cut.status
+        outcome.went == Err(cut.why)
             && outcome.screen.bytes() == cut.screen
             && are_at(&outcome.program, [cut.brightness, 0, 0, 0])
             && leaves(&mut outcome.keys, cut.left),
@@ -32,7 +33,7 @@ fn stops_where_the_keys_fail(rt: HostRuntime) -> Result<(), Fail> {
     let cut = Cut {
         failing_get: Some(8),
         room: 4096,
-        status: Status::ReadFault,
+        why: Stop::Keys,
         screen: b"@S H 50\r\n@S",
         brightness: 50,
         left: b" H 101\r",
@@ -46,7 +47,7 @@ fn on_screen<'a>(room: u32, screen: &'a [u8], brightness: u64, left: &'a [u8]) -
     Cut {
         failing_get: None,
         room,
-        status: Status::WriteFault,
+        why: Stop::Screen,
         screen,
         brightness,
         left,
@@ -69,13 +70,14 @@ fn takes_no_key_behind_a_failed_screen(rt: HostRuntime) -> Result<(), Fail> {
 }
 
 #[test]
-fn each_status_has_its_number(rt: HostRuntime) {
-    for (status, number) in [
-        (Status::Done, 0),
-        (Status::ReadFault, 1),
-        (Status::WriteFault, 2),
-        (Status::NoMemory, 3),
+fn each_end_has_its_number(rt: HostRuntime) {
+    for (went, number) in [
+        (Ok(()), 0),
+        (Err(Stop::Limit), 0),
+        (Err(Stop::Keys), 1),
+        (Err(Stop::Screen), 2),
+        (Err(Stop::Memory), 3),
     ] {
-        assert_eq!(rt; status.number(), number);
+        assert_eq!(rt; status_of(went), number);
     }
 }

@@ -3,9 +3,10 @@
 // What must stand is the trace of the whole session, cut where a call fails. The screen fails in one put alone, and
 // would take what is put behind it.
 use crate::given::run_with_hook;
-use cm_faults::{Faults, Part, PartSink, Stop, stands_at};
+use cm_faults::{Faults, Part, PartSink, Stop as Cut, stands_at};
 use cm_io::{Got, MemSource, NoMemory, Source};
-use eg_lamps::{Program, Status};
+use cm_run::Stop;
+use eg_lamps::Program;
 use std::alloc::{AllocError, Global};
 use std::marker::Brand;
 use std::sync::ledger::Blank;
@@ -50,7 +51,7 @@ const PARTS: [Part; 3] = [Part::Nothing, Part::First, Part::AllButLast];
 // What stands at the end of a session, and how many keys are left.
 #[derive(Drop)]
 struct Outcome {
-    status: Status,
+    went: Result<(), Stop>,
     level: u64,
     left: usize,
     screen: PartSink,
@@ -77,7 +78,7 @@ fn session(
     let mut program = Program::new();
     let mut keys = MemSource::new(runtime.alloc(), KEYS, get)?;
     let mut screen = PartSink::new(runtime.alloc(), 4096, put, part)?;
-    let status = run_with_hook::<MemSource, PartSink, Brand>(
+    let went = run_with_hook::<MemSource, PartSink, Brand>(
         runtime,
         Blank::new(1),
         &mut program,
@@ -85,18 +86,19 @@ fn session(
         &mut screen,
     );
     Ok(Outcome {
-        status,
+        went,
         level: program.lamps[0].brightness,
         left: count_left(&mut keys),
         screen,
     })
 }
 
-fn status_of(stop: Stop) -> Status {
-    match stop {
-        Stop::End => Status::Done,
-        Stop::Keys => Status::ReadFault,
-        Stop::Screen | Stop::Log => Status::WriteFault,
+fn end_of(cut: Cut) -> Result<(), Stop> {
+    match cut {
+        Cut::End => Ok(()),
+        Cut::Keys => Err(Stop::Keys),
+        Cut::Screen => Err(Stop::Screen),
+        Cut::Log => Err(Stop::Log),
     }
 }
 
@@ -108,7 +110,7 @@ fn is_cut(alloc: Global, outcome: &Outcome, faults: &Faults) -> Result<bool, All
         outcome.screen.bytes() == wanted.screen.as_slice()
             && level.as_bytes() == wanted.state.as_slice()
             && outcome.left.saturating_add(wanted.gets) == KEYS.len()
-            && outcome.status == status_of(wanted.stop),
+            && outcome.went == end_of(wanted.stop),
     )
 }
 
@@ -122,7 +124,7 @@ fn try_get(runtime: &HostRuntime, get: u32) -> Result<(), Fail> {
     if is_cut(runtime.alloc(), &outcome, &faults)? {
         return Ok(());
     }
-    Err(Fail::new(format_args!("get {get}: {:?}", outcome.status)))
+    Err(Fail::new(format_args!("get {get}: {:?}", outcome.went)))
 }
 
 fn try_put(runtime: &HostRuntime, put: usize, part: Part, whole: &Outcome) -> Result<(), Fail> {
@@ -135,7 +137,7 @@ fn try_put(runtime: &HostRuntime, put: usize, part: Part, whole: &Outcome) -> Re
     if is_cut(runtime.alloc(), &outcome, &faults)? {
         return Ok(());
     }
-    Err(Fail::new(format_args!("put {put} {part:?}: {:?}", outcome.status)))
+    Err(Fail::new(format_args!("put {put} {part:?}: {:?}", outcome.went)))
 }
 
 fn try_puts(runtime: &HostRuntime, part: Part) -> Result<(), Fail> {

@@ -5,9 +5,10 @@ ghost use Rattle.eg_lamps.specs.Rooms.{room_completion, room_help, room_verdict}
 use cm_blocks::Steps;
 use cm_hooks::{Answer, Hook, Hooks, Tail};
 use cm_io::{Got, MemSink, MemSource, NoMemory, Sink, Source};
+use cm_run::Stop;
 use cm_text::Name;
 use eg_lamps::grammar::grammar;
-use eg_lamps::{Program, RoomRules, Status, rooms};
+use eg_lamps::{Program, RoomRules, rooms};
 use std::marker::Brand;
 use std::sync::ledger::{Blank, Ledger};
 use std::test::Fail;
@@ -15,7 +16,7 @@ use std::test::Fail;
 // What stands at the end of a run.
 #[derive(Drop)]
 pub struct Outcome {
-    pub status: Status,
+    pub went: Result<(), Stop>,
     pub program: Program,
     pub keys: MemSource,
     pub screen: MemSink,
@@ -30,12 +31,12 @@ pub(crate) fn outcome_of(
 ) -> Result<Outcome, NoMemory> {
     let alloc = runtime.alloc();
     let mut outcome = Outcome {
-        status: Status::NoMemory,
+        went: Err(Stop::Memory),
         program: Program::new(),
         keys: MemSource::new(alloc, keys, failing_get)?,
         screen: MemSink::new(alloc, room)?,
     };
-    outcome.status = run_with_hook::<MemSource, MemSink, Brand>(
+    outcome.went = run_with_hook::<MemSource, MemSink, Brand>(
         runtime,
         Blank::new(1),
         &mut outcome.program,
@@ -65,7 +66,7 @@ pub(crate) fn are_at(program: &Program, levels: [u64; 4]) -> bool {
     true
 }
 
-// A run that is Done, what it shows, and how bright the lamps are at its end.
+// A run that goes to its end, what it shows, and how bright the lamps are at its end.
 #[derive(Clone, Copy)]
 pub struct Case<'a> {
     pub keys: &'a [u8],
@@ -86,7 +87,7 @@ pub(crate) fn try_cases(runtime: &HostRuntime, cases: &[Case<'_>]) -> Result<(),
 fn is_so(runtime: &HostRuntime, case: &Case<'_>) -> Result<bool, NoMemory> {
     let mut outcome = outcome_of(runtime, case.keys, None, 4096)?;
     Ok(
-        outcome.status == Status::Done
+        outcome.went == Ok(())
             && outcome.screen.bytes() == case.screen
             && are_at(&outcome.program, case.levels)
             && leaves(&mut outcome.keys, b""),
@@ -100,7 +101,7 @@ pub(crate) fn run_with_hook<K: Source, S: Sink, L: Ledger>(
     program: &mut Program,
     keys: &mut K,
     screen: &mut S,
-) -> Status
+) -> Result<(), Stop>
     requires name { blank.name ≡ L.name }
     requires parts { blank.parts ≡ L.parts }
     requires some { 0 < L.parts }
@@ -121,7 +122,7 @@ pub(crate) fn run_with_hook<K: Source, S: Sink, L: Ledger>(
         Box::new(alloc, help),
         grammar(alloc),
     ) else {
-        return Status::NoMemory;
+        return Err(Stop::Memory);
     };
     let mut hooks: Hooks<RoomRules> = Hooks::new();
     let _ = hooks.push(Hook::new(0, verdict, completion, help));

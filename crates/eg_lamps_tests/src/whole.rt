@@ -1,6 +1,5 @@
 // Whole runs.
 use crate::given::{Case, leaves, outcome_of, try_cases};
-use eg_lamps::Status;
 use std::test::Fail;
 
 fn case<'a>(keys: &'a [u8], screen: &'a [u8], levels: [u64; 4]) -> Case<'a> {
@@ -163,7 +162,7 @@ fn explains_what_may_come(rt: HostRuntime) -> Result<(), Fail> {
 #[test]
 fn takes_no_key_behind_quit(rt: HostRuntime) -> Result<(), Fail> {
     let mut outcome = outcome_of(&rt, b"Q\rLIST\r", None, 4096)?;
-    let is_done = outcome.status == Status::Done && outcome.screen.bytes() == b"@Q\r\n".as_slice();
+    let is_done = outcome.went == Ok(()) && outcome.screen.bytes() == b"@Q\r\n".as_slice();
     assert!(rt; is_done && leaves(&mut outcome.keys, b"LIST\r"));
     Ok(())
 }

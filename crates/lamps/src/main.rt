@@ -7,9 +7,10 @@ ghost use Rattle.eg_lamps.specs.Rooms.{room_completion, room_help, room_verdict}
 use cm_blocks::Steps;
 use cm_hooks::{Answer, Hook, Hooks, Tail};
 use cm_io::{Sink, Source, StdSink, StdSource};
+use cm_run::Stop;
 use cm_text::Name;
 use eg_lamps::grammar::grammar;
-use eg_lamps::{Program, RoomRules, Status, rooms};
+use eg_lamps::{Program, RoomRules, rooms, status_of};
 use std::marker::Brand;
 use std::process::ExitCode;
 use std::sync::ledger::{Blank, Ledger};
@@ -19,14 +20,14 @@ fn main(rt: HostRuntime) -> ExitCode {
     let mut program = Program::new();
     let mut keys = StdSource::new(&rt);
     let mut screen = StdSink::new(&rt);
-    let status = run_with_hook::<StdSource, StdSink, Brand>(
+    let went = run_with_hook::<StdSource, StdSink, Brand>(
         &rt,
         Blank::new(1),
         &mut program,
         &mut keys,
         &mut screen,
     );
-    ExitCode::from(status.number())
+    ExitCode::from(status_of(went))
 }
 
 // Boxes the hook, makes the grammar and the counter of trials, and runs the program.
@@ -36,7 +37,7 @@ fn run_with_hook<K: Source, S: Sink, L: Ledger>(
     program: &mut Program,
     keys: &mut K,
     screen: &mut S,
-) -> Status
+) -> Result<(), Stop>
     requires name { blank.name ≡ L.name }
     requires parts { blank.parts ≡ L.parts }
     requires some { 0 < L.parts }
@@ -57,7 +58,7 @@ fn run_with_hook<K: Source, S: Sink, L: Ledger>(
         Box::new(alloc, help),
         grammar(alloc),
     ) else {
-        return Status::NoMemory;
+        return Err(Stop::Memory);
     };
     let mut hooks: Hooks<RoomRules> = Hooks::new();
     let _ = hooks.push(Hook::new(0, verdict, completion, help));

@@ -1,5 +1,6 @@
 use Rattle.std.proofs.Common.{[], ap, arith, refl}
 use Rattle.cm_blocks.specs.Grammar.{hook_count}
+use Rattle.cm_run.specs.LineMeaning.{lines_only}
 use Rattle.cm_run.proofs.Displays.{run_keeps}
 use Rattle.tt_screen.specs.Grid.{feed}
 use Rattle.tt_screen.specs.Holds.{Holds}
@@ -10,8 +11,8 @@ use Rattle.eg_lamps.proofs.Replies.{lamps_keep_lines}
 use Rattle.eg_lamps.proofs.program.Program.run.Goals as goal
 
 -- one hook is enough
-pub run-went-requires : goal.run-went-requires
-run-went-requires g c = (
+pub run_line_program-requires : goal.run_line_program-requires
+run_line_program-requires g c = (
   omega arith,
   record {
     grammar = c.requires.grammar;
@@ -24,5 +25,5 @@ run-went-requires g c = (
 -- each key that was taken met what is sound
 pub returns-clause-screen : goal.returns-clause-screen
 returns-clause-screen g c = λ tells taken rest all.
-    run_keeps lamp_meaning lamps_keep_lines feed Holds screen_is_a_display c.args.self.now [] taken
-    (c.run-went.ensures.sound tells refl taken rest all)
+    run_keeps (lines_only lamp_meaning) lamps_keep_lines feed Holds screen_is_a_display c.args.self.now [] taken
+    ((c.run_line_program.ensures.stands tells).sound taken rest all)
