@@ -1,4 +1,5 @@
 pub mod Closure
+pub mod Defaults
 pub mod Fields
 pub mod Needs
 pub mod Parses

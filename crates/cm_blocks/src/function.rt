@@ -59,4 +59,6 @@ pub enum Role {
     Sub,
     /// A value, or the switch that it belongs to.
     Value,
+    /// A role of the program's own, by its number.
+    Own(u8),
 }

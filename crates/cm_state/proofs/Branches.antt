@@ -9,7 +9,6 @@ use Rattle.cm_fields.specs.declared.value.Value.{Value}
 use Rattle.cm_fields.specs.declared.value.Value.TheVariants as values
 use Rattle.cm_files.specs.declared.flags.Flags.{Flags}
 use Rattle.cm_blocks.specs.declared.field.Chain.TheVariants as chain
-use Rattle.cm_blocks.specs.declared.field.Ending.{Ending}
 use Rattle.cm_blocks.specs.declared.function.Function.{Function}
 use Rattle.cm_blocks.specs.declared.function.Function.TheVariants as functions
 use Rattle.cm_blocks.specs.declared.function.Role.{Role}
@@ -20,7 +19,7 @@ use Rattle.cm_blocks.specs.Chain.{chain_at}
 use Rattle.cm_blocks.specs.FieldView.{FieldView}
 use Rattle.cm_blocks.specs.Grammar.{Graph}
 use Rattle.cm_blocks.specs.Keyword.{code_at}
-use Rattle.cm_blocks.specs.Parse.{Follow, IsParse}
+use Rattle.cm_blocks.specs.Parse.{Follow}
 use Rattle.cm_blocks.specs.Setting.{Setting}
 use Rattle.cm_blocks.specs.Trial.{entry_next, keyword_next, next_of, table_of, trial}
 use Rattle.cm_blocks.proofs.Fields.{IsTried, chain_number, chain_tried}

@@ -12,7 +12,7 @@ use Rattle.cm_blocks.specs.Setting.{Setting}
 use Rattle.cm_blocks.proofs.Closure.{finished_closes}
 use Rattle.cm_blocks.proofs.Parses.{parse_of_parses}
 use Rattle.cm_blocks.proofs.KeptFields.{kept_begins}
-use Rattle.cm_state.specs.Edit.{before_fault, completed, completion, edit, edited, edited_as}
+use Rattle.cm_state.specs.Edit.{before_fault, completed, completion, edit, edited, edited_as, parsed_again}
 use Rattle.cm_state.specs.SessionState.{SessionState, IsReady, at_start, met_line, parse_held, text_of}
 use Rattle.cm_state.specs.Stack.{Starts}
 use Rattle.cm_state.specs.declared.prompt.Prompt.{Prompt}
@@ -230,4 +230,71 @@ finishes s started entered now node prompt bytes line spent none below fills res
       cost =
           costs ∙ ap (λ (h : SessionState). cost_behind s h.node (text_of h) h.fields) is
           ∙ sym (none_costs s none node below (finished line));
+    }
+
+-- a text that is parsed afresh
+pub record ParsesAgain (s : Setting) (old now : SessionState) (spent : ℕ) : Type 0 where
+  pub session : now ≡ parsed_again s old
+  pub stands : Stands s now
+  pub cost : spent ≡ cost s old.node [] (text_of old)
+
+pub again_starts : (s : Setting) (old emptied : SessionState) → grammar_fault s.graph ≡ None
+    → old.node < length s.graph.nodes → emptied ≡ record old { fields = [] }
+    → Starts s emptied.node (text_of emptied) emptied.fields
+again_starts s old emptied none below empty =
+    subst (λ (h : SessionState). Starts s h.node (text_of h) h.fields) (sym empty)
+    (none_starts s none old.node below (text_of old))
+
+-- the session with this parse of its text
+with_parse : SessionState → Parse → SessionState
+with_parse held parse = record held {
+  fields = parse.fields;
+  ending = parse.ending;
+  restorable = if held.is_finished then before_fault held.line parse.ending else held.restorable;
+}
+
+parsed_is : (s : Setting) (old emptied parsed now : SessionState)
+    → emptied ≡ record old { fields = [] }
+    → parse_held parsed ≡ parse_of s emptied.node (text_of emptied)
+    → parsed ≡ record emptied { fields = parsed.fields; ending = parsed.ending }
+    → now ≡ record parsed {
+      restorable =
+          if parsed.is_finished then before_fault parsed.line parsed.ending else parsed.restorable;
+    }
+    → now ≡ parsed_again s old
+unfolding parsed_again with_parse
+parsed_is s old emptied parsed now empty held same refused =
+    let whole : parse_held parsed ≡ parse_of s old.node (text_of old) =
+    held ∙ ap (λ (h : SessionState). parse_of s h.node (text_of h)) empty in
+    let over : parsed ≡ record old { fields = parsed.fields; ending = parsed.ending } =
+    same ∙ ap (λ (h : SessionState). let it : SessionState =
+    record h { fields = parsed.fields; ending = parsed.ending } in it) empty in
+    refused
+    ∙ ap (λ (h : SessionState). let it : SessionState =
+    record h { restorable = if h.is_finished then before_fault h.line h.ending else h.restorable } in it) over
+    ∙ ap (λ (parse : Parse). with_parse old parse) whole
+
+pub parses_again : (s : Setting) (old emptied parsed now : SessionState) (spent : ℕ)
+    → grammar_fault s.graph ≡ None → old.node < length s.graph.nodes
+    → emptied ≡ record old { fields = [] }
+    → parse_held parsed ≡ parse_of s emptied.node (text_of emptied)
+    → parsed ≡ record emptied { fields = parsed.fields; ending = parsed.ending }
+    → now ≡ record parsed {
+      restorable =
+          if parsed.is_finished then before_fault parsed.line parsed.ending else parsed.restorable;
+    }
+    → spent ≡ cost_behind s emptied.node (text_of emptied) emptied.fields
+    → ParsesAgain s old now spent
+unfolding parsed_again
+parses_again s old emptied parsed now spent none below empty held same refused costs =
+    let is = parsed_is s old emptied parsed now empty held same refused in
+    let node : now.node ≡ old.node = ap (λ (h : SessionState). h.node) is in
+    let text : text_of now ≡ text_of old = ap text_of is in
+    let parse : parse_held now ≡ parse_of s old.node (text_of old) = ap parse_held is in
+    record {
+      session = is;
+      stands = stands s now (rw node below) (rw (node, text) parse);
+      cost =
+          costs ∙ ap (λ (h : SessionState). cost_behind s h.node (text_of h) h.fields) empty
+          ∙ sym (none_costs s none old.node below (text_of old));
     }

@@ -1,12 +1,10 @@
 -- Lines on the screen, and the join bytes that go.
-use Rattle.std.proofs.Common.{◌≡◌, ℕ, zero, suc, ◌+◌, ◌<◌, ◌==◌, Bool, false, List, [], ◌∷◌, ◌++◌, length, take, drop, get_or, refl, ap, ◌∙◌, append-nil}
+use Rattle.std.proofs.Common.{◌≡◌, ℕ, zero, suc, ◌+◌, ◌<◌, false, List, [], ◌∷◌, ◌++◌, length, take, drop, get_or, refl, ap, ◌∙◌, append-nil}
 use Rattle.std.proofs.lemmas.List.{take_more}
 use Rattle.std.proofs.Math.Seq.{drop-length}
 use Rattle.std.proofs.lemmas.Grind.{flat_map-append}
-use Rattle.std.specs.List.{flat_map}
 use Rattle.cm_text.specs.Shown.{shown_byte}
 use Rattle.cm_line.specs.declared.key.KeyClass.{KeyClass}
-use Rattle.cm_line.specs.declared.key.KeyClass.TheVariants.{Rub, Word, Erase}
 use Rattle.cm_state.specs.Echo.{has_join, left, screen_line, takes_join}
 
 -- one byte more on the screen

@@ -28,9 +28,13 @@ prompt_text Main = codes "@"
 prompt_text Sub = codes "@@"
 prompt_text (Own text) = text.now
 
+-- a line behind its prompt
+unfoldable pub with_prompt : Prompt → List ℕ → List ℕ
+with_prompt prompt line = prompt_text prompt ++ screen_line line
+
 -- the end of the line, and the line again behind its prompt
 unfoldable pub again : Prompt → List ℕ → List ℕ
-again prompt line = end_of_line ++ prompt_text prompt ++ screen_line line
+again prompt line = end_of_line ++ with_prompt prompt line
 
 -- why a line is refused
 unfoldable pub refusal : Code → List ℕ

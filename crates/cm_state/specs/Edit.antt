@@ -13,7 +13,7 @@ use Rattle.cm_blocks.specs.Setting.{Setting}
 use Rattle.cm_recognise.specs.declared.insertion.Insertion.{Insertion}
 use Rattle.cm_recognise.specs.declared.insertion.Mode.TheVariants as modes
 use Rattle.cm_recognise.specs.Insertion.{insertion}
-use Rattle.cm_state.specs.SessionState.{SessionState, met_line}
+use Rattle.cm_state.specs.SessionState.{SessionState, met_line, text_of}
 
 -- what a key of this class puts into a line whose parse ends so: ESC and control-F complete it
 abbrev pub completion : Setting → KeyClass → Ending → List ℕ → Insertion
@@ -63,3 +63,13 @@ edited_as s held class key =
 -- after a key, whose class is that on the line that it meets
 abbrev pub edited : Setting → SessionState → ℕ → SessionState
 edited s held key = edited_as s held (class_at (met_line held) key) key
+
+-- with the same text parsed afresh: behind a finished line control-H brings back what that line's end would leave
+unfoldable pub parsed_again : Setting → SessionState → SessionState
+parsed_again s held =
+    let parse = parse_of s held.node (text_of held) in
+    record held {
+      fields = parse.fields;
+      ending = parse.ending;
+      restorable = if held.is_finished then before_fault held.line parse.ending else held.restorable;
+    }

@@ -3,14 +3,13 @@
 
 ghost use Rattle.std.specs.Prelude.{◌≡◌, ◌+◌, ◌≤◌, ◌==◌, ◌++◌, length};
 ghost use Rattle.cm_io.specs.Writer.{Writes};
-ghost use Rattle.std.specs.List.{list_any};
 ghost use Rattle.cm_text.specs.Shown.{end_of_line, question, shown_byte};
 ghost use Rattle.cm_text.specs.declared.text.TheConstants.{JOIN};
 ghost use Rattle.cm_hooks.specs.Ties.{Ties, count};
 ghost use Rattle.cm_blocks.specs.Grammar.{hook_count};
 ghost use Rattle.cm_blocks.specs.Setting.{setting};
 ghost use Rattle.cm_help.specs.Help.{help_text};
-ghost use Rattle.cm_state.specs.Echo.{again, complaint, has_join, refusal, ring, screen_line, taken_away, takes_join};
+ghost use Rattle.cm_state.specs.Echo.{again, complaint, has_join, refusal, ring, screen_line, taken_away, takes_join, with_prompt};
 
 use crate::Prompt;
 use arrayvec::ArrayVec;
@@ -61,6 +60,16 @@ pub(crate) fn put_screen_line<S: Sink>(line: &[u8], out: &mut Writer<'_, S>)
     out.put(screen_line(line).as_slice());
 }
 
+// Shows a line behind its prompt.
+#[tactic(auto, using(cm_io::proofs::Texts::texts), unfolding(crate::specs::Echo::with_prompt))]
+pub(crate) fn put_with_prompt<S: Sink>(prompt: Prompt, line: &[u8], out: &mut Writer<'_, S>)
+    requires { length line.now ≤ LINE_LIMIT }
+    ensures { Writes S.Sink out.old out.new (with_prompt prompt line.now) }
+{
+    out.put(prompt.text().as_bytes());
+    put_screen_line(line, out);
+}
+
 // Shows the end of the line, and the line again behind its prompt.
 #[tactic(auto, using(cm_io::proofs::Texts::texts), unfolding(crate::specs::Echo::again))]
 pub(crate) fn put_again<S: Sink>(prompt: Prompt, line: &[u8], out: &mut Writer<'_, S>)
@@ -68,8 +77,7 @@ pub(crate) fn put_again<S: Sink>(prompt: Prompt, line: &[u8], out: &mut Writer<'
     ensures { Writes S.Sink out.old out.new (again prompt line.now) }
 {
     out.put(end_of_line());
-    out.put(prompt.text().as_bytes());
-    put_screen_line(line, out);
+    put_with_prompt(prompt, line, out);
 }
 
 // Shows what may come behind the line, and the line again.

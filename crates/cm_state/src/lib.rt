@@ -8,6 +8,7 @@ mod log;
 mod parse;
 mod prompt;
 mod restorable;
+mod said;
 mod session;
 mod stack;
 mod turn;

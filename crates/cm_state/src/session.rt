@@ -1,38 +1,32 @@
 // A session: the line under edit, and the parse of it that is held.
-ghost use Rattle.std.specs.Prelude.{◌≡◌, ◌+◌, ◌≤◌, ◌<◌, true, false, [], length, take, None, slice_get, Some, if◌then◌else◌};
-ghost use Rattle.std.specs.Option.{option_copied};
-ghost use Rattle.std.specs.Str.{IsAscii};
+ghost use Rattle.std.specs.Prelude.{◌≡◌, ◌+◌, ◌≤◌, ◌<◌, true, false, length, None, if◌then◌else◌};
 ghost use Rattle.cm_text.specs.Bytes.{is_text};
-ghost use Rattle.cm_text.specs.Text.{IsLine, ends_in_hyphen, finished};
+ghost use Rattle.cm_text.specs.Text.{ends_in_hyphen};
 ghost use Rattle.cm_line.specs.Keys.{class_at};
 ghost use Rattle.cm_io.specs.Told.{Adds};
 ghost use Rattle.cm_io.specs.Fault.{PutCause};
 ghost use Rattle.cm_io.specs.Writer.{Writes};
 ghost use Rattle.cm_hooks.specs.Ties.{Ties, count};
-ghost use Rattle.cm_blocks.specs.declared.field.TheConstants.{FIELD_LIMIT};
 ghost use Rattle.cm_blocks.specs.Fault.{grammar_fault};
 ghost use Rattle.cm_blocks.specs.Grammar.{hook_count};
-ghost use Rattle.cm_blocks.specs.Kept.{BeginsWith, cost, cost_behind, kept, needing};
-ghost use Rattle.cm_blocks.specs.Parse.{IsClosed, IsParse, open_at, parse_of};
+ghost use Rattle.cm_blocks.specs.Kept.{BeginsWith, cost, kept, needing};
+ghost use Rattle.cm_blocks.specs.Parse.{IsParse, open_at};
 ghost use Rattle.cm_blocks.specs.Setting.{Setting, setting};
-ghost use Rattle.cm_state.specs.Edit.{before_fault, completed, edited, edited_as};
+ghost use Rattle.cm_state.specs.Edit.{completed, edited};
 ghost use Rattle.cm_state.specs.Echo.{echo, echo_of, prompt_text, takes_join};
-ghost use Rattle.cm_state.specs.SessionState.{SessionState, IsReady, at_start, met_line, parse_held, text_of};
+ghost use Rattle.cm_state.specs.SessionState.{SessionState, IsReady, at_start, met_line, text_of};
 ghost use Rattle.cm_state.specs.Log.{log_line};
-ghost use Rattle.cm_state.specs.Roles.{field_of, is_role};
-ghost use Rattle.cm_state.specs.Stack.{Starts};
 ghost use Rattle.cm_state.specs.Turn.{put_of, turn_of};
 
 use crate::echo::{
     put_again, put_end, put_help_and_line, put_inserted, put_screen_line, put_taken, takes_join,
 };
-use crate::held::{hold_before_fault, open_at, text_of};
+use crate::held::open_at;
 use crate::log::{push_head, put_fields};
-use crate::parse::parse_rest;
 use crate::restorable::Restorable;
 use crate::stack::Stack;
 use crate::{Prompt, Turn};
-use cm_blocks::{Ending, Field, Grammar, Role, Steps};
+use cm_blocks::{Ending, Grammar, Steps};
 use cm_files::Names;
 use cm_hooks::{Hooks, Rules};
 use cm_io::{Page, Put, Sink, Writer};
@@ -41,7 +35,9 @@ use cm_text::{LINE_LIMIT, bell, control_c, end_of_line, screen_byte};
 use std::marker::{Model, PhantomData};
 use std::sync::ledger::Ledger;
 
+mod again;
 mod editing;
+mod told;
 
 // A key and the line that it met: of which size, whether a join byte goes, and whether control-H had a line to bring
 // back. A key that completed the line rings or not.
@@ -173,41 +169,6 @@ impl<R: Rules> Session<R> {
         }
     }
 
-    /// Takes a whole line and finishes it, whatever its last byte, as `begin` at the node and then its keys and CR do
-    /// with a line that ends in no hyphen: holds its parse, and shows nothing. The prompt stays.
-    ///
-    /// The answer is Confirmed exactly where the parse is done, and else Refused with its fault.
-    pub fn whole<N: Names, L: Ledger>(
-        &mut self,
-        node: u16,
-        line: &[u8],
-        grammar: &Grammar,
-        names: &N,
-        hooks: &Hooks<R>,
-        steps: &mut Steps<L>,
-    ) -> Turn
-        requires line { IsLine line.now }
-        requires node { node < length grammar.now.nodes }
-        requires ties { Ties R.meanings hooks.now }
-        requires hooks { hook_count grammar.now ≤ count hooks.now }
-        // It is as behind a CR that finishes that line, whatever its last byte.
-        ensures edited { self.new ≡ edited_as (setting grammar.now (N.catalogue names.now) R.meanings)
-            (record (at_start node self.old.prompt self.old.restorable) { line = line.now }) KeyClass.End 13 }
-        ensures parse { IsParse (setting grammar.now (N.catalogue names.now) R.meanings)
-            node (finished line.now) self.new.fields self.new.ending }
-        ensures ready { IsReady (setting grammar.now (N.catalogue names.now) R.meanings) self.new }
-        ensures decided { IsClosed self.new.ending }
-        ensures turn { result ≡ turn_of KeyClass.End self.new.ending }
-        ensures steps { steps.new ≡ steps.old
-            + cost (setting grammar.now (N.catalogue names.now) R.meanings) node [] (finished line.now) }
-    {
-        grammar.has_no_fault();
-        self.start(node, self.prompt);
-        self.finish(line);
-        self.reparse(grammar, names, hooks, steps);
-        self.turn(KeyClass::End)
-    }
-
     /// Puts the line of the log that tells of a key and of the parse held after it: the key, the length of
     /// the line, the ending and each field.
     pub fn log_line<S: Sink>(&self, key: u8, sink: &mut S) -> Put
@@ -218,51 +179,6 @@ impl<R: Rules> Session<R> {
         let mut out = Writer::new(sink);
         self.put_log(key, &mut out);
         out.went()
-    }
-
-    /// The whole text: the line, or the line and the CR that finished it.
-    pub fn text(&self) -> &[u8]
-        ensures value { result.now ≡ text_of self.now }
-        ensures line { IsLine self.now.line }
-        ensures ascii { IsAscii result.now }
-    {
-        text_of(&self.line, self.is_finished)
-    }
-
-    /// How many fields are held, at most 64.
-    pub fn held(&self) -> u8
-        ensures value { result ≡ length self.now.fields }
-        ensures few { result ≤ FIELD_LIMIT }
-    {
-        self.fields.len()
-    }
-
-    /// A field that is held, by its number from 0.
-    pub fn field(&self, number: u8) -> &Field
-        requires { number < length self.now.fields }
-        ensures { slice_get self.now.fields number ≡ Some result.now }
-    {
-        self.fields.get(number)
-    }
-
-    /// The first field of a role. None where no field has it.
-    pub fn field_of(&self, role: Role) -> Option<&Field>
-        ensures { option_copied result ≡ field_of role self.now.fields }
-    {
-        for number in 0..self.held() {
-            let field = self.field(number);
-            if is_role(role, field.role()) {
-                return Some(field);
-            }
-        }
-        None
-    }
-
-    /// What stands behind the last field.
-    pub fn ending(&self) -> &Ending
-        ensures { result.now ≡ self.now.ending }
-    {
-        &self.ending
     }
 
     // A session at its start.
@@ -291,16 +207,6 @@ impl<R: Rules> Session<R> {
         self.is_finished = false;
         self.fields.clear();
         self.ending = open_at(node);
-    }
-
-    // Finishes this line in place of that under edit.
-    fn finish(&mut self, line: &[u8])
-        requires { IsLine line.now }
-        ensures { self.new ≡ record self.old { line = line.now; is_finished = true; restorable = None } }
-    {
-        self.line.set(line);
-        self.is_finished = true;
-        self.restorable.forget();
     }
 
     // The class of a key on the line that it meets.
@@ -384,46 +290,6 @@ impl<R: Rules> Session<R> {
         self.fields.truncate(size);
     }
 
-    // Holds the parse of the text, which begins with the fields that are held. Behind a refused line control-H brings
-    // back the bytes before its faulty field.
-    fn reparse<N: Names, L: Ledger>(
-        &mut self,
-        grammar: &Grammar,
-        names: &N,
-        hooks: &Hooks<R>,
-        steps: &mut Steps<L>,
-    )
-        requires starts { Starts (setting grammar.now (N.catalogue names.now) R.meanings)
-            self.old.node (text_of self.old) self.old.fields }
-        requires ties { Ties R.meanings hooks.now }
-        requires hooks { hook_count grammar.now ≤ count hooks.now }
-        ensures parse { parse_held self.new
-            ≡ parse_of (setting grammar.now (N.catalogue names.now) R.meanings) self.old.node (text_of self.old) }
-        ensures restorable { self.new.restorable
-            ≡ (if self.old.is_finished then before_fault self.old.line self.new.ending else None) }
-        ensures same { self.new
-            ≡ record self.old { fields = self.new.fields; ending = self.new.ending; restorable = self.new.restorable } }
-        ensures steps { steps.new ≡ steps.old + cost_behind (setting grammar.now (N.catalogue names.now) R.meanings)
-            self.old.node (text_of self.old) self.old.fields }
-    {
-        let text = text_of(&self.line, self.is_finished);
-        self.ending = parse_rest(
-            grammar,
-            self.node,
-            text,
-            names,
-            hooks,
-            &mut self.fields,
-            steps,
-        );
-        hold_before_fault(
-            self.is_finished,
-            &self.line,
-            self.ending,
-            &mut self.restorable,
-        );
-    }
-
     // Shows the echo of a key.
     fn echo<N: Names, S: Sink>(
         &self,
@@ -484,11 +350,4 @@ impl<R: Rules> Session<R> {
             _ => Turn::Edited,
         }
     }
-}
-
-// Whether two roles are one.
-fn is_role(wanted: Role, role: Role) -> bool
-    ensures { result ≡ is_role wanted role }
-{
-    role == wanted
 }
