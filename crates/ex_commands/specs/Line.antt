@@ -10,11 +10,11 @@ use Rattle.cm_files.specs.Catalogue.{Catalogue}
 use Rattle.cm_files.specs.Spec.{part}
 use Rattle.cm_blocks.specs.declared.function.Role.TheVariants as roles
 use Rattle.cm_blocks.specs.declared.node.Block.{Block}
-use Rattle.cm_blocks.specs.declared.node.Node.{Node}
 use Rattle.cm_blocks.specs.Grammar.{Graph}
 use Rattle.cm_blocks.specs.FieldView.{FieldView}
 use Rattle.cm_blocks.specs.Words.{no_flags}
 use Rattle.cm_state.specs.Roles.{field_of}
+pub use Rattle.cm_state.specs.Said.{default_of, node_of, said_of}
 use Rattle.ex_store.specs.declared.place.Place.{Place}
 use Rattle.ex_commands.specs.declared.command.Command.{Command}
 use Rattle.ex_commands.specs.declared.command.Command.TheVariants as commands
@@ -26,24 +26,13 @@ pub record Line : Type 0 where
   pub text : List ℕ
   pub fields : List FieldView
 
--- the node whose chain took a field, and the block
-abbrev pub node_of : Graph → FieldView → Option Node
-node_of graph field = slice_get graph.nodes field.node
-
+-- the block that took a field
 abbrev pub block_of : Graph → FieldView → Option Block
 block_of graph field = option_and_then (λ node. slice_get node.chain field.block) (node_of graph field)
 
 -- the flags under which it was read
 abbrev pub flags_of : Graph → FieldView → Flags
 flags_of graph field = option_map_or (λ (block : Block). block.flags) (block_of graph field) no_flags
-
--- the text that stands for it where the line ends before it: the default of its node
-abbrev pub default_of : Graph → FieldView → List ℕ
-default_of graph field = unwrap_or (option_and_then (λ node. node.default) (node_of graph field)) []
-
--- the text that it is a part of, in a line of this text: that, or the default
-abbrev pub said_of : Graph → List ℕ → FieldView → List ℕ
-said_of graph text field = if field.defaulted then default_of graph field else text
 
 -- a part of a text, in upper case
 abbrev pub upper : List ℕ → Span → List ℕ

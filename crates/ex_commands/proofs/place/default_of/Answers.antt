@@ -1,5 +1,5 @@
 use Rattle.std.proofs.Common.{ap, option_copied, sym, ◌∙◌}
-use Rattle.ex_commands.proofs.Uppercase.{default_is_ascii}
+use Rattle.cm_blocks.proofs.Defaults.{default_is_ascii}
 use Rattle.ex_commands.proofs.place.default_of.Goals as goal
 
 pub returns-in-Some-default-clause-ascii : goal.returns-in-Some-default-clause-ascii
