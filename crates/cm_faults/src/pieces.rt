@@ -9,8 +9,8 @@ fn is_bar(byte: &u8) -> bool {
     *byte == b'/'
 }
 
-/// How many calls of the host load an image and save this one.
-pub fn count_calls(image: &[u8]) -> u32 {
+// How many calls of the host load an image and save this one.
+pub(crate) fn count_calls(image: &[u8]) -> u32 {
     let mut calls: u32 = 4;
     for byte in image {
         if is_bar(byte) {
@@ -20,8 +20,8 @@ pub fn count_calls(image: &[u8]) -> u32 {
     calls
 }
 
-/// The bytes of the first so many pieces.
-pub fn first_pieces(alloc: Global, image: &[u8], many: u32) -> Result<Vec<u8>, AllocError> {
+// The bytes of the first so many pieces.
+fn first_pieces(alloc: Global, image: &[u8], many: u32) -> Result<Vec<u8>, AllocError> {
     let mut bytes = Vec::new(alloc);
     let mut piece: u32 = 0;
     for byte in image {

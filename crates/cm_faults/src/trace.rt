@@ -2,7 +2,7 @@
 //
 // A trace is a text of events, one a line, in the order in which they happen: `get`, a key is asked for; `show TEXT`,
 // the text is put on the screen; `log TEXT`, it is put on the log; `act TEXT`, it is what the state is from there on.
-// In a text `~` stands for the end of a line, `|` for a line feed, `^` for a carriage return and `_` for a space.
+// In a text `~` stands for the end of a line, `|` for a line feed and `_` for a space.
 
 use std::alloc::{AllocError, Global};
 
@@ -96,6 +96,13 @@ fn put(
     Ok(Stop::End)
 }
 
+/// The bytes of a text.
+pub fn bytes_of(alloc: Global, text: &str) -> Result<Vec<u8>, AllocError> {
+    let mut bytes = Vec::new(alloc);
+    push_text(text, &mut bytes)?;
+    Ok(bytes)
+}
+
 /// Puts the bytes of a text behind others.
 pub fn push_text(text: &str, bytes: &mut Vec<u8>) -> Result<(), AllocError> {
     for byte in text.bytes() {
@@ -111,7 +118,6 @@ pub fn push_text(text: &str, bytes: &mut Vec<u8>) -> Result<(), AllocError> {
 fn meant(byte: u8) -> u8 {
     match byte {
         b'~' | b'|' => b'\n',
-        b'^' => b'\r',
         b'_' => b' ',
         other => other,
     }

@@ -4,7 +4,8 @@
 // take what is put behind it.
 use crate::given::run_with_rules;
 use cm_faults::{
-    Faults, Part, PartSink, Stands, Stop, count_calls, is_written, push_text, stands_at,
+    Failing, NOTHING, Part, PartSink, Stands, closing, has_image, is_written, push_text, stands_at,
+    status_of,
 };
 use cm_io::{MemClock, MemHost, NoMemory};
 use ex_batch::{Status, Words};
@@ -40,40 +41,12 @@ const CALLS: u32 = 18;
 // How many puts fail together with each call.
 const FIRST: usize = 5;
 
-// What fails: the put on the screen, and the call of the host, with these numbers.
-#[derive(Clone, Copy, Debug, PartialEq, Eq)]
-struct Failing {
-    screen: Option<usize>,
-    part: Part,
-    call: Option<u32>,
-}
-
-const NOTHING: Failing = Failing {
-    screen: None,
-    part: Part::Nothing,
-    call: None,
-};
-
 // What stands at the end of a run.
 #[derive(Drop)]
 struct Outcome {
     status: Status,
     screen: PartSink,
     host: MemHost,
-}
-
-fn bytes_of(alloc: Global, text: &str) -> Result<Vec<u8>, AllocError> {
-    let mut bytes = Vec::new(alloc);
-    push_text(text, &mut bytes)?;
-    Ok(bytes)
-}
-
-fn host_of(alloc: Global, call: Option<u32>) -> Result<MemHost, NoMemory> {
-    let input = bytes_of(alloc, INPUT)?;
-    match call {
-        Some(call) => MemHost::new(alloc, "IN", Some(&input), 512, &[call]),
-        None => MemHost::new(alloc, "IN", Some(&input), 512, &[]),
-    }
 }
 
 fn words() -> Words {
@@ -90,7 +63,7 @@ fn run(runtime: &HostRuntime, failing: &Failing) -> Result<Outcome, NoMemory> {
     let mut outcome = Outcome {
         status: Status::NoMemory,
         screen: PartSink::new(alloc, 4096, failing.screen, failing.part)?,
-        host: host_of(alloc, failing.call)?,
+        host: failing.host(alloc, INPUT)?,
     };
     outcome.status = run_with_rules::<MemHost, PartSink, MemClock, Brand>(
         runtime,
@@ -103,51 +76,31 @@ fn run(runtime: &HostRuntime, failing: &Failing) -> Result<Outcome, NoMemory> {
     Ok(outcome)
 }
 
-// The status, and what is shown behind the trace: a screen that has failed is given nothing more.
-fn ending(stop: Stop, loses: bool) -> (Status, &'static str) {
-    match (stop, loses) {
-        (Stop::End, false) => (Status::Done, ""),
-        (_, false) => (Status::WriteFault, ""),
-        (Stop::End, true) => (Status::HostFault, "?Host fault~"),
-        (_, true) => (Status::HostFault, ""),
-    }
-}
-
-// Whether the host fails where it saves this image.
-fn loses(image: &[u8], call: Option<u32>) -> bool {
-    match call {
-        Some(call) => call < count_calls(image),
-        None => false,
-    }
-}
-
 // Whether all stands that must where the image was read.
 fn is_cut(
     alloc: Global,
     outcome: &Outcome,
     wanted: &mut Stands,
-    call: Option<u32>,
+    failing: &Failing,
 ) -> Result<bool, AllocError> {
-    let (status, message) = ending(wanted.stop, loses(&wanted.state, call));
-    push_text(message, &mut wanted.screen)?;
-    let input = bytes_of(alloc, INPUT)?;
+    let loses = failing.loses(&wanted.state);
+    push_text(closing(wanted.stop, loses), &mut wanted.screen)?;
     let out = outcome.host.file("OUT");
+    let is_written = is_written(alloc, out, &wanted.state, failing.call)?;
+    let has_image = has_image(alloc, &outcome.host, INPUT)?;
     Ok(
-        is_written(alloc, out, &wanted.state, call)?
+        is_written
+            && has_image
             && outcome.screen.bytes() == wanted.screen.as_slice()
-            && outcome.host.file("IN") == Some(input.as_slice())
-            && outcome.status == status,
+            && outcome.status == status_of(wanted.stop, loses),
     )
 }
 
-// Whether nothing was done where the image could not be read: a screen that fails has a beginning of the message.
-fn is_refused(outcome: &Outcome, screen: Option<usize>) -> bool {
-    let shown = outcome.screen.bytes();
-    let is_told = match screen {
-        Some(_) => b"?Host fault\r\n".starts_with(shown),
-        None => shown == b"?Host fault\r\n".as_slice(),
-    };
-    is_told && outcome.status == Status::HostFault && outcome.host.file("OUT").is_none()
+// Whether nothing was done where the image could not be read.
+fn is_refused(outcome: &Outcome, failing: &Failing) -> bool {
+    failing.is_host_fault(outcome.screen.bytes())
+        && outcome.status == Status::HostFault
+        && outcome.host.file("OUT").is_none()
 }
 
 fn stands(
@@ -157,19 +110,11 @@ fn stands(
     whole: &Outcome,
 ) -> Result<bool, AllocError> {
     if failing.call == Some(0) {
-        return Ok(is_refused(outcome, failing.screen));
+        return Ok(is_refused(outcome, failing));
     }
-    let screen = match failing.screen {
-        Some(put) => whole.screen.held_behind(put, failing.part),
-        None => None,
-    };
-    let faults = Faults {
-        gets: None,
-        screen,
-        log: None,
-    };
+    let faults = failing.faults(&whole.screen, None);
     let mut wanted = stands_at(alloc, TRACE, &faults)?;
-    is_cut(alloc, outcome, &mut wanted, failing.call)
+    is_cut(alloc, outcome, &mut wanted, failing)
 }
 
 fn try_one(runtime: &HostRuntime, failing: &Failing, whole: &Outcome) -> Result<(), Fail> {
@@ -208,6 +153,7 @@ fn try_put(runtime: &HostRuntime, put: usize, part: Part, whole: &Outcome) -> Re
             screen: Some(put),
             part,
             call: Some(call),
+            ..NOTHING
         };
         if put < FIRST || call % 3 == left {
             try_one(runtime, &failing, whole)?;

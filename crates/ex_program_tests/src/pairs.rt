@@ -5,7 +5,8 @@
 // would take what is put behind it.
 use crate::given::{run_with_rules, words_of};
 use cm_faults::{
-    Faults, Part, PartSink, Stands, Stop, count_calls, is_written, push_text, stands_at,
+    Failing, NOTHING, Part, PartSink, Stands, closing, has_image, is_written, push_text, stands_at,
+    status_of,
 };
 use cm_io::{Got, MemClock, MemHost, MemSource, NoMemory, Source};
 use ex_program::Status;
@@ -53,24 +54,6 @@ show Logged out~";
 // As many calls as the longest save has, and one more.
 const CALLS: u32 = 11;
 
-// What fails: the get, the put on the screen, the put on the log and the call of the host with these numbers.
-#[derive(Clone, Copy, Debug, PartialEq, Eq)]
-struct Failing {
-    get: Option<u32>,
-    screen: Option<usize>,
-    log: Option<usize>,
-    part: Part,
-    call: Option<u32>,
-}
-
-const NOTHING: Failing = Failing {
-    get: None,
-    screen: None,
-    log: None,
-    part: Part::Nothing,
-    call: None,
-};
-
 // What stands at the end of a session.
 #[derive(Drop)]
 struct Outcome {
@@ -81,27 +64,13 @@ struct Outcome {
     host: MemHost,
 }
 
-fn bytes_of(alloc: Global, text: &str) -> Result<Vec<u8>, AllocError> {
-    let mut bytes = Vec::new(alloc);
-    push_text(text, &mut bytes)?;
-    Ok(bytes)
-}
-
-fn host_of(alloc: Global, failing: &Failing) -> Result<MemHost, NoMemory> {
-    let input = bytes_of(alloc, INPUT)?;
-    match failing.call {
-        Some(call) => MemHost::new(alloc, "IN", Some(&input), 512, &[call]),
-        None => MemHost::new(alloc, "IN", Some(&input), 512, &[]),
-    }
-}
-
 fn before(alloc: Global, failing: &Failing) -> Result<Outcome, NoMemory> {
     Ok(Outcome {
         status: Status::NoMemory,
         keys: MemSource::new(alloc, KEYS, failing.get)?,
         screen: PartSink::new(alloc, 4096, failing.screen, failing.part)?,
         log: PartSink::new(alloc, 4096, failing.log, failing.part)?,
-        host: host_of(alloc, failing)?,
+        host: failing.host(alloc, INPUT)?,
     })
 }
 
@@ -122,48 +91,6 @@ fn session(runtime: &HostRuntime, failing: &Failing) -> Result<Outcome, NoMemory
     Ok(outcome)
 }
 
-// Where the trace is cut: a put that fails is found in the whole session.
-fn faults_of(failing: &Failing, whole: &Outcome) -> Faults {
-    Faults {
-        gets: failing.get.map(|get| get as usize),
-        screen: behind(&whole.screen, failing.screen, failing.part),
-        log: behind(&whole.log, failing.log, failing.part),
-    }
-}
-
-fn behind(sink: &PartSink, put: Option<usize>, part: Part) -> Option<usize> {
-    sink.held_behind(put?, part)
-}
-
-// Whether the host fails where it saves this image.
-fn loses(image: &[u8], call: Option<u32>) -> bool {
-    match call {
-        Some(call) => call < count_calls(image),
-        None => false,
-    }
-}
-
-fn status_of(stop: Stop, loses: bool) -> Status {
-    if loses {
-        return Status::HostFault;
-    }
-    match stop {
-        Stop::End => Status::Done,
-        Stop::Keys => Status::ReadFault,
-        Stop::Screen | Stop::Log => Status::WriteFault,
-    }
-}
-
-// What is shown behind the trace.
-fn closing(stop: Stop, loses: bool) -> &'static str {
-    match (stop, loses) {
-        (Stop::Keys, false) => "~?Read fault~",
-        (Stop::Keys, true) => "~?Host fault~",
-        (Stop::Screen, _) | (Stop::End, false) | (Stop::Log, false) => "",
-        (Stop::End, true) | (Stop::Log, true) => "?Host fault~",
-    }
-}
-
 // How many keys are left. One more get may be the one that fails.
 fn count_left(keys: &mut MemSource) -> usize {
     let mut left: usize = 0;
@@ -182,9 +109,9 @@ fn is_shown(outcome: &Outcome, wanted: &Stands) -> bool {
 
 // Whether the keys behind those that were taken are left, and IN is as it was.
 fn is_left(alloc: Global, outcome: &mut Outcome, gets: usize) -> Result<bool, AllocError> {
-    let input = bytes_of(alloc, INPUT)?;
+    let has_image = has_image(alloc, &outcome.host, INPUT)?;
     let left = count_left(&mut outcome.keys);
-    Ok(left.saturating_add(gets) == KEYS.len() && outcome.host.file("IN") == Some(input.as_slice()))
+    Ok(has_image && left.saturating_add(gets) == KEYS.len())
 }
 
 // Whether all stands that must where the image was read.
@@ -192,12 +119,12 @@ fn is_cut(
     alloc: Global,
     outcome: &mut Outcome,
     wanted: &mut Stands,
-    call: Option<u32>,
+    failing: &Failing,
 ) -> Result<bool, AllocError> {
-    let loses = loses(&wanted.state, call);
+    let loses = failing.loses(&wanted.state);
     push_text(closing(wanted.stop, loses), &mut wanted.screen)?;
     let out = outcome.host.file("OUT");
-    let is_written = is_written(alloc, out, &wanted.state, call)?;
+    let is_written = is_written(alloc, out, &wanted.state, failing.call)?;
     let is_left = is_left(alloc, outcome, wanted.gets)?;
     Ok(
         is_written
@@ -207,14 +134,9 @@ fn is_cut(
     )
 }
 
-// Whether nothing was done where the image could not be read: a screen that fails has a beginning of the message.
-fn is_refused(outcome: &mut Outcome, screen: Option<usize>) -> bool {
-    let shown = outcome.screen.bytes();
-    let is_told = match screen {
-        Some(_) => b"?Host fault\r\n".starts_with(shown),
-        None => shown == b"?Host fault\r\n".as_slice(),
-    };
-    is_told
+// Whether nothing was done where the image could not be read.
+fn is_refused(outcome: &mut Outcome, failing: &Failing) -> bool {
+    failing.is_host_fault(outcome.screen.bytes())
         && outcome.status == Status::HostFault
         && outcome.log.bytes().is_empty()
         && count_left(&mut outcome.keys) == KEYS.len()
@@ -228,11 +150,11 @@ fn stands(
     whole: &Outcome,
 ) -> Result<bool, AllocError> {
     if failing.call == Some(0) {
-        return Ok(is_refused(outcome, failing.screen));
+        return Ok(is_refused(outcome, failing));
     }
-    let faults = faults_of(failing, whole);
+    let faults = failing.faults(&whole.screen, Some(&whole.log));
     let mut wanted = stands_at(runtime.alloc(), TRACE, &faults)?;
-    is_cut(runtime.alloc(), outcome, &mut wanted, failing.call)
+    is_cut(runtime.alloc(), outcome, &mut wanted, failing)
 }
 
 fn try_one(runtime: &HostRuntime, failing: &Failing, whole: &Outcome) -> Result<(), Fail> {

@@ -4,7 +4,8 @@
 // What must stand is the trace of the whole run, cut where a put fails. The screen fails in one put alone, and would
 // take what is put behind it.
 use cm_faults::{
-    Faults, Part, PartSink, Stands, Stop, count_calls, is_written, push_text, stands_at,
+    Failing, NOTHING, Part, PartSink, Stands, Stop, closing, has_image, is_written, push_text,
+    stands_at, status_of,
 };
 use cm_io::{MemClock, MemHost, NoMemory};
 use ex_spool::{Status, Words, spool20};
@@ -31,20 +32,6 @@ const CALLS: u32 = 11;
 // How many puts fail together with each call.
 const FIRST: usize = 5;
 
-// What fails: the put on the screen, and the call of the host, with these numbers.
-#[derive(Clone, Copy, Debug, PartialEq, Eq)]
-struct Failing {
-    screen: Option<usize>,
-    part: Part,
-    call: Option<u32>,
-}
-
-const NOTHING: Failing = Failing {
-    screen: None,
-    part: Part::Nothing,
-    call: None,
-};
-
 // What stands at the end of a run.
 #[derive(Drop)]
 struct Outcome {
@@ -53,25 +40,11 @@ struct Outcome {
     host: MemHost,
 }
 
-fn bytes_of(alloc: Global, text: &str) -> Result<Vec<u8>, AllocError> {
-    let mut bytes = Vec::new(alloc);
-    push_text(text, &mut bytes)?;
-    Ok(bytes)
-}
-
-fn host_of(alloc: Global, call: Option<u32>) -> Result<MemHost, NoMemory> {
-    let input = bytes_of(alloc, INPUT)?;
-    match call {
-        Some(call) => MemHost::new(alloc, "IN", Some(&input), 512, &[call]),
-        None => MemHost::new(alloc, "IN", Some(&input), 512, &[]),
-    }
-}
-
 fn run(alloc: Global, failing: &Failing) -> Result<Outcome, NoMemory> {
     let mut words = Words::new();
     words.push("IN");
     words.push("OUT");
-    let mut host = host_of(alloc, failing.call)?;
+    let mut host = failing.host(alloc, INPUT)?;
     let mut screen = PartSink::new(alloc, 4096, failing.screen, failing.part)?;
     let mut clock = MemClock::new(alloc, &[MOMENT])?;
     let status = spool20(alloc, &words, &mut host, &mut screen, &mut clock);
@@ -80,23 +53,6 @@ fn run(alloc: Global, failing: &Failing) -> Result<Outcome, NoMemory> {
         screen,
         host,
     })
-}
-
-// The status, and what is shown behind the trace.
-fn ending(stop: Stop, loses: bool) -> (Status, &'static str) {
-    match (stop, loses) {
-        (Stop::End, false) => (Status::Done, ""),
-        (Stop::End, true) => (Status::HostFault, "?Host fault~"),
-        _ => (Status::WriteFault, ""),
-    }
-}
-
-// Whether the host fails where it saves this image.
-fn loses(image: &[u8], call: Option<u32>) -> bool {
-    match call {
-        Some(call) => call < count_calls(image),
-        None => false,
-    }
 }
 
 // Whether OUT is what it must be: it is not there where the pages were cut.
@@ -118,28 +74,25 @@ fn is_cut(
     alloc: Global,
     outcome: &Outcome,
     wanted: &mut Stands,
-    call: Option<u32>,
+    failing: &Failing,
 ) -> Result<bool, AllocError> {
-    let (status, message) = ending(wanted.stop, loses(&wanted.state, call));
-    push_text(message, &mut wanted.screen)?;
-    let input = bytes_of(alloc, INPUT)?;
-    let is_saved = is_saved(alloc, &outcome.host, wanted, call)?;
+    let loses = wanted.stop == Stop::End && failing.loses(&wanted.state);
+    push_text(closing(wanted.stop, loses), &mut wanted.screen)?;
+    let is_saved = is_saved(alloc, &outcome.host, wanted, failing.call)?;
+    let has_image = has_image(alloc, &outcome.host, INPUT)?;
     Ok(
         is_saved
+            && has_image
             && outcome.screen.bytes() == wanted.screen.as_slice()
-            && outcome.host.file("IN") == Some(input.as_slice())
-            && outcome.status == status,
+            && outcome.status == status_of(wanted.stop, loses),
     )
 }
 
-// Whether nothing was done where the image could not be read: a screen that fails has a beginning of the message.
-fn is_refused(outcome: &Outcome, screen: Option<usize>) -> bool {
-    let shown = outcome.screen.bytes();
-    let is_told = match screen {
-        Some(_) => b"?Host fault\r\n".starts_with(shown),
-        None => shown == b"?Host fault\r\n".as_slice(),
-    };
-    is_told && outcome.status == Status::HostFault && outcome.host.file("OUT").is_none()
+// Whether nothing was done where the image could not be read.
+fn is_refused(outcome: &Outcome, failing: &Failing) -> bool {
+    failing.is_host_fault(outcome.screen.bytes())
+        && outcome.status == Status::HostFault
+        && outcome.host.file("OUT").is_none()
 }
 
 fn stands(
@@ -149,19 +102,11 @@ fn stands(
     whole: &Outcome,
 ) -> Result<bool, AllocError> {
     if failing.call == Some(0) {
-        return Ok(is_refused(outcome, failing.screen));
+        return Ok(is_refused(outcome, failing));
     }
-    let screen = match failing.screen {
-        Some(put) => whole.screen.held_behind(put, failing.part),
-        None => None,
-    };
-    let faults = Faults {
-        gets: None,
-        screen,
-        log: None,
-    };
+    let faults = failing.faults(&whole.screen, None);
     let mut wanted = stands_at(alloc, TRACE, &faults)?;
-    is_cut(alloc, outcome, &mut wanted, failing.call)
+    is_cut(alloc, outcome, &mut wanted, failing)
 }
 
 fn try_one(alloc: Global, failing: &Failing, whole: &Outcome) -> Result<(), Fail> {
@@ -189,7 +134,7 @@ fn try_put(alloc: Global, put: usize, part: Part, whole: &Outcome) -> Result<(),
     let failing = Failing {
         screen: Some(put),
         part,
-        call: None,
+        ..NOTHING
     };
     try_one(alloc, &failing, whole)?;
     if put < FIRST {

@@ -1,187 +1,274 @@
-// A session that sends and deletes messages, cut short by each fault in turn.
-use crate::given::{Given, Outcome, outcome_of};
-use crate::notation::push_said;
-use cm_io::{Got, MemSource, NoMemory, Source};
+// A session that sends, reads and deletes a message, with each get failing, each put on the screen, each call of the
+// host, and each of the first gets and puts with each call of the host.
+//
+// What must stand is the trace of the whole session, cut where a call fails. The screen fails in one put alone, and
+// would take what is put behind it.
+use crate::given::run_with_rules;
+use cm_faults::{
+    Failing, NOTHING, Part, PartSink, Stands, closing, has_image, is_written, push_text, stands_at,
+    status_of,
+};
+use cm_io::{Got, MemClock, MemHost, MemSource, NoMemory, Source};
 use mm_mail::{Status, Words};
 use std::alloc::{AllocError, Global};
+use std::marker::Brand;
+use std::sync::ledger::Blank;
 use std::test::Fail;
 
-const INPUT: &str = "EXEC20 2\nD OPERATOR 1\nD SMITH 1\nC OPERATOR\nE\n";
+const KEYS: &[u8] = b"S A \"B\"\rX\x1aR 1\rD 1\rQ\r";
 
-const SESSION: &str =
-    "SEND OPERATOR \"A\"\rHI\x1aHEADERS\rREAD 1\rDELETE 1\rSEND SMITH \"B\"\r\x1aREAD 1\r";
+const INPUT: &str = "EXEC20 2|D A 1|D OPERATOR 1|C A|E|";
 
-// The keys of the session that act, each behind the reply to the one before: how many keys there are with it, how many
-// bytes are shown with its echo, and the image behind it.
-const ACTING: &str = "0 0 {HEAD}E{LF}
-21 26 {HEAD}F OPERATOR MSG-0001.MAIL.1 U 1 0 - 15{LF}OPERATOR: A{EOL}HI{LF}E{LF}
-45 127 {HEAD}F OPERATOR MSG-0001.MAIL.1 D 1 0 - 15{LF}OPERATOR: A{EOL}HI{LF}E{LF}
-61 163 {HEAD}F OPERATOR MSG-0001.MAIL.1 D 1 0 - 15{LF}OPERATOR: A{EOL}HI{LF}{SENT}E{LF}";
+// Behind `act` is the image, with `/` between its writes: as it was, with the message, and with the message marked.
+const TRACE: &str = "act EXEC20 2|/D A 1|/D OPERATOR 1|/C A|/E|
+show @
+get
+show S
+get
+show _
+get
+show A
+get
+show _
+get
+show \"
+get
+show B
+get
+show \"
+get
+show ~
+get
+show X
+get
+show ^Z~
+act EXEC20 2|/D A 1|/D OPERATOR 1|/C A|/F A MSG-0001.MAIL.1 U 1 1 - 7|/A: B~X/|/E|
+show _Sent to A 0001~
+show @
+get
+show R
+get
+show _
+get
+show 1
+get
+show ~
+show A: B~X~
+show @
+get
+show D
+get
+show _
+get
+show 1
+get
+show ~
+act EXEC20 2|/D A 1|/D OPERATOR 1|/C A|/F A MSG-0001.MAIL.1 D 1 1 - 7|/A: B~X/|/E|
+show _Deleted 0001~
+show @
+get
+show Q
+get
+show ~";
 
-// What fails, at a number.
-#[derive(Clone, Copy, Debug, PartialEq, Eq)]
-enum Fault {
-    Get,
-    Screen,
-    Host,
+// As many calls as the longest save has, and one more.
+const CALLS: u32 = 12;
+
+// How many gets, and how many puts, fail together with each call.
+const FIRST: usize = 5;
+
+// What stands at the end of a session.
+#[derive(Drop)]
+struct Outcome {
+    status: Status,
+    keys: MemSource,
+    screen: PartSink,
+    host: MemHost,
 }
 
-impl Fault {
-    fn status(self) -> Status {
-        match self {
-            Fault::Get => Status::ReadFault,
-            Fault::Screen => Status::WriteFault,
-            Fault::Host => Status::HostFault,
-        }
-    }
-
-    // What is shown behind a prefix of the whole run.
-    fn message(self) -> &'static [u8] {
-        match self {
-            Fault::Get => b"\r\n?Read fault\r\n",
-            Fault::Screen => b"",
-            Fault::Host => b"?Host fault\r\n",
-        }
-    }
-
-    // How many numbers cut the session short, where the outputs say it.
-    fn count(self, whole: &Outcome) -> Option<usize> {
-        match self {
-            // The get behind the last key finds that there is none.
-            Fault::Get => Some(SESSION.len() + 1),
-            Fault::Screen => Some(whole.screen.bytes().len()),
-            Fault::Host => None,
-        }
-    }
-}
-
-// The session, with the fault at this number.
-fn session(runtime: &HostRuntime, fault: Option<Fault>, number: u32) -> Result<Outcome, NoMemory> {
-    let is = |it: Fault| fault == Some(it);
-    let given = Given {
-        keys: SESSION.as_bytes(),
-        input: Some(INPUT.as_bytes()),
-        first_moment: Some(0),
-        failing_get: if is(Fault::Get) { Some(number) } else { None },
-        failing_call: if is(Fault::Host) { Some(number) } else { None },
-        screen_room: if is(Fault::Screen) { number } else { 4096 },
-        file_room: 512,
-    };
+fn words() -> Words {
     let mut words = Words::new();
     words.push("IN");
     words.push("OUT");
-    outcome_of(runtime, &words, &given)
+    words
 }
 
-// The image behind the last key that acts with no more keys, and no more bytes shown, than these.
-fn image_behind(alloc: Global, keys: usize, shown: usize) -> Result<Vec<u8>, AllocError> {
-    let mut said = Vec::new(alloc);
-    for line in ACTING.lines() {
-        if let Some(image) = reached(line, keys, shown) {
-            said.clear();
-            push_said(image, &mut said)?;
+fn before(alloc: Global, failing: &Failing) -> Result<Outcome, NoMemory> {
+    Ok(Outcome {
+        status: Status::NoMemory,
+        keys: MemSource::new(alloc, KEYS, failing.get)?,
+        screen: PartSink::new(alloc, 4096, failing.screen, failing.part)?,
+        host: failing.host(alloc, INPUT)?,
+    })
+}
+
+fn session(runtime: &HostRuntime, failing: &Failing) -> Result<Outcome, NoMemory> {
+    let alloc = runtime.alloc();
+    let mut outcome = before(alloc, failing)?;
+    let mut clock = MemClock::new(alloc, &[1, 2, 3, 4])?;
+    outcome.status = run_with_rules::<MemHost, MemSource, PartSink, MemClock, Brand>(
+        runtime,
+        Blank::new(1),
+        &words(),
+        &mut outcome.host,
+        &mut outcome.keys,
+        &mut outcome.screen,
+        &mut clock,
+    );
+    Ok(outcome)
+}
+
+// How many keys are left. One more get may be the one that fails.
+fn count_left(keys: &mut MemSource) -> usize {
+    let mut left: usize = 0;
+    for _ in 0..KEYS.len().saturating_add(2) {
+        if let Got::Byte(_) = keys.get() {
+            left = left.saturating_add(1);
         }
     }
-    Ok(said)
+    left
 }
 
-// The image of a line, where its key is reached.
-fn reached(line: &'static str, keys: usize, shown: usize) -> Option<&'static str> {
-    let (key, rest) = line.split_once(' ')?;
-    let (echo, image) = rest.split_once(' ')?;
-    if key.parse::<usize>().ok()? <= keys && echo.parse::<usize>().ok()? <= shown {
-        Some(image)
-    } else {
-        None
-    }
+// Whether the keys behind those that were taken are left, and IN is as it was.
+fn is_left(alloc: Global, outcome: &mut Outcome, gets: usize) -> Result<bool, AllocError> {
+    let has_image = has_image(alloc, &outcome.host, INPUT)?;
+    let left = count_left(&mut outcome.keys);
+    Ok(has_image && left.saturating_add(gets) == KEYS.len())
 }
 
-// How many keys of the session are not left.
-fn count_taken(keys: &mut MemSource) -> usize {
-    for taken in 0..SESSION.len() {
-        if keys.get() == Got::End {
-            return SESSION.len() - taken;
-        }
-    }
-    0
-}
-
-// Whether what was shown is a prefix of what the whole session shows, and the message behind it.
-fn is_prefix(fault: Fault, outcome: &Outcome, whole: &Outcome) -> bool {
-    match outcome.screen.bytes().strip_suffix(fault.message()) {
-        Some(prefix) => whole.screen.bytes().starts_with(prefix),
-        None => false,
-    }
-}
-
-// Whether OUT holds the image, or a prefix of it or is absent where the host failed, and IN is as it was.
-fn is_saved(fault: Fault, outcome: &Outcome, image: &[u8]) -> bool {
-    let out = match (fault, outcome.host.file("OUT")) {
-        (Fault::Host, Some(out)) => image.starts_with(out),
-        (Fault::Host, None) => true,
-        (_, out) => out == Some(image),
-    };
-    out && outcome.host.file("IN") == Some(INPUT.as_bytes())
-}
-
-// Whether the fault cut the session short, and what must stand does: a key whose echo is not whole has not acted.
+// Whether all stands that must where the image was read.
 fn is_cut(
     alloc: Global,
-    fault: Fault,
     outcome: &mut Outcome,
-    whole: &Outcome,
+    wanted: &mut Stands,
+    failing: &Failing,
 ) -> Result<bool, AllocError> {
-    let keys = count_taken(&mut outcome.keys);
-    let image = image_behind(alloc, keys, outcome.screen.bytes().len())?;
+    let loses = failing.loses(&wanted.state);
+    push_text(closing(wanted.stop, loses), &mut wanted.screen)?;
+    let out = outcome.host.file("OUT");
+    let is_written = is_written(alloc, out, &wanted.state, failing.call)?;
+    let is_left = is_left(alloc, outcome, wanted.gets)?;
     Ok(
-        outcome.status == fault.status()
-            && is_prefix(fault, outcome, whole)
-            && is_saved(fault, outcome, &image),
+        is_written
+            && is_left
+            && outcome.screen.bytes() == wanted.screen.as_slice()
+            && outcome.status == status_of(wanted.stop, loses),
     )
 }
 
-// Whether the fault at this number is met.
-fn is_met(runtime: &HostRuntime, fault: Fault, number: u32, whole: &Outcome) -> Result<bool, Fail> {
-    let mut outcome = session(runtime, Some(fault), number)?;
-    if outcome.status == Status::Done && outcome.screen.bytes() == whole.screen.bytes() {
-        return Ok(false);
-    }
-    if is_cut(runtime.alloc(), fault, &mut outcome, whole)? {
-        return Ok(true);
-    }
-    Err(Fail::new(format_args!("{fault:?} {number}")))
+// Whether nothing was done where the image could not be read.
+fn is_refused(outcome: &mut Outcome, failing: &Failing) -> bool {
+    failing.is_host_fault(outcome.screen.bytes())
+        && outcome.status == Status::HostFault
+        && count_left(&mut outcome.keys) == KEYS.len()
+        && outcome.host.file("OUT").is_none()
 }
 
-// Counts the numbers at which the fault is met, upwards from 0.
-fn count_met(runtime: &HostRuntime, fault: Fault, whole: &Outcome) -> Result<usize, Fail> {
-    for number in 0..5000u32 {
-        if !is_met(runtime, fault, number, whole)? {
-            return Ok(number as usize);
-        }
+fn stands(
+    alloc: Global,
+    failing: &Failing,
+    outcome: &mut Outcome,
+    whole: &Outcome,
+) -> Result<bool, AllocError> {
+    if failing.call == Some(0) {
+        return Ok(is_refused(outcome, failing));
     }
-    Err(Fail::new("no session is Done"))
+    let faults = failing.faults(&whole.screen, None);
+    let mut wanted = stands_at(alloc, TRACE, &faults)?;
+    is_cut(alloc, outcome, &mut wanted, failing)
 }
 
-fn try_fault(runtime: &HostRuntime, fault: Fault) -> Result<(), Fail> {
-    let whole = session(runtime, None, 0)?;
-    let met = count_met(runtime, fault, &whole)?;
-    if whole.status == Status::Done && met > 1 && met == fault.count(&whole).unwrap_or(met) {
+fn try_one(runtime: &HostRuntime, failing: &Failing, whole: &Outcome) -> Result<(), Fail> {
+    let alloc = runtime.alloc();
+    let mut outcome = session(runtime, failing)?;
+    if stands(alloc, failing, &mut outcome, whole)? {
         return Ok(());
     }
-    Err(Fail::new(format_args!("{fault:?} is met {met} times")))
+    let screen = String::from_utf8_lossy(alloc, outcome.screen.bytes())?;
+    let out = String::from_utf8_lossy(alloc, outcome.host.output().unwrap_or(b"none"))?;
+    Err(Fail::new(format_args!(
+        "{failing:?} {:?} {:?} {:?}",
+        outcome.status,
+        screen.as_str(),
+        out.as_str()
+    )))
+}
+
+// With each call of the host, and behind these with one that is not made.
+fn try_calls(runtime: &HostRuntime, failing: Failing, whole: &Outcome) -> Result<(), Fail> {
+    for call in 0..CALLS {
+        let both = Failing {
+            call: Some(call),
+            ..failing
+        };
+        try_one(runtime, &both, whole)?;
+    }
+    Ok(())
+}
+
+// Alone, and of the first ones with each call of the host.
+fn try_number(
+    runtime: &HostRuntime,
+    failing: Failing,
+    number: usize,
+    whole: &Outcome,
+) -> Result<(), Fail> {
+    try_one(runtime, &failing, whole)?;
+    if number < FIRST {
+        try_calls(runtime, failing, whole)?;
+    }
+    Ok(())
+}
+
+// The get behind the last key is not made.
+fn try_gets(runtime: &HostRuntime) -> Result<(), Fail> {
+    let whole = session(runtime, &NOTHING)?;
+    for get in 0..KEYS.len().saturating_add(1) {
+        let failing = Failing {
+            get: Some(get as u32),
+            ..NOTHING
+        };
+        try_number(runtime, failing, get, &whole)?;
+    }
+    Ok(())
+}
+
+fn try_screen(runtime: &HostRuntime, part: Part) -> Result<(), Fail> {
+    let whole = session(runtime, &NOTHING)?;
+    for put in 0..whole.screen.puts() {
+        let failing = Failing {
+            screen: Some(put),
+            part,
+            ..NOTHING
+        };
+        try_number(runtime, failing, put, &whole)?;
+    }
+    Ok(())
 }
 
 #[test]
-fn leaves_what_must_stand_where_the_keys_fail(rt: HostRuntime) -> Result<(), Fail> {
-    try_fault(&rt, Fault::Get)
+fn stands_where_the_host_fails(rt: HostRuntime) -> Result<(), Fail> {
+    let whole = session(&rt, &NOTHING)?;
+    try_one(&rt, &NOTHING, &whole)?;
+    try_calls(&rt, NOTHING, &whole)
 }
 
 #[test]
-fn leaves_what_must_stand_where_the_screen_fails(rt: HostRuntime) -> Result<(), Fail> {
-    try_fault(&rt, Fault::Screen)
+fn stands_where_the_keys_fail(rt: HostRuntime) -> Result<(), Fail> {
+    try_gets(&rt)
 }
 
 #[test]
-fn leaves_what_must_stand_where_the_host_fails(rt: HostRuntime) -> Result<(), Fail> {
-    try_fault(&rt, Fault::Host)
+fn stands_where_a_put_takes_nothing(rt: HostRuntime) -> Result<(), Fail> {
+    try_screen(&rt, Part::Nothing)
+}
+
+#[test]
+fn stands_where_a_put_takes_one_byte(rt: HostRuntime) -> Result<(), Fail> {
+    try_screen(&rt, Part::First)
+}
+
+#[test]
+fn stands_where_a_put_takes_all_but_one(rt: HostRuntime) -> Result<(), Fail> {
+    try_screen(&rt, Part::AllButLast)
 }

@@ -2,7 +2,7 @@
 // text five times over, and all else is itself.
 use std::alloc::AllocError;
 
-const NAMES: [(&str, &str); 20] = [
+const NAMES: [(&str, &str); 19] = [
     ("", ""),
     ("BEL", "\x07"),
     ("CR", "\r"),
@@ -15,11 +15,6 @@ const NAMES: [(&str, &str); 20] = [
     ("RUB", "\x08 \x08"),
     // and where SMITH does
     ("SMITH", "EXEC20 2\nD OPERATOR 1\nD SMITH 1\nC SMITH\n"),
-    // the message that is sent to it at the end of the session that faults cut short
-    (
-        "SENT",
-        "F SMITH MSG-0001.MAIL.1 U 1 0 - 13\nOPERATOR: B\r\n\n",
-    ),
     ("SP", " "),
     ("TAB", "\t"),
     ("^C", "\x03"),
