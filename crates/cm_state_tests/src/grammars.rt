@@ -23,3 +23,8 @@ pub(crate) fn fields(alloc: Global) -> Result<Grammar, Fail> {
         tables::tables(alloc, texts::FIELD_TABLES)?,
     )?)
 }
+
+// A grammar whose nodes have defaults, with two fields of each of two roles.
+pub(crate) fn said(alloc: Global) -> Result<Grammar, Fail> {
+    Ok(Grammar::new(nodes::nodes(alloc, texts::SAID_NODES, 7)?, Vec::new(alloc))?)
+}

@@ -78,6 +78,8 @@ fn role(marks: &str) -> Role {
     match marks {
         "Verb" => Role::Verb,
         "What" => Role::What,
+        "Value" => Role::Value,
+        "Own3" => Role::Own(3),
         _ => Role::None,
     }
 }

@@ -106,3 +106,14 @@ SETTLE 0 24
 
 AFTER: 0 24
 FAST 12 24";
+
+// A word, a number, a quoted text and the rest of the line, of two roles, each with a default; and behind a comma a
+// file that is there and a directory that may be new.
+pub(crate) const SAID_NODES: &str = "\
+0 comma > 4 / word > 1 Value = FIRST
+1 number > 2 Own3 = 7
+2 quoted > 3 Value = \"say \"\"hi\"\"\"
+3 raw text > 6 Own3 = the rest
+4 infile > 5
+5 directory > 6 new
+6 confirm > 6";

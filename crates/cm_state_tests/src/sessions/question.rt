@@ -3,7 +3,7 @@ ghost use Rattle.std.specs.Prelude.{◌≡◌, ◌<◌, ◌≤◌, length};
 ghost use Rattle.cm_blocks.specs.Grammar.{hook_count};
 ghost use Rattle.cm_hooks.specs.Ties.{Ties, count};
 
-use super::{fields, lines, run};
+use super::{again, fields, lines, run, said};
 use crate::judges::{Judges, hooks_of};
 use cm_blocks::{Grammar, Steps};
 use cm_hooks::{Hooks, Rules};
@@ -14,12 +14,17 @@ use std::process::Abort;
 use std::sync::ledger::{Blank, Ledger};
 use std::test::Fail;
 
-// What the keys of a run come to, how many fields it holds, or what whole lines come to.
+// What the keys of a run come to, how many fields it holds, what whole lines come to, what their fields said, a field
+// of a role, how a run is shown again, or what it holds where its text is parsed again.
 #[derive(Clone, Copy)]
 pub(crate) enum Question {
     Keys,
     Count,
     Lines,
+    Said,
+    Role,
+    Shown,
+    Again,
 }
 
 impl Question {
@@ -29,6 +34,10 @@ impl Question {
             Question::Keys => "\n\n",
             Question::Count => "\n",
             Question::Lines => "\n",
+            Question::Said => "\n",
+            Question::Role => "\n",
+            Question::Shown => "\n\n",
+            Question::Again => "\n",
         }
     }
 }
@@ -52,6 +61,10 @@ fn try_case<L: Ledger>(
         Question::Keys => run::try_case(rt, alloc, case, grammar, hooks, steps),
         Question::Count => fields::try_case(rt, alloc, case, grammar, hooks, steps),
         Question::Lines => lines::try_case(rt, alloc, case, session, grammar, hooks, steps),
+        Question::Said => said::try_case(rt, alloc, case, session, grammar, hooks, steps),
+        Question::Role => said::try_role(rt, alloc, case, session, grammar, hooks, steps),
+        Question::Shown => again::try_shown(rt, alloc, case, grammar, hooks, steps),
+        Question::Again => again::try_case(rt, alloc, case, grammar, hooks, steps),
     }
 }
 
