@@ -21,8 +21,8 @@ pub record LineRun {S : Type 0} (p : LineMeaning S) (before now : Observed S) (r
   pub sound : (taken rest : List ℕ) → (taken ++ rest) ++ now.keys ≡ before.keys
       → MeetSound (lines_only p) (starting (lines_only p) before.state []) taken
 
--- the counts of faults of the keys and the screen: that of what failed rose, and each other stayed; there is no log, and
--- memory is never wanting
+-- the counts of faults of the keys and the screen: that of what failed rose, and each other stayed; there is no log,
+-- and memory is never wanting
 unfoldable pub LineCause : (keys keys' screen screen' : ℕ) → Result Unit Stop → Type 0
 LineCause keys keys' screen screen' (Ok value) = (keys' ≡ keys) × (screen' ≡ screen)
 LineCause keys keys' screen screen' (Err stop.Limit) = (keys' ≡ keys) × (screen' ≡ screen)

@@ -60,8 +60,8 @@ pub fn a_line_program_changes_where_a_line_is_confirmed<P: LineProgram>()
         → (step (lines_only p) at key).state ≡ at.state }
 {}
 
-/// A program of lines alone keeps its lines, where its prompts are printed bytes, and each reply is nothing or ends with
-/// a line feed.
+/// A program of lines alone keeps its lines, where its prompts are printed bytes, and each reply is nothing or ends
+/// with a line feed.
 pub fn a_line_program_keeps_its_lines<P: LineProgram>()
     ensures { (p : LineMeaning P) → ((state : P) → IfSome (p.line_of state) (λ line. ArePrinted (prompt_text line.1)))
         → ((state : P) → (session : SessionState) → EndsLine (p.reply_of state session))

@@ -129,8 +129,8 @@ impl<P: LineProgram> Application for P {
     }
 }
 
-/// Runs a program of lines alone: shows the first prompt and takes the keys in turn, until the program has ended, no key
-/// is left, or keys or screen fail. There is no log and no clock.
+/// Runs a program of lines alone: shows the first prompt and takes the keys in turn, until the program has ended, no
+/// key is left, or keys or screen fail. There is no log and no clock.
 pub fn run_line_program<P: LineProgram, K: Source, S: Sink, L: Ledger>(
     program: &mut P,
     grammar: &Grammar,
