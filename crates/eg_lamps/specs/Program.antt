@@ -1,7 +1,6 @@
 -- The program: what it means, and the number that its process ends with.
-use Rattle.std.specs.Prelude.{ℕ, Bool, true, false, codes, if◌then◌else◌, None, Some, Result, Ok, Err}
-use Rattle.cm_files.specs.Catalogue.{Catalogue}
-use Rattle.cm_files.specs.OneDirectory.{one_directory}
+use Rattle.std.specs.Prelude.{ℕ, Bool, true, false, if◌then◌else◌, None, Some, Result, Ok, Err}
+use Rattle.cm_files.specs.OneDirectory.{no_files}
 use Rattle.cm_state.specs.declared.prompt.Prompt.TheVariants.{Main}
 use Rattle.cm_run.specs.LineMeaning.{LineMeaning}
 use Rattle.cm_run.specs.declared.stop.Stop.{Stop}
@@ -15,13 +14,9 @@ use Rattle.eg_lamps.specs.declared.lamps.Command.{Command}
 use Rattle.eg_lamps.specs.declared.lamps.Command.TheVariants as commands
 use Rattle.eg_lamps.specs.declared.program.Program.{Program}
 
--- a catalogue of files, which no field of the grammar asks
-unfoldable pub house : Catalogue
-house = one_directory (codes "HOUSE")
-
 -- all lamps are dark
 abbrev pub lamp_start : Program
-lamp_start = record { names = house; lamps = dark_lamps; has_quit = false }
+lamp_start = record { names = no_files; lamps = dark_lamps; has_quit = false }
 
 abbrev pub is_quit : Command → Bool
 is_quit commands.Quit = true

@@ -35,12 +35,11 @@ pub struct Program {
 
 impl Program {
     /// The program at its start: all lamps are dark.
-    #[tactic(auto, unfolding(crate::specs::Program::house, cm_text::specs::Bytes::is_name, cm_text::specs::Bytes::is_word))]
     pub fn new() -> Program
         ensures { result ≡ lamp_start }
     {
         Program {
-            names: OneDirectory::new("HOUSE"),
+            names: OneDirectory::nothing(),
             lamps: dark_lamps(),
             has_quit: false,
         }
