@@ -1,5 +1,5 @@
 -- Programs that act by lines alone: what keys leave of them, what stays on the screen, and how a run ends.
-use Rattle.std.proofs.Common.{◌≡◌, ◌≢◌, ℕ, true, List, [], ◌++◌, Result, Ok, Err, inl, refl, sym, ap, ◌∙◌, arith}
+use Rattle.std.proofs.Common.{◌≡◌, ◌≢◌, ℕ, true, List, Result, Ok, Err, inl, refl, sym, ap, ◌∙◌, arith}
 use Rattle.std.specs.Prelude.{Option, None, Some, IfSome}
 use Rattle.cm_io.specs.Display.{ArePrinted}
 use Rattle.cm_io.specs.Fault.{Rose}
@@ -10,7 +10,7 @@ use Rattle.cm_state.specs.declared.turn.Turn.{Turn}
 use Rattle.cm_state.specs.declared.turn.Turn.TheVariants as turn
 use Rattle.cm_run.specs.Cause.{Counts, RunCause, counts}
 use Rattle.cm_run.specs.Event.{Event, state_behind}
-use Rattle.cm_run.specs.Idle.{IsIdle, turn_at}
+use Rattle.cm_run.specs.Idle.{turn_at}
 use Rattle.cm_run.specs.Keeping.{HasPrintedPrompt, IsLineKeeping, is_line}
 use Rattle.cm_run.specs.LineMeaning.{LineMeaning, line_deed, line_mode, lines_only}
 use Rattle.cm_run.specs.LineRun.{LineCause}

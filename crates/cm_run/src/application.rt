@@ -7,7 +7,8 @@ use cm_io::{Put, Sink};
 use cm_state::Session;
 
 /// A command program, as the engine runs it: what its lines are parsed under, and what they do. An application parses
-/// nothing itself, and it asks for no key: `run` does, and hands it each line that is confirmed.
+/// nothing itself, and it asks for no key: `run` does, and hands it each line that is confirmed. A program that acts by
+/// lines alone need only be a `LineProgram`.
 pub trait Application {
     ghost use Rattle.std.specs.Prelude.{◌≡◌, ◌≤◌, IfSome, option_copied};
     ghost use Rattle.cm_text.specs.Text.{IsLine};

@@ -146,7 +146,7 @@ pub fn run_line_program<P: LineProgram, K: Source, S: Sink, L: Ledger>(
         (observed (S.told screen.old) (Number 0) (K.left keys.old) (K.gets keys.old) [] steps.old program.old)
         (observed (S.told screen.new) (Number 0) (K.left keys.new) (K.gets keys.new) [] steps.new program.new)
         result }
-    // When it ends so.
+    // When each answer comes, by the counts of faults.
     ensures cause { LineCause (K.faults keys.old) (K.faults keys.new)
         (S.faults screen.old) (S.faults screen.new) result }
 {

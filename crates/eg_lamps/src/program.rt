@@ -69,7 +69,7 @@ impl Program {
         ensures screen { IsTrue K.tells → (taken rest : List ℕ)
             → (taken ++ rest) ++ K.left keys.new ≡ K.left keys.old
             → KeepsLine feed Holds (lines_only lamp_meaning) self.old [] taken }
-        // When it ends so.
+        // When each answer comes, by the counts of faults.
         ensures cause { LineCause (K.faults keys.old) (K.faults keys.new)
             (S.faults screen.old) (S.faults screen.new) result }
     {
