@@ -51,7 +51,13 @@ pub trait LineProgram {
 
     /// Does what a confirmed line commands, and shows the reply. The state is that of the line also where the screen
     /// fails. Where the program has ended by then, it has before it puts its reply.
-    fn obey<S: Sink>(&mut self, session: &Session<Self::Rules>, screen: &mut S) -> Put
+    fn obey<S: Sink>(
+        &mut self,
+        session: &Session<Self::Rules>,
+        grammar: &Grammar,
+        screen: &mut S,
+    ) -> Put
+        requires grammar { grammar.now ≡ means.graph }
         requires line { IsLineAt (line_mode (means.line_of self.old)) session.now.node }
         requires parse { IsParse (setting_of (lines_only means) self.old) session.now.node (text_of session.now)
             session.now.fields ending.Done }
@@ -89,11 +95,11 @@ impl<P: LineProgram> Application for P {
     fn obey_line<S: Sink>(
         &mut self,
         session: &Session<P::Rules>,
-        _grammar: &Grammar,
+        grammar: &Grammar,
         _moment: u64,
         screen: &mut S,
     ) -> Result<(), Stop> {
-        match self.obey(session, screen) {
+        match self.obey(session, grammar, screen) {
             Put::Done => Ok(()),
             Put::Failed => Err(Stop::Screen),
         }

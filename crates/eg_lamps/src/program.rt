@@ -99,8 +99,13 @@ impl LineProgram for Program {
         }
     }
 
-    fn obey<S: Sink>(&mut self, session: &Session<RoomRules>, screen: &mut S) -> Put {
-        let command = command_of(session);
+    fn obey<S: Sink>(
+        &mut self,
+        session: &Session<RoomRules>,
+        grammar: &Grammar,
+        screen: &mut S,
+    ) -> Put {
+        let command = command_of(session, grammar);
         self.has_quit = matches!(command, Command::Quit);
         obey(command, &mut self.lamps, screen)
     }
