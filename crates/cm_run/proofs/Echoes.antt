@@ -28,7 +28,7 @@ use Rattle.cm_recognise.specs.declared.insertion.Mode.TheVariants as modes
 use Rattle.cm_recognise.proofs.Lines.{insertion_is_typed, insertion_on_screen}
 use Rattle.cm_state.specs.declared.prompt.Prompt.{Prompt}
 use Rattle.cm_state.specs.declared.prompt.Prompt.TheVariants.{Main, Sub}
-use Rattle.cm_state.specs.Echo.{again, complaint, echo, echo_of, has_join, prompt_text, refusal, ring, screen_line, taken_away, takes_join}
+use Rattle.cm_state.specs.Echo.{again, complaint, echo, echo_of, has_join, prompt_text, refusal, ring, screen_line, taken_away, takes_join, with_prompt}
 use Rattle.cm_state.specs.Edit.{before_fault, completed, completion, edit, edited, edited_as}
 use Rattle.cm_state.specs.SessionState.{SessionState, at_start, met_line}
 use Rattle.cm_state.proofs.Lines.{edited_is_line, edited_restorable_is_line, edited_restorable_behind_an_end, prefix_is_line}
@@ -153,12 +153,11 @@ module _ {D : Type 0} (feed : D → List ℕ → D) (Holds : D → List ℕ → 
   -- prompt and line, shown again on rows of their own
   pub again_shown : (display : D) (before : List ℕ) (prompt : Prompt) (line : List ℕ) → ArePrinted (prompt_text prompt) → IsLine line
       → Holds (feed display (before ++ again prompt line)) (row_behind (prompt_text prompt) line)
-  unfolding again
+  unfolding again with_prompt
   again_shown display before prompt line printed is =
-      let parts : before ++ (end_of_line ++ prompt_text prompt ++ screen_line line)
+      let parts : before ++ (end_of_line ++ (prompt_text prompt ++ screen_line line))
       ≡ ((before ++ end_of_line) ++ prompt_text prompt) ++ screen_line line =
-      ap (λ bytes. before ++ bytes) (append_assoc end_of_line (prompt_text prompt) (screen_line line))
-      ∙ sym (append_assoc before end_of_line (prompt_text prompt ++ screen_line line))
+      sym (append_assoc before end_of_line (prompt_text prompt ++ screen_line line))
       ∙ sym (append_assoc (before ++ end_of_line) (prompt_text prompt) (screen_line line)) in
       subst (λ bytes. Holds (feed display bytes) (row_behind (prompt_text prompt) line)) (sym parts)
       (subst (λ (after : D). Holds after (row_behind (prompt_text prompt) line))

@@ -103,9 +103,25 @@ fn answer<L: Ledger>(
 {
     if files == "gone" {
         let mut run = run_of(rt, alloc, keys, grammar, &Cabinet, hooks, steps)?;
-        return told(rt, alloc, &mut run, grammar, &OneDirectory::nothing(), hooks, steps);
+        return told(
+            rt,
+            alloc,
+            &mut run,
+            grammar,
+            &OneDirectory::nothing(),
+            hooks,
+            steps,
+        );
     }
-    let mut run = run_of(rt, alloc, keys, grammar, &OneDirectory::nothing(), hooks, steps)?;
+    let mut run = run_of(
+        rt,
+        alloc,
+        keys,
+        grammar,
+        &OneDirectory::nothing(),
+        hooks,
+        steps,
+    )?;
     told(rt, alloc, &mut run, grammar, &Cabinet, hooks, steps)
 }
 
