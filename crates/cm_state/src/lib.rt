@@ -14,5 +14,6 @@ mod stack;
 mod turn;
 
 pub use prompt::Prompt;
+pub use said::{node_of, part};
 pub use session::Session;
 pub use turn::Turn;

@@ -7,8 +7,8 @@ ghost use Rattle.cm_state.specs.Said.{default_of, node_of, said_in, said_of, spa
 use cm_blocks::{Field, Grammar, Node};
 use cm_fields::{Span, Value};
 
-// The node whose chain took a field.
-fn node_of<'a>(field: &Field, grammar: &'a Grammar) -> Option<&'a Node>
+/// The node whose chain took a field, in the grammar that its line was read by. None where the grammar has no such node.
+pub fn node_of<'a>(field: &Field, grammar: &'a Grammar) -> Option<&'a Node>
     ensures { option_copied result ≡ node_of grammar.now field.now }
 {
     if field.node() < grammar.nodes() {
@@ -76,8 +76,8 @@ fn span_of(value: &Value) -> Option<Span>
     }
 }
 
-// A part of a text.
-fn part(text: &[u8], place: Span) -> &[u8]
+/// A part of a text. What lies outside the text is left out.
+pub fn part(text: &[u8], place: Span) -> &[u8]
     requires { IsAscii text.now }
     ensures value { result.now ≡ part text.now place }
     ensures ascii { IsAscii result.now }

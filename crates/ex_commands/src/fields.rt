@@ -5,7 +5,7 @@ ghost use Rattle.cm_state.specs.Roles.{field_of};
 ghost use Rattle.ex_commands.specs.Line.{both, code_in, count_by, count_in, day_by, directory_in, keyword_code, last_at, place_in};
 ghost use Rattle.ex_commands.specs.Said.{IsReadable, IsSaid, IsSaidIn, line_of};
 
-use crate::place::{directory_by, flags_of, place_by, said_in};
+use crate::place::{directory_by, flags_of, place_by};
 use cm_blocks::{Field, Grammar, Role};
 use cm_fields::Value;
 use cm_files::Names;
@@ -80,7 +80,7 @@ pub(crate) fn place_in<N: Names>(
         Some(field) => place_by(
             names,
             flags_of(field, grammar),
-            said_in(field, session, grammar),
+            session.whole(field, grammar),
             field.value(),
         ),
         None => None,
@@ -99,7 +99,7 @@ pub(crate) fn directory_in<N: Names>(
         (option_copied field.entry) }
 {
     match field {
-        Some(field) => directory_by(names, said_in(field, session, grammar), field.value()),
+        Some(field) => directory_by(names, session.whole(field, grammar), field.value()),
         None => None,
     }
 }

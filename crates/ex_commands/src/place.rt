@@ -3,29 +3,15 @@ ghost use Rattle.std.specs.Prelude.{◌≡◌, ◌≤◌, ◌+◌, option_copied
 ghost use Rattle.std.specs.Option.{option_map};
 ghost use Rattle.std.specs.Str.{IsAscii};
 ghost use Rattle.cm_text.specs.declared.name.TheConstants.{NAME_LIMIT};
-ghost use Rattle.cm_files.specs.Spec.{part};
-ghost use Rattle.cm_state.specs.SessionState.{text_of};
-ghost use Rattle.ex_commands.specs.Line.{block_of, default_of, directory_by, directory_name, flags_of, node_of, place_by, said_of, upper};
+ghost use Rattle.ex_commands.specs.Line.{block_of, directory_by, directory_name, flags_of, place_by, upper};
 ghost use Rattle.ex_commands.specs.Said.{IsSaid, IsShort};
 
 use cm_blocks::{Block, Field, Grammar, Node};
 use cm_fields::{Span, Value};
 use cm_files::{Flags, Names};
-use cm_state::Session;
+use cm_state::{node_of, part};
 use cm_text::Name;
-use ex_grammar::ExecRules;
 use ex_store::Place;
-
-// The node whose chain took a field.
-fn node_of<'a>(field: &Field, grammar: &'a Grammar) -> Option<&'a Node>
-    ensures { option_copied result ≡ node_of grammar.now field.now }
-{
-    if field.node() < grammar.nodes() {
-        Some(grammar.node(field.node()))
-    } else {
-        None
-    }
-}
 
 // The block that took it.
 fn block_of<'a>(field: &Field, grammar: &'a Grammar) -> Option<&'a Block>
@@ -45,47 +31,6 @@ pub(crate) fn flags_of(field: &Field, grammar: &Grammar) -> Flags
         Some(block) => block.flags,
         None => Flags::default(),
     }
-}
-
-// The text that stands for a field where the line ends before it.
-fn default_of<'a>(field: &Field, grammar: &'a Grammar) -> &'a [u8]
-    ensures value { result.now ≡ default_of grammar.now field.now }
-    ensures ascii { IsAscii result.now }
-{
-    grammar.has_no_fault();
-    match node_of(field, grammar) {
-        Some(node) => match &node.default {
-            Some(text) => text.as_bytes(),
-            None => b"",
-        },
-        None => b"",
-    }
-}
-
-// The text that a field is a part of: the line, or the default of its node.
-pub(crate) fn said_in<'a>(
-    field: &Field,
-    session: &'a Session<ExecRules>,
-    grammar: &'a Grammar,
-) -> &'a [u8]
-    ensures value { result.now ≡ said_of grammar.now (text_of session.now) field.now }
-    ensures ascii { IsAscii result.now }
-{
-    if field.defaulted() {
-        default_of(field, grammar)
-    } else {
-        session.text()
-    }
-}
-
-/// A part of a text.
-pub(crate) fn part(text: &[u8], place: Span) -> &[u8]
-    requires { IsAscii text.now }
-    ensures value { result.now ≡ part text.now place }
-    ensures ascii { IsAscii result.now }
-{
-    let rest = &text[usize::from(place.start).min(text.len())..];
-    &rest[..usize::from(place.end.saturating_sub(place.start)).min(rest.len())]
 }
 
 // A part of a text, in upper case.

@@ -5,7 +5,7 @@ ghost use Rattle.std.specs.Str.{IsAscii};
 ghost use Rattle.cm_text.specs.Text.{IsLine};
 ghost use Rattle.cm_blocks.specs.declared.field.TheConstants.{FIELD_LIMIT};
 ghost use Rattle.cm_state.specs.Roles.{field_of, fields_of, is_role};
-ghost use Rattle.cm_state.specs.Said.{said};
+ghost use Rattle.cm_state.specs.Said.{said, said_of};
 ghost use Rattle.cm_state.specs.SessionState.{text_of};
 
 use crate::Session;
@@ -78,8 +78,16 @@ impl<R: Rules> Session<R> {
         ensures value { result.now ≡ said grammar.now (text_of self.now) field.now }
         ensures ascii { IsAscii result.now }
     {
-        let whole = said_of(field, self.text(), grammar);
-        said_in(whole, field)
+        said_in(self.whole(field, grammar), field)
+    }
+
+    /// The text that a field is a part of: that of this session, or the default of its node where it was not typed. The
+    /// places in the field's value are places in it.
+    pub fn whole<'a>(&'a self, field: &Field, grammar: &'a Grammar) -> &'a [u8]
+        ensures value { result.now ≡ said_of grammar.now (text_of self.now) field.now }
+        ensures ascii { IsAscii result.now }
+    {
+        said_of(field, self.text(), grammar)
     }
 
     /// What stands behind the last field.

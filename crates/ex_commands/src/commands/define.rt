@@ -15,7 +15,7 @@ ghost use Rattle.ex_commands.specs.Said.{IsLogical, IsLogicalIn, IsReadable, lin
 use crate::acts::refuse;
 use crate::fields::directory_in;
 use crate::pairs::Origin;
-use crate::place::{said_in, upper};
+use crate::place::upper;
 use crate::plans::play;
 use crate::{Acted, Command};
 use cm_blocks::{Field, Grammar, Role};
@@ -73,7 +73,7 @@ fn logical_by(field: &Field, session: &Session<ExecRules>, grammar: &Grammar) ->
                 start: field.start(),
                 end: field.end(),
             };
-            Some(upper(said_in(field, session, grammar), place))
+            Some(upper(session.whole(field, grammar), place))
         }
         _ => None,
     }

@@ -13,14 +13,14 @@ ghost use Rattle.ex_commands.specs.Said.{IsReadable, IsSaid, line_of};
 use crate::acts::refuse;
 use crate::fields::{day_by, last_at, place_in};
 use crate::pairs::Origin;
-use crate::place::{part, said_in, upper};
+use crate::place::upper;
 use crate::plans::play;
 use crate::{Acted, Command};
 use cm_blocks::{Grammar, Role};
 use cm_fields::{Code, Value, unquoted};
 use cm_files::Names;
 use cm_io::{Sink, Writer};
-use cm_state::Session;
+use cm_state::{Session, part};
 use cm_text::Name;
 use ex_grammar::ExecRules;
 use ex_store::{COPIES_LIMIT, Place, Plan, Request, Store};
@@ -134,7 +134,7 @@ fn job_in<N: Names>(session: &Session<ExecRules>, grammar: &Grammar, names: &N) 
     ensures { result ≡ job_in (line_of grammar.now (N.catalogue names.now) session.now) }
 {
     match last_at(JOBNAME_NODE, session) {
-        Some(field) => word_by(said_in(field, session, grammar), field.value()),
+        Some(field) => word_by(session.whole(field, grammar), field.value()),
         None => None,
     }
 }
@@ -155,7 +155,7 @@ fn note_in<N: Names>(session: &Session<ExecRules>, grammar: &Grammar, names: &N)
     ensures { result ≡ note_in (line_of grammar.now (N.catalogue names.now) session.now) }
 {
     match last_at(NOTE_NODE, session) {
-        Some(field) => quoted_by(said_in(field, session, grammar), field.value()),
+        Some(field) => quoted_by(session.whole(field, grammar), field.value()),
         None => Name::new(""),
     }
 }
