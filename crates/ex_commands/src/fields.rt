@@ -80,7 +80,7 @@ pub(crate) fn place_in<N: Names>(
         Some(field) => place_by(
             names,
             flags_of(field, grammar),
-            session.whole(field, grammar),
+            session.source_of(field, grammar),
             field.value(),
         ),
         None => None,
@@ -99,7 +99,7 @@ pub(crate) fn directory_in<N: Names>(
         (option_copied field.entry) }
 {
     match field {
-        Some(field) => directory_by(names, session.whole(field, grammar), field.value()),
+        Some(field) => directory_by(names, session.source_of(field, grammar), field.value()),
         None => None,
     }
 }

@@ -73,7 +73,7 @@ fn logical_by(field: &Field, session: &Session<ExecRules>, grammar: &Grammar) ->
                 start: field.start(),
                 end: field.end(),
             };
-            Some(upper(session.whole(field, grammar), place))
+            Some(upper(session.source_of(field, grammar), place))
         }
         _ => None,
     }

@@ -134,7 +134,7 @@ fn job_in<N: Names>(session: &Session<ExecRules>, grammar: &Grammar, names: &N) 
     ensures { result ≡ job_in (line_of grammar.now (N.catalogue names.now) session.now) }
 {
     match last_at(JOBNAME_NODE, session) {
-        Some(field) => word_by(session.whole(field, grammar), field.value()),
+        Some(field) => word_by(session.source_of(field, grammar), field.value()),
         None => None,
     }
 }
@@ -155,7 +155,7 @@ fn note_in<N: Names>(session: &Session<ExecRules>, grammar: &Grammar, names: &N)
     ensures { result ≡ note_in (line_of grammar.now (N.catalogue names.now) session.now) }
 {
     match last_at(NOTE_NODE, session) {
-        Some(field) => quoted_by(session.whole(field, grammar), field.value()),
+        Some(field) => quoted_by(session.source_of(field, grammar), field.value()),
         None => Name::new(""),
     }
 }
