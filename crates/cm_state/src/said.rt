@@ -7,7 +7,8 @@ ghost use Rattle.cm_state.specs.Said.{default_of, node_of, said_in, said_of, spa
 use cm_blocks::{Field, Grammar, Node};
 use cm_fields::{Span, Value};
 
-/// The node whose chain took a field, in the grammar that its line was read by. None where the grammar has no such node.
+/// The node whose chain took a field, in the grammar that its line was read by. None where the grammar has no such
+/// node.
 pub fn node_of<'a>(field: &Field, grammar: &'a Grammar) -> Option<&'a Node>
     ensures { option_copied result ≡ node_of grammar.now field.now }
 {

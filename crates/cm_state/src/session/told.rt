@@ -81,8 +81,8 @@ impl<R: Rules> Session<R> {
         said_in(self.source_of(field, grammar), field)
     }
 
-    /// The text that a field was read from: that of this session, or the default of its node where it was not typed. The
-    /// places in the field's value are places in it.
+    /// The text that a field was read from: that of this session, or the default of its node where it was not typed.
+    /// The places in the field's value are places in it.
     pub fn source_of<'a>(&'a self, field: &Field, grammar: &'a Grammar) -> &'a [u8]
         ensures value { result.now ≡ said_of grammar.now (text_of self.now) field.now }
         ensures ascii { IsAscii result.now }
