@@ -1,4 +1,6 @@
 -- The years of the days that a date field can have.
+-- Days are counted in ℕ: days_from_civil-day_count makes the count, and omega stays over counts (day_count-early,
+-- day_count-lt_year). (arith, signed_arith) crosses to ℤ and back.
 use Rattle.std.proofs.Common.{◌≡◌, ℕ, ℤ, pos, refl, rules, arith}
 use Rattle.std.proofs.lemmas.Int.{by_lt_z}
 use Rattle.jiff_core.specs.Calendar.{IsBetween, IsCivilDate, day_count, days_from_civil}

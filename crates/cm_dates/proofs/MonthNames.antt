@@ -1,4 +1,6 @@
 -- The months and their names.
+-- The twelve months are twelve records of refl, under unfolding of month_of, month_name, equals and is_word. The loop
+-- over 1..=12 has drop (month - 1) months in its invariant, and two answers (month_found, month_passed).
 use Rattle.std.proofs.Common.{◌≡◌, ℕ, zero, suc, ◌+◌, ◌-◌, ◌≤◌, true, false, not, if◌then◌else◌, List, [], ◌∷◌, length, get_or, drop, Some, refl, ap, ◌∙◌, arith, drop-cons}
 use Rattle.std.specs.Int.{IsInRange}
 use Rattle.std.specs.List.{list_all}

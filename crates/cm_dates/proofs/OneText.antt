@@ -1,4 +1,5 @@
 -- A day has one text.
+-- It is epoch_day_injective, over the dates that the two texts are read as.
 use Rattle.std.proofs.Common.{◌≡◌, ℤ, ℕ, pos, List, sym, ◌∙◌, refl}
 use Rattle.jiff_core.specs.declared.civil.date.Date.{Date}
 use Rattle.jiff_core.proofs.DateLemmas.{epoch_day_injective}

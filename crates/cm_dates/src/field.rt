@@ -1,4 +1,6 @@
 // A date, and what its parts say.
+// The words are std's first: before_first, after_first, digits_value, decimal. A cut at a byte is split_at at the
+// length of a take_while, alone in a function, and then the pattern [_, behind @ ..].
 ghost use Rattle.std.specs.Prelude.{◌≡◌, ◌≤◌, true, drop, length};
 ghost use Rattle.std.specs.Char.{is_ascii_digit};
 ghost use Rattle.std.specs.Int.{IsInRange};

@@ -1,4 +1,5 @@
 // A day as it is shown.
+// Into an ArrayString all goes by push_str, whose clause len is a number.
 ghost use Rattle.std.specs.Prelude.{◌≡◌, ◌≤◌, pos};
 ghost use Rattle.std.specs.Int.{IsInRange};
 ghost use Rattle.jiff_core.specs.Calendar.{IsBetween};

@@ -1,4 +1,5 @@
 -- The highest and the lowest generation, told by the neighbours of a row.
+-- IsClear is a record over numbers, so that it is one fact for the search.
 use Rattle.std.proofs.Common.{◌≡◌, ℕ, zero, suc, ◌+◌, ◌<◌, ◌≤◌, Bool, true, false, ◌&&◌, nat_le, cond, ◌⊎◌, inl, inr, List, [], ◌∷◌, length, filter, slice_get, Option, Some, None, option_and_then, refl, ap, arith, ◌∙◌, sym, subst}
 use Rattle.std.specs.List.{list_all}
 use Rattle.std.specs.Option.{option_map_or}

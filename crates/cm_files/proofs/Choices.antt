@@ -1,4 +1,5 @@
 -- One pass tells whether a row is selected: where some row may be, one is.
+-- That some row is selected is one lemma over may_pass, for any total order.
 use Rattle.std.proofs.Common.{◌≡◌, ℕ, ◌<◌, ◌≤◌, Bool, true, false, ◌&&◌, ◌||◌, nat_le, ◌⊎◌, inl, inr, List, [], ◌∷◌, filter, refl, ap, arith, ◌∙◌, sym, subst}
 use Rattle.std.specs.List.{list_all, list_any}
 use Rattle.std.specs.Str.{bytes_eq}

@@ -1,4 +1,6 @@
 -- Patterns, part by part between their stars.
+-- The definition is structural in the pattern, and the code goes part by part between stars. The greedy step is
+-- later_end, for any test; spend (cm_lists) bounds the work.
 use Rattle.std.proofs.Common.{◌≡◌, ℕ, zero, suc, ◌+◌, ◌-◌, ◌<◌, ◌≤◌, Bool, true, false, not, ◌==◌, ◌&&◌, ◌||◌, cond, subst, ◌⊎◌, inl, inr, List, [], ◌∷◌, ◌++◌, Option, Some, None, length, take, drop, refl, ap, arith, ◌∙◌, sym}
 use Rattle.std.specs.List.{common_prefix_len, list_all, prefix_len}
 use Rattle.std.proofs.lemmas.Bool.{and_from, and_parts, cases_lt, cases_order, eq-eqb, eqb-true, le-leb, lt-leb, ne_eqb, or_right}

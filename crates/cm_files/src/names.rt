@@ -1,4 +1,5 @@
 // The catalogue that file specifications are looked up in.
+// The Model of Names has Catalogue as its value, so that its calls close with nothing.
 ghost use Rattle.std.specs.Prelude.{◌≡◌, ◌<◌, ◌≤◌, Some, IfSome, length, slice_get};
 ghost use Rattle.cm_files.specs.Catalogue.{Catalogue, IsCatalogue, logical_of, row_of, rows_of};
 

@@ -1,4 +1,11 @@
 -- Texts that a writer writes one after another.
+-- Any number of pieces closes with using(..texts) and unfolding(..) of the function's own word. A loop over a slice has
+-- using(..each) and Writes g.S.Sink l.fn.out l.out (flat_map text_of (take l.item-index l.items)). Another walk has
+-- Left g.S.Sink l.fn.out l.out REST WHOLE, using(..turns) and one answer, how the rest splits. An if that puts in one
+-- branch alone needs using(texts, each), a guard that returns early writes_none, a returning arm that writes nothing
+-- each. The premise of the last text stands first in writes_both: in the other order three pieces stay open. Writes has
+-- the ghost name of the borrow in it (same), so each function must say it; only the search, and no answer by hand, can
+-- name the sink.
 use Rattle.std.proofs.Common.{◌≡◌, ℕ, ◌+◌, ◌<◌, ◌≤◌, List, [], ◌∷◌, ◌++◌, length, take, get_or, refl, ap, sym, subst, ◌∙◌, arith, append_assoc}
 use Rattle.std.proofs.lemmas.List.{append-nil, take_more}
 use Rattle.std.proofs.lemmas.Grind.{flat_map-append}

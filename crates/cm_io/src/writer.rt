@@ -1,4 +1,9 @@
 // A writer: a sink that is given no more once it has failed.
+// A function that puts bytes in pieces is straight-line code over a Writer, with one clause, as Writes S.Sink out.old
+// out.new (indent.now ++ text.now ++ end_of_line). It closes with using(cm_io::proofs::Texts::texts). A public call
+// that is handed a sink makes Writer::new(sink), calls that function and gives out.went(); its clauses are Adds of what
+// is told, that the faults do not fall, and PutCause. Writer::new(sink) and two puts in one function stay open. What
+// puts in another way gives a Put, and not a step of four cases.
 ghost use Rattle.std.specs.Prelude.{◌≡◌, ◌++◌};
 ghost use Rattle.std.specs.Fmt.{decimal};
 ghost use Rattle.cm_text.specs.Shown.{end_of_line};

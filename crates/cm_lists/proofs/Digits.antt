@@ -1,4 +1,6 @@
 -- The decimal digits of a number, and the number that digits write.
+-- Of std's lemmas numerals_by_value gives the digits, by search rules, digits_value_short bounds a number, and
+-- digits_decimal, digits_value-decimal and length-decimal-le read it back.
 use Rattle.std.proofs.Common.{List, [], ap, arith, decimal, length, length-append, nat_lt, rules, true, ℕ, ◌%◌, ◌++◌, ◌+◌, ◌/◌, ◌<◌, ◌^◌, ◌∙◌, ◌∷◌, ◌≡◌, ◌≤◌}
 use Rattle.std.specs.Char.{is_ascii_digit}
 use Rattle.std.specs.List.{list_all}

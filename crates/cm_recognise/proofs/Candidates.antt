@@ -1,4 +1,5 @@
 -- What is found among texts: none, the one that all of them are, or what several share.
+-- Four searches over candidates are one word (found_of).
 use Rattle.std.proofs.Common.{◌≡◌, ◌≢◌, ℕ, Bool, true, false, if◌then◌else◌, List, [], ◌∷◌, refl, sym, ◌∙◌, subst}
 use Rattle.std.specs.Io.{StartsWith}
 use Rattle.std.specs.List.{AllByRecursion, fold}

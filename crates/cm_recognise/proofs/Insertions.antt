@@ -1,4 +1,6 @@
 -- What the block that a line waits at completes whole is put in.
+-- An outcome is a word by cases on what the block reads, with the outcome of its own trial as an argument. Each
+-- function of insertion.rt ensures such a word.
 use Rattle.std.proofs.Common.{◌≡◌, ℕ, suc, ◌+◌, ◌≤◌, true, false, ◌&&◌, nat_lt, nat_le, List, [], ◌∷◌, ◌++◌, length, drop, Option, Some, None, slice_get, refl, ap, ◌∙◌, arith, length-append}
 use Rattle.std.proofs.lemmas.Bool.Decides.{nat_tests}
 use Rattle.cm_lists.proofs.Elements.{drop_suc_of_some}

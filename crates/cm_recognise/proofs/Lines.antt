@@ -1,4 +1,6 @@
 -- With what is put into it a line is a line again.
+-- That a line with what goes in is a line is this one lemma. That an entry for another has a target is the premise
+-- AreTables, from Grammar::has_tables.
 use Rattle.std.proofs.Common.{◌≡◌, ℕ, ◌+◌, ◌≤◌, ◌==◌, ◌&&◌, Bool, true, false, not, nat_lt, nat_le, List, [], ◌∷◌, ◌++◌, length, drop, map, Option, Some, None, slice_get, refl, suc, arith, length-append, length-drop}
 use Rattle.std.specs.List.{All, flat_map, list_any}
 use Rattle.std.specs.Option.{option_map_or}

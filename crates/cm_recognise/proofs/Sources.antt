@@ -1,4 +1,5 @@
 -- What is found in a list comes from an element of it.
+-- A lemma over all elements by recursion has the fact as its argument: AllByRecursion-append, AllByRecursion-drop.
 use Rattle.std.proofs.Common.{◌≡◌, ℕ, max, Bool, true, false, if◌then◌else◌, ◌⊎◌, inl, inr, List, [], ◌∷◌, Option, Some, None, refl, ap, arith, ◌∙◌}
 use Rattle.std.specs.List.{cons_option, filter_map, list_all, list_any}
 use Rattle.std.specs.Str.{bytes_eq}

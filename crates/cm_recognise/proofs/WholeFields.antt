@@ -1,4 +1,6 @@
 -- What a function takes whose field is completed whole.
+-- That a completion is taken has a chain half (Continuations, with skip_goes_on) and a fact for each function
+-- (Keywords, Guides, Plains). A premise with data (Waits) names node and block once.
 use Rattle.std.proofs.Common.{◌≡◌, ℕ, zero, suc, ◌+◌, ◌≤◌, Bool, true, false, not, ◌==◌, nat_lt, if◌then◌else◌, List, [], ◌∷◌, ◌++◌, length, drop, None, Some, slice_get, Ok, refl, ap, sym, subst, ◌∙◌, arith, length-append, length-drop, append_assoc, append-nil}
 use Rattle.std.specs.List.{list_all, list_any}
 use Rattle.std.proofs.lemmas.Bool.{and_parts, not-true}

@@ -1,4 +1,7 @@
 -- What an application shows of its acts: one that is done, cut, or for which memory is wanting.
+-- The state of an application is the struct of the code; a field with a Model is its value there. An impl of
+-- Application needs no answer where each act has one reply: obeys_done and obeys_cut in using(..), ObeyCause in
+-- unfolding(..). obeys_on and obeys_short join lists of acts.
 use Rattle.std.proofs.Common.{◌≡◌, true, List, [], ◌∷◌, ◌++◌, Result, Ok, Err, refl, sym, ap, ◌∙◌, subst, append_assoc}
 use Rattle.std.proofs.lemmas.List.{append-nil}
 use Rattle.cm_io.specs.Told.{Told, add, AddsPart}

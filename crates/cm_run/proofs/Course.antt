@@ -1,4 +1,5 @@
 -- A run in its course: some of its trace has happened, and the rest is left.
+-- A loop has Ahead as its invariant: some events are done, and the rest is what the definition says from here on.
 use Rattle.std.proofs.Common.{◌≡◌, ℕ, Bool, true, false, List, [], ◌∷◌, ◌++◌, refl, sym, subst, ◌∙◌, arith, append_assoc}
 use Rattle.std.specs.Prelude.{Result, Ok, Err}
 use Rattle.std.proofs.lemmas.List.{append-nil}

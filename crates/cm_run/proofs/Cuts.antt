@@ -1,4 +1,6 @@
 -- What is shown and logged of a trace that is cut is a beginning of what the whole trace shows and logs.
+-- What is told is a fold of the trace: one line over a function of one Event with a catch-all, so that std's lemmas on
+-- ++ serve. How an event is cut is a list of cases (Cut), and no relation by reason and event.
 use Rattle.std.proofs.Common.{◌≡◌, ℕ, List, [], ◌∷◌, ◌++◌, refl, ap, sym, ◌∙◌, append_assoc}
 use Rattle.std.specs.Prelude.{Result, Ok, Err}
 use Rattle.std.specs.List.{flat_map}

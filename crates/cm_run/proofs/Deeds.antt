@@ -1,4 +1,6 @@
 -- Acts that are done in order are the trace of them.
+-- What touches only screen and state says its clause for all logs, keys, gets, moments and trials. What acts has Obeys,
+-- of which deeds_traces makes a trace.
 use Rattle.std.proofs.Common.{◌≡◌, ℕ, Bool, true, false, List, [], ◌∷◌, ◌++◌, refl, ap, sym, subst, ◌∙◌, arith, append_assoc}
 use Rattle.std.specs.Prelude.{Result, Ok, Err}
 use Rattle.std.specs.List.{flat_map}

@@ -1,4 +1,5 @@
 -- Lines of command files.
+-- file_trace is unfoldable, since a number that a definition recurses on unrolls where it is a literal (FILE_LINES).
 use Rattle.std.proofs.Common.{◌≡◌, ℕ, ◌+◌, List, [], ◌∷◌, refl, sym, arith}
 use Rattle.std.specs.Prelude.{None, Result}
 use Rattle.cm_text.specs.Text.{finished}

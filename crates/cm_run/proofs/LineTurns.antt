@@ -1,4 +1,5 @@
 -- What a key of a line leaves of the application.
+-- What a key leaves is one lemma for each turn, over the exact state.
 use Rattle.std.proofs.Common.{◌≡◌, ℕ, true, false, refl, ap, ◌∙◌}
 use Rattle.std.proofs.lemmas.List.Sums.{fold-append}
 use Rattle.cm_line.specs.declared.key.KeyClass.{KeyClass}

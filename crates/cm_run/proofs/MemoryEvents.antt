@@ -1,4 +1,6 @@
 -- At which key of a run memory is asked for.
+-- Where an event stands is told by parted. Whether it occurs is a Bool (asks), which computes over ++ by
+-- list_any-append. How often keys are asked for is one number (gets_behind, Asked).
 use Rattle.std.proofs.Common.{◌≡◌, ◌⊎◌, inl, inr, ℕ, Bool, true, false, ◌||◌, List, [], ◌∷◌, ◌++◌, refl, ap, sym, subst, ◌∙◌}
 use Rattle.std.specs.List.{list_any}
 use Rattle.std.proofs.lemmas.List.Folds.{list_any-append}

@@ -1,4 +1,5 @@
 -- What a key does, by the mode that it meets.
+-- What a mode decides is a lemma for each mode (line_key, raw_key).
 use Rattle.std.proofs.Common.{◌≡◌, ℕ, ap, sym, subst, ◌∙◌}
 use Rattle.std.specs.Prelude.{Bool, Result}
 use Rattle.cm_state.specs.declared.prompt.Prompt.{Prompt}

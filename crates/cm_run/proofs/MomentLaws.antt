@@ -1,4 +1,6 @@
 -- Where a run leads at the moments that were given.
+-- What a clock gave is a list of moments before any one or more to come (Leads), since the last is given again. So a
+-- key more is one append_assoc.
 use Rattle.std.proofs.Common.{◌≡◌, ℕ, Bool, true, false, List, [], ◌∷◌, ◌++◌, refl, ap, sym, subst, ◌∙◌, append_assoc}
 use Rattle.std.specs.Prelude.{None}
 use Rattle.cm_state.specs.SessionState.{SessionState, at_start}

@@ -1,4 +1,7 @@
 -- Where the keys that were taken lead, and what they met.
+-- Went says what the keys taken did, over any beginning of them (append_cancel_right). progress stops at the end, so
+-- keys split with no premise (progress-append). A law over runs is one induction over the keys: no key, a run that has
+-- ended, a key and the rest.
 use Rattle.std.proofs.Common.{◌≡◌, ℕ, Bool, true, false, cond, List, [], ◌∷◌, ◌++◌, refl, ap, sym, subst, ◌∙◌, append_assoc}
 use Rattle.std.specs.Prelude.{None}
 use Rattle.std.proofs.lemmas.List.{append_cancel_right}

@@ -1,4 +1,6 @@
 -- The row of a display that a line stands in, behind its prompt.
+-- The row of a line is a fold (row_behind, row_append). For rubouts row_plain says what stands after the part that
+-- stays.
 use Rattle.std.proofs.Common.{◌≡◌, ℕ, ◌==◌, ◌||◌, Bool, true, false, List, [], ◌∷◌, ◌++◌, map, if◌then◌else◌, refl, sym, ◌∙◌, append_assoc, append-nil}
 use Rattle.cm_text.specs.Shown.{screen_byte}
 use Rattle.cm_text.specs.declared.text.TheConstants.{JOIN}

@@ -1,4 +1,10 @@
 -- What a key makes of a session, over the steps of the code.
+-- A key is one lemma over the steps of the code (takes): each premise is a step's clause, as self.new ≡ record self.old
+-- { .. }, and cc joins them. edit_and_parse has the answers, and Session::key has none. A completion is said of the
+-- ending held (completion), by met_completion of the line that the key meets. apply_edit gives kept front and bell as
+-- one value, since a match that joins loses both. Lemmas on the edit take the class as an argument (edited_as), and one
+-- subst along class ≡ class_at .. brings it home; whole speaks of the edit by End. What one class needs is a premise on
+-- it, which Line::class ensures and each function down to edit hands on.
 use Rattle.std.proofs.Common.{◌≡◌, ℕ, ◌<◌, Bool, true, false, List, [], length, None, Option, refl, ap, sym, subst, ◌∙◌, if◌then◌else◌}
 use Rattle.cm_text.specs.Text.{finished}
 use Rattle.cm_line.specs.declared.key.KeyClass.{KeyClass}

@@ -1,4 +1,6 @@
 -- The log of fields that are written one after another.
+-- A line of the log is gathered on a Page: Left is the contract of make_room and put_fields, joined by left_on,
+-- left_more and left_written.
 use Rattle.std.proofs.Common.{◌≡◌, ℕ, ◌+◌, List, [], ◌∷◌, ◌++◌, length, take, Some, slice_get, get_or, ap, sym, subst, ◌∙◌, append_assoc}
 use Rattle.std.proofs.lemmas.List.{append-nil, take_more}
 use Rattle.std.proofs.lemmas.Grind.{flat_map-append}

@@ -1,4 +1,5 @@
 -- The rest of a parse behind fields: one field more, or its end.
+-- Going on after known fields (parse_rest) is one loop, also where none are kept (kept_goes_on of cm_blocks).
 use Rattle.std.proofs.Common.{◌≡◌, ℕ, zero, suc, ◌+◌, ◌-◌, ◌<◌, List, [], ◌∷◌, ◌++◌, length, refl, ap, sym, ◌∙◌, append_assoc, append-nil, arith, length-append}
 use Rattle.cm_blocks.specs.declared.field.Chain.{Chain}
 use Rattle.cm_blocks.specs.declared.field.Chain.TheVariants as chain

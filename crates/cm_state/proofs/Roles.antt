@@ -1,4 +1,6 @@
 -- The search for the fields of a role.
+-- The first field of a role is find, which first_is makes of the filter. The walk over the fields by number has
+-- slice_get (fields_of wanted (drop at fields)) left in its invariant, and counts left down.
 use Rattle.std.proofs.Common.{◌≡◌, ℕ, suc, ◌+◌, Bool, true, false, cond, List, [], ◌∷◌, drop, Option, Some, refl, sym, ap, ◌∙◌}
 use Rattle.std.specs.List.{filter, find, slice_get}
 use Rattle.cm_lists.proofs.Elements.{drop_at_some}

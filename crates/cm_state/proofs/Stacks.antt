@@ -1,4 +1,5 @@
 -- A stack of fields whose places each have one.
+-- The stack is an ArrayVec of options, and a list in contracts (somes), with one lemma for each call.
 use Rattle.std.proofs.Common.{◌≡◌, ℕ, zero, suc, ◌+◌, ◌-◌, ◌<◌, ◌≤◌, Bool, true, false, nat_le, if◌then◌else◌, List, [], ◌∷◌, ◌++◌, length, map, take, get_or, Option, Some, slice_get, refl, ap, sym, ◌∙◌, arith, length-append}
 use Rattle.std.proofs.lemmas.List.{map-append}
 use Rattle.cm_lists.proofs.Elements.{slice_get-map_some}

@@ -1,4 +1,6 @@
 -- What a session holds that is ready for a key, and which fields a parse of the new text begins with.
+-- IsReady is one word, which new and begin ensure over all settings, and key and whole of the one handed in. The loop
+-- of a program has it as its invariant, and no answer.
 use Rattle.std.proofs.Common.{◌≡◌, ℕ, ◌<◌, ◌==◌, ◌&&◌, nat_le, nat_lt, Bool, true, false, if◌then◌else◌, List, [], length, Option, None, refl, ap, sym, subst, arith}
 use Rattle.std.proofs.lemmas.Bool.{and_parts}
 use Rattle.std.proofs.lemmas.Bool.Decides.{nat_tests}

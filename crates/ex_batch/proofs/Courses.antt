@@ -1,4 +1,5 @@
 -- A run over the lines of a control file, in its course.
+-- The loop has OnWay, which is Ahead and that the ends are equal.
 use Rattle.std.proofs.Common.{◌≡◌, ◌<◌, ◌≤◌, ℕ, suc, ◌+◌, ◌-◌, List, [], ◌++◌, refl, sym, ap, ◌∙◌, subst, arith}
 use Rattle.std.specs.Prelude.{Ok, Err, slice_get}
 use Rattle.cm_run.specs.Cut.{Traces}

@@ -1,4 +1,5 @@
 -- A line of the EXEC's that is handed in where nothing is left to be done: its acts, and the lines of command files.
+-- A line that is handed in has the trace of a line of a command file, then that of the files (handed_on, handed_cut).
 use Rattle.std.proofs.Common.{◌≡◌, ℕ, zero, suc, Bool, true, false, List, [], ◌∷◌, ◌++◌, Option, None, Some, refl, sym, ap, ◌∙◌}
 use Rattle.std.proofs.lemmas.List.Sums.{fold-append}
 use Rattle.cm_text.specs.Text.{finished}

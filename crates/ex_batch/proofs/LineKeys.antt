@@ -1,4 +1,7 @@
 -- The keys of a line of the EXEC's that is typed where nothing is left to be done.
+-- A line under edit is a record with any fields (typing). At rest the mode is an equation, along which step is
+-- line_stroke; then ap over the class of the key. What a text does is a record over all keys after it (IsTyped), by
+-- shown_key, shown_run and progress_key.
 use Rattle.std.proofs.Common.{◌≡◌, ℕ, ◌+◌, ◌≤◌, ◌&&◌, nat_lt, Bool, true, false, cond, List, [], ◌∷◌, ◌++◌, map, length, length-append, append_assoc, append-nil, Option, None, refl, sym, ap, ◌∙◌, arith}
 use Rattle.std.proofs.lemmas.Bool.Decides.{nat_tests}
 use Rattle.std.specs.Prelude.{is_some}

@@ -1,4 +1,6 @@
 -- What is known of a run of a control file, and of one that does not begin.
+-- The whole run is one trace (whole_of), also where it is out of memory before the lines. Its clauses are fields of one
+-- record (Heads), made once for each way out.
 use Rattle.std.proofs.Common.{◌≡◌, ◌⊎◌, ℕ, ◌+◌, ◌≤◌, Bool, List, [], ◌++◌, Option, None, Some, IsTrue, Result, Ok, Err, refl, sym, ap, ◌∙◌, subst, inl, inr, arith}
 use Rattle.std.specs.Prelude.{IfOk}
 use Rattle.cm_io.specs.declared.status.Status.{Status}

@@ -1,4 +1,6 @@
 -- What each kind of line comes to.
+-- The controller is a fold over steps (line_step). Takes says that a step was taken or cut. Each arm is one lemma over
+-- plain variables, by subst along ap control_view c.in-Plain.is.
 use Rattle.std.proofs.Common.{◌≡◌, ℕ, ◌+◌, Bool, true, false, List, [], ◌∷◌, Option, None, Some, sym, subst}
 use Rattle.std.specs.Prelude.{Result, Ok, Err}
 use Rattle.cm_fields.specs.declared.code.Code.{Code}

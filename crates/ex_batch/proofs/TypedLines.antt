@@ -1,4 +1,6 @@
 -- Lines of the EXEC's in a control file, and the same lines typed.
+-- Two runs that differ in what is shown are compared over one list of lines with their events (TypedLine), never by
+-- taking an event out.
 use Rattle.std.proofs.Common.{◌≡◌, ◌≤◌, ℕ, zero, suc, ◌+◌, Bool, true, false, List, [], ◌∷◌, ◌++◌, map, length, length-append, append_assoc, Option, None, Some, refl, sym, ap, ◌∙◌, subst, arith}
 use Rattle.std.specs.Prelude.{if◌then◌else◌, slice_get}
 use Rattle.std.proofs.lemmas.List.Sums.{fold-append, sum_by-append}

@@ -1,4 +1,6 @@
 -- What the blocks of the EXEC's grammar read, by what their fields are for.
+-- What the concrete grammar must be is a Bool test over all its blocks (fits), true by refl. One block of one node
+-- (at_node) is found by refl.
 use Rattle.std.proofs.Common.{◌≡◌, ℕ, ◌+◌, ◌≤◌, ◌||◌, ◌==◌, Bool, true, false, not, if◌then◌else◌, List, length, take, drop, Option, Some, None, slice_get, Ok, Err, refl, ap, sym, subst, ◌∙◌, arith}
 use Rattle.std.specs.List.{list_all, prefix_len}
 use Rattle.std.proofs.lemmas.List.{length-take}

@@ -1,4 +1,5 @@
 -- A line with a verb commands something: its keyword is that of a command, and its line has the fields that it wants.
+-- Write is_empty command ≡ false for command ≢ Empty: it is refl.
 use Rattle.std.proofs.Common.{◌≡◌, ◌≢◌, ◌⊎◌, inl, inr, ℕ, ◌<◌, ◌≤◌, ◌||◌, ◌==◌, Bool, true, false, not, if◌then◌else◌, List, length, drop, get_or, Option, Some, None, slice_get, Ok, refl, ap, sym, ◌∙◌, arith}
 use Rattle.std.specs.List.{list_all}
 use Rattle.std.specs.Option.{option_map_or}

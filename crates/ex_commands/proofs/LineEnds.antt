@@ -1,4 +1,6 @@
 -- What commands show ends its line.
+-- That a reply ends its line is one lemma a line (behind), since ++ joins to the left. A slice's last byte is slice_get
+-- xs (length xs - 1).
 use Rattle.std.proofs.Common.{◌≡◌, ◌⊎◌, ℕ, ◌==◌, ◌&&◌, nat_le, nat_lt, Bool, true, false, cond, List, [], ◌∷◌, ◌++◌, Option, None, Some, Result, Ok, Err, length, refl, ap, sym, subst, ◌∙◌, inl, inr, arith, append_assoc, append-nil}
 use Rattle.std.specs.List.{flat_map, last_or}
 use Rattle.std.specs.Option.{option_map_or}

@@ -1,4 +1,6 @@
 -- A line of TAKE means one file.
+-- That a field without wildcards means one file is two facts: at most one, by the generations (Single), and at least
+-- one, since resolve is not NoFile.
 use Rattle.std.proofs.Common.{◌≡◌, ℕ, zero, suc, ◌<◌, ◌||◌, ◌&&◌, ◌==◌, Bool, true, false, not, if◌then◌else◌, List, [], ◌∷◌, length, map, filter, drop, Option, Some, None, option_and_then, option_map, slice_get, unwrap_or, Ok, refl, ap, sym, subst, ◌∙◌, arith}
 use Rattle.std.specs.List.{list_any, prefix_len}
 use Rattle.std.specs.Option.{option_map_or}

@@ -1,4 +1,7 @@
 -- Acts that are refused, as the answers to them say.
+-- A put before a change of the store (mark, unmark, set_keep, touch) closes with nothing. A refusal that a test chooses
+-- has one lemma, whose premise is the test's result. A name comes home by rw c.as_str.ensures.value at
+-- c.undefine.ensures. parts() ensures that the state is well formed.
 use Rattle.std.proofs.Common.{◌≡◌, ℕ, Bool, true, false, cond, List, [], ◌∷◌, length, Result, Ok, Err, refl, ap, sym, subst, ◌∙◌}
 use Rattle.cm_lists.proofs.Bools.{cond_holds}
 use Rattle.cm_fields.specs.declared.code.Code.{Code}

@@ -1,4 +1,5 @@
 -- The parts of what names files and directories are no longer than a name.
+-- Names are short since no part that is read is long.
 use Rattle.std.proofs.Common.{◌≡◌, ℕ, Bool, false, List, Option, Some, None, option_map, Ok, ap, sym, subst, ◌∙◌, arith}
 use Rattle.std.proofs.lemmas.Bool.Decides.{nat_tests}
 use Rattle.cm_fields.specs.declared.value.FileKind.{FileKind}

@@ -1,4 +1,5 @@
 -- What stands behind the keywords of some commands: by which blocks the fields of a role are read there.
+-- A law of some verbs is a Branch of cm_state, an instance for each.
 use Rattle.std.proofs.Common.{◌≡◌, ℕ, ◌||◌, ◌==◌, Bool, true, not, List, Some, refl}
 use Rattle.cm_files.specs.Catalogue.{Catalogue}
 use Rattle.cm_blocks.specs.declared.field.Ending.{Ending}

@@ -1,4 +1,6 @@
 -- The index of labels.
+-- The index is made from the last line to the first; its invariant, position_from with the place as its first number,
+-- closes alone.
 use Rattle.std.proofs.Common.{◌≡◌, ℕ, List, Some, ap, ◌∙◌}
 use Rattle.std.specs.Prelude.{false, Option, if◌then◌else◌}
 use Rattle.std.specs.Map.{lookup}

@@ -1,4 +1,6 @@
 // What a line of a control file is.
+// What a line is needs no proof file: each test is a Bool definition and a function, with if .. return in turn. Clauses
+// view the lent enum as one over lists (control_view).
 ghost use Rattle.std.specs.Prelude.{◌≡◌, ◌-◌, drop, length, take, true, IfSome, IfNone, option_copied, Some, None, if◌then◌else◌};
 ghost use Rattle.std.specs.List.{list_all};
 ghost use Rattle.cm_text.specs.Bytes.{is_text, is_word};

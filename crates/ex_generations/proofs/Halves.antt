@@ -1,4 +1,5 @@
 -- What a search by halving finds among files whose generations ascend.
+-- position looks at the one element at the place (found_at, none_at), by rising and std's IsPartitionedBy-ltb.
 use Rattle.std.proofs.Common.{◌≡◌, ℕ, ◌<◌, ◌≤◌, Bool, true, false, cond, suc, zero, List, [], ◌∷◌, length, get_or, position, nat_lt, Some, None, Option, is_some, refl, sym, ap, subst, ◌∙◌, ◌⊎◌, inl, inr, arith}
 use Rattle.std.specs.List.{position_or_len, prefix_len}
 use Rattle.std.specs.List.Sorted.{IsNonDecreasingBy, IsPartitionedBy, IsPartitionPoint}

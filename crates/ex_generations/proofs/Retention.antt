@@ -1,4 +1,5 @@
 -- What retention leaves unmarked, and how many the next file keeps.
+-- Retention is one pass, with kept_newest of the rest in its invariant.
 use Rattle.std.proofs.Common.{◌≡◌, ℕ, ◌+◌, ◌-◌, ◌<◌, ◌≤◌, Bool, true, false, not, cond, nat_le, suc, zero, min, List, [], ◌∷◌, ◌++◌, length, get_or, slice_get, Some, None, map, drop, refl, sym, ap, ◌∙◌, arith}
 use Rattle.std.proofs.lemmas.Bool.{cond-false, cond-true, leb-false, leb-true, ne_eqb, not_from_false}
 use Rattle.std.proofs.lemmas.List.{length-drop}

@@ -1,4 +1,6 @@
 // The nodes of the EXEC's grammar, by the numbers that the log gives.
+// A function for a group of the grammar gives a Vec<Block> of literals, in which only the last call may fail, and
+// push_each makes the nodes. vec![in alloc; node(alloc, ..)?, ..] with seven such calls takes minutes.
 ghost use Rattle.std.specs.Prelude.{◌≡◌, ◌++◌, IfOk, map};
 ghost use Rattle.ex_grammar.specs.Graph.{append_blocks, build_blocks, define_blocks, delete_blocks, directory_nodes, exec_nodes, first_nodes, last_nodes, listing_nodes, print_blocks, retention_nodes, set_blocks, source_nodes, switch_blocks, target_blocks, type_blocks};
 ghost use Rattle.ex_grammar.specs.Words.{only};

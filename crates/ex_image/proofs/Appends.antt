@@ -1,4 +1,6 @@
 -- Pieces that are appended to the open file of a host, one behind the other.
+-- A private trait over all hosts (Target) has one ghost member, and its method ensures one record, Appends
+-- (appends_both, appends_early).
 use Rattle.std.proofs.Common.{◌≡◌, ℕ, Bool, List, ◌++◌, Option, Some, None, refl, sym, ap, subst, ◌∙◌, arith, append_assoc}
 use Rattle.std.specs.Option.{option_map}
 use Rattle.cm_io.specs.Host.{Writes}

@@ -1,4 +1,5 @@
 -- Records one behind the other, each of which may stand there.
+-- No loop over bytes looks at the draft: its invariant is Makes bytes reading rest.
 use Rattle.std.proofs.Common.{◌≡◌, ℕ, List, [], ◌∷◌, ◌++◌, Ok, refl, ap, subst, ◌∙◌}
 use Rattle.std.specs.List.{flat_map}
 use Rattle.cm_lists.proofs.Pieces.{flat_map_push}

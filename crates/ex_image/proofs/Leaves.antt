@@ -1,4 +1,5 @@
 -- Records that are appended one by one: of the whole some bytes are appended, and the rest is left.
+-- Series lends four lists by number to one loop, whose invariant is Leaves.
 use Rattle.std.proofs.Common.{◌≡◌, ◌+◌, ℕ, Bool, List, [], ◌∷◌, ◌++◌, drop, slice_get, Some, sym, ap, subst, ◌∙◌, append_assoc}
 use Rattle.std.proofs.lemmas.List.{drop_more}
 use Rattle.std.proofs.lemmas.Option.{get_or_from_slice_get, slice_get_within}

@@ -1,4 +1,5 @@
 -- What stands last in a list.
+-- "Above the last" is a pattern [.., last] (above_last).
 use Rattle.std.proofs.Common.{◌≡◌, ℕ, zero, suc, ◌+◌, List, [], ◌∷◌, length, slice_get, Some, ap, arith}
 use Rattle.std.specs.Ordering.{is_lt}
 use Rattle.std.specs.declared.cmp.Ordering.{Ordering}

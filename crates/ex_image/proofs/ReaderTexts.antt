@@ -1,4 +1,5 @@
 -- Names and notes are ASCII.
+-- The &str of tested bytes is str::from_utf8, after a call that requires IsAscii.
 use Rattle.std.proofs.Common.{◌≡◌, ℕ, zero, suc, ◌<◌, ◌==◌, Bool, true, ◌&&◌, not, nat_lt, nat_le, List, [], ◌∷◌, length, refl, arith}
 use Rattle.std.specs.Char.{is_ascii_lowercase}
 use Rattle.std.specs.List.{list_all, onto_first, slice_split}

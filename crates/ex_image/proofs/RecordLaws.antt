@@ -1,4 +1,6 @@
 -- A record: what is read of bytes is a record that may stand there, and such a record is read.
+-- What an image is, and how it is read, meet in two laws about one record. A function of the reader ensures Gives view
+-- result (definition bytes); its caller, with ? for ◌>>=◌, closes by its own word.
 use Rattle.std.proofs.Common.{◌≡◌, ℕ, suc, ◌+◌, ◌<◌, ◌==◌, Bool, true, false, nat_le, cond, List, [], ◌∷◌, ◌++◌, length, take, drop, get_or, Option, Some, None, Result, Ok, Err, refl, ap, subst, sym, ◌∙◌, arith, add-one, append_assoc, length-append}
 use Rattle.std.proofs.Math.Seq.{drop-append-add, get_or-append_seam, length-take-le, split_at, take-append_seam}
 use Rattle.std.proofs.lemmas.Bool.{eqb-true, false≢true, leb-false, lt-leb}

@@ -1,4 +1,6 @@
 // A line of an image under way.
+// A line is built in the value itself. Each method puts one field, with a clause on the bytes, as join_with_byte
+// computes, and one on the room. A goal of room that stays open may be false: add up the bounds first.
 ghost use Rattle.std.specs.Prelude.{◌≡◌, ◌+◌, ◌<◌, ◌≤◌, ℕ, List, [], ◌∷◌, ◌++◌, length};
 ghost use Rattle.std.specs.Fmt.{decimal, signed_decimal};
 ghost use Rattle.std.specs.List.{join_with_byte};

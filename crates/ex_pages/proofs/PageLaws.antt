@@ -1,4 +1,6 @@
 -- The pages of rows, and the rows with the ends of the pages between them.
+-- No loop knows of pages: loops put rows with the ends of pages (rows_behind) and count rows (count_behind), and one
+-- induction makes it pages (all_text). That the pages are put is using(body_written), so that edits meet the clause.
 use Rattle.std.proofs.Common.{◌≡◌, ℕ, ◌+◌, ◌==◌, Bool, true, false, not, List, [], ◌∷◌, ◌++◌, length, refl, sym, ap, ap₂, ◌∙◌, subst, append_assoc, length-append}
 use Rattle.std.specs.List.{flat_map}
 use Rattle.std.proofs.lemmas.Grind.{flat_map-append}

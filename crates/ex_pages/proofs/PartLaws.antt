@@ -1,4 +1,6 @@
 -- The first part of a list, and what is left of it.
+-- A list in parts is a definition that carries what is begun (parts_behind): a full part is part_full, by induction
+-- over the front, with no subtraction, and the last is part_short.
 use Rattle.std.proofs.Common.{◌≡◌, ℕ, ◌+◌, ◌==◌, ◌<◌, true, false, List, [], ◌∷◌, ◌++◌, length, refl, sym, ap, ◌∙◌, arith, append_assoc, length-append}
 use Rattle.std.proofs.lemmas.List.{append-nil}
 use Rattle.cm_lists.proofs.Numbers.{lt_is_not_eq}

@@ -1,4 +1,5 @@
 -- The commands that a word may mean, by the letters that it begins with.
+-- A begun word is a test over the table (passes).
 use Rattle.std.proofs.Common.{◌≡◌, ℕ, Bool, true, false, cond, not, ◌&&◌, ◌||◌, List, [], ◌∷◌, ◌++◌, Some, refl, ap, sym, ◌∙◌}
 use Rattle.std.specs.List.{enumerate_from, filter, list_all}
 use Rattle.std.proofs.lemmas.Bool.{and_parts, not-true}

@@ -1,4 +1,6 @@
 -- When a run that stopped so and closed so comes to a status, by the counts of faults.
+-- A sum over the answers of a status has a catch-all: HostCause reduces at each status but HostFault, and by_or goes
+-- over a status that is one of two.
 use Rattle.std.proofs.Common.{◌≡◌, ℕ, Bool, true, false, List, Option, Some, Result, Ok, Err, refl, sym, ap, ◌∙◌, subst, inl, inr}
 use Rattle.cm_io.specs.Fault.{Rose}
 use Rattle.cm_io.specs.Told.{Told}

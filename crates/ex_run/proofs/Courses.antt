@@ -1,4 +1,9 @@
 -- The course of a run, by its two ways out: before the first prompt, and past it.
+-- An application is one term in the lemmas (o : Over S). All that is known is one record (Course), with one answer for
+-- each way out (course_early, course_past); a clause of the program above is a field of it. The state left is in the
+-- record (Past), so file and screen speak of one. What follows where the start is known is a record within it
+-- (Follows), whose premises are handed in once (one_start). (start : State) → app.old ≡ P.begins start → .. on a
+-- function that goes on from a beginning asks for no inverse of begins.
 use Rattle.std.proofs.Common.{◌≡◌, ℕ, Bool, IsTrue, List, [], ◌++◌, refl, sym, ◌∙◌, subst, inl, inr}
 use Rattle.std.proofs.lemmas.List.{append_cancel_right}
 use Rattle.cm_lists.proofs.Pieces.{nil_of_append}

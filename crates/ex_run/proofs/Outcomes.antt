@@ -1,4 +1,6 @@
 -- What the engine says of a run, and what its end comes to.
+-- How a run ends is a relation by cases on how it stopped (Closes), with one lemma a case. A clause without the
+-- premises stands apart (cause). What an object tells is one word (scene, disk_of).
 use Rattle.std.proofs.Common.{◌≡◌, ℕ, Bool, Result, refl, subst}
 use Rattle.cm_io.specs.Told.{Told}
 use Rattle.cm_io.specs.declared.status.Status.{Status}

@@ -1,4 +1,6 @@
 // A run over a store, from image to image.
+// A call of run stands alone in a function generic over the application (run_application) that hands on one record
+// (Runs): at the application itself each clause is stated unfolded.
 ghost use Rattle.std.specs.Prelude.{◌≡◌};
 ghost use Rattle.cm_run.specs.Ready.{Serves};
 ghost use Rattle.cm_run.specs.Trace.{is_ended};

@@ -1,4 +1,5 @@
 -- What is known of a run that prints, and of one that does not begin.
+-- What a run does is one of two records (Saved, Cut), within Course.
 use Rattle.std.proofs.Common.{◌≡◌, ℕ, Bool, List, [], ◌∷◌, ◌++◌, Option, None, Some, IsTrue, refl, sym, ap, ◌∙◌, subst, inl, inr}
 use Rattle.std.proofs.lemmas.List.{append-nil}
 use Rattle.cm_io.specs.Clock.{later_moments, next_moment}

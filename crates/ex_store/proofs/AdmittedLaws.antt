@@ -1,4 +1,5 @@
 -- What is admitted may be added: the rows stay those of a store.
+-- What is admitted (IsAdmitted) is added by rows_added.
 use Rattle.std.proofs.Common.{◌≡◌, ℕ, suc, ◌+◌, ◌<◌, ◌≤◌, nat_lt, nat_le, Bool, true, false, cond, List, length, unwrap_or, Result, Ok, Err, refl, ap, arith, ◌∙◌, subst}
 use Rattle.std.proofs.lemmas.Bool.{and_from}
 use Rattle.std.proofs.lemmas.Bool.Decides.{nat_tests}

@@ -1,4 +1,6 @@
 -- What comes of rows does not depend on who has read them.
+-- What does not depend on who has read a file is said, in clause and invariant, of all alike rows (AreAlike): length
+-- and bytes by map unread.
 use Rattle.std.proofs.Common.{◌≡◌, ℕ, Bool, cond, true, false, List, [], ◌∷◌, length, map, Result, Ok, Err, Option, Some, None, refl, ap, arith, ◌∙◌, sym}
 use Rattle.std.specs.Option.{option_map_or}
 use Rattle.std.proofs.lemmas.List.{length-map}

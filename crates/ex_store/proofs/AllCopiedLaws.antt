@@ -1,4 +1,5 @@
 -- Files are copied one after the other: where the walk over the sources stands.
+-- A plan under way is one record (IsUnderWay) of what is done with each source.
 use Rattle.std.proofs.Common.{◌≡◌, ◌||◌, ℕ, ◌+◌, nat_le, Bool, true, false, not, cond, List, [], ◌∷◌, ◌++◌, length, map, Result, Ok, Err, Option, Some, None, filter, refl, ap, arith, ◌∙◌, subst, sym}
 use Rattle.std.proofs.lemmas.Bool.{and_from, and_parts}
 use Rattle.std.specs.List.{list_all}

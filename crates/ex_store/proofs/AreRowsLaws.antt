@@ -1,4 +1,6 @@
 -- With a row added that is admitted, the rows are still those of a store.
+-- A part of an invariant is a record (AreRows), which well_formed_with_rows and well_formed_built put back. The one
+-- total order, by_row, is made of then_cmp and on (by_row_total).
 use Rattle.std.proofs.Common.{◌≡◌, ℕ, ◌==◌, ◌&&◌, nat_le, Bool, true, false, not, cond, List, [], ◌∷◌, filter, map, refl, ap, ◌∙◌}
 use Rattle.std.specs.Cmp.{IsTotalOrder}
 use Rattle.std.specs.Cmp.Lexicographic.{on_texts}

@@ -1,4 +1,5 @@
 -- Lists that ascend under a total order.
+-- sorted_ascends and ascends_sorted go between neighbours and all that follow.
 use Rattle.std.proofs.Common.{◌≡◌, Bool, true, ◌&&◌, List, [], ◌∷◌, filter, map, refl, ap}
 use Rattle.std.specs.Cmp.{IsTotalOrder}
 use Rattle.std.specs.Ordering.{is_lt}

@@ -1,4 +1,5 @@
 -- Rows without their bytes, as if nobody had read them, are counted, added and taken out as the rows themselves.
+-- What no test sees of a row is taken out by a map: names, numbers and counts are told by map blank.
 use Rattle.std.proofs.Common.{◌≡◌, ℕ, suc, max, min, ◌==◌, ◌&&◌, ◌||◌, nat_le, Bool, true, false, not, cond, List, [], ◌∷◌, length, filter, map, Option, Some, None, Ok, Err, refl, ap, ◌∙◌}
 use Rattle.std.specs.Option.{option_map, option_map_or}
 use Rattle.std.specs.Ordering.{is_lt}

@@ -1,4 +1,6 @@
 -- Changes that can be done one after the other.
+-- Changes in turn are a Bool by recursion (are_doable). Over a Vec by value YieldsList-from_vec, YieldsList-so_far and
+-- YieldsList-turn say which is next.
 use Rattle.std.proofs.Common.{◌≡◌, ◌+◌, ◌<◌, true, List, [], ◌∷◌, ◌++◌, length, map, take, drop, get_or, refl, ap, subst, sym, ◌∙◌}
 use Rattle.std.specs.List.{list_all}
 use Rattle.std.proofs.lemmas.Bool.{and_from, and_parts}

@@ -1,4 +1,5 @@
 -- A state with one part more: the names of that part are short.
+-- Each call of Draft that adds asks that the state with the part is a draft, so its invariant closes with nothing.
 use Rattle.std.proofs.Common.{◌≡◌, ℕ, ◌≤◌, true, nat_le, List, [], ◌∷◌, ◌++◌, length}
 use Rattle.std.specs.List.{list_all}
 use Rattle.std.proofs.lemmas.Bool.{and_from, le-leb, leb-true}

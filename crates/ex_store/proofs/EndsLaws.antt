@@ -1,4 +1,6 @@
 -- Where the files of a directory end: where those of the next begin, and behind the last are no others.
+-- firsts is an equation in the invariant (IsStore), which one function makes anew after a change. A directory's files
+-- end where the next one's begin, by number_order.
 use Rattle.std.proofs.Common.{◌≡◌, ◌<◌, ◌≤◌, ◌+◌, ◌∷◌, ℕ, Bool, true, cond, zero, suc, List, [], length, Option, Some, None, refl, ap, arith, ◌∙◌, sym}
 use Rattle.std.specs.List.{list_all, prefix_len, slice_get}
 use Rattle.std.specs.Option.{option_map}

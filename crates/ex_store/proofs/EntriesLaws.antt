@@ -1,4 +1,6 @@
 -- Directories and logical names as the entries of maps.
+-- The map is made of its entries by made_map. The map's test has the name first, the definitions have the key:
+-- lookup_turned and position_turned of cm_lists. That a name has at most 39 bytes is a call of as_str.
 use Rattle.std.proofs.Common.{◌≡◌, ℕ, ◌+◌, ◌<◌, Bool, true, false, not, ◌||◌, cond, nat_lt, List, [], ◌∷◌, ◌++◌, length, map, find, position, Some, None, is_some, unwrap_or, refl, ap, arith, sym, ◌∙◌}
 use Rattle.std.specs.List.{list_all, list_any, position_or_len}
 use Rattle.std.specs.Map.{keys_of, lookup}

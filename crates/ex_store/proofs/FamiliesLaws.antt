@@ -1,4 +1,6 @@
 -- Files by family: what is done with the generations of one family is done with its rows, and with no others.
+-- There is one induction for each change, and GoesLast (LastRowLaws) for what goes after all. A function over all
+-- families is position and one method; its answers take c.index-families-at.result as the default.
 use Rattle.std.proofs.Common.{◌≡◌, ℕ, ◌<◌, ◌≤◌, ◌==◌, Bool, true, false, not, cond, zero, suc, List, [], ◌∷◌, ◌++◌, length, get_or, set, take, insert, map, position, Option, None, Some, refl, ap, arith, ◌∙◌, sym, subst, append-nil}
 use Rattle.std.specs.List.{list_all, list_any, prefix_len}
 use Rattle.std.specs.Option.{option_map, option_map_or}

@@ -1,4 +1,5 @@
 -- The generations of one name as rows: what is done with the one is done with the others.
+-- What is done with one family is done with its rows: rows_own, and files_added of FilesOfLaws.
 use Rattle.std.proofs.Common.{◌≡◌, ℕ, ◌<◌, ◌≤◌, ◌==◌, ◌&&◌, ◌||◌, Bool, true, false, not, cond, List, [], ◌∷◌, length, map, find, None, Some, Ok, refl, ap, arith, ◌∙◌, sym, subst, Option}
 use Rattle.std.specs.List.{list_all}
 use Rattle.std.specs.Option.{option_map, option_map_or}

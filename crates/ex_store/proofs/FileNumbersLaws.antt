@@ -1,4 +1,6 @@
 -- The numbers of the files of all families.
+-- Ends that count files (IsCounted) are made by one function (count). Loops over places (for i in at..families.len())
+-- close with the invariant and one answer for the start. A family by a row's number is StandsUnder.
 use Rattle.std.proofs.Common.{◌≡◌, ℕ, zero, suc, ◌+◌, ◌-◌, ◌<◌, ◌≤◌, nat_lt, Bool, true, false, not, cond, List, [], ◌∷◌, ◌++◌, length, drop, get_or, map, set, take, slice_get, refl, ap, sym, subst, ◌∙◌, arith}
 use Rattle.std.specs.List.{list_all, prefix_len}
 use Rattle.std.specs.List.Sorted.{IsPartitionPoint, IsPartitionedBy}

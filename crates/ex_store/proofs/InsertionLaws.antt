@@ -1,4 +1,5 @@
 -- An element is inserted at its place: what ascends does so still.
+-- Insertion is over any order, as in specs/Insertion; rows have lemmas of their own.
 use Rattle.std.proofs.Common.{◌≡◌, ◌+◌, Bool, true, false, cond, List, [], ◌∷◌, length, insert, refl, ap, arith}
 use Rattle.std.specs.Cmp.{IsTotalOrder}
 use Rattle.std.specs.List.{list_all, list_any}

@@ -1,4 +1,5 @@
 -- The sources that a plan takes one after the other, by their places among the rows.
+-- The code walks over positions, which elements_filter makes the filter; source_at is one turn of the walk.
 use Rattle.std.proofs.Common.{◌≡◌, ℕ, ◌+◌, ◌<◌, nat_lt, Bool, true, false, cond, List, [], ◌∷◌, ◌++◌, drop, filter, get_or, slice_get, length, length-append, append_assoc, Some, refl, ap, ◌∙◌, sym}
 use Rattle.std.specs.List.{list_all}
 use Rattle.cm_lists.proofs.Elements.{slice_get_at, slice_get_some}

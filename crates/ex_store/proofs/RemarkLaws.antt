@@ -1,4 +1,6 @@
 -- One thing is changed of rows, or they are taken out: the rows stay those of a store.
+-- A change that keeps a row's name and size is one record (Leaves), with one lemma for each thing that stays, as
+-- firsts_changed.
 use Rattle.std.proofs.Common.{◌≡◌, ℕ, suc, zero, ◌+◌, ◌<◌, ◌≤◌, nat_lt, ◌&&◌, Bool, true, false, not, cond, List, [], ◌∷◌, ◌++◌, append_assoc, drop, drop-cons, filter, get_or, length, length-append, map, set, take, refl, ap, arith, ◌∙◌, sym}
 use Rattle.std.specs.List.{list_all}
 use Rattle.std.specs.Ordering.{is_lt}

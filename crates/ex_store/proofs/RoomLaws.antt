@@ -1,4 +1,6 @@
 -- Room for the files that are to be put under each family.
+-- demand counts what the changes put into each family. EachHasRoom says that it is there, and RoomStepLaws that it
+-- lasts; it is a function from keys, in requires and invariant.
 use Rattle.std.proofs.Common.{◌≡◌, ℕ, ◌<◌, ◌≤◌, ◌+◌, Bool, true, false, cond, zero, suc, List, [], ◌∷◌, ◌++◌, length, find, get_or, set, insert, map, position, Option, None, Some, refl, ap, arith, ◌∙◌, sym, subst}
 use Rattle.std.specs.List.{list_any}
 use Rattle.std.specs.Option.{option_map_or}

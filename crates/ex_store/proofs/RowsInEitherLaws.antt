@@ -1,4 +1,5 @@
 -- Of the rows of two directories, those of one are found, added and taken out as among all rows.
+-- Rows of two directories go through a filter (Covers).
 use Rattle.std.proofs.Common.{◌≡◌, ℕ, ◌==◌, ◌&&◌, ◌||◌, nat_le, Bool, true, false, not, cond, List, [], ◌∷◌, filter, map, Option, Some, None, refl, ap, ◌∙◌}
 use Rattle.std.specs.Cmp.{Equal-is}
 use Rattle.std.specs.List.{list_all}

@@ -1,4 +1,5 @@
 -- The rows of one directory stand together.
+-- The rows of a directory, key or name are the middle of three parts (rises_sorted and parts_of of cm_lists).
 use Rattle.std.proofs.Common.{◌≡◌, ℕ, zero, suc, ◌+◌, ◌<◌, ◌≤◌, Bool, true, false, not, ◌||◌, ◌==◌, cond, List, [], ◌∷◌, ◌++◌, length, map, slice_get, Some, None, Option, option_map, refl, ap, arith, ◌∙◌, sym, subst}
 use Rattle.std.specs.List.{list_all}
 use Rattle.std.specs.Ordering.{is_eq, is_gt, is_lt, nat_cmp, ordering_reverse}

@@ -1,4 +1,6 @@
 -- The files that a place selects are found one after the other.
+-- A Selection is a list by its Model, and an Iterator by YieldsFirstBy: next asks one private call of the store, which
+-- has the invariant (IsNext).
 use Rattle.std.proofs.Common.{◌≡◌, ℕ, zero, suc, ◌+◌, ◌<◌, ◌≤◌, Bool, true, false, cond, List, [], ◌∷◌, length, drop, filter, slice_get, Option, Some, None, refl, ap, arith, ◌∙◌, sym}
 use Rattle.std.specs.List.{list_all, position_from}
 use Rattle.std.proofs.lemmas.List.{drop-drop}

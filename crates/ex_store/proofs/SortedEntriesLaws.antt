@@ -1,4 +1,6 @@
 -- The entries of a map under names, which ascend: what is added at the end, and what is inserted at its place.
+-- A map under names (Directories, LogicalNames) is proved over its entries, with the lemmas of indexmap.proofs:
+-- CallerLemmas, SortedLemmas, MoveLemmas, MapLemmas.
 use Rattle.std.proofs.Common.{◌≡◌, ℕ, zero, suc, ◌+◌, ◌<◌, ◌≤◌, ⊎_elim, Bool, true, false, cond, List, [], ◌∷◌, ◌++◌, length, get_or, insert, map, None, not, refl, ap, arith, ◌∙◌, sym, true≢false}
 use Rattle.std.specs.Cmp.{IsTotalOrder}
 use Rattle.std.specs.Cmp.Lexicographic.{nat_list_cmp_total, nat_list_eq_equiv, on_texts, texts_ties}

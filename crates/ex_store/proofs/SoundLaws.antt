@@ -1,4 +1,5 @@
 -- What a plan makes of a state that is well formed is well formed.
+-- A law over all plans is each_sound over each_in_turn, with one lemma a step.
 use Rattle.std.proofs.Common.{◌≡◌, ℕ, nat_le, Bool, true, false, cond, List, [], ◌∷◌, ◌++◌, length, Result, Ok, Err, Option, Some, None, refl, ap, subst}
 use Rattle.std.specs.List.{list_all}
 use Rattle.std.proofs.lemmas.Bool.{and_parts}

@@ -1,4 +1,5 @@
 -- The files that a place selects, among the rows of its directory.
+-- That a directory which is not there has no rows (lacks_rows) find_directory says.
 use Rattle.std.proofs.Common.{◌≡◌, ℕ, zero, suc, ◌+◌, ◌<◌, ◌≤◌, Bool, true, false, ◌&&◌, cond, List, [], ◌∷◌, ◌++◌, length, map, filter, drop, Some, None, refl, ap, arith, ◌∙◌, sym}
 use Rattle.std.specs.List.{list_all, position_from}
 use Rattle.std.specs.Cmp.{Equal-is}

@@ -1,4 +1,7 @@
 // Files by family: the generations of one name and type in a directory, as a store has them, and a plan that is played.
+// Families in a vector are boxed (FamilyBox), with the family as the value. Methods enter the box by c.deref.ensures
+// and c.deref_mut.ensures.value, each followed by c.self.view_is. Over the vector call methods alone, as
+// families[at].key(): no field after the box is covered.
 ghost use Rattle.std.specs.Prelude.{◌≡◌, ◌<◌, ◌≤◌, ◌-◌, ◌*◌, ◌^◌, [], true, false, get_or, length, map, position, take, ◌+◌, IfOk, IfSome, OnErr, OnOk, Ok, option_copied, option_map};
 ghost use Rattle.std.specs.List.{prefix_len};
 ghost use Rattle.std.specs.Ordering.{is_lt};

@@ -1,4 +1,5 @@
 // The image is written at the end of a run.
+// save_image asks for the store's parts for the proof alone, so that Saves says that the state is well formed.
 ghost use Rattle.ex_system.specs.Disk.{disk_of};
 ghost use Rattle.ex_system.specs.Saving.{IsEnd, IsOr, Saves};
 

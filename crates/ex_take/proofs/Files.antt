@@ -1,4 +1,5 @@
 -- Files that are open, the one that is taken now at the end.
+-- A list whose last counts is said as by ArrayVec::pop: by slice_get and take at length xs - 1.
 use Rattle.std.proofs.Common.{◌≡◌, ℕ, suc, get_or, ◌-◌, ◌<◌, ◌==◌, ◌&&◌, true, false, cond, List, [], ◌∷◌, ◌++◌, length, take, slice_get, Option, None, Some, refl, sym, ap, ◌∙◌, arith}
 use Rattle.std.proofs.lemmas.List.{length-take-le}
 use Rattle.std.proofs.lemmas.Option.{slice_get-get_or}

@@ -1,4 +1,6 @@
 -- The lines of a command file.
+-- The invariant over the lines of a file is the definition itself, begun (lines_behind, joined_behind), so no position
+-- is spoken of. A line read ahead is a field, and one function reads a line, with lines_from as its clause.
 use Rattle.std.proofs.Common.{◌≡◌, ℕ, ◌≤◌, nat_le, true, false, List, [], ◌∷◌, ◌+◌, length, take, drop, Option, None, Some, refl, sym, ap, subst, ◌∙◌, arith}
 use Rattle.std.specs.List.{AllByRecursion, list_all}
 use Rattle.std.proofs.lemmas.Bool.Decides.{nat_tests}

@@ -1,4 +1,6 @@
 -- What lines leave of the command files: none is open, or the next line of one can be taken.
+-- That no file is open after a typed line is a predicate of what acts leave (Stands), with a lemma for each word of the
+-- definition, here and in QuietLines, and one induction that takes what follows as a function (QuietKeys).
 use Rattle.std.proofs.Common.{◌≡◌, ◌⊎◌, inl, inr, ℕ, suc, ◌-◌, ◌==◌, ◌&&◌, Bool, true, false, cond, List, [], ◌∷◌, ◌++◌, map, length, slice_get, Option, None, Some, refl, sym, ap, ◌∙◌, subst, arith}
 use Rattle.std.specs.Option.{option_map_or}
 use Rattle.cm_lists.proofs.Pieces.{cons_is_not_empty}

@@ -1,4 +1,6 @@
 -- Where nothing is left to be done, and what a line leaves of that with the command files that it takes.
+-- After a line of a command file a file is open, or nothing is left (StandsClosed of Quiet, which gives Stands of typed
+-- lines by closed_stands). Rests says it by is_at_rest alone.
 use Rattle.std.proofs.Common.{◌≡◌, inl, ℕ, ◌==◌, ◌&&◌, not, Bool, true, false, List, [], ◌∷◌, length, None, refl, sym, ◌∙◌}
 use Rattle.std.proofs.lemmas.Bool.{eqb-true}
 use Rattle.cm_lists.proofs.Bools.{and_first, and_second}

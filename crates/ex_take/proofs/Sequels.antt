@@ -1,4 +1,7 @@
 -- Acts of the EXEC's, and what follows them.
+-- An application over another (Exec over Interpreter): an act is lifted (lifted, obeys_lifted), and followed_on takes
+-- what follows an answer as a function. It speaks of a literal record of the fields, which subst along c.self.view_is
+-- brings home.
 use Rattle.std.proofs.Common.{◌≡◌, ℕ, ◌==◌, length, true, false, List, [], ◌∷◌, ◌++◌, map, Option, None, Some, Result, Ok, Err, refl, sym, ap, ◌∙◌, subst}
 use Rattle.cm_io.specs.Told.{Told, AddsPart, add}
 use Rattle.cm_io.proofs.Additions.{add_none}

@@ -1,4 +1,5 @@
 -- The names of the files of messages, and their numbers.
+-- A message is found by the number in its name: one lemma over four digits (number_of_name).
 use Rattle.std.proofs.Common.{◌≡◌, ℕ, ◌+◌, ◌*◌, ◌/◌, ◌%◌, ◌<◌, ◌≤◌, ◌==◌, ◌&&◌, nat_eq, Bool, true, false, not, inr, if◌then◌else◌, nat_le, List, [], ◌∷◌, ◌++◌, Option, None, Some, length, take, refl, ap, sym, subst, cond, ◌∙◌, arith, eq-eqb}
 use Rattle.std.specs.Char.{digit_value, is_ascii_digit, is_ascii_lowercase}
 use Rattle.std.specs.Int.{IsInRange}

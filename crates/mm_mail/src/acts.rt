@@ -1,4 +1,6 @@
 // What commands do to a store.
+// A command is a definition over the state (Meaning), and act is one match of calls that each ensure one clause of it.
+// That reading changes nothing is a lemma, so an edit meets the clause and no answer.
 #![tactic(auto, using(cm_io::proofs::Texts::each))]
 
 ghost use Rattle.std.specs.Prelude.{◌≡◌, ◌≤◌};

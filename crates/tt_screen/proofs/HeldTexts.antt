@@ -1,4 +1,5 @@
 -- What bytes make of a screen that holds a text.
+-- What bytes make of a screen that holds a text is one lemma for each kind of bytes, which is a field of IsDisplay.
 use Rattle.std.proofs.Common.{◌≡◌, ℕ, zero, suc, ◌+◌, ◌-◌, true, List, [], ◌∷◌, ◌++◌, length, take, get_or, replicate, slice_set, ◌≤◌, refl, ap, sym, subst, ◌∙◌, arith, append_assoc, length-append}
 use Rattle.std.proofs.lemmas.List.{append-nil, take_all, take_more}
 use Rattle.cm_text.specs.Shown.{bell, rubout}

@@ -1,4 +1,7 @@
 -- The bytes read so far, and what they leave on the screen.
+-- What is said of a value that forgets (Kept) is said of any value that it is kept of, as in
+-- (grid : Grid) → self.old ≡ kept_of grid → .., and a loop cites the clause at the screen that its invariant names
+-- (fed_more).
 use Rattle.std.proofs.Common.{◌≡◌, ℕ, zero, suc, ◌+◌, ◌≤◌, Bool, List, [], ◌∷◌, ◌++◌, length, refl, ap, sym, subst, ◌∙◌, arith, append_assoc, length-append}
 use Rattle.std.specs.Bool.{IsTrue}
 use Rattle.cm_io.specs.Fault.{next_count}

@@ -1,4 +1,6 @@
 -- Rows that are written one after another.
+-- slice_set does nothing past the end, and cells_of takes what fits: no lemma has a case at column 80. Room that a push
+-- needs is a part of the Model's invariant, also where the ArrayVec has it in its type.
 use Rattle.std.proofs.Common.{◌≡◌, ℕ, ◌+◌, List, [], take, Some, slice_get, sym, subst}
 use Rattle.std.proofs.lemmas.Option.{get_or_from_slice_get, slice_get_within}
 use Rattle.cm_io.specs.declared.sink.Sink.{Ghosts}

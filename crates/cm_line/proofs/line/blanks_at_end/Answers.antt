@@ -1,3 +1,5 @@
+-- A chain of iterators has one term as its answer, back to the slice, joined to length-prefix_len at the line in
+-- reverse.
 use Rattle.std.proofs.Common.{rules, tests, reverse, ◌∙◌}
 use Rattle.std.proofs.lemmas.Iterator.Adapters.{YieldsList-from_rev_slice}
 use Rattle.std.proofs.lemmas.Iterator.Consumers.{count_from_yields_List}

@@ -1,4 +1,5 @@
 -- The lines of the files from here on are left to be written.
+-- A for over Selection: next_gives is YieldsFirstBy, and the invariant speaks of the rows left as l.row-iterator.
 use Rattle.std.proofs.Common.{◌≡◌, true}
 use Rattle.std.specs.List.{flat_map, list_all}
 use Rattle.cm_io.proofs.Texts.{Left}

@@ -1,3 +1,4 @@
+-- A call of run_line_program has one answer: omega arith for the program's size below 2 ^ 63, and a record.
 use Rattle.std.proofs.Common.{[], ap, arith, refl}
 use Rattle.cm_blocks.specs.Grammar.{hook_count}
 use Rattle.cm_run.specs.LineMeaning.{lines_only}
