@@ -10,12 +10,9 @@ use Rattle.std.proofs.lemmas.Str.{IsAscii-drop, IsAscii-take, IsUtf8-from_ascii}
 use Rattle.std.proofs.lemmas.Str.Ascii.{lowercase-uppercase, uppercase_ascii}
 use Rattle.cm_lists.proofs.Bools.{same_truth}
 
--- what is behind a part of an ASCII text is one, and so is a part of it
+-- what is behind a part of an ASCII text is one
 pub IsAscii_rest : (size : ℕ) (text : List ℕ) → IsAscii text → IsAscii (take (length text - size) (drop size text))
 IsAscii_rest size text is = IsAscii-take (drop size text) (length text - size) (IsAscii-drop text size is)
-
-pub IsAscii_part : (text : List ℕ) (from to : ℕ) → IsAscii text → IsAscii (drop from (take to text))
-IsAscii_part text from to is = IsAscii-drop (take to text) from (IsAscii-take text to is)
 
 -- ASCII bytes are a text: std's lemma, under a name that stands in a using(..)
 pub text_of_ascii : (bytes : List ℕ) → IsAscii bytes → IsUtf8 bytes

@@ -1,7 +1,7 @@
 -- The elements that pass a test.
-use Rattle.std.proofs.Common.{Bool, Contains, List, Some, [], ap, arith, cond, false, filter, find, get_or, if◌then◌else◌, length, map, nat_lt, refl, slice_get, subst, suc, sym, true, zero, ℕ, ◌++◌, ◌+◌, ◌<◌, ◌||◌, ◌∙◌, ◌∷◌, ◌≡◌, ◌≤◌}
+use Rattle.std.proofs.Common.{Bool, Contains, List, Some, [], ap, arith, cond, false, filter, find, get_or, if◌then◌else◌, length, map, nat_lt, not, refl, slice_get, subst, suc, sym, true, zero, ℕ, ◌++◌, ◌+◌, ◌<◌, ◌||◌, ◌∙◌, ◌∷◌, ◌≡◌, ◌≤◌}
 use Rattle.std.specs.List.{list_all, list_any}
-use Rattle.std.proofs.lemmas.Bool.{and_parts, lt-ltb}
+use Rattle.std.proofs.lemmas.Bool.{and_parts, lt-ltb, not-true}
 use Rattle.std.proofs.lemmas.List.Elements.{filter-append}
 
 pub Contains-cons : {X : Type 0} (first x : X) (xs : List X) → Contains xs x → Contains (first ∷ xs) x
@@ -94,6 +94,12 @@ filter_none {X} test (x ∷ xs) never = by (test x) refl (filter_none test xs (�
     by : (passes : Bool) → test x ≡ passes → filter test xs ≡ [] → cond passes (x ∷ filter test xs) (filter test xs) ≡ []
     by true passes rest = absurd (never 0 x refl passes)
     by false passes rest = rest
+
+pub none_kept : {X : Type 0} (test : X → Bool) (xs : List X) → list_all (λ x. not (test x)) xs ≡ true → filter test xs ≡ []
+none_kept test [] none = refl
+none_kept test (x ∷ xs) none =
+    let parts = and_parts (not (test x)) (list_all (λ x. not (test x)) xs) none in
+    rw (not-true (test x) parts.0) (none_kept test xs parts.1)
 
 pub filter_at_most_one : {X : Type 0} (test : X → Bool) (xs : List X)
     → ((i j : ℕ) (x y : X) → i < j → slice_get xs i ≡ Some x → slice_get xs j ≡ Some y → test x ≡ true → test y ≡ true → ⊥)

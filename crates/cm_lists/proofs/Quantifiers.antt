@@ -1,5 +1,5 @@
 -- What all elements pass, and what none does.
-use Rattle.std.proofs.Common.{Bool, List, Some, [], ap, arith, cond, drop, false, filter, get_or, length, map, nat_lt, refl, slice_get, subst, suc, sym, take, true, zero, ℕ, ◌&&◌, ◌++◌, ◌+◌, ◌<◌, ◌||◌, ◌∙◌, ◌∷◌, ◌≡◌, ◌≤◌}
+use Rattle.std.proofs.Common.{Bool, List, Some, [], ap, append_assoc, arith, cond, drop, false, filter, get_or, length, map, nat_lt, not, refl, slice_get, subst, suc, sym, take, true, zero, ℕ, ◌&&◌, ◌++◌, ◌+◌, ◌<◌, ◌||◌, ◌∙◌, ◌∷◌, ◌≡◌, ◌≤◌}
 use Rattle.std.specs.List.{AllByRecursion, AllWithin, list_all, list_any, remove}
 use Rattle.std.proofs.lemmas.Bool.{and_from, and_parts, ltb-true}
 use Rattle.std.proofs.lemmas.List.{at_drop_more, drop_all}
@@ -129,6 +129,14 @@ all_map test other f each [] all = refl
 all_map test other f each (x ∷ xs) all =
     let parts = and_parts _ _ all in and_from _ _ (each x parts.0) (all_map test other f each xs parts.1)
 
+-- two functions that agree where a test is passed, of elements that all pass it
+pub map_same : {X Y : Type 0} (all : X → Bool) (f g : X → Y) → ((x : X) → all x ≡ true → f x ≡ g x) → (xs : List X)
+    → list_all all xs ≡ true → map f xs ≡ map g xs
+map_same all f g same [] are = refl
+map_same {X} {Y} all f g same (x ∷ xs) are =
+    let parts = and_parts (all x) (list_all all xs) are in
+    ap (λ (y : Y). y ∷ map f xs) (same x parts.0) ∙ ap (λ (more : List Y). g x ∷ more) (map_same all f g same xs parts.1)
+
 -- what is so of all is so of all but one
 pub all_remove : {X : Type 0} (test : X → Bool) (xs : List X) (i : ℕ) → list_all test xs ≡ true
     → list_all test (remove xs i) ≡ true
@@ -195,6 +203,15 @@ none_of_all p q one (byte ∷ text) all =
     let parts = and_parts (p byte) (list_all p text) all in
     let here = one byte parts.0 in
     rw here (none_of_all p q one text parts.1)
+
+-- where no element passes, however it stands among the others, none does
+pub none_passes : {X : Type 0} (test : X → Bool) (all front rest : List X) → front ++ rest ≡ all
+    → ((before behind : List X) (x : X) → before ++ x ∷ behind ≡ all → test x ≡ false)
+    → list_all (λ x. not (test x)) rest ≡ true
+none_passes test all front [] joined fails = refl
+none_passes test all front (x ∷ rest) joined fails =
+    rw (fails front rest x joined)
+    (none_passes test all (front ++ x ∷ []) rest (append_assoc front (x ∷ []) rest ∙ joined) fails)
 
 pub any_past : {X : Type 0} (test : X → Bool) (xs : List X) (i : ℕ) (some : Bool)
     → list_any test (drop i xs) ≡ some → length xs ≤ i → false ≡ some

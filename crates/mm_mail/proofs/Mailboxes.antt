@@ -6,6 +6,7 @@ use Rattle.std.specs.Str.{bytes_eq}
 use Rattle.std.proofs.lemmas.Bool.{and_parts}
 use Rattle.cm_lists.proofs.Bools.{and-false}
 use Rattle.cm_lists.proofs.Filters.{filter_same}
+use Rattle.cm_lists.proofs.Quantifiers.{map_same}
 use Rattle.cm_text.specs.Bytes.{is_name, is_word}
 use Rattle.cm_fields.specs.declared.code.Code.TheVariants.{NoMessage}
 use Rattle.cm_fields.specs.declared.value.Gen.TheVariants.{All, Number}
@@ -159,13 +160,6 @@ lines_of_all state directory well =
     (is_message_in directory) (λ row is. asks_each state.directories directory state row is) state.rows well.draft.rows.within
 
 -- the files of one message, marked
-map_same : {X Y : Type 0} (all : X → Bool) (f g : X → Y) → ((x : X) → all x ≡ true → f x ≡ g x) → (xs : List X)
-    → list_all all xs ≡ true → map f xs ≡ map g xs
-map_same all f g same [] are = refl
-map_same {X} {Y} all f g same (x ∷ xs) are =
-    let parts = and_parts (all x) (list_all all xs) are in
-    ap (λ (y : Y). y ∷ map f xs) (same x parts.0) ∙ ap (λ (more : List Y). g x ∷ more) (map_same all f g same xs parts.1)
-
 pub marks_one : (state : State) (number : ℕ) → IsWellFormed state → number ≤ MOST_MESSAGES
     → record state { rows = rows_with_remark (remarks.Deleted true) (message_place state.connected number (Number FIRST_GENERATION)) state }
     ≡ with_deleted number state

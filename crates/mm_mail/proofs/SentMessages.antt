@@ -1,11 +1,13 @@
 -- A message that is sent is one of its receiver's, the only one with its number.
-use Rattle.std.proofs.Common.{◌≡◌, ℕ, ◌≤◌, ◌==◌, ◌&&◌, nat_le, nat_lt, not, Bool, true, false, cond, filter, List, [], ◌∷◌, ◌++◌, length, Result, Ok, Err, refl, ap, sym, subst, ◌∙◌, append_assoc, arith}
+use Rattle.std.proofs.Common.{◌≡◌, ℕ, ◌≤◌, ◌==◌, ◌&&◌, nat_le, nat_lt, not, Bool, true, false, cond, filter, List, [], ◌∷◌, ◌++◌, length, Result, Ok, Err, refl, ap, sym, subst, ◌∙◌, arith}
 use Rattle.std.specs.List.{list_all}
 use Rattle.std.specs.Ordering.{is_eq, is_lt}
 use Rattle.std.specs.Str.{bytes_eq}
 use Rattle.std.proofs.lemmas.Bool.{and_from, and_parts, eq-eqb, eqb-true, not-true}
 use Rattle.std.proofs.lemmas.Bool.Decides.{nat_tests}
 use Rattle.cm_lists.proofs.Bools.{and-false}
+use Rattle.cm_lists.proofs.Filters.{none_kept}
+use Rattle.cm_lists.proofs.Quantifiers.{none_passes}
 use Rattle.cm_lists.proofs.Texts.{bytes_eq_itself}
 use Rattle.cm_fields.specs.declared.code.Code.{Code}
 use Rattle.cm_fields.specs.declared.code.Code.TheVariants.{MailFull}
@@ -38,22 +40,6 @@ use Rattle.mm_mail.specs.declared.message.Message.{Message}
 use Rattle.mm_mail.specs.declared.message_name.TheConstants.{MOST_MESSAGES}
 use Rattle.mm_mail.proofs.MessageNames.{is_message, number_of_name}
 use Rattle.mm_mail.proofs.Numbers.{own_number}
-
--- where no element passes, however it stands among the others, none does
-none_passes : {X : Type 0} (test : X → Bool) (all front rest : List X) → front ++ rest ≡ all
-    → ((before behind : List X) (x : X) → before ++ x ∷ behind ≡ all → test x ≡ false)
-    → list_all (λ x. not (test x)) rest ≡ true
-none_passes test all front [] joined fails = refl
-none_passes test all front (x ∷ rest) joined fails =
-    rw (fails front rest x joined)
-    (none_passes test all (front ++ x ∷ []) rest (append_assoc front (x ∷ []) rest ∙ joined) fails)
-
--- then none is kept
-none_kept : {X : Type 0} (test : X → Bool) (xs : List X) → list_all (λ x. not (test x)) xs ≡ true → filter test xs ≡ []
-none_kept test [] none = refl
-none_kept test (x ∷ xs) none =
-    let parts = and_parts (not (test x)) (list_all (λ x. not (test x)) xs) none in
-    rw (not-true (test x) parts.0) (none_kept test xs parts.1)
 
 -- a row that passes, among others that do not
 filter_inserted : (test : Row → Bool) (row : Row) (rows : List Row) → test row ≡ true
