@@ -5,7 +5,7 @@ use Rattle.std.specs.List.{All, prefix_len}
 use Rattle.std.proofs.lemmas.Bool.Decides.{nat_tests}
 use Rattle.std.proofs.lemmas.List.{drop-append-le}
 use Rattle.cm_lists.proofs.Bools.{cond_each}
-use Rattle.cm_text.specs.Bytes.{is_name, is_word}
+use Rattle.cm_text.specs.Bytes.{is_name, is_shown, is_shown_byte, is_word}
 use Rattle.cm_text.specs.Text.{finished}
 use Rattle.cm_tables.specs.declared.entry.Entry.{Entry}
 use Rattle.cm_dates.specs.Date.{date_of}
@@ -33,7 +33,7 @@ use Rattle.cm_blocks.specs.declared.function.Function.TheVariants.{Key, Switch, 
 use Rattle.cm_blocks.specs.declared.node.Block.{Block}
 use Rattle.cm_blocks.specs.declared.node.Node.{Node}
 use Rattle.cm_blocks.specs.Chain.{Counted, at_node, by_default, chain_at, default_place, default_rest, defaulted, is_confirm, is_line_end, on_default, on_text, or_later, past_skip, typed, walk}
-use Rattle.cm_blocks.specs.Fault.{grammar_fault, has_phrase, is_shown, is_shown_byte}
+use Rattle.cm_blocks.specs.Fault.{grammar_fault, has_phrase}
 use Rattle.cm_blocks.specs.Grammar.{Graph}
 use Rattle.cm_blocks.specs.Keyword.{behind_slash, entry_position, has_colon, key_value, named_switch, switch}
 use Rattle.cm_blocks.specs.Parse.{IsClosed, Parse, after_chain, ending_of, parse_from, parse_of}

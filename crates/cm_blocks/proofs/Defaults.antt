@@ -5,8 +5,9 @@ use Rattle.std.specs.Option.{option_map_or}
 use Rattle.std.specs.Str.{IsAscii}
 use Rattle.std.proofs.lemmas.Bool.{and_parts}
 use Rattle.std.proofs.lemmas.Bool.Decides.{nat_tests}
+use Rattle.cm_text.specs.Bytes.{is_shown, is_shown_byte}
 use Rattle.cm_blocks.specs.declared.node.Node.{Node}
-use Rattle.cm_blocks.specs.Fault.{grammar_fault, is_shown, is_shown_byte}
+use Rattle.cm_blocks.specs.Fault.{grammar_fault}
 use Rattle.cm_blocks.specs.Grammar.{Graph}
 use Rattle.cm_blocks.proofs.Wells.{default_shown}
 

@@ -6,12 +6,13 @@ use Rattle.std.specs.Option.{option_map_or}
 use Rattle.std.proofs.lemmas.Bool.Decides.{nat_tests}
 use Rattle.std.proofs.lemmas.List.Sums.{AllPass-from_list_all}
 use Rattle.std.proofs.lemmas.Option.{slice_get_read}
+use Rattle.cm_text.specs.Bytes.{is_shown}
 use Rattle.cm_tables.specs.declared.entry.Entry.{Entry}
 use Rattle.cm_blocks.specs.declared.fault.TheConstants.{BLOCK_LIMIT, NODE_LIMIT}
 use Rattle.cm_blocks.specs.declared.grammar.GrammarFault.{GrammarFault}
 use Rattle.cm_blocks.specs.declared.node.Block.{Block}
 use Rattle.cm_blocks.specs.declared.node.Node.{Node}
-use Rattle.cm_blocks.specs.Fault.{grammar_fault, has_flags, has_phrase, has_size, has_table, has_texts, is_shown, leads_within, node_fault, nodes_fault, or_fault}
+use Rattle.cm_blocks.specs.Fault.{grammar_fault, has_flags, has_phrase, has_size, has_table, has_texts, leads_within, node_fault, nodes_fault, or_fault}
 use Rattle.cm_blocks.specs.Grammar.{Graph, blocks_limit, hook_limit, nodes_limit}
 use Rattle.cm_blocks.specs.Well.{IsWell}
 

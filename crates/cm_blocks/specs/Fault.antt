@@ -2,6 +2,7 @@
 use Rattle.std.specs.Prelude.{ℕ, ◌+◌, Bool, true, false, not, ◌&&◌, ◌||◌, ◌==◌, if◌then◌else◌, nat_lt, nat_le, List, [], ◌∷◌, length, Option, Some, None, slice_get}
 use Rattle.std.specs.List.{list_all, list_any}
 use Rattle.std.specs.Option.{option_map_or}
+use Rattle.cm_text.specs.Bytes.{is_shown}
 use Rattle.cm_tables.specs.declared.entry.Entry.{Entry}
 use Rattle.cm_blocks.specs.declared.function.Function.{Function}
 use Rattle.cm_blocks.specs.declared.function.Function.TheVariants.{Key, Switch, Noise, Token, Confirm}
@@ -36,14 +37,7 @@ leads_within tables nodes block =
     nat_lt block.next nodes
     && list_all (λ (entry : Entry). nat_lt entry.next nodes) (entries_of tables block.function)
 
--- from space to tilde, but no question mark
-abbrev pub is_shown_byte : ℕ → Bool
-is_shown_byte byte = nat_le 32 byte && nat_le byte 126 && not (byte == 63)
-
-abbrev pub is_shown : List ℕ → Bool
-is_shown text = list_all is_shown_byte text
-
--- at least one such byte
+-- a text that is shown as it is, of at least one byte
 abbrev pub is_phrase : List ℕ → Bool
 is_phrase text = nat_lt 0 (length text) && is_shown text
 

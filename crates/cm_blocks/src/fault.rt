@@ -2,11 +2,12 @@
 ghost use Rattle.std.specs.Prelude.{◌≡◌, ◌≤◌, true, length, nat_lt};
 ghost use Rattle.std.specs.List.{list_all, list_any};
 ghost use Rattle.std.specs.Option.{option_map_or};
-ghost use Rattle.cm_blocks.specs.Fault.{chain_confirms, entries_at, entries_of, grammar_fault, has_flags, has_phrase, has_size, has_table, has_texts, is_confirm, is_parenthesis, is_phrase, is_shown, is_shown_byte, leads_within, node_fault, nodes_fault};
+ghost use Rattle.cm_text.specs.Bytes.{is_shown};
+ghost use Rattle.cm_blocks.specs.Fault.{chain_confirms, entries_at, entries_of, grammar_fault, has_flags, has_phrase, has_size, has_table, has_texts, is_confirm, is_parenthesis, is_phrase, leads_within, node_fault, nodes_fault};
 
 use crate::{Block, Function, GrammarFault, Node};
 use cm_tables::{Entry, Table};
-use cm_text::Name;
+use cm_text::{Name, is_shown};
 
 /// The most nodes of a grammar.
 pub const NODE_LIMIT: usize = 1024;
@@ -39,18 +40,6 @@ fn have_tables(tables: &[Table], chain: &[Block]) -> bool
     ensures { result ≡ list_all (λ block. has_table tables.now block.function) chain.now }
 {
     chain.iter().all(|block| has_table(tables, &block.function))
-}
-
-fn is_shown_byte(byte: u8) -> bool
-    ensures { result ≡ is_shown_byte byte }
-{
-    matches!(byte, b' '..=b'~') && byte != b'?'
-}
-
-fn is_shown(text: &[u8]) -> bool
-    ensures { result ≡ is_shown text.now }
-{
-    text.iter().all(|byte| is_shown_byte(*byte))
 }
 
 fn is_phrase(text: &[u8]) -> bool

@@ -47,6 +47,7 @@ fn edits_cost_their_trials()
           colon = false;
           code = 0;
           next = 1;
+          help = None;
         } in
         let s = setting (record {
           nodes = node (Function.Key 0) 0 ∷ node Function.Word 1 ∷ [];

@@ -18,6 +18,7 @@ pub(crate) fn entry(text: &str, colon: bool, code: u16, next: u16) -> Entry
         colon,
         code,
         next,
+        help: None,
     }
 }
 

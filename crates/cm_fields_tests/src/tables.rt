@@ -17,6 +17,7 @@ fn entry(text: &str, flag: Flag) -> Entry
         colon: false,
         code: 7,
         next: 0,
+        help: None,
     }
 }
 
@@ -30,10 +31,22 @@ fn flag_of(rt: &impl Abort, word: &str) -> Flag {
     }
 }
 
+// A keyword, `:` and its flag, and `=` and its help, of which each but the keyword may be left out.
 fn entry_of(rt: &impl Abort, keyword: &str) -> Entry {
+    let (keyword, help) = match keyword.split_once('=') {
+        Some((keyword, help)) => (keyword, Some(help)),
+        None => (keyword, None),
+    };
     let (text, flag) = keyword.split_once(':').unwrap_or((keyword, ""));
     assert!(rt; text.len() <= NAME_LIMIT, "{keyword}");
-    entry(text, flag_of(rt, flag))
+    let entry = entry(text, flag_of(rt, flag));
+    match help {
+        Some(help) => {
+            assert!(rt; help.len() <= NAME_LIMIT, "{keyword}");
+            entry.with_help(help)
+        }
+        None => entry,
+    }
 }
 
 fn entries_of(rt: &impl Abort, alloc: Global, keywords: &str) -> Result<Vec<Entry>, AllocError> {
@@ -57,7 +70,14 @@ A:1|Some(BadTarget(0))
 A:1 ABLE:NoRecognise|Some(BadTarget(0))
 A:1 BAKER|Some(BadTarget(0))
 A:1 ABLE|None
-ABLE B:0|Some(BadTarget(1))";
+ABLE B:0|Some(BadTarget(1))
+ABLE=(it)~ BAKER=|None
+ABLE=a?|Some(BadHelp(0))
+ABLE=a BAKER=\x1fb|Some(BadHelp(1))
+ABLE BAKER=a\x7f|Some(BadHelp(1))
+ABLE=\u{e9} BAKER=?|Some(BadHelp(0))
+ABLE=? ABLE|Some(Repeat(1))
+ABLE=? B:0|Some(BadTarget(1))";
 
 fn has_its_fault(rt: &impl Abort, alloc: Global, case: &str) -> Result<(), Fail> {
     let fault = Table::new(entries_of(rt, alloc, part(rt, case, 0))?).err();
@@ -234,8 +254,8 @@ fn is_made_of_words(rt: HostRuntime) -> Result<(), Fail> {
     let shown = format!(in alloc; "{:?}", table.entries())?;
     assert_eq!(rt;
         shown.as_str(),
-        "[Entry { text: Name { text: \"LIST\" }, flag: Plain, colon: false, code: 3, next: 2 }, \
-        Entry { text: Name { text: \"SIZE\" }, flag: Plain, colon: true, code: 4, next: 6 }]"
+        "[Entry { text: Name { text: \"LIST\" }, flag: Plain, colon: false, code: 3, next: 2, help: None }, \
+        Entry { text: Name { text: \"SIZE\" }, flag: Plain, colon: true, code: 4, next: 6, help: None }]"
     );
     Ok(())
 }

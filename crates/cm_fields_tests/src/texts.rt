@@ -1,6 +1,6 @@
 // Classes of bytes, and texts compared.
 use crate::cases::{is_wanted, number, part};
-use cm_text::{begins_with, common_len, equals, is_blank, is_name, is_text, is_word};
+use cm_text::{begins_with, common_len, equals, is_blank, is_name, is_shown, is_text, is_word};
 use std::alloc::Global;
 use std::process::Abort;
 use std::test::Fail;
@@ -116,4 +116,26 @@ fn counts_what_is_alike(rt: HostRuntime) {
             "{case}"
         );
     }
+}
+
+// Whether a text is shown as it is.
+const TEXTS: &str = "\
+|true
+how bright, 0 to 100|true
+ >@~|true
+?|false
+a?b|false
+\tb|false
+a\x1f|false
+\x7f|false
+\u{e9}|false";
+
+#[test]
+fn a_text_is_shown_as_it_is(rt: HostRuntime) -> Result<(), Fail> {
+    let alloc = rt.alloc();
+    for case in TEXTS.lines() {
+        let shown = is_shown(part(&rt, case, 0).as_bytes());
+        is_wanted(&rt, case, format!(in alloc; "{shown}")?.as_str());
+    }
+    Ok(())
 }

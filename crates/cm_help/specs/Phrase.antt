@@ -1,5 +1,5 @@
 -- What `?` says that a block reads.
-use Rattle.std.specs.Prelude.{ℕ, Bool, true, false, ◌&&◌, List, [], ◌∷◌, ◌++◌, drop, unwrap_or, codes}
+use Rattle.std.specs.Prelude.{ℕ, Bool, true, false, ◌&&◌, List, [], ◌∷◌, ◌++◌, drop, unwrap_or, codes, Option, Some, None}
 use Rattle.cm_text.specs.Shown.{end_of_line}
 use Rattle.cm_tables.specs.declared.entry.Entry.{Entry}
 use Rattle.cm_tables.specs.Listed.{listed_from}
@@ -20,9 +20,18 @@ unfoldable pub colon : Bool → List ℕ
 colon true = codes ":"
 colon false = []
 
--- an entry on a line of its own; behind a switch that a value follows stands its colon
+unfoldable pub gap : List ℕ
+gap = codes "  "
+
+-- the help of an entry, behind two spaces, where it has one
+abbrev pub entry_help : Option (List ℕ) → List ℕ
+entry_help None = []
+entry_help (Some help) = gap ++ help
+
+-- an entry on a line of its own: its text, the colon of a switch that a value follows, and its help
 unfoldable pub entry_line : Bool → Entry → List ℕ
-entry_line switch entry = end_of_line ++ indent switch ++ entry.text ++ colon (switch && entry.colon)
+entry_line switch entry =
+    end_of_line ++ indent switch ++ entry.text ++ colon (switch && entry.colon) ++ entry_help entry.help
 
 -- the entries, each with its position, one behind the other
 abbrev pub entry_lines : Bool → List (ℕ × Entry) → List ℕ

@@ -9,13 +9,13 @@ ghost use Rattle.cm_hooks.specs.Ties.{Ties, count};
 ghost use Rattle.cm_blocks.specs.Fault.{has_table};
 ghost use Rattle.cm_blocks.specs.Grammar.{hook_count, hook_limit};
 ghost use Rattle.cm_blocks.specs.Well.{IsWellBlock};
-ghost use Rattle.cm_help.specs.Phrase.{colon, entry_line, entry_lines, function_phrase, guide_end, guide_word, indent, keywords, none_matches, one_of, phrase, quote};
+ghost use Rattle.cm_help.specs.Phrase.{colon, entry_help, entry_line, entry_lines, function_phrase, gap, guide_end, guide_word, indent, keywords, none_matches, one_of, phrase, quote};
 
 use cm_blocks::{Block, Function, Grammar};
 use cm_hooks::{Hooks, Rules};
 use cm_io::{Sink, Writer};
 use cm_tables::{Entry, Table};
-use cm_text::end_of_line;
+use cm_text::{Name, end_of_line};
 
 #[tactic(auto, unfolding(crate::specs::Phrase::indent))]
 fn indent(switch: bool) -> &'static [u8]
@@ -66,6 +66,24 @@ fn quote() -> &'static [u8]
     b"\""
 }
 
+#[tactic(auto, unfolding(crate::specs::Phrase::gap))]
+fn gap() -> &'static [u8]
+    ensures { result.now ≡ gap }
+{
+    b"  "
+}
+
+// Puts the help of an entry behind the entry, where it has one.
+#[tactic(auto, using(cm_io::proofs::Texts::texts, cm_io::proofs::Texts::each))]
+fn put_entry_help<S: Sink>(help: &Option<Name>, out: &mut Writer<'_, S>)
+    ensures { Writes S.Sink out.old out.new (entry_help help.now) }
+{
+    if let Some(help) = help {
+        out.put(gap());
+        out.put(help.as_bytes());
+    }
+}
+
 // Puts an entry on a line of its own.
 #[tactic(auto, using(cm_io::proofs::Texts::texts), unfolding(crate::specs::Phrase::entry_line))]
 fn put_entry<S: Sink>(switch: bool, entry: &Entry, out: &mut Writer<'_, S>)
@@ -75,6 +93,7 @@ fn put_entry<S: Sink>(switch: bool, entry: &Entry, out: &mut Writer<'_, S>)
     out.put(indent(switch));
     out.put(entry.text.as_bytes());
     out.put(colon(switch && entry.colon));
+    put_entry_help(&entry.help, out);
 }
 
 // Puts the listed entries that go on from an atom, one behind the other.

@@ -11,6 +11,7 @@ use Rattle.std.proofs.Math.Seq.{take-append_seam}
 use Rattle.cm_lists.proofs.Bools.{by_test}
 use Rattle.cm_lists.proofs.Elements.{slice_get_at}
 use Rattle.cm_lists.proofs.Prefixes.{all_of_prefix_len, prefix_len_both, prefix_len_drop}
+use Rattle.cm_text.specs.Bytes.{is_shown_byte}
 use Rattle.cm_text.specs.BeginLaws.{begins-le, begins_same, begins_whole, length-whole, lower, same_begins}
 use Rattle.cm_text.specs.Case.{begins_with, equals}
 use Rattle.cm_fields.specs.declared.code.Code.TheVariants.{BadNoise}
@@ -19,7 +20,7 @@ use Rattle.cm_fields.specs.declared.trial.Try.TheVariants.{Accept, Refuse, More}
 use Rattle.cm_fields.specs.declared.value.Value.TheVariants.{Noise, Token}
 use Rattle.cm_fields.specs.Phrase.{is_inside, noise, same_letter, token, typed_noise}
 use Rattle.cm_fields.proofs.Phrases.{token_whole}
-use Rattle.cm_blocks.specs.Fault.{is_parenthesis, is_shown_byte}
+use Rattle.cm_blocks.specs.Fault.{is_parenthesis}
 use Rattle.cm_recognise.specs.declared.outcome.Outcome.TheVariants.{Nothing, Whole}
 use Rattle.cm_recognise.specs.Found.{missing}
 use Rattle.cm_recognise.specs.Outcome.{guide, phrase_outcome}

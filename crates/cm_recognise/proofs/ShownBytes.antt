@@ -7,7 +7,7 @@ use Rattle.std.proofs.lemmas.Bool.{and_parts}
 use Rattle.std.proofs.lemmas.Bool.Decides.{nat_tests}
 use Rattle.cm_lists.proofs.Bools.{cond_each}
 use Rattle.cm_lists.proofs.Digits.{decimal_digits}
-use Rattle.cm_text.specs.Bytes.{is_name, is_word}
+use Rattle.cm_text.specs.Bytes.{is_name, is_shown_byte, is_word}
 use Rattle.cm_text.specs.Case.{begins_with, equals}
 use Rattle.cm_tables.specs.Common.{shared}
 use Rattle.cm_fields.specs.declared.code.Code.{Code}
@@ -20,7 +20,6 @@ use Rattle.cm_files.specs.Fields.{is_plain_path, is_user}
 use Rattle.cm_files.specs.Pattern.{is_wild}
 use Rattle.cm_files.specs.Selection.{agree}
 use Rattle.cm_files.specs.Spec.{part, part_or_nothing, read_spec}
-use Rattle.cm_blocks.specs.Fault.{is_shown_byte}
 use Rattle.cm_recognise.specs.declared.file_outcome.Request.{Request}
 use Rattle.cm_recognise.specs.declared.found.Found.{Found}
 use Rattle.cm_recognise.specs.declared.found.Found.TheVariants.{Nobody, One, Several}

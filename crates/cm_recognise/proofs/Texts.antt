@@ -6,7 +6,7 @@ use Rattle.std.proofs.lemmas.Bool.{and_parts}
 use Rattle.std.proofs.lemmas.Bool.Decides.{nat_tests}
 use Rattle.cm_lists.proofs.Bools.{cond_each}
 use Rattle.cm_lists.proofs.Quantifiers.{AllByRecursion-append, AllByRecursion-drop}
-use Rattle.cm_text.specs.Bytes.{is_line_byte, is_name, is_text, is_word}
+use Rattle.cm_text.specs.Bytes.{is_line_byte, is_name, is_shown, is_shown_byte, is_text, is_word}
 use Rattle.cm_text.specs.Case.{begins_with}
 use Rattle.cm_text.specs.Shown.{join_shown, shown_byte}
 use Rattle.cm_text.specs.declared.text.TheConstants.{JOIN}
@@ -18,7 +18,6 @@ use Rattle.cm_tables.specs.Order.{is_keyword, is_keyword_byte, table_fault, text
 use Rattle.cm_tables.proofs.FoundLemmas.{keyword_of, no-texts_fault}
 use Rattle.cm_tables.proofs.ShareLemmas.{common_is_shared}
 use Rattle.cm_tables.proofs.WithinLemmas.{both-none}
-use Rattle.cm_blocks.specs.Fault.{is_shown, is_shown_byte}
 use Rattle.cm_blocks.specs.Grammar.{Graph}
 use Rattle.cm_blocks.specs.Trial.{table_of}
 use Rattle.cm_blocks.specs.Well.{AreTables}

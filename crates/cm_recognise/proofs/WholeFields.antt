@@ -8,7 +8,7 @@ use Rattle.std.proofs.lemmas.Bool.Decides.{nat_tests}
 use Rattle.std.proofs.lemmas.List.{drop_all}
 use Rattle.std.proofs.lemmas.Option.{get_or_from_slice_get, slice_get_within}
 use Rattle.cm_lists.proofs.Prefixes.{prefix_len_both, prefix_len_drop}
-use Rattle.cm_text.specs.Bytes.{is_blank, is_name, is_word}
+use Rattle.cm_text.specs.Bytes.{is_blank, is_name, is_shown, is_word}
 use Rattle.cm_text.specs.Text.{IsLine}
 use Rattle.cm_text.specs.declared.text.TheConstants.{LINE_LIMIT}
 use Rattle.cm_tables.specs.Look.{look}
@@ -34,7 +34,7 @@ use Rattle.cm_blocks.specs.declared.function.Function.{Function}
 use Rattle.cm_blocks.specs.declared.function.Function.TheVariants.{Key, Switch, Noise, Number, Word, Quoted, Token, Date, User, Directory, InFile, OutFile, AnyFile, Text, Comma, Confirm, Hook}
 use Rattle.cm_blocks.specs.declared.node.Block.{Block}
 use Rattle.cm_blocks.specs.Chain.{chain_at, is_confirm}
-use Rattle.cm_blocks.specs.Fault.{grammar_fault, has_flags, has_phrase, is_parenthesis, is_phrase, is_shown}
+use Rattle.cm_blocks.specs.Fault.{grammar_fault, has_flags, has_phrase, is_parenthesis, is_phrase}
 use Rattle.cm_blocks.specs.Grammar.{Graph}
 use Rattle.cm_blocks.specs.Keyword.{code_at}
 use Rattle.cm_blocks.specs.Setting.{Setting}

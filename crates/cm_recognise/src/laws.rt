@@ -2,6 +2,7 @@
 ghost use Rattle.std.specs.Prelude.{◌≡◌, ◌≢◌, ◌+◌, ◌≤◌, ◌++◌, ℕ, List, [], None, Some, drop, false, length, true};
 ghost use Rattle.std.specs.Io.{StartsWith};
 ghost use Rattle.std.specs.List.{AllByRecursion, flat_map};
+ghost use Rattle.cm_text.specs.Bytes.{is_shown};
 ghost use Rattle.cm_text.specs.Shown.{shown_byte};
 ghost use Rattle.cm_text.specs.Text.{IsLine};
 ghost use Rattle.cm_text.specs.declared.text.TheConstants.{LINE_LIMIT};
@@ -12,7 +13,7 @@ ghost use Rattle.cm_blocks.specs.declared.field.Ending.{Ending};
 ghost use Rattle.cm_blocks.specs.declared.field.Ending.TheVariants as ending;
 ghost use Rattle.cm_blocks.specs.declared.node.Block.{Block};
 ghost use Rattle.cm_blocks.specs.Chain.{chain_at};
-ghost use Rattle.cm_blocks.specs.Fault.{grammar_fault, is_shown};
+ghost use Rattle.cm_blocks.specs.Fault.{grammar_fault};
 ghost use Rattle.cm_blocks.specs.Setting.{Setting};
 ghost use Rattle.cm_blocks.specs.Well.{AreTables};
 ghost use Rattle.cm_recognise.specs.declared.found.Found.TheVariants.{Nobody, One, Several};

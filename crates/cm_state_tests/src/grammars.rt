@@ -19,7 +19,7 @@ pub(crate) fn exec(alloc: Global) -> Result<Grammar, Fail> {
 // A grammar with fields of all kinds.
 pub(crate) fn fields(alloc: Global) -> Result<Grammar, Fail> {
     Ok(Grammar::new(
-        nodes::nodes(alloc, texts::FIELD_NODES, 28)?,
+        nodes::nodes(alloc, texts::FIELD_NODES, 29)?,
         tables::tables(alloc, texts::FIELD_TABLES)?,
     )?)
 }

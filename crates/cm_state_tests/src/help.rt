@@ -112,6 +112,31 @@ fn lists_what_may_come(rt: HostRuntime) -> Result<(), Fail> {
 }
 
 #[test]
+fn tells_what_a_keyword_is_for(rt: HostRuntime) -> Result<(), Fail> {
+    let cases = "\
+28.0@0|| one of the following:\r
+  DIM  a lamp, by some levels\r
+  LIST\r
+  NAME  a room (again)\r
+ or one of the following:\r
+  /BY:  how many levels\r
+  /FAST  at once\r
+  /ONCE:
+
+28.0@0|n| one of the following:\r
+  NAME  a room (again)
+
+28.0@0|L| one of the following:\r
+  LIST
+
+28.0@0|K| keyword, none matches
+
+28.0@2|  /b| one of the following:\r
+  /BY:  how many levels";
+    tries(&rt, rt.alloc(), Question::Help, cases)
+}
+
+#[test]
 fn tells_why_there_is_nothing_to_come(rt: HostRuntime) -> Result<(), Fail> {
     let cases = "\
 NotKeyword|X | Unrecognized keyword

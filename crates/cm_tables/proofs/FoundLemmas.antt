@@ -1,5 +1,5 @@
 -- An atom that is found is a beginning of an entry, and the whole of its text finds that entry.
-use Rattle.std.proofs.Common.{◌≡◌, ℕ, zero, suc, ◌+◌, Bool, true, false, cond, ltb, ◌&&◌, List, [], ◌∷◌, ◌++◌, length, take, drop, Option, Some, None, slice_get, arith, refl, ap, sym, subst, ◌∙◌}
+use Rattle.std.proofs.Common.{◌≡◌, ℕ, zero, suc, ◌+◌, Bool, true, false, cond, ◌&&◌, List, [], ◌∷◌, ◌++◌, length, take, drop, Option, Some, None, slice_get, arith, refl, ap, sym, subst, ◌∙◌}
 use Rattle.std.specs.Char.{to_ascii_lowercase}
 use Rattle.std.specs.Cmp.Lexicographic.{slice_cmp}
 use Rattle.std.specs.List.{enumerate_from, filter, list_all}
@@ -15,14 +15,13 @@ use Rattle.std.proofs.lemmas.Slice.Eq.{bytes_eq-Decides}
 use Rattle.cm_text.specs.BeginLaws.{begins_whole, length-whole, lower}
 use Rattle.cm_text.specs.Case.{begins_with, equals}
 use Rattle.cm_tables.specs.Look.{by_equal, candidates, equal_entries, exact, found_at, is_recognised, look}
-use Rattle.cm_tables.specs.Order.{by_order, first_fault, is_keyword, is_keyword_byte, is_target, order_fault, table_fault, target_fault, targets_fault, text_fault, texts_fault}
+use Rattle.cm_tables.specs.Order.{by_order, is_keyword, is_keyword_byte, is_target, order_fault, table_fault, target_fault, targets_fault, text_fault, texts_fault}
 use Rattle.cm_tables.specs.declared.entry.Entry.{Entry}
 use Rattle.cm_tables.specs.declared.entry.Flag.{Flag}
 use Rattle.cm_tables.specs.declared.entry.Flag.TheVariants.{Plain, Invisible, NoRecognise, Short}
-use Rattle.cm_tables.specs.declared.fault.TheConstants.{ENTRY_LIMIT}
 use Rattle.cm_tables.specs.declared.table.Look.TheVariants as looks
-use Rattle.cm_tables.specs.declared.table.TableFault.TheVariants.{TooMany, BadText, BadTarget}
-use Rattle.cm_tables.proofs.WithinLemmas.{both-none, no-targets_fault}
+use Rattle.cm_tables.specs.declared.table.TableFault.TheVariants.{BadText, BadTarget}
+use Rattle.cm_tables.proofs.WithinLemmas.{both-none, no-faults, no-targets_fault}
 
 -- texts that are one are the same without the case of their letters
 pub lower_same : (text other : List ℕ) → equals text other ≡ true → lower text ≡ lower other
@@ -261,14 +260,7 @@ found_begins table atom at entry none is reads = (found table atom at entry none
 
 -- a list with no fault has none at its texts
 pub no-texts_fault : (table : List Entry) → table_fault table ≡ None → texts_fault 0 None table ≡ None
-unfolding table_fault
-no-texts_fault table none = by (ltb ENTRY_LIMIT (length table)) none
-  where
-    by : (test : Bool)
-        → cond test (Some TooMany) (first_fault (texts_fault 0 None table) (targets_fault table 0 table)) ≡ None
-        → texts_fault 0 None table ≡ None
-    by true none = cc
-    by false none = (both-none (texts_fault 0 None table) (targets_fault table 0 table) none).0
+no-texts_fault table none = (no-faults table none).0
 
 exact_itself : (place : ℕ) (flag : Flag) → is_recognised flag ≡ true → exact place flag ≡ looks.Exact place
 exact_itself place Plain recognised = refl

@@ -3,7 +3,7 @@ use Rattle.std.proofs.Common.{◌≡◌, ℕ, ◌+◌, ◌<◌, ◌≤◌, Bool,
 use Rattle.std.specs.List.{enumerate_from, filter}
 use Rattle.std.proofs.lemmas.Option.{slice_get_within}
 use Rattle.cm_tables.specs.Look.{IsWithin, abbreviated, by_equal, equal_entries, exact, look, candidates}
-use Rattle.cm_tables.specs.Order.{is_target, first_fault, table_fault, target_fault, targets_fault, texts_fault}
+use Rattle.cm_tables.specs.Order.{helps_fault, is_target, first_fault, table_fault, target_fault, targets_fault, texts_fault}
 use Rattle.cm_tables.specs.declared.entry.Entry.{Entry}
 use Rattle.cm_tables.specs.declared.entry.Flag.{Flag}
 use Rattle.cm_tables.specs.declared.entry.Flag.TheVariants.{Plain, Invisible, NoRecognise, Short}
@@ -88,15 +88,22 @@ by_equal-within : (equals abbreviations : List (ℕ × Entry)) (count : ℕ)
 by_equal-within [] abbreviations count all others = abbreviated-within abbreviations count others
 by_equal-within (e ∷ more) abbreviations count all others = exact-within e.0 e.1.flag count all.0 all.1.0
 
--- a list with no fault has none at its targets
-pub no-targets_fault : (table : List Entry) → table_fault table ≡ None → targets_fault table 0 table ≡ None
+-- a list with no fault has none at its texts, and none behind them
+pub no-faults : (table : List Entry) → table_fault table ≡ None
+    → (texts_fault 0 None table ≡ None) × (first_fault (targets_fault table 0 table) (helps_fault 0 table) ≡ None)
 unfolding table_fault
-no-targets_fault table e = by (ltb ENTRY_LIMIT (length table)) e
+no-faults table e = by (ltb ENTRY_LIMIT (length table)) e
   where
-    by : (b : Bool) → cond b (Some TooMany) (first_fault (texts_fault 0 None table) (targets_fault table 0 table)) ≡ None
-        → targets_fault table 0 table ≡ None
+    behind : Option TableFault
+    behind = first_fault (targets_fault table 0 table) (helps_fault 0 table)
+
+    by : (b : Bool) → cond b (Some TooMany) (first_fault (texts_fault 0 None table) behind) ≡ None
+        → (texts_fault 0 None table ≡ None) × (behind ≡ None)
     by true e = cc
-    by false e = (both-none (texts_fault 0 None table) (targets_fault table 0 table) e).1
+    by false e = both-none (texts_fault 0 None table) behind e
+
+pub no-targets_fault : (table : List Entry) → table_fault table ≡ None → targets_fault table 0 table ≡ None
+no-targets_fault table e = (both-none (targets_fault table 0 table) (helps_fault 0 table) (no-faults table e).1).0
 
 -- in a table, the look-up gives a position of the table
 pub look-within : (table : List Entry) (atom : List ℕ) → table_fault table ≡ None → IsWithin (look table atom) (length table)

@@ -1,10 +1,12 @@
 -- What makes a list of entries a table, and the first fault of one that is none.
-use Rattle.std.specs.Prelude.{ℕ, ◌+◌, Bool, false, ◌&&◌, ◌||◌, ◌==◌, if◌then◌else◌, nat_lt, List, [], ◌∷◌, length, Option, Some, None, slice_get}
+use Rattle.std.specs.Prelude.{ℕ, ◌+◌, Bool, true, false, ◌&&◌, ◌||◌, ◌==◌, if◌then◌else◌, nat_lt, List, [], ◌∷◌, length, Option, Some, None, slice_get}
 use Rattle.std.specs.List.{list_all}
+use Rattle.std.specs.Option.{option_map_or}
 use Rattle.std.specs.Char.{is_ascii_uppercase, is_ascii_digit}
 use Rattle.std.specs.declared.cmp.Ordering.{Ordering}
 use Rattle.std.specs.Ordering.{nat_cmp}
 use Rattle.std.specs.Cmp.Lexicographic.{slice_cmp}
+use Rattle.cm_text.specs.Bytes.{is_shown}
 use Rattle.cm_text.specs.Case.{begins_with}
 use Rattle.cm_tables.specs.Look.{is_recognised}
 use Rattle.cm_tables.specs.declared.entry.Entry.{Entry}
@@ -12,7 +14,7 @@ use Rattle.cm_tables.specs.declared.entry.Flag.{Flag}
 use Rattle.cm_tables.specs.declared.entry.Flag.TheVariants.{Plain, Invisible, NoRecognise, Short}
 use Rattle.cm_tables.specs.declared.fault.TheConstants.{ENTRY_LIMIT}
 use Rattle.cm_tables.specs.declared.table.TableFault.{TableFault}
-use Rattle.cm_tables.specs.declared.table.TableFault.TheVariants.{TooMany, BadText, Repeat, Order, BadTarget}
+use Rattle.cm_tables.specs.declared.table.TableFault.TheVariants.{TooMany, BadText, Repeat, Order, BadTarget, BadHelp}
 use Rattle.std.specs.declared.cmp.Ordering.TheVariants.{Less, Equal, Greater}
 
 -- an upper-case letter, a digit or a hyphen
@@ -68,8 +70,18 @@ targets_fault table position [] = None
 targets_fault table position (entry ∷ more) =
     first_fault (target_fault table position entry.text entry.flag) (targets_fault table (position + 1) more)
 
--- the first fault of all: the number of entries, then the texts in order, then the targets in order
+-- its help, where it has one, is shown as it is
+abbrev pub has_help : Entry → Bool
+has_help entry = option_map_or is_shown entry.help true
+
+-- the first fault of the helps from a position on
+abbrev pub helps_fault : ℕ → List Entry → Option TableFault
+helps_fault position [] = None
+helps_fault position (entry ∷ more) =
+    if has_help entry then helps_fault (position + 1) more else Some (BadHelp position)
+
+-- the first fault of all: the number of entries, then the texts in order, then the targets, then the helps
 unfoldable pub table_fault : List Entry → Option TableFault
 table_fault table =
     if nat_lt ENTRY_LIMIT (length table) then Some TooMany
-    else first_fault (texts_fault 0 None table) (targets_fault table 0 table)
+    else first_fault (texts_fault 0 None table) (first_fault (targets_fault table 0 table) (helps_fault 0 table))

@@ -40,13 +40,15 @@ pub struct Entry {
     pub code: u16,
     /// The node of the grammar that follows it.
     pub next: u16,
+    /// What `?` says of it behind its text, where it says something.
+    pub help: Option<Name>,
 }
 
 impl Entry {
-    ghost use Rattle.cm_tables.specs.Words.{entry, value_entry};
+    ghost use Rattle.cm_tables.specs.Words.{entry, value_entry, with_help};
 
-    /// A keyword with this text and code, which leads to this node: it is listed and may be abbreviated, and no colon
-    /// follows it.
+    /// A keyword with this text and code, which leads to this node: it is listed and may be abbreviated, no colon
+    /// follows it, and `?` says no more of it.
     pub fn new(text: &str, code: u16, next: u16) -> Entry
         requires { length text.now ≤ NAME_LIMIT }
         ensures { result ≡ entry text.now code next }
@@ -57,6 +59,7 @@ impl Entry {
             colon: false,
             code,
             next,
+            help: None,
         }
     }
 
@@ -71,6 +74,18 @@ impl Entry {
             colon: true,
             code,
             next,
+            help: None,
+        }
+    }
+
+    /// The same entry, of which `?` says this behind its text.
+    pub fn with_help(self, help: &str) -> Entry
+        requires { length help.now ≤ NAME_LIMIT }
+        ensures { result ≡ with_help help.now self }
+    {
+        Entry {
+            help: Some(Name::new(help)),
+            ..self
         }
     }
 }

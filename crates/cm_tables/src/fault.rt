@@ -1,10 +1,10 @@
 // The first fault of a list of entries that is no table.
 ghost use Rattle.std.specs.Prelude.{◌≡◌, ◌<◌, ◌≤◌, ℕ, List, None, IfNone, length, slice_get};
 ghost use Rattle.std.specs.Option.{option_copied};
-ghost use Rattle.cm_tables.specs.Order.{is_keyword_byte, is_keyword, is_target, target_fault, targets_fault, text_fault, texts_fault, table_fault};
+ghost use Rattle.cm_tables.specs.Order.{has_help, helps_fault, is_keyword_byte, is_keyword, is_target, target_fault, targets_fault, text_fault, texts_fault, table_fault};
 
 use crate::{Entry, Flag, TableFault};
-use cm_text::begins_with;
+use cm_text::{begins_with, is_shown};
 use std::cmp::Ordering;
 
 // The most entries that a table may have.
@@ -89,6 +89,29 @@ fn targets_fault(entries: &[Entry]) -> Option<TableFault>
     None
 }
 
+// Whether the help of an entry, where it has one, is shown as it is.
+fn has_help(entry: &Entry) -> bool
+    ensures { result ≡ has_help entry.now }
+{
+    match &entry.help {
+        Some(help) => is_shown(help.as_bytes()),
+        None => true,
+    }
+}
+
+// The first fault of the helps.
+fn helps_fault(entries: &[Entry]) -> Option<TableFault>
+    requires { length entries.now ≤ ENTRY_LIMIT }
+    ensures { result ≡ helps_fault 0 entries.now }
+{
+    for (position, entry) in entries.iter().enumerate() {
+        if !has_help(entry) {
+            return Some(TableFault::BadHelp(position as u16));
+        }
+    }
+    None
+}
+
 #[tactic(auto, unfolding(crate::specs::Order::table_fault))]
 pub(crate) fn table_fault(entries: &[Entry]) -> Option<TableFault>
     ensures first { result ≡ table_fault entries.now }
@@ -97,5 +120,7 @@ pub(crate) fn table_fault(entries: &[Entry]) -> Option<TableFault>
     if entries.len() > ENTRY_LIMIT {
         return Some(TableFault::TooMany);
     }
-    texts_fault(entries).or_else(|| targets_fault(entries))
+    texts_fault(entries)
+        .or_else(|| targets_fault(entries))
+        .or_else(|| helps_fault(entries))
 }

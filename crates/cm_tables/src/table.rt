@@ -30,6 +30,9 @@ pub enum TableFault {
     /// A Short entry stands for no entry that may be abbreviated and whose text begins with its own.
     #[error("BadTarget")]
     BadTarget(u16),
+    /// The help has a byte that is no printing one or is `?`.
+    #[error("BadHelp")]
+    BadHelp(u16),
 }
 
 /// What a look-up found.
@@ -67,7 +70,7 @@ impl Model for Table {
 
 impl Table {
     /// The table with these entries, or the first fault: their number, then their texts in order, then
-    /// the targets of the Short entries in order.
+    /// the targets of the Short entries in order, then the helps in order.
     pub fn new(entries: Vec<Entry>) -> Result<Table, TableFault>
         ensures { MatchResult result
             (λ table. (table_fault entries.items ≡ None) × (table ≡ entries.items))

@@ -1,11 +1,20 @@
 -- The classes of bytes.
-use Rattle.std.specs.Prelude.{ℕ, Bool, not, ◌&&◌, ◌||◌, ◌==◌, nat_le}
+use Rattle.std.specs.Prelude.{ℕ, Bool, not, ◌&&◌, ◌||◌, ◌==◌, nat_le, List}
+use Rattle.std.specs.List.{list_all}
 use Rattle.std.specs.Char.{is_ascii_alphanumeric}
 use Rattle.cm_text.specs.declared.text.TheConstants.{JOIN}
 
 -- TAB, or from space to tilde, but no question mark
 unfoldable pub is_text : ℕ → Bool
 is_text byte = (byte == 9 || (nat_le 32 byte && nat_le byte 126)) && not (byte == 63)
+
+-- from space to tilde, but no question mark
+abbrev pub is_shown_byte : ℕ → Bool
+is_shown_byte byte = nat_le 32 byte && nat_le byte 126 && not (byte == 63)
+
+-- a text of such bytes alone, which is shown as it is
+abbrev pub is_shown : List ℕ → Bool
+is_shown text = list_all is_shown_byte text
 
 -- a text byte, or the join byte, which continues the line
 unfoldable pub is_line_byte : ℕ → Bool

@@ -1,6 +1,6 @@
 // The classes of bytes.
 ghost use Rattle.std.specs.Prelude.{◌≡◌};
-ghost use Rattle.cm_text.specs.Bytes.{is_blank, is_line_byte, is_name, is_text, is_word};
+ghost use Rattle.cm_text.specs.Bytes.{is_blank, is_line_byte, is_name, is_shown, is_shown_byte, is_text, is_word};
 
 use crate::text::JOIN;
 
@@ -10,6 +10,19 @@ pub fn is_text(byte: u8) -> bool
     ensures { result ≡ is_text byte }
 {
     matches!(byte, b'\t' | b' '..=b'~') && byte != b'?'
+}
+
+fn is_shown_byte(byte: u8) -> bool
+    ensures { result ≡ is_shown_byte byte }
+{
+    matches!(byte, b' '..=b'~') && byte != b'?'
+}
+
+/// Whether a text that a program gives may stand on the screen as it is: printing bytes other than `?`.
+pub fn is_shown(text: &[u8]) -> bool
+    ensures { result ≡ is_shown text.now }
+{
+    text.iter().all(|byte| is_shown_byte(*byte))
 }
 
 /// Whether a byte may stand in a line: a text byte, or the join byte.

@@ -14,7 +14,7 @@ mod shown;
 mod text;
 
 pub use alike::common_len;
-pub use bytes::{is_blank, is_line_byte, is_name, is_text, is_word};
+pub use bytes::{is_blank, is_line_byte, is_name, is_shown, is_text, is_word};
 pub use case::{begins_with, equals};
 pub use digits::{DIGIT_LIMIT, decimal_digits};
 pub use lines::{LineEnd, first_line};

@@ -10,6 +10,11 @@ pub(crate) fn name(text: &str) -> Option<Name> {
     Some(Name::new(text))
 }
 
+// A name, unless the text is empty.
+pub(crate) fn some_name(text: &str) -> Option<Name> {
+    if text.is_empty() { None } else { name(text) }
+}
+
 // The functions that are told by their names alone.
 const PLAIN: &str =
     "number word quoted date text comma confirm user directory infile outfile anyfile";

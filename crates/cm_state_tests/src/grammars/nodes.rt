@@ -1,8 +1,7 @@
 // Nodes: one a line, with its number before its blocks.
-use super::functions::{function, name};
+use super::functions::{function, some_name};
 use cm_blocks::{Block, Blocks, Node, Role};
 use cm_files::Flags;
-use cm_text::Name;
 use std::alloc::Global;
 use std::test::Fail;
 
@@ -34,11 +33,6 @@ fn node(alloc: Global, text: &str) -> Result<Node, Fail> {
         default: some_name(default),
         raw: blocks.starts_with("raw "),
     })
-}
-
-// A name, unless the text is empty.
-fn some_name(text: &str) -> Option<Name> {
-    if text.is_empty() { None } else { name(text) }
 }
 
 fn chain(alloc: Global, text: &str) -> Result<Vec<Block>, Fail> {

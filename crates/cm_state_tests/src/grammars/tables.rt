@@ -1,5 +1,5 @@
 // Tables: one entry a line, and an empty line before each further table.
-use super::functions::name;
+use super::functions::{name, some_name};
 use cm_tables::{Entry, Flag, Table};
 use std::alloc::Global;
 use std::test::Fail;
@@ -20,8 +20,10 @@ fn table(alloc: Global, text: &str) -> Result<Table, Fail> {
     Ok(Table::new(entries)?)
 }
 
-// An entry: its text, a colon where a value follows it, its code, the node that follows it, and its flag.
+// An entry: its text, a colon where a value follows it, its code, the node that follows it, and its flag, and behind
+// ` ? ` its help.
 fn entry(line: &str) -> Option<Entry> {
+    let (line, help) = line.split_once(" ? ").unwrap_or((line, ""));
     let (text, rest) = line.split_once(' ')?;
     let (code, rest) = rest.split_once(' ')?;
     let (next, mark) = rest.split_once(' ').unwrap_or((rest, ""));
@@ -31,6 +33,7 @@ fn entry(line: &str) -> Option<Entry> {
         colon: text.ends_with(':'),
         code: code.parse().ok()?,
         next: next.parse().ok()?,
+        help: some_name(help),
     })
 }
 

@@ -53,8 +53,8 @@ JOBNAME: 4 43
 NOTE: 5 44";
 
 // Nodes 0 to 8 read fields but files, 9 and 19 dates, 10 to 18 users, directories and files. Node 20 has a block of
-// each kind, 21 and 22 stand behind its guide words, 23 has words of its own, and the others end the line or lead
-// there.
+// each kind, 21 and 22 stand behind its guide words, 23 has words of its own, 28 has keywords with a help, and the others end
+// the line or lead there.
 pub(crate) const FIELD_NODES: &str = "\
 0 key 0 > 0
 1 noise FROM > 2
@@ -84,7 +84,8 @@ pub(crate) const FIELD_NODES: &str = "\
 24 confirm > 24
 25 user > 24 / directory > 24 / infile > 24 / outfile > 24 / anyfile > 24
 26 hook 3 > 24
-27 quoted > 24";
+27 quoted > 24
+28 key 4 > 24 / switch 5 > 24";
 
 pub(crate) const FIELD_TABLES: &str = "\
 COPY 0 1
@@ -105,7 +106,16 @@ SET 0 24
 SETTLE 0 24
 
 AFTER: 0 24
-FAST 12 24";
+FAST 12 24
+
+DIM 0 24 ? a lamp, by some levels
+KJOB 0 24 Invisible ? the end of the job
+LIST 0 24
+NAME 0 24 ? a room (again)
+
+BY: 0 24 ? how many levels
+FAST 0 24 ? at once
+ONCE: 0 24";
 
 // A word, a number, a quoted text and the rest of the line, of two roles, each with a default; and behind a comma a
 // file that is there and a directory that may be new.
