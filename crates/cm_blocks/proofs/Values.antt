@@ -27,7 +27,7 @@ use Rattle.cm_files.specs.declared.flags.Flags.{Flags}
 use Rattle.cm_files.specs.Catalogue.{Catalogue}
 use Rattle.cm_files.specs.Fields.{directory_of, file_of, has_colon_behind, is_file, is_plain_path, user_of}
 use Rattle.cm_hooks.specs.declared.answer.Answer.{Answer}
-use Rattle.cm_hooks.specs.declared.answer.Answer.TheVariants.{Yes, No}
+use Rattle.cm_hooks.specs.declared.answer.Answer.TheVariants.{Yes, No, NoBecause}
 use Rattle.cm_hooks.specs.Field.{hook_of, judged}
 use Rattle.cm_blocks.specs.declared.function.Function.{Function}
 use Rattle.cm_blocks.specs.declared.function.Function.TheVariants as functions
@@ -42,6 +42,7 @@ use Rattle.cm_blocks.proofs.Places.{SaysDirectory, directory_says, file_says, ru
 judged_id : (id : ℕ) (answer : Answer) (value : Value) → judged id answer ≡ Ok value → (number : ℕ) × (value ≡ values.Hook id number)
 judged_id id (Yes number) value is = let same : values.Hook id number ≡ value = cc in (number, sym same)
 judged_id id No value is = cc
+judged_id id (NoBecause reason) value is = cc
 
 pub hook_says : (verdict : ℕ → List ℕ → Answer) (id : ℕ) (run : List ℕ) (value : Value) → hook_of verdict id run ≡ Ok value → (number : ℕ) × (value ≡ values.Hook id number)
 unfolding hook_of

@@ -8,3 +8,4 @@ pub mod Marks
 pub mod Phrases
 pub mod FieldStarts
 pub mod QuotedNames
+pub mod Reasons

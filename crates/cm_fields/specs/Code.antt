@@ -1,7 +1,7 @@
 -- The refusals: their numbers in the log and their texts on the screen.
-use Rattle.std.specs.Prelude.{ℕ, List, codes}
+use Rattle.std.specs.Prelude.{ℕ, Bool, true, false, List, codes}
 use Rattle.cm_fields.specs.declared.code.Code.{Code}
-use Rattle.cm_fields.specs.declared.code.Code.TheVariants.{NotKeyword, Ambiguous, NotSwitch, NeedColon, BadNoise, BadNumber, NumberRange, NoField, FieldLong, NotQuoted, NoQuote, NotToken, BadDate, YearRange, SpecShape, NameLong, GenRange, WildHere, Device, NoLogical, NoDirectory, NoUser, NoFile, NotComma, NotConfirmed, Rejected, TooMany, NoMatch, GenFull, FileExists, NameNeeded, CopyRange, DirLimit, FileLimit, FileSize, StoreSize, LogicalLimit, QueueLimit, NoDefinition, TakeDepth, LineLimit, BadLine, NotInTake, NoLabel, BadControl, NoSubcommands, NoMessage, MailFull}
+use Rattle.cm_fields.specs.declared.code.Code.TheVariants.{NotKeyword, Ambiguous, NotSwitch, NeedColon, BadNoise, BadNumber, NumberRange, NoField, FieldLong, NotQuoted, NoQuote, NotToken, BadDate, YearRange, SpecShape, NameLong, GenRange, WildHere, Device, NoLogical, NoDirectory, NoUser, NoFile, NotComma, NotConfirmed, Rejected, TooMany, NoMatch, GenFull, FileExists, NameNeeded, CopyRange, DirLimit, FileLimit, FileSize, StoreSize, LogicalLimit, QueueLimit, NoDefinition, TakeDepth, LineLimit, BadLine, NotInTake, NoLabel, BadControl, NoSubcommands, NoMessage, MailFull, Own}
 
 unfoldable pub code_number : Code → ℕ
 code_number NotKeyword = 1
@@ -52,6 +52,7 @@ code_number BadControl = 48
 code_number NoSubcommands = 49
 code_number NoMessage = 50
 code_number MailFull = 51
+code_number (Own reason) = reason.number
 
 unfoldable pub code_text : Code → List ℕ
 code_text NotKeyword = codes "Unrecognized keyword"
@@ -102,3 +103,9 @@ code_text BadControl = codes "Invalid line in control file"
 code_text NoSubcommands = codes "Subcommands not allowed here"
 code_text NoMessage = codes "No such message"
 code_text MailFull = codes "Mailbox is full"
+code_text (Own reason) = reason.text
+
+-- a reason of an application's own
+abbrev pub is_own : Code → Bool
+is_own (Own reason) = true
+is_own code = false

@@ -5,6 +5,7 @@ pub mod Mark
 pub mod Passed
 pub mod Phrase
 pub mod Quoted
+pub mod Reason
 pub mod Run
 pub mod Skip
 pub mod Text

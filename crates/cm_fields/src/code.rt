@@ -1,8 +1,15 @@
 // Why a field, a line or a command is refused.
-ghost use Rattle.std.specs.Prelude.{◌≡◌};
-ghost use Rattle.cm_fields.specs.Code.{code_number, code_text};
+ghost use Rattle.std.specs.Prelude.{◌≡◌, nat_le, true};
+ghost use Rattle.cm_fields.specs.Code.{code_number, code_text, is_own};
+ghost use Rattle.cm_fields.specs.Reason.{is_reason_text};
+
+use crate::{OWN_NUMBER, Reason};
 
 /// Why a field, a line or a command is refused.
+///
+/// Those up to TooMany are the library's: of its field functions, of its parser, and Rejected of a hook that gives no
+/// reason. Those from NoMatch on are of the programs of this repository, the EXEC and mail, and of their store. A
+/// program outside has its reasons as `Own`, by numbers and texts that it chooses.
 #[derive(Clone, Copy, Debug, PartialEq, Eq)]
 pub enum Code {
     /// There is no word where a keyword is due, or the table has none that it abbreviates.
@@ -55,7 +62,7 @@ pub enum Code {
     NotComma,
     /// More stands where the line is to end.
     NotConfirmed,
-    /// A function of the program's own has refused the value.
+    /// A function of the program's own has refused the value, and gives no reason.
     Rejected,
     /// The line has more than 64 fields.
     TooMany,
@@ -101,13 +108,17 @@ pub enum Code {
     NoMessage,
     /// A mailbox has as many messages as it may have.
     MailFull,
+    /// A reason of an application's own.
+    Own(Reason),
 }
 
 impl Code {
     /// The text that a refused line shows.
-    #[tactic(auto, unfolding(crate::specs::Code::code_text))]
-    pub fn text(self) -> &'static str
-        ensures { result.now ≡ code_text self }
+    #[tactic(auto, unfolding(crate::specs::Code::code_text, crate::specs::Reason::is_reason_text))]
+    pub fn text(&self) -> &str
+        ensures value { result.now ≡ code_text self.now }
+        // It is not empty, has at most 39 bytes, and each of them prints.
+        ensures shown { is_reason_text result.now ≡ true }
     {
         match self {
             Code::NotKeyword => "Unrecognized keyword",
@@ -158,13 +169,16 @@ impl Code {
             Code::NoSubcommands => "Subcommands not allowed here",
             Code::NoMessage => "No such message",
             Code::MailFull => "Mailbox is full",
+            Code::Own(reason) => reason.text(),
         }
     }
 
     /// The number that the log gives.
     #[tactic(auto, unfolding(crate::specs::Code::code_number))]
     pub fn number(self) -> u8
-        ensures { result ≡ code_number self }
+        ensures value { result ≡ code_number self }
+        // An application's own is at least 128, and none of the others is.
+        ensures own { is_own self ≡ nat_le OWN_NUMBER result }
     {
         match self {
             Code::NotKeyword => 1,
@@ -215,6 +229,7 @@ impl Code {
             Code::NoSubcommands => 49,
             Code::NoMessage => 50,
             Code::MailFull => 51,
+            Code::Own(reason) => reason.number(),
         }
     }
 }

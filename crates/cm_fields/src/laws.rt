@@ -1,15 +1,19 @@
 //! Laws of the field functions.
-ghost use Rattle.std.specs.Prelude.{◌≡◌, ℕ, ◌<◌, Bool, List, ◌++◌, drop, length, None, Some, true};
+ghost use Rattle.std.specs.Prelude.{◌≡◌, ℕ, ◌<◌, Bool, List, ◌++◌, drop, length, None, Some, false, true};
+ghost use Rattle.cm_fields.specs.Code.{code_number, code_text, is_own};
 ghost use Rattle.cm_fields.specs.Finish.{DecidesFinished, has_no_end};
 ghost use Rattle.cm_fields.specs.Local.{IsLocal};
 ghost use Rattle.cm_fields.specs.Mark.{comma, confirm};
 ghost use Rattle.cm_fields.specs.Passed.{IsOpen, IsPast};
 ghost use Rattle.cm_fields.specs.Phrase.{noise, token};
 ghost use Rattle.cm_fields.specs.Quoted.{quoted};
+ghost use Rattle.cm_fields.specs.Reason.{is_reason_text};
 ghost use Rattle.cm_fields.specs.Run.{number, word};
 ghost use Rattle.cm_fields.specs.Skip.{skip};
 ghost use Rattle.cm_fields.specs.Text.{text_field};
+ghost use Rattle.cm_fields.specs.declared.code.Code.{Code};
 ghost use Rattle.cm_fields.specs.declared.digits.TheConstants.{NUMBER_LIMIT};
+ghost use Rattle.cm_fields.specs.declared.reason.TheConstants.{OWN_NUMBER};
 
 /// What a trial decides on the first bytes of a text it decides on every text that begins with them, with the
 /// same number of bytes looked at; so a decision on a text is the decision on every longer text.
@@ -55,7 +59,15 @@ pub fn finished_texts_are_decided()
     ensures confirm { DecidesFinished confirm }
 {}
 
-/// The last number is the half of a word's range.
+/// A code of the library has a number below those of an application's own, and a text that is not empty, has at most
+/// 39 bytes, and prints.
+pub fn library_codes_are_below_own_ones()
+    ensures numbers { (code : Code) → is_own code ≡ false → code_number code < OWN_NUMBER }
+    ensures texts { (code : Code) → is_own code ≡ false → is_reason_text (code_text code) ≡ true }
+{}
+
+/// The last number is the half of a word's range. An application's own codes begin at 128.
 pub fn these_are_the_numbers()
     ensures numbers { NUMBER_LIMIT ≡ 34359738367 }
+    ensures own { OWN_NUMBER ≡ 128 }
 {}

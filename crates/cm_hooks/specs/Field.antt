@@ -2,18 +2,19 @@
 use Rattle.std.specs.Prelude.{ℕ, ◌==◌, if◌then◌else◌, List, length, Result, Ok, Err}
 use Rattle.cm_text.specs.Bytes.{is_name}
 use Rattle.cm_fields.specs.declared.code.Code.{Code}
-use Rattle.cm_fields.specs.declared.code.Code.TheVariants.{NoField, Rejected}
+use Rattle.cm_fields.specs.declared.code.Code.TheVariants.{NoField, Rejected, Own}
 use Rattle.cm_fields.specs.declared.trial.Try.{Try}
 use Rattle.cm_fields.specs.declared.value.Value.{Value}
 use Rattle.cm_fields.specs.declared.value.Value.TheVariants as values
 use Rattle.cm_fields.specs.Try.{by_run}
 use Rattle.cm_hooks.specs.declared.answer.Answer.{Answer}
-use Rattle.cm_hooks.specs.declared.answer.Answer.TheVariants.{Yes, No}
+use Rattle.cm_hooks.specs.declared.answer.Answer.TheVariants.{Yes, No, NoBecause}
 
 -- what the answer of the hook with this id makes of the field
 abbrev pub judged : ℕ → Answer → Result Value Code
 judged id (Yes value) = Ok (values.Hook id value)
 judged id No = Err Rejected
+judged id (NoBecause reason) = Err (Own reason)
 
 -- an empty run is no field; of any other the verdict is asked
 unfoldable pub hook_of : (ℕ → List ℕ → Answer) → ℕ → List ℕ → Result Value Code

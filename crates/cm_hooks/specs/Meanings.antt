@@ -4,7 +4,7 @@ use Rattle.std.specs.List.{list_all}
 use Rattle.cm_text.specs.declared.text.TheConstants.{LINE_LIMIT}
 use Rattle.cm_text.specs.Bytes.{is_name}
 use Rattle.cm_hooks.specs.declared.answer.Answer.{Answer}
-use Rattle.cm_hooks.specs.declared.answer.Answer.TheVariants.{Yes, No}
+use Rattle.cm_hooks.specs.declared.answer.Answer.TheVariants.{Yes, No, NoBecause}
 use Rattle.cm_hooks.specs.declared.answer.Tail.{Tail}
 use Rattle.cm_hooks.specs.declared.answer.Tail.TheVariants as tails
 
@@ -18,6 +18,7 @@ pub record Meanings : Type 0 where
 abbrev pub IsYes : Answer → Type 0
 IsYes (Yes value) = Unit {0}
 IsYes No = ⊥
+IsYes (NoBecause reason) = ⊥
 
 -- an atom with its whole completion has at most 255 bytes, and the verdict takes it
 pub record IsTaken (verdict : List ℕ → Answer) (whole : List ℕ) : Type 0 where

@@ -1,5 +1,6 @@
 // What a hook answers.
 
+use cm_fields::Reason;
 use cm_text::Name;
 
 /// Whether an atom is taken as a field.
@@ -9,6 +10,8 @@ pub enum Answer {
     Yes(u64),
     /// It is not.
     No,
+    /// It is not, for this reason.
+    NoBecause(Reason),
 }
 
 /// How an atom goes on.

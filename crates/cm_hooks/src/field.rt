@@ -31,11 +31,13 @@ fn hook_of<R: Rules>(hooks: &Hooks<R>, id: u8, run: &[u8]) -> Result<Value, Code
     match hooks.ask(id, run).answer() {
         Answer::Yes(value) => Ok(Value::Hook { id, value }),
         Answer::No => Err(Code::Rejected),
+        Answer::NoBecause(reason) => Err(Code::Own(reason)),
     }
 }
 
 /// A field of the program's own: a run of name bytes that its hook with this id takes. Refused with NoField
-/// where the run is empty, with Rejected where the hook says No.
+/// where the run is empty, with Rejected where the hook says No, and with the hook's own reason where it says
+/// NoBecause.
 pub fn hook_field<R: Rules>(hooks: &Hooks<R>, id: u8, text: &[u8], at: usize) -> Try
     requires hooks { Ties R.meanings hooks.now }
     requires id { id < count hooks.now }
