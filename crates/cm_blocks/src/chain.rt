@@ -74,18 +74,18 @@ fn walk_blocks<N: Names, R: Rules, L: Ledger>(
         let seen = looked_of(size, answer);
         steps.add(seen as u64 + 1);
         looked = seen.max(looked);
-        match answer {
+        match &answer {
             Try::Accept { value, end, .. } => {
                 return Walk::Takes {
                     block: number as u8,
                     role: block.role,
-                    next: next_of(grammar, block, value),
-                    value,
+                    next: next_of(grammar, block, *value),
+                    value: *value,
                     looked: looked as u16,
-                    end,
+                    end: *end,
                 };
             }
-            Try::Refuse { code: refusal, .. } => code = refusal,
+            Try::Refuse { code: refusal, .. } => code = *refusal,
             Try::More => {
                 return Walk::Wants {
                     block: number as u8,
