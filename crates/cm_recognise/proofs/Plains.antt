@@ -33,7 +33,7 @@ use Rattle.cm_files.specs.Fields.{file, file_in, file_of, file_read, is_file}
 use Rattle.cm_files.specs.Resolve.{resolve, then_in}
 use Rattle.cm_files.specs.Spec.{read_spec}
 use Rattle.cm_hooks.specs.declared.answer.Answer.{Answer}
-use Rattle.cm_hooks.specs.declared.answer.Answer.TheVariants.{Yes, No}
+use Rattle.cm_hooks.specs.declared.answer.Answer.TheVariants.{Yes, No, NoBecause}
 use Rattle.cm_hooks.specs.Field.{hook, hook_of, judged}
 
 -- a value that neither an entry of a table nor the end of the line gives
@@ -124,6 +124,7 @@ date_of_nothing = no_date (month_of [])
 judged_own : (id : ℕ) (answer : Answer) → IsOwnIfOk (judged id answer)
 judged_own id (Yes value) = tt
 judged_own id No = tt
+judged_own id (NoBecause reason) = tt
 
 hook_own : (verdict : ℕ → List ℕ → Answer) (id : ℕ) (run : List ℕ) → IsOwnIfOk (hook_of verdict id run)
 unfolding hook_of

@@ -25,7 +25,7 @@ use Rattle.cm_files.specs.declared.flags.Flags.{Flags}
 use Rattle.cm_files.specs.Catalogue.{Catalogue, IsCatalogue}
 use Rattle.cm_files.specs.Fields.{directory, directory_of, file_of}
 use Rattle.cm_hooks.specs.declared.answer.Answer.{Answer}
-use Rattle.cm_hooks.specs.declared.answer.Answer.TheVariants.{Yes, No}
+use Rattle.cm_hooks.specs.declared.answer.Answer.TheVariants.{Yes, No, NoBecause}
 use Rattle.cm_hooks.specs.declared.answer.Tail.{Tail}
 use Rattle.cm_hooks.specs.declared.answer.Tail.TheVariants as tails
 use Rattle.cm_hooks.specs.Field.{hook, hook_of, judged}
@@ -116,6 +116,7 @@ some_typed false other bytes next is = (refl, is)
 yes_judged : (id : ℕ) (answer : Answer) → IsYes answer → (value : ℕ) × (judged id answer ≡ Ok (values.Hook id value))
 yes_judged id (Yes value) accepted = (value, refl)
 yes_judged id No accepted = absurd accepted
+yes_judged id (NoBecause reason) accepted = absurd accepted
 
 hook_takes : (verdict : ℕ → List ℕ → Answer) (id : ℕ) (atom bytes more : List ℕ) (at : ℕ) → (length atom == 0) ≡ false
     → hook verdict id atom at ≡ More → list_all is_name bytes ≡ true → IsYes (verdict id (atom ++ bytes))
