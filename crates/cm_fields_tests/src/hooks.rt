@@ -1,30 +1,41 @@
 // Hooks over a small set of meanings.
-ghost use Rattle.std.specs.Prelude.{◌≡◌, ◌+◌, ◌==◌, [], ◌∷◌, if◌then◌else◌, length};
+ghost use Rattle.std.specs.Prelude.{◌≡◌, ◌+◌, ◌==◌, [], ◌∷◌, codes, if◌then◌else◌, length};
 ghost use Rattle.cm_hooks.specs.Ties.{Ties, count};
 
 use crate::cases::{is_wanted, number, part};
+use cm_fields::Reason;
 use cm_hooks::{Answer, Hook, Hooks, Rules, Tail, completion_among, hook_field, verdict_among};
 use cm_text::Name;
 use std::alloc::Global;
 use std::process::Abort;
 use std::test::Fail;
 
-// All atoms but those of three bytes are taken, with their number of bytes and the id; all go on with an X.
+// All atoms but those of three and of five bytes are taken, with their number of bytes and the id; those of five are
+// refused with a reason. All go on with an X.
 struct Sample;
 
 impl Rules for Sample {
-    ghost use Rattle.std.specs.Prelude.{◌+◌, ◌==◌, [], ◌∷◌, if◌then◌else◌, length, refl};
+    ghost use Rattle.std.specs.Prelude.{◌+◌, ◌==◌, [], ◌∷◌, codes, if◌then◌else◌, length, refl};
     ghost use Rattle.cm_text.specs.Bytes.{is_name, is_word};
-    ghost use Rattle.cm_hooks.specs.declared.answer.Answer.TheVariants.{Yes, No};
+    ghost use Rattle.cm_hooks.specs.declared.answer.Answer.TheVariants.{Yes, No, NoBecause};
     ghost use Rattle.cm_hooks.specs.declared.answer.Tail.TheVariants as tails;
 
     ghost meanings = { record {
-      verdict = λ id atom. if length atom == 3 then No else Yes (length atom + id);
+      verdict = λ id atom. if length atom == 3 then No
+          else if length atom == 5 then NoBecause (record { number = 200; text = codes "Five bytes" })
+          else Yes (length atom + id);
       completion = λ id atom. tails.Part (88 ∷ []);
       help = λ id. 88 ∷ [];
     } };
 
     ghost lawful = { unfold is_name in unfold is_word in record { completes = λ id atom short. refl } };
+}
+
+#[tactic(auto, unfolding(cm_fields::specs::Reason::is_reason, cm_fields::specs::Reason::is_reason_text))]
+fn five_bytes() -> Reason
+    ensures { result ≡ record { number = 200; text = codes "Five bytes" } }
+{
+    Reason::of(200, "Five bytes")
 }
 
 fn answers_by_id(rt: &impl Abort, hooks: &Hooks<Sample>)
@@ -34,6 +45,10 @@ fn answers_by_id(rt: &impl Abort, hooks: &Hooks<Sample>)
     assert_eq!(rt; hooks.ask(0, b"AB").answer(), Answer::Yes(2));
     assert_eq!(rt; hooks.ask(7, b"ABC").answer(), Answer::No);
     assert_eq!(rt; hooks.ask(15, b"ABCD").answer(), Answer::Yes(19));
+    assert_eq!(rt;
+        hooks.ask(15, b"ABCDE").answer(),
+        Answer::NoBecause(five_bytes())
+    );
     assert!(rt; matches!(hooks.complete(3, b"AB"), Tail::Part(text) if text.as_str() == "X"));
     assert_eq!(rt; hooks.help(15).as_str(), "X");
 }
@@ -44,6 +59,7 @@ AB|0|More
 AB |0|Accept { value: Hook { id: 2, value: 4 }, looked: 3, end: 2 }
 AB$_-9 C|0|Accept { value: Hook { id: 2, value: 8 }, looked: 7, end: 6 }
 AB ABC\r|3|Refuse { code: Rejected, looked: 4 }
+AB ABCDE\r|3|Refuse { code: Own(Reason { number: 200, text: \"Five bytes\" }), looked: 6 }
 AB .|3|Refuse { code: NoField, looked: 1 }
 AB |3|More";
 
@@ -87,10 +103,14 @@ fn hooks_are_held_in_the_order_of_their_ids(rt: HostRuntime) -> Result<(), Fail>
         let held = hooks.len();
         let verdict = move |atom: &[u8]| -> Answer
             ensures { result ≡
-                (if length atom.now == 3 then Answer.No else Answer.Yes (length atom.now + id)) }
+                (if length atom.now == 3 then Answer.No
+                else if length atom.now == 5
+                then Answer.NoBecause (record { number = 200; text = codes "Five bytes" })
+                else Answer.Yes (length atom.now + id)) }
         {
             match atom.len() {
                 3 => Answer::No,
+                5 => Answer::NoBecause(five_bytes()),
                 size => Answer::Yes(size as u64 + u64::from(id)),
             }
         };

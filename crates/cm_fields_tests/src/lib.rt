@@ -19,6 +19,8 @@ mod names;
 #[cfg(test)]
 mod outside;
 #[cfg(test)]
+mod reasons;
+#[cfg(test)]
 mod tables;
 #[cfg(test)]
 mod texts;

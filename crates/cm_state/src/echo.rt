@@ -173,9 +173,10 @@ fn put_complaint<S: Sink>(ending: Ending, out: &mut Writer<'_, S>)
     }
 }
 
-// Shows why a line is refused.
+/// Shows why a line is refused: `?`, the text of the code, and the end of the line. So a program refuses what a confirmed
+/// line commands, by a code of the library or by one of its own.
 #[tactic(auto, using(cm_io::proofs::Texts::texts), unfolding(crate::specs::Echo::refusal))]
-fn put_refusal<S: Sink>(code: Code, out: &mut Writer<'_, S>)
+pub fn put_refusal<S: Sink>(code: Code, out: &mut Writer<'_, S>)
     ensures { Writes S.Sink out.old out.new (refusal code) }
 {
     out.put(question());

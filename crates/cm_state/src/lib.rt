@@ -13,6 +13,7 @@ mod session;
 mod stack;
 mod turn;
 
+pub use echo::put_refusal;
 pub use prompt::Prompt;
 pub use said::{node_of, part};
 pub use session::Session;

@@ -2,9 +2,10 @@
 ghost use Rattle.std.specs.Prelude.{◌≡◌, ◌≤◌, IfOk};
 ghost use Rattle.cm_blocks.specs.Grammar.{hook_count};
 ghost use Rattle.cm_hooks.specs.Ties.{IsTied, Ties, count};
-ghost use Rattle.cm_state_tests.specs.Judges.{completion, help, verdict};
+ghost use Rattle.cm_state_tests.specs.Judges.{completion, help, name_taken, verdict};
 
 use cm_blocks::Grammar;
+use cm_fields::Reason;
 use cm_files::is_logical_name;
 use cm_hooks::{Answer, Hook, Hooks, Rules, Tail};
 use cm_text::Name;
@@ -34,12 +35,21 @@ impl Rules for Judges {
     } };
 }
 
+#[tactic(auto, unfolding(cm_fields::specs::Reason::is_reason, cm_fields::specs::Reason::is_reason_text))]
+fn name_taken() -> Reason
+    ensures { result ≡ name_taken }
+{
+    Reason::of(150, "Name is taken")
+}
+
 fn verdict(id: u8, atom: &[u8]) -> Answer
     ensures { result ≡ verdict id atom.now }
 {
     if id == 0 {
         if is_logical_name(atom) {
             Answer::Yes(atom.len() as u64)
+        } else if atom.len() == 3 {
+            Answer::NoBecause(name_taken())
         } else {
             Answer::No
         }

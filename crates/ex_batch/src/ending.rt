@@ -12,7 +12,7 @@ use crate::step::Ended;
 use cm_fields::Code;
 use cm_io::{Host, Put, Sink, Status, Writer};
 use cm_run::Stop;
-use ex_commands::put_refusal;
+use cm_state::put_refusal;
 use ex_store::Store;
 use ex_system::{finish, save_image};
 

@@ -30,7 +30,7 @@ use Rattle.cm_files.specs.LogicalName.{is_logical_name}
 use Rattle.cm_files.proofs.LogicalNames.{short_name}
 use Rattle.cm_hooks.specs.Among.{only, under, verdict_among}
 use Rattle.cm_hooks.specs.declared.answer.Answer.{Answer}
-use Rattle.cm_hooks.specs.declared.answer.Answer.TheVariants.{Yes, No}
+use Rattle.cm_hooks.specs.declared.answer.Answer.TheVariants.{Yes, No, NoBecause}
 use Rattle.cm_hooks.specs.Field.{hook_of, judged}
 use Rattle.cm_blocks.specs.Keyword.{behind_slash, code_at, entry_position, has_colon, named_switch, switch}
 use Rattle.ex_grammar.specs.ExecRules.{forms, logical_verdict, rule_verdict}
@@ -146,10 +146,12 @@ plain_said value plain = absurd plain
 abbrev AtMost : ℕ → Answer → Type 0
 AtMost most (Yes value) = value ≤ most
 AtMost most No = Unit {0}
+AtMost most (NoBecause reason) = Unit {0}
 
 less_than_all : (most more : ℕ) (answer : Answer) → most ≤ more → AtMost most answer → AtMost more answer
 less_than_all most more (Yes value) few is = omega arith
 less_than_all most more No few is = tt
+less_than_all most more (NoBecause reason) few is = tt
 
 logical_few : (atom : List ℕ) → AtMost NAME_LIMIT (logical_verdict atom)
 logical_few atom =
@@ -190,6 +192,7 @@ rule_few id atom =
 abbrev RuledBy : ℕ → Answer → Type 0
 RuledBy id (Yes value) = IsRuled id value
 RuledBy id No = Unit {0}
+RuledBy id (NoBecause reason) = Unit {0}
 
 form_value : (id value : ℕ) (atom : List ℕ) → rule_verdict id atom ≡ Yes value → (id == FORM_RULE) ≡ true → value < FORMS
 form_value id value atom is named =
@@ -204,11 +207,13 @@ ruled id atom = by (rule_verdict id atom) refl (rule_few id atom)
     by : (answer : Answer) → rule_verdict id atom ≡ answer → AtMost RETENTION_LIMIT answer → RuledBy id answer
     by (Yes value) is few = record { few = few; form = form_value id value atom is }
     by No is few = tt
+    by (NoBecause reason) is few = tt
 
 judged_said : (id : ℕ) (answer : Answer) (value : Value) → RuledBy id answer → judged id answer ≡ Ok value → IsSaid value
 judged_said id (Yes number) value is_ruled is =
     let same : values.Hook id number ≡ value = cc in subst IsSaid same is_ruled
 judged_said id No value is_ruled is = cc
+judged_said id (NoBecause reason) value is_ruled is = cc
 
 pub hook_said : (id : ℕ) (run : List ℕ) (value : Value) → hook_of rule_verdict id run ≡ Ok value → IsSaid value
 unfolding hook_of

@@ -14,10 +14,10 @@ use crate::commands::{
     rename, set, type_out, undelete,
 };
 use crate::lines::Days;
-use crate::replies::put_refusal;
 use crate::{Acted, Command};
 use cm_fields::Code;
 use cm_io::{Sink, Writer};
+use cm_state::put_refusal;
 use cm_text::Name;
 use ex_store::Store;
 

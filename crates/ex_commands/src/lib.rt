@@ -31,4 +31,4 @@ pub use names::{full_of, put_directory, put_file, put_full};
 pub use place::{directory_name, place_by};
 pub use plans::write_data;
 pub use printing::put_printing;
-pub use replies::{put_done, put_refusal};
+pub use replies::put_done;

@@ -15,7 +15,7 @@ use Rattle.cm_files.specs.declared.flags.Flags.{Flags}
 use Rattle.cm_files.specs.Catalogue.{Catalogue}
 use Rattle.cm_files.specs.Fields.{has_colon_behind, is_plain_path, user_of}
 use Rattle.cm_hooks.specs.declared.answer.Answer.{Answer}
-use Rattle.cm_hooks.specs.declared.answer.Answer.TheVariants.{No, Yes}
+use Rattle.cm_hooks.specs.declared.answer.Answer.TheVariants.{No, NoBecause, Yes}
 use Rattle.cm_hooks.specs.Field.{hook_of, judged}
 use Rattle.cm_blocks.specs.declared.field.Ending.TheVariants as ending
 use Rattle.cm_blocks.specs.declared.function.Function.{Function}
@@ -104,6 +104,7 @@ IsUser c value = Unit {0}
 abbrev FewIfYes : Answer → Type 0
 FewIfYes (Yes number) = number ≤ MOST_MESSAGES
 FewIfYes No = Unit {0}
+FewIfYes (NoBecause reason) = Unit {0}
 
 verdict_few : (atom : List ℕ) → FewIfYes (mail_verdict atom)
 unfolding mail_verdict
@@ -115,6 +116,7 @@ verdict_few atom =
 judged_few : (id : ℕ) (answer : Answer) (value : Value) → FewIfYes answer → judged id answer ≡ Ok value → IsFew value
 judged_few id (Yes number) value few is = let same : values.Hook id number ≡ value = cc in subst IsFew same few
 judged_few id No value few is = cc
+judged_few id (NoBecause reason) value few is = cc
 
 hook_few : (id : ℕ) (run : List ℕ) (value : Value) → hook_of (λ id atom. mail_verdict atom) id run ≡ Ok value → IsFew value
 unfolding hook_of

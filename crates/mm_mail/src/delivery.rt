@@ -14,7 +14,7 @@ use crate::message::Message;
 use crate::message_name::{MOST_MESSAGES, four_digits};
 use cm_fields::{Code, Gen};
 use cm_io::{NoMemory, Put, Sink, Writer};
-use ex_commands::put_refusal;
+use cm_state::put_refusal;
 use ex_generations::Bytes;
 use ex_store::{Plan, Refusal, Store};
 use std::alloc::Global;

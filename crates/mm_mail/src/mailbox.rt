@@ -17,8 +17,9 @@ use crate::message_name::{
 use cm_fields::{Code, Gen};
 use cm_files::Flags;
 use cm_io::{Sink, Writer};
+use cm_state::put_refusal;
 use cm_text::{Name, end_of_line};
-use ex_commands::{put_day, put_held, put_printing, put_refusal};
+use ex_commands::{put_day, put_held, put_printing};
 use ex_store::{Place, RowView, Store};
 
 // How much of the first line of a message is shown in the list of messages.

@@ -67,6 +67,15 @@ DEFINE PS:\r|Refused(Fault { code: Rejected, node: 29, at: 7 })|@DEFINE PS:\r
 @|
 0d 10 F26.29@7 0.1k5@0-6 28.0n0@7-7
 
+DEFINE TTY:?\r|\
+Refused(Fault { code: Own(Reason { number: 150, text: \"Name is taken\" }), node: 29, at: 7 })|\
+@DEFINE TTY:? Name is taken\r
+@DEFINE TTY:\r
+?Name is taken\r
+@|
+3f 11 F150.29@7 0.1k5@0-6 28.0n0@7-7
+0d 11 F150.29@7 0.1k5@0-6 28.0n0@7-7
+
 COPY (TO) A\r|Refused(Fault { code: BadNoise, node: 1, at: 5 })|@COPY (TO) A\r
 ?Guide word does not match\r
 @|

@@ -14,7 +14,8 @@ use arrayvec::ArrayVec;
 use cm_fields::Code;
 use cm_io::{Put, Sink, Writer};
 use cm_run::{FILE_LINES, Stop};
-use ex_commands::{Acted, put_refusal};
+use cm_state::put_refusal;
+use ex_commands::Acted;
 
 impl Exec {
     // Closes all files behind a refusal, and drops the command that waits.
