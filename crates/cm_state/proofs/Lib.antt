@@ -1,6 +1,7 @@
 mod Edits
 pub mod Branches
 mod Fronts
+pub mod Labels
 pub mod Lines
 mod Logs
 mod Rest

@@ -15,7 +15,8 @@ use Rattle.cm_blocks.specs.declared.field.Ending.TheVariants as ending
 use Rattle.cm_blocks.specs.Setting.{Setting}
 use Rattle.cm_help.specs.Help.{help_text}
 use Rattle.cm_state.specs.declared.prompt.Prompt.{Prompt}
-use Rattle.cm_state.specs.declared.prompt.Prompt.TheVariants.{Main, Sub, Own}
+use Rattle.cm_state.specs.declared.prompt.Prompt.TheVariants.{Main, Sub, Own, Named}
+use Rattle.cm_state.specs.Label.{label_name}
 use Rattle.cm_state.specs.SessionState.{SessionState, met_line}
 use Rattle.cm_state.specs.Edit.{completed, edited}
 
@@ -27,6 +28,7 @@ unfoldable pub prompt_text : Prompt → List ℕ
 prompt_text Main = codes "@"
 prompt_text Sub = codes "@@"
 prompt_text (Own text) = text.now
+prompt_text (Named name mark) = label_name name ++ mark.now
 
 -- a line behind its prompt
 unfoldable pub with_prompt : Prompt → List ℕ → List ℕ

@@ -9,9 +9,10 @@ ghost use Rattle.cm_hooks.specs.Ties.{Ties, count};
 ghost use Rattle.cm_blocks.specs.Grammar.{hook_count};
 ghost use Rattle.cm_blocks.specs.Setting.{setting};
 ghost use Rattle.cm_help.specs.Help.{help_text};
-ghost use Rattle.cm_state.specs.Echo.{again, complaint, has_join, refusal, ring, screen_line, taken_away, takes_join, with_prompt};
+ghost use Rattle.cm_state.specs.Label.{label_name};
+ghost use Rattle.cm_state.specs.Echo.{again, complaint, has_join, prompt_text, refusal, ring, screen_line, taken_away, takes_join, with_prompt};
 
-use crate::Prompt;
+use crate::{Label, Prompt};
 use arrayvec::ArrayVec;
 use cm_blocks::{Ending, Grammar};
 use cm_fields::Code;
@@ -60,21 +61,42 @@ pub(crate) fn put_screen_line<S: Sink>(line: &[u8], out: &mut Writer<'_, S>)
     out.put(screen_line(line).as_slice());
 }
 
+// Shows a prompt.
+#[tactic(auto, using(cm_io::proofs::Texts::texts), unfolding(crate::specs::Echo::prompt_text))]
+pub(crate) fn put_prompt<S: Sink>(prompt: &Prompt, out: &mut Writer<'_, S>)
+    ensures { Writes S.Sink out.old out.new (prompt_text prompt.now) }
+{
+    match prompt {
+        Prompt::Main => out.put(b"@"),
+        Prompt::Sub => out.put(b"@@"),
+        Prompt::Own(text) => out.put(text.as_bytes()),
+        Prompt::Named(name, mark) => put_named(name, mark, out),
+    }
+}
+
+// Shows a name and the mark behind it.
+fn put_named<S: Sink>(name: &Label, mark: &str, out: &mut Writer<'_, S>)
+    ensures { Writes S.Sink out.old out.new (label_name name.now ++ mark.now) }
+{
+    out.put(name.as_bytes());
+    out.put(mark.as_bytes());
+}
+
 // Shows a line behind its prompt.
 #[tactic(auto, using(cm_io::proofs::Texts::texts), unfolding(crate::specs::Echo::with_prompt))]
-pub(crate) fn put_with_prompt<S: Sink>(prompt: Prompt, line: &[u8], out: &mut Writer<'_, S>)
+pub(crate) fn put_with_prompt<S: Sink>(prompt: &Prompt, line: &[u8], out: &mut Writer<'_, S>)
     requires { length line.now ≤ LINE_LIMIT }
-    ensures { Writes S.Sink out.old out.new (with_prompt prompt line.now) }
+    ensures { Writes S.Sink out.old out.new (with_prompt prompt.now line.now) }
 {
-    out.put(prompt.text().as_bytes());
+    put_prompt(prompt, out);
     put_screen_line(line, out);
 }
 
 // Shows the end of the line, and the line again behind its prompt.
 #[tactic(auto, using(cm_io::proofs::Texts::texts), unfolding(crate::specs::Echo::again))]
-pub(crate) fn put_again<S: Sink>(prompt: Prompt, line: &[u8], out: &mut Writer<'_, S>)
+pub(crate) fn put_again<S: Sink>(prompt: &Prompt, line: &[u8], out: &mut Writer<'_, S>)
     requires { length line.now ≤ LINE_LIMIT }
-    ensures { Writes S.Sink out.old out.new (again prompt line.now) }
+    ensures { Writes S.Sink out.old out.new (again prompt.now line.now) }
 {
     out.put(end_of_line());
     put_with_prompt(prompt, line, out);
@@ -84,7 +106,7 @@ pub(crate) fn put_again<S: Sink>(prompt: Prompt, line: &[u8], out: &mut Writer<'
 pub(crate) fn put_help_and_line<N: Names, R: Rules, S: Sink>(
     grammar: &Grammar,
     ending: Ending,
-    prompt: Prompt,
+    prompt: &Prompt,
     line: &[u8],
     names: &N,
     hooks: &Hooks<R>,
@@ -95,7 +117,7 @@ pub(crate) fn put_help_and_line<N: Names, R: Rules, S: Sink>(
     requires hooks { hook_count grammar.now ≤ count hooks.now }
     ensures { Writes S.Sink out.old out.new
         (question ++ help_text (setting grammar.now (N.catalogue names.now) R.meanings) ending line.now
-        ++ again prompt line.now) }
+        ++ again prompt.now line.now) }
 {
     out.put(question());
     put_help(grammar, ending, line, names, hooks, out);
@@ -127,14 +149,14 @@ fn has_join(bytes: &[u8]) -> bool
 // that one again.
 pub(crate) fn put_taken<S: Sink>(
     joins: bool,
-    prompt: Prompt,
+    prompt: &Prompt,
     before: usize,
     line: &[u8],
     out: &mut Writer<'_, S>,
 )
     requires before { before ≤ LINE_LIMIT }
     requires line { length line.now ≤ LINE_LIMIT }
-    ensures { Writes S.Sink out.old out.new (taken_away joins prompt before line.now) }
+    ensures { Writes S.Sink out.old out.new (taken_away joins prompt.now before line.now) }
 {
     if before == 0 {
         out.put(bell());

@@ -1,6 +1,7 @@
 //! Laws of sessions and of editing.
-ghost use Rattle.std.specs.Prelude.{◌≡◌, ◌<◌, ℕ, List, [], ◌++◌, None, Option, IfSome, length};
+ghost use Rattle.std.specs.Prelude.{◌≡◌, ◌<◌, ◌≤◌, ℕ, List, [], ◌++◌, None, Option, IfSome, length};
 ghost use Rattle.cm_text.specs.Text.{IsLine};
+ghost use Rattle.cm_text.specs.declared.name.TheConstants.{NAME_LIMIT};
 ghost use Rattle.cm_line.specs.Keys.{class_at};
 ghost use Rattle.cm_files.specs.Catalogue.{IsCatalogue};
 ghost use Rattle.cm_hooks.specs.Meanings.{IsLawful};
@@ -10,6 +11,7 @@ ghost use Rattle.cm_blocks.specs.Parse.{IsParse, open_at, parse_of};
 ghost use Rattle.cm_blocks.specs.Setting.{Setting};
 ghost use Rattle.cm_blocks.specs.Well.{AreTables};
 ghost use Rattle.cm_state.specs.Edit.{edit, edited};
+ghost use Rattle.cm_state.specs.Label.{label_name, label_of};
 ghost use Rattle.cm_state.specs.SessionState.{SessionState, IsReady, at_start, met_line};
 ghost use Rattle.cm_state.specs.declared.prompt.Prompt.{Prompt};
 
@@ -54,4 +56,9 @@ pub fn a_key_leaves_a_line()
 pub fn the_kept_fields_are_a_prefix()
     ensures { (s : Setting) → grammar_fault s.graph ≡ None → (node : ℕ) → (old new : List ℕ)
         → BeginsWith (kept s node old new) (parse_of s node new).fields }
+{}
+
+/// The label of a name has that name: so a meaning says with it which prompt a state has, and what that shows.
+pub fn a_label_has_its_name()
+    ensures { (name : List ℕ) → length name ≤ NAME_LIMIT → label_name (label_of name) ≡ name }
 {}

@@ -3,6 +3,7 @@
 
 mod echo;
 mod held;
+mod label;
 pub mod laws;
 mod log;
 mod parse;
@@ -14,6 +15,7 @@ mod stack;
 mod turn;
 
 pub use echo::put_refusal;
+pub use label::Label;
 pub use prompt::Prompt;
 pub use said::{node_of, part};
 pub use session::Session;

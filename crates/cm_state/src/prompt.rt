@@ -1,6 +1,5 @@
 // What a line is asked for with.
-ghost use Rattle.std.specs.Prelude.{◌≡◌};
-ghost use Rattle.cm_state.specs.Echo.{prompt_text};
+use crate::Label;
 
 /// What a line is asked for with.
 #[derive(Clone, Copy, Debug, PartialEq, Eq)]
@@ -11,17 +10,6 @@ pub enum Prompt {
     Sub,
     /// A text of the program's own.
     Own(&'static str),
-}
-
-impl Prompt {
-    #[tactic(auto, unfolding(crate::specs::Echo::prompt_text))]
-    pub(crate) fn text(self) -> &'static str
-        ensures { result.now ≡ prompt_text self }
-    {
-        match self {
-            Prompt::Main => "@",
-            Prompt::Sub => "@@",
-            Prompt::Own(text) => text,
-        }
-    }
+    /// A name that is set while the program runs, and a mark behind it, as `host(config-if)#`.
+    Named(Label, &'static str),
 }

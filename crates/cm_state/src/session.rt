@@ -19,7 +19,7 @@ ghost use Rattle.cm_state.specs.Log.{log_line};
 ghost use Rattle.cm_state.specs.Turn.{put_of, turn_of};
 
 use crate::echo::{
-    put_again, put_end, put_help_and_line, put_inserted, put_screen_line, put_taken, takes_join,
+    put_again, put_end, put_help_and_line, put_inserted, put_prompt, put_screen_line, put_taken, takes_join,
 };
 use crate::held::open_at;
 use crate::log::{push_head, put_fields};
@@ -104,7 +104,9 @@ impl<R: Rules> Session<R> {
         ensures cause { PutCause (S.faults sink.old) (S.faults sink.new) result }
     {
         self.start(node, prompt);
-        sink.put(prompt.text().as_bytes())
+        let mut out = Writer::new(sink);
+        put_prompt(&self.prompt, &mut out);
+        out.went()
     }
 
     /// Takes one key: edits the line, holds the parse of the text as it then stands, and shows the echo. The fields
@@ -310,11 +312,11 @@ impl<R: Rules> Session<R> {
         match stroke.class {
             KeyClass::Text if stroke.size < LINE_LIMIT => out.put(&[screen_byte(stroke.key)]),
             KeyClass::Rub | KeyClass::Word | KeyClass::Erase => {
-                put_taken(stroke.joins, self.prompt, stroke.size, line, out)
+                put_taken(stroke.joins, &self.prompt, stroke.size, line, out)
             }
-            KeyClass::Show => put_again(self.prompt, line, out),
+            KeyClass::Show => put_again(&self.prompt, line, out),
             KeyClass::Help => {
-                put_help_and_line(grammar, self.ending, self.prompt, line, names, hooks, out)
+                put_help_and_line(grammar, self.ending, &self.prompt, line, names, hooks, out)
             }
             KeyClass::Back if stroke.restores => put_screen_line(line, out),
             KeyClass::Escape => put_inserted(behind, stroke.rings, out),

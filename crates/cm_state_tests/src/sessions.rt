@@ -3,6 +3,7 @@ mod again;
 mod fields;
 mod joins;
 mod lines;
+mod prompts;
 mod question;
 mod rows;
 mod run;

@@ -15,7 +15,8 @@ use cm_files::{Names, OneDirectory};
 use cm_hooks::{Hooks, Rules};
 use cm_io::{MemSink, MemSource, Put};
 use cm_run::Display;
-use cm_state::{Prompt, Session, Turn};
+use cm_state::{Label, Prompt, Session, Turn};
+use cm_text::{NAME_LIMIT, Name};
 use std::alloc::Global;
 use std::marker::Brand;
 use std::process::Abort;
@@ -102,19 +103,26 @@ fn shown_of<N: Names, R: Rules, L: Ledger>(
 }
 
 // The prompt, the keys and the rows of a case.
-fn parts(case: &str) -> Option<(Prompt, &str, &str)> {
+fn parts(case: &str) -> Option<(&str, &str, &str)> {
     let (prompt, rest) = case.split_once('|')?;
     let (keys, rows) = rest.split_once('|')?;
-    Some((prompt_of(prompt)?, keys, rows))
+    Some((prompt, keys, rows))
 }
 
-fn prompt_of(text: &str) -> Option<Prompt> {
+fn prompt_of(rt: &impl Abort, text: &str) -> Prompt {
     match text {
-        "@" => Some(Prompt::Main),
-        "@@" => Some(Prompt::Sub),
-        "LAMPS>" => Some(Prompt::Own("LAMPS>")),
-        _ => None,
+        "@" => Prompt::Main,
+        "@@" => Prompt::Sub,
+        "LAMPS>" => Prompt::Own("LAMPS>"),
+        _ => named(rt, text),
     }
+}
+
+// A prompt that is made at run time.
+fn named(rt: &impl Abort, text: &str) -> Prompt {
+    let name = text.trim_end_matches("(config)#");
+    assert!(rt; name.len() <= NAME_LIMIT && name != text, "{text} is no prompt");
+    Prompt::Named(Label::of(&Name::new(name)), "(config)#")
 }
 
 // The bytes that a text says.
@@ -145,6 +153,7 @@ fn try_case<N: Names, L: Ledger>(
     requires some { 0 < length grammar.now.nodes }
 {
     let (prompt, keys, rows) = parts(case).ok_or("a case")?;
+    let prompt = prompt_of(rt, prompt);
     let keys = said(alloc, keys)?;
     let rows = said(alloc, rows)?;
     let shown = shown_of(
@@ -211,7 +220,9 @@ LAMPS>|{73*A}BC|LAMPS>{73*A}B{EOL}
 LAMPS>|{255*A}{^R}|LAMPS>{74*A}{EOL}LAMPS>{74*A}{EOL}
 @|{70*SP}DIR{ESC}|@{70*SP}DIRECTORY{EOL}
 @|{70*SP}DIR{ESC}{6*DEL}X|@{70*SP}DIRECTORY{EOL}
-@|{70*SP}DIR{ESC}{7*DEL}X|@{70*SP}DIRECTORX{EOL}";
+@|{70*SP}DIR{ESC}{7*DEL}X|@{70*SP}DIRECTORX{EOL}
+host(config)#|{66*A}BC|host(config)#{66*A}B{EOL}
+abcdefghijklmnopqrstuvwxyzabcdefghijklm(config)#|{255*A}{^R}|abcdefghijklmnopqrstuvwxyzabcdefghijklm(config)#{32*A}{EOL}abcdefghijklmnopqrstuvwxyzabcdefghijklm(config)#{32*A}{EOL}";
 
 #[test]
 fn shows_the_first_bytes_of_long_lines(rt: HostRuntime) -> Result<(), Fail> {
@@ -230,7 +241,11 @@ LAMPS>|A{TAB}{^R}B|LAMPS>A{EOL}LAMPS>A B{EOL}
 @|DEL A{CR}{^H}B|@DEL A{EOL}?Not confirmed{EOL}@DEL B{EOL}
 @|A{^H}B|@AB{EOL}
 @|D{CR}A|@D{EOL}?Ambiguous keyword{EOL}@A{EOL}
-LAMPS>|AB{^C}A|LAMPS>AB^C{EOL}LAMPS>A{EOL}";
+LAMPS>|AB{^C}A|LAMPS>AB^C{EOL}LAMPS>A{EOL}
+host(config)#||host(config)#{EOL}
+(config)#|A{TAB}{^R}B|(config)#A{EOL}(config)#A B{EOL}
+r(config)#|DEL ?A|r(config)#DEL ? confirm with carriage return{EOL}r(config)#DEL A{EOL}
+host(config)#|AB{^C}A|host(config)#AB^C{EOL}host(config)#A{EOL}";
 
 #[test]
 fn shows_prompt_and_line(rt: HostRuntime) -> Result<(), Fail> {

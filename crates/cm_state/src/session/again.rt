@@ -99,7 +99,7 @@ impl<R: Rules> Session<R> {
         ensures cause { PutCause (S.faults sink.old) (S.faults sink.new) result }
     {
         let mut out = Writer::new(sink);
-        put_with_prompt(self.prompt, self.met_line(), &mut out);
+        put_with_prompt(&self.prompt, self.met_line(), &mut out);
         out.went()
     }
 

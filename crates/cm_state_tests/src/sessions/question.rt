@@ -3,7 +3,7 @@ ghost use Rattle.std.specs.Prelude.{◌≡◌, ◌<◌, ◌≤◌, length};
 ghost use Rattle.cm_blocks.specs.Grammar.{hook_count};
 ghost use Rattle.cm_hooks.specs.Ties.{Ties, count};
 
-use super::{again, fields, lines, run, said};
+use super::{again, fields, lines, prompts, run, said};
 use crate::judges::{Judges, hooks_of};
 use cm_blocks::{Grammar, Steps};
 use cm_hooks::{Hooks, Rules};
@@ -15,7 +15,8 @@ use std::sync::ledger::{Blank, Ledger};
 use std::test::Fail;
 
 // What the keys of a run come to, how many fields it holds, what whole lines come to, what their fields said, a field
-// of a role, how a run is shown again, or what it holds where its text is parsed again.
+// of a role, how a run is shown again, what it holds where its text is parsed again, or what it shows behind a prompt that
+// is made at run time.
 #[derive(Clone, Copy)]
 pub(crate) enum Question {
     Keys,
@@ -25,6 +26,7 @@ pub(crate) enum Question {
     Role,
     Shown,
     Again,
+    Prompts,
 }
 
 impl Question {
@@ -38,6 +40,7 @@ impl Question {
             Question::Role => "\n",
             Question::Shown => "\n\n",
             Question::Again => "\n",
+            Question::Prompts => "\n\n",
         }
     }
 }
@@ -65,6 +68,7 @@ fn try_case<L: Ledger>(
         Question::Role => said::try_role(rt, alloc, case, session, grammar, hooks, steps),
         Question::Shown => again::try_shown(rt, alloc, case, grammar, hooks, steps),
         Question::Again => again::try_case(rt, alloc, case, grammar, hooks, steps),
+        Question::Prompts => prompts::try_case(rt, alloc, case, grammar, hooks, steps),
     }
 }
 

@@ -24,17 +24,19 @@ use std::test::Fail;
 pub(crate) struct Run<R: Rules> {
     pub(crate) session: Session<R>,
     pub(crate) turn: Turn,
+    prompt: Prompt,
     shown: MemSink,
     logged: MemSink,
 }
 
 impl<R: Rules> Run<R> {
-    fn new(alloc: Global) -> Result<Run<R>, Fail> {
+    fn new(alloc: Global, prompt: Prompt) -> Result<Run<R>, Fail> {
         let shown = MemSink::new(alloc, 4096)?;
         let logged = MemSink::new(alloc, 131_072)?;
         Ok(Run {
             session: Session::new(),
             turn: Turn::Edited,
+            prompt,
             shown,
             logged,
         })
@@ -45,7 +47,7 @@ impl<R: Rules> Run<R> {
         ensures { (s : Setting) → grammar_fault s.graph ≡ None → 0 < length s.graph.nodes
             → IsReady s self.new.session }
     {
-        let begun = self.session.begin(0, Prompt::Main, &mut self.shown);
+        let begun = self.session.begin(0, self.prompt, &mut self.shown);
         assert_eq!(rt; begun, Put::Done);
     }
 
@@ -77,6 +79,11 @@ impl<R: Rules> Run<R> {
         self.begin(rt);
     }
 
+    // What is shown.
+    pub(crate) fn shown(&self) -> &[u8] {
+        self.shown.bytes()
+    }
+
     // What the last key came to, a bar, and what is shown.
     fn answer(&self, alloc: Global) -> Result<String, Fail> {
         let shown = str::from_utf8(self.shown.bytes())?;
@@ -92,7 +99,39 @@ impl<R: Rules> Run<R> {
     }
 }
 
-// The run of some keys, one a character.
+// The run of some keys, one a character, behind this prompt.
+pub(crate) fn run_behind<N: Names, R: Rules, L: Ledger>(
+    rt: &impl Abort,
+    alloc: Global,
+    prompt: Prompt,
+    keys: &str,
+    grammar: &Grammar,
+    names: &N,
+    hooks: &Hooks<R>,
+    steps: &mut Steps<L>,
+) -> Result<Run<R>, Fail>
+    requires ties { Ties R.meanings hooks.now }
+    requires hooks { hook_count grammar.now ≤ count hooks.now }
+    requires some { 0 < length grammar.now.nodes }
+    ensures { IfOk result (λ run. IsReady (setting grammar.now (N.catalogue names.now) R.meanings) run.session) }
+{
+    grammar.has_no_fault();
+    let mut run = Run::new(alloc, prompt)?;
+    run.begin(rt);
+    for key in keys.chars() {
+        run.key(
+            rt,
+            u8::try_from(u32::from(key))?,
+            grammar,
+            names,
+            hooks,
+            steps,
+        );
+    }
+    Ok(run)
+}
+
+// And behind `@`.
 pub(crate) fn run_of<N: Names, R: Rules, L: Ledger>(
     rt: &impl Abort,
     alloc: Global,
@@ -107,20 +146,7 @@ pub(crate) fn run_of<N: Names, R: Rules, L: Ledger>(
     requires some { 0 < length grammar.now.nodes }
     ensures { IfOk result (λ run. IsReady (setting grammar.now (N.catalogue names.now) R.meanings) run.session) }
 {
-    grammar.has_no_fault();
-    let mut run = Run::new(alloc)?;
-    run.begin(rt);
-    for key in keys.chars() {
-        run.key(
-            rt,
-            u8::try_from(u32::from(key))?,
-            grammar,
-            names,
-            hooks,
-            steps,
-        );
-    }
-    Ok(run)
+    run_behind(rt, alloc, Prompt::Main, keys, grammar, names, hooks, steps)
 }
 
 // The EXEC's grammar and its hooks.

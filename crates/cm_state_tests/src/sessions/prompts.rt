@@ -1,0 +1,98 @@
+// Prompts that are made at run time.
+ghost use Rattle.std.specs.Prelude.{◌<◌, ◌≤◌, length};
+ghost use Rattle.cm_blocks.specs.Grammar.{hook_count};
+ghost use Rattle.cm_hooks.specs.Ties.{Ties, count};
+
+use super::question::{Question, tries};
+use super::run::run_behind;
+use crate::cabinet::Cabinet;
+use crate::cases::repeat;
+use crate::grammars::exec;
+use crate::judges::Judges;
+use cm_blocks::{Grammar, Steps};
+use cm_hooks::{Hooks, Rules};
+use cm_state::{Label, Prompt};
+use cm_text::{NAME_LIMIT, Name};
+use std::alloc::Global;
+use std::process::Abort;
+use std::sync::ledger::Ledger;
+use std::test::Fail;
+
+// The prompt of a name, with one mark behind it.
+fn prompt_of(rt: &impl Abort, name: &str) -> Prompt {
+    assert!(rt; name.len() <= NAME_LIMIT, "{name} is too long");
+    Prompt::Named(Label::of(&Name::new(name)), "(config)#")
+}
+
+// A name, keys, and what is shown.
+fn parts(case: &str) -> Option<(&str, &str, &str)> {
+    let (name, rest) = case.split_once('|')?;
+    let (keys, wanted) = rest.split_once('|')?;
+    Some((name, keys, wanted))
+}
+
+pub(crate) fn try_case<L: Ledger>(
+    rt: &impl Abort,
+    alloc: Global,
+    case: &str,
+    grammar: &Grammar,
+    hooks: &Hooks<Judges>,
+    steps: &mut Steps<L>,
+) -> Result<(), Fail>
+    requires ties { Ties ⟦<Judges as Rules>⟧.meanings hooks.now }
+    requires hooks { hook_count grammar.now ≤ count hooks.now }
+    requires nodes { 0 < length grammar.now.nodes }
+{
+    let (name, keys, wanted) = parts(case).ok_or("a case")?;
+    let prompt = prompt_of(rt, name);
+    let run = run_behind(rt, alloc, prompt, keys, grammar, &Cabinet, hooks, steps)?;
+    assert_eq!(rt; str::from_utf8(run.shown())?, wanted, "at {case}");
+    Ok(())
+}
+
+// At the beginning, behind control-R and `?`, where a join byte is taken away, and behind a line that is over; with
+// names of no byte, of one and of as many as a name has.
+#[test]
+fn shows_names_and_marks(rt: HostRuntime) -> Result<(), Fail> {
+    let cases = "\
+host||host(config)#
+
+host|INF X\x12V|host(config)#INF X\r
+host(config)#INF XV
+
+host|INF ?V|host(config)#INF ? guide word (ABOUT)\r
+ or one of the following:\r
+  VERSION\r
+host(config)#INF V
+
+host|INF -\rV\x15|host(config)#INF -\r
+V\r
+host(config)#
+
+host|LOGOUT\rA|host(config)#LOGOUT\r
+host(config)#A
+
+host|A\x03B|host(config)#A^C\r
+host(config)#B
+
+|INF\x12|(config)#INF\r
+(config)#INF
+
+R|INF\x12|R(config)#INF\r
+R(config)#INF
+
+[R]|INF\x12|[R](config)#INF\r
+[R](config)#INF
+
+[R]|INF ?|[R](config)#INF ? guide word (ABOUT)\r
+ or one of the following:\r
+  VERSION\r
+[R](config)#INF ";
+    tries(
+        &rt,
+        &rt,
+        Question::Prompts,
+        exec(rt.alloc())?,
+        &repeat(rt.alloc(), cases, NAME_LIMIT)?,
+    )
+}
