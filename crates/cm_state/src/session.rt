@@ -19,7 +19,8 @@ ghost use Rattle.cm_state.specs.Log.{log_line};
 ghost use Rattle.cm_state.specs.Turn.{put_of, turn_of};
 
 use crate::echo::{
-    put_again, put_end, put_help_and_line, put_inserted, put_prompt, put_screen_line, put_taken, takes_join,
+    put_again, put_end, put_help_and_line, put_inserted, put_prompt, put_screen_line, put_taken,
+    takes_join,
 };
 use crate::held::open_at;
 use crate::log::{push_head, put_fields};

@@ -121,7 +121,10 @@ fn prompt_of(rt: &impl Abort, text: &str) -> Prompt {
 // A prompt that is made at run time.
 fn named(rt: &impl Abort, text: &str) -> Prompt {
     let name = text.trim_end_matches("(config)#");
-    assert!(rt; name.len() <= NAME_LIMIT && name != text, "{text} is no prompt");
+    assert!(rt;
+        name.len() <= NAME_LIMIT && name != text,
+        "{text} is no prompt"
+    );
     Prompt::Named(Label::of(&Name::new(name)), "(config)#")
 }
 
