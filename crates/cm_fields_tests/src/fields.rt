@@ -169,7 +169,8 @@ NoMessage|50|No such message
 MailFull|51|Mailbox is full";
 
 fn tells_a_code(rt: &impl Abort, alloc: Global, code: Code, told: &str) -> Result<(), Fail> {
-    let found = format!(in alloc; "{code:?}|{}|{}", code.number(), code.text())?;
+    let number = code.number();
+    let found = format!(in alloc; "{code:?}|{number}|{}", code.text())?;
     assert_eq!(rt; found.as_str(), told);
     Ok(())
 }

@@ -59,7 +59,9 @@ fn try_case(
     requires ties { Ties ⟦<Judges as Rules>⟧.meanings hooks.now }
     requires hooks { hook_count grammar.now ≤ count hooks.now }
 {
-    let (ending, text, wanted) = ended(case).ok_or("a case")?;
+    let Some((ending, text, wanted)) = ended(case) else {
+        return Err(Fail::from("a case"));
+    };
     let found = answer(rt, alloc, question, ending, &line(rt, text), grammar, hooks)?;
     assert_eq!(rt; found.as_str(), wanted, "at {case}");
     Ok(())

@@ -73,8 +73,9 @@ pub(crate) fn close<H: Host, S: Sink>(
     if let Err(Stop::Screen) = how {
         return save_image(Status::WriteFault, store, out, host);
     }
-    let status = finish(status_of(how), store, out, host, screen);
-    match stop_of(how, status) {
+    let how = &how;
+    let status = finish(status_of(*how), store, out, host, screen);
+    match stop_of(*how, status) {
         Some(code) => {
             show_stop(code, screen);
             status

@@ -114,8 +114,9 @@ pub fn refuse<S: Sink>(code: Code, out: &mut Writer<'_, S>) -> Acted
     ensures { (state : State) → (lacks : Bool) → Outcome S.Sink out.old out.new
         (refuses code state) lacks state state result }
 {
-    put_refusal(code, out);
-    Acted::Refused(code)
+    let code = &code;
+    put_refusal(*code, out);
+    Acted::Refused(*code)
 }
 
 /// The name of the connected directory.

@@ -220,11 +220,12 @@ impl Interpreter {
         ensures cause { ObeyCause (S.faults screen.old) (S.faults screen.new) (outcome_of result) }
     {
         let answer = self.do_command(&pending.command, pending.moment, screen);
-        if lacks_memory(answer) {
+        let answer = &answer;
+        if lacks_memory(*answer) {
             self.pending = Some(pending);
-            return answer;
+            return *answer;
         }
-        answer
+        *answer
     }
 
     // Does a command to which a line of subcommands was added, unless it waits on.

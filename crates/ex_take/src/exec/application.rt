@@ -64,8 +64,9 @@ impl Application for Exec {
 
     fn obey_raw<S: Sink>(&mut self, key: u8, screen: &mut S) -> Result<(), Stop> {
         let answer = self.interpreter.obey_raw(key, screen);
-        self.count_refusal(answer);
-        outcome_of(answer)
+        let answer = &answer;
+        self.count_refusal(*answer);
+        outcome_of(*answer)
     }
 
     fn file_line(&self) -> Option<&[u8]> {

@@ -36,8 +36,9 @@ impl Exec {
         ensures later { S.faults screen.old ≤ S.faults screen.new }
         ensures cause { ObeyCause (S.faults screen.old) (S.faults screen.new) result }
     {
-        self.stop_taking(code);
-        match show_refusal(code, screen) {
+        let code = &code;
+        self.stop_taking(*code);
+        match show_refusal(*code, screen) {
             Put::Done => Ok(()),
             Put::Failed => Err(Stop::Screen),
         }
@@ -129,8 +130,9 @@ impl Exec {
             return self.close_files(screen);
         };
         let answer = self.interpreter.end_subcommands(pending, screen);
-        match outcome_of(answer) {
-            Ok(()) => self.follow_end(answer, screen),
+        let answer = &answer;
+        match outcome_of(*answer) {
+            Ok(()) => self.follow_end(*answer, screen),
             Err(stop) => Err(stop),
         }
     }

@@ -42,8 +42,9 @@ impl Exec {
         ensures cause { ObeyCause (S.faults screen.old) (S.faults screen.new) result }
     {
         let answer = self.interpreter.obey(command, moment, screen);
-        match outcome_of(answer) {
-            Ok(()) => self.follow(answer, screen),
+        let answer = &answer;
+        match outcome_of(*answer) {
+            Ok(()) => self.follow(*answer, screen),
             Err(stop) => Err(stop),
         }
     }
@@ -126,8 +127,9 @@ impl Exec {
         ensures cause { ObeyCause (S.faults screen.old) (S.faults screen.new) result }
     {
         let answer = self.interpreter.add_subcommands(pending, session, screen);
-        match outcome_of(answer) {
-            Ok(()) => self.follow(answer, screen),
+        let answer = &answer;
+        match outcome_of(*answer) {
+            Ok(()) => self.follow(*answer, screen),
             Err(stop) => Err(stop),
         }
     }

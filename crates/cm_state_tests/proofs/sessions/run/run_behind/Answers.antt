@@ -1,5 +1,5 @@
 use Rattle.cm_blocks.specs.Setting.{setting}
-use Rattle.cm_state_tests.proofs.sessions.run.run_of.Goals as goal
+use Rattle.cm_state_tests.proofs.sessions.run.run_behind.Goals as goal
 
 pub loop-key-init : goal.loop-key-init
 loop-key-init g c =

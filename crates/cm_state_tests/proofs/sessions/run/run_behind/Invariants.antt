@@ -1,6 +1,6 @@
 use Rattle.cm_blocks.specs.Setting.{setting}
 use Rattle.cm_state.specs.SessionState.{IsReady}
-use Rattle.cm_state_tests.proofs.sessions.run.run_of.Given as goal
+use Rattle.cm_state_tests.proofs.sessions.run.run_behind.Given as goal
 
 -- the session is ready for the next key
 abbrev pub invariant-loop-key : goal.invariant-loop-key
