@@ -1,0 +1,160 @@
+-- What is done to the interfaces leaves interfaces.
+use Rattle.std.proofs.Common.{◌≡◌, ◌<◌, ◌≤◌, ℕ, Bool, true, false, not, if◌then◌else◌, List, [], ◌∷◌, length, filter, get_or, insert, set, refl, ap, arith, sym, ◌∙◌}
+use Rattle.std.specs.Prelude.{Option, None, Some, slice_get, slice_set}
+use Rattle.std.specs.List.{list_all, refill, remove}
+use Rattle.std.specs.Option.{option_map_or}
+use Rattle.std.specs.Ordering.{is_eq}
+use Rattle.std.proofs.lemmas.Bool.{and_parts}
+use Rattle.std.proofs.lemmas.Bool.Decides.{nat_tests}
+use Rattle.std.proofs.lemmas.List.{append-nil, drop_all, length-set, take_all}
+use Rattle.std.proofs.lemmas.List.Folds.{list_all-map}
+use Rattle.std.proofs.lemmas.Option.{get_or_from_slice_get, slice_get_past, slice_get_read}
+use Rattle.std.proofs.Math.Seq.{map-set_same}
+use Rattle.cm_lists.proofs.Bools.{second_of_or}
+use Rattle.cm_lists.proofs.Quantifiers.{all_filter}
+use Rattle.cm_files.specs.Catalogue.{ascends, by_bytes}
+use Rattle.eg_router.specs.Interfaces.{AreInterfaces, by_name, changed, fresh, has, is_interface_name, may_enter, names_of, place, with_change, with_name, without_name}
+use Rattle.eg_router.specs.declared.interface.Change.{Change}
+use Rattle.eg_router.specs.declared.interface.Change.TheVariants.{Address, Description, Shutdown}
+use Rattle.eg_router.specs.declared.interface.Interface.{Interface}
+use Rattle.eg_router.specs.declared.interfaces.TheConstants.{INTERFACE_LIMIT}
+use Rattle.eg_router.proofs.Insertions.{found_within, inserted_all, inserted_ascends, inserted_length, inserted_there, insertion, kept_ascends, none_removed, removed_there, sorted_ascends}
+use Rattle.eg_router.proofs.Names.{ascends_names, by_name_total}
+
+pub none_are : AreInterfaces []
+none_are = record { few = omega arith; names = refl; ascend = refl }
+
+-- a new one has a name, and there is room for it
+new_may : (name : List ℕ) (interfaces : List Interface) → may_enter name interfaces ≡ true → has name interfaces ≡ false
+    → (is_interface_name name ≡ true) × (length interfaces < INTERFACE_LIMIT)
+new_may name interfaces may none =
+    let parts = and_parts _ _ (second_of_or _ _ none may) in
+    let room = parts.1 in
+    (parts.0, grind (arith, nat_tests))
+
+pub room_for : (name : List ℕ) (interfaces : List Interface) → may_enter name interfaces ≡ true → has name interfaces ≡ false
+    → length interfaces < INTERFACE_LIMIT
+room_for name interfaces may none = (new_may name interfaces may none).1
+
+inserted_are : (name : List ℕ) (interfaces : List Interface) → AreInterfaces interfaces → has name interfaces ≡ false
+    → is_interface_name name ≡ true → length interfaces < INTERFACE_LIMIT
+    → AreInterfaces (insertion by_name (fresh name) interfaces)
+inserted_are name interfaces are none named room =
+    let size = inserted_length by_name (fresh name) interfaces in
+    record {
+      few = omega arith;
+      names = inserted_all by_name (λ (it : Interface). is_interface_name it.name) (fresh name) interfaces named are.names;
+      ascend = inserted_ascends by_name by_name_total (fresh name) interfaces are.ascend none;
+    }
+
+-- a new one at its place
+pub made_are : (name : List ℕ) (interfaces : List Interface) → AreInterfaces interfaces → may_enter name interfaces ≡ true
+    → has name interfaces ≡ false → AreInterfaces (insert interfaces (place name interfaces) (fresh name))
+made_are name interfaces are may none =
+    let new = new_may name interfaces may none in
+    rw (inserted_there by_name (fresh name) interfaces) (inserted_are name interfaces are none new.0 new.1)
+
+-- where there is none it is put in, and where there is one nothing is
+pub made_is : (name : List ℕ) (interfaces : List Interface) → has name interfaces ≡ false
+    → insert interfaces (place name interfaces) (fresh name) ≡ with_name name interfaces
+made_is name interfaces none = rw none refl
+
+pub there_is : (name : List ℕ) (interfaces : List Interface) → has name interfaces ≡ true
+    → interfaces ≡ with_name name interfaces
+there_is name interfaces some = rw some refl
+
+-- one that is there stands at its place
+pub there_within : (name : List ℕ) (interfaces : List Interface) → has name interfaces ≡ true
+    → place name interfaces < length interfaces
+there_within name interfaces some = found_within by_name (fresh name) interfaces some
+
+pub removed_is : (name : List ℕ) (interfaces : List Interface) → AreInterfaces interfaces → has name interfaces ≡ true
+    → remove interfaces (place name interfaces) ≡ without_name name interfaces
+removed_is name interfaces are some =
+    removed_there by_name by_name_total (fresh name) interfaces (sorted_ascends by_name by_name_total interfaces are.ascend) some
+
+pub absent_is : (name : List ℕ) (interfaces : List Interface) → has name interfaces ≡ false
+    → interfaces ≡ without_name name interfaces
+absent_is name interfaces none = sym (none_removed (λ (it : Interface). is_eq (by_bytes it.name name)) interfaces none)
+
+filter_le : (keep : Interface → Bool) (interfaces : List Interface) → length (filter keep interfaces) ≤ length interfaces
+filter_le keep [] = omega arith
+filter_le keep (it ∷ more) = by (keep it) (filter_le keep more)
+  where
+    by : (kept : Bool) → length (filter keep more) ≤ length more
+        → length (if kept then it ∷ filter keep more else filter keep more) ≤ length (it ∷ more)
+    by true rest = omega arith
+    by false rest = omega arith
+
+pub without_are : (name : List ℕ) (interfaces : List Interface) → AreInterfaces interfaces
+    → AreInterfaces (without_name name interfaces)
+without_are name interfaces are =
+    let keep : Interface → Bool = λ it. not (is_eq (by_bytes it.name name)) in
+    let most = filter_le keep interfaces in
+    let few = are.few in
+    record {
+      few = omega arith;
+      names = all_filter (λ (it : Interface). is_interface_name it.name) keep interfaces are.names;
+      ascend = kept_ascends by_name by_name_total keep interfaces are.ascend;
+    }
+
+-- a change leaves the name
+same_name : (change : Change) (it : Interface) → (changed change it).name ≡ it.name
+same_name (Address address) it = refl
+same_name (Description text) it = refl
+same_name (Shutdown is_down) it = refl
+
+-- one is changed at its place, where there is one
+pub set_at : (at : ℕ) (change : Change) (interfaces : List Interface) (it : Interface) → at < length interfaces
+    → it ≡ get_or interfaces at it → set interfaces at (changed change it) ≡ with_change at change interfaces
+set_at at change interfaces it within is =
+    rw (slice_get_read interfaces (length interfaces) at it refl within is) refl
+
+pub none_at : (at : ℕ) (change : Change) (interfaces : List Interface) → length interfaces ≤ at
+    → interfaces ≡ with_change at change interfaces
+none_at at change interfaces past = rw (slice_get_past interfaces at past) refl
+
+-- what is written through a loan of the whole is the whole
+whole : (interfaces lent : List Interface) → length lent ≡ length interfaces → refill (length interfaces) interfaces lent ≡ lent
+whole interfaces lent size =
+    rw (drop_all (length lent) interfaces (omega arith), append-nil lent) (take_all (length interfaces) lent (omega arith))
+
+pub refilled : (interfaces lent : List Interface) (at : ℕ) (change : Change) (it new : Interface) → lent ≡ interfaces
+    → at < length interfaces → it ≡ get_or lent at it → new ≡ changed change (get_or lent at it)
+    → refill (length interfaces) interfaces (set lent at new) ≡ with_change at change interfaces
+refilled interfaces lent at change it new same within here is =
+    let size = length-set lent at new in
+    let lengths : length (set lent at new) ≡ length interfaces = size ∙ ap length same in
+    let there : it ≡ get_or interfaces at it = here ∙ ap (λ (xs : List Interface). get_or xs at it) same in
+    whole interfaces (set lent at new) lengths
+    ∙ ap (λ (other : Interface). set lent at other) (is ∙ ap (changed change) (sym here))
+    ∙ ap (λ (xs : List Interface). set xs at (changed change it)) same
+    ∙ set_at at change interfaces it within there
+
+set_are : (at : ℕ) (change : Change) (interfaces : List Interface) (it : Interface) → AreInterfaces interfaces
+    → slice_get interfaces at ≡ Some it → AreInterfaces (slice_set interfaces at (changed change it))
+set_are at change interfaces it are is =
+    let new : Interface = changed change it in
+    let old : get_or interfaces at it ≡ it = get_or_from_slice_get interfaces at it it is in
+    let named : new.name ≡ (get_or interfaces at it).name =
+    same_name change it ∙ ap (λ (other : Interface). other.name) (sym old) in
+    let same : names_of (set interfaces at new) ≡ names_of interfaces =
+    map-set_same (λ (other : Interface). other.name) interfaces at new it named in
+    let size = length-set interfaces at new in
+    let few = are.few in
+    record {
+      few = omega arith;
+      names = sym (list_all-map is_interface_name (λ (other : Interface). other.name) (set interfaces at new))
+          ∙ ap (list_all is_interface_name) same
+          ∙ list_all-map is_interface_name (λ (other : Interface). other.name) interfaces ∙ are.names;
+      ascend = sym (ascends_names (set interfaces at new)) ∙ ap (ascends by_bytes) same ∙ ascends_names interfaces ∙ are.ascend;
+    }
+
+pub change_are : (at : ℕ) (change : Change) (interfaces : List Interface) → AreInterfaces interfaces
+    → AreInterfaces (with_change at change interfaces)
+change_are at change interfaces are = by (slice_get interfaces at) refl
+  where
+    by : (got : Option Interface) → slice_get interfaces at ≡ got
+        → AreInterfaces (option_map_or (λ (it : Interface). slice_set interfaces at (changed change it)) got interfaces)
+    by None is = are
+    by (Some it) is = set_are at change interfaces it are is

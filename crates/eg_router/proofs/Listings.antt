@@ -1,0 +1,195 @@
+-- The configuration: its commands make the same interfaces again, and what is shown is those commands as they are typed.
+use Rattle.std.proofs.Common.{◌≡◌, ◌≤◌, ◌<◌, ℕ, Bool, true, false, ◌||◌, List, [], ◌∷◌, ◌++◌, length, insert, refl, ap, arith, sym, ◌∙◌, append_assoc, length-append, subst}
+use Rattle.std.specs.Prelude.{Option, None, Some, nat_lt}
+use Rattle.std.specs.List.{flat_map, list_all}
+use Rattle.std.specs.Ordering.{is_lt}
+use Rattle.std.proofs.lemmas.Bool.{and_from, and_parts}
+use Rattle.std.proofs.lemmas.Bool.Decides.{nat_tests}
+use Rattle.std.proofs.lemmas.Grind.{flat_map-append}
+use Rattle.std.proofs.lemmas.List.{append-nil}
+use Rattle.std.proofs.Math.Seq.{set-append_seam}
+use Rattle.cm_lists.proofs.Ascents.{all_above, is_sorted}
+use Rattle.cm_lists.proofs.Elements.{slice_get_at}
+use Rattle.cm_lists.proofs.Orders.{lt_is_not_eq}
+use Rattle.cm_lists.proofs.Pieces.{cons_is_not_empty}
+use Rattle.cm_files.specs.Catalogue.{by_bytes}
+use Rattle.eg_router.specs.Configuration.{address_commands, address_line, commands_of, configuration, configuration_of, description_commands, description_line, line_of, listing, shutdown_commands, shutdown_line}
+use Rattle.eg_router.specs.Interfaces.{AreInterfaces, by_name, changed, fresh, has, is_interface_name, place}
+use Rattle.eg_router.specs.Router.{configuring, obeyed, obeyed_all}
+use Rattle.eg_router.specs.declared.command.Command.{Command}
+use Rattle.eg_router.specs.declared.command.Command.TheVariants as commands
+use Rattle.eg_router.specs.declared.interface.Address.{Address}
+use Rattle.eg_router.specs.declared.interface.Change.{Change}
+use Rattle.eg_router.specs.declared.interface.Change.TheVariants as changes
+use Rattle.eg_router.specs.declared.interface.Interface.{Interface}
+use Rattle.eg_router.specs.declared.interfaces.TheConstants.{INTERFACE_LIMIT}
+use Rattle.eg_router.specs.declared.router.Mode.TheVariants as modes
+use Rattle.eg_router.specs.declared.router.Router.{Router}
+use Rattle.eg_router.proofs.Insertions.{sorted_ascends}
+use Rattle.eg_router.proofs.Names.{by_name_total}
+
+-- commands in turn
+both : (first more : List Command) (at : Router) → obeyed_all (first ++ more) at ≡ obeyed_all more (obeyed_all first at)
+both [] more at = refl
+both (command ∷ first) more at = both first more (obeyed command at)
+
+-- all of these stand below a name
+abbrev all_below : List ℕ → List Interface → Bool
+all_below name front = list_all (λ (it : Interface). is_lt (by_bytes it.name name)) front
+
+-- so none has it
+none_has : (name : List ℕ) (front : List Interface) → all_below name front ≡ true → has name front ≡ false
+none_has name [] below = refl
+none_has name (it ∷ front) below =
+    let parts = and_parts _ _ below in
+    or_none _ _ (lt_is_not_eq _ parts.0) (none_has name front parts.1)
+  where
+    or_none : (a b : Bool) → a ≡ false → b ≡ false → (a || b) ≡ false
+    or_none false false first second = refl
+    or_none true b first second = absurd (cc)
+    or_none a true first second = absurd (cc)
+
+-- and its place is behind them
+last_place : (name : List ℕ) (front : List Interface) → all_below name front ≡ true → place name front ≡ length front
+last_place name [] below = refl
+last_place name (it ∷ front) below =
+    let parts = and_parts _ _ below in
+    let here : is_lt (by_bytes it.name name) ≡ true = parts.0 in
+    let rest : place name front ≡ length front = last_place name front parts.1 in
+    rw here (omega arith)
+
+put_last : (front : List Interface) (new : Interface) → insert front (length front) new ≡ front ++ new ∷ []
+put_last [] new = refl
+put_last (it ∷ front) new = ap (λ (others : List Interface). it ∷ others) (put_last front new)
+
+-- the mode of the interface behind these
+abbrev inside : List Interface → Interface → Router
+inside front it = record { interfaces = front ++ it ∷ []; mode = modes.Interface (length front) }
+
+-- a new one is entered behind those that stand below it
+enters : (name : List ℕ) (front : List Interface) → all_below name front ≡ true → is_interface_name name ≡ true
+    → length front < INTERFACE_LIMIT → obeyed (commands.Interface name) (configuring front) ≡ inside front (fresh name)
+enters name front below is room =
+    let none : has name front ≡ false = none_has name front below in
+    let fits : nat_lt (length front) INTERFACE_LIMIT ≡ true = grind (arith, nat_tests) in
+    let at : place name front ≡ length front = last_place name front below in
+    rw (none, is, fits, at, put_last front (fresh name)) refl
+
+-- a change there is of it
+changes_it : (front : List Interface) (it : Interface) (change : Change)
+    → obeyed (commands.Set change) (inside front it) ≡ inside front (changed change it)
+changes_it front it change = rw (slice_get_at it [] front, set-append_seam front it [] (changed change it)) refl
+
+leaves_it : (front : List Interface) (it : Interface) → obeyed commands.Exit (inside front it) ≡ configuring (front ++ it ∷ [])
+leaves_it front it = refl
+
+-- what is as in a new interface needs no command
+address_set : (front : List Interface) (it : Interface) (address : Option Address) → it.address ≡ None
+    → obeyed_all (address_commands address) (inside front it) ≡ inside front (record it { address = address })
+address_set front it None is = ap (λ (address : Option Address). inside front (record it { address = address })) is
+address_set front it (Some address) is = changes_it front it (changes.Address (Some address))
+
+description_set : (front : List Interface) (it : Interface) (text : List ℕ) → it.description ≡ []
+    → obeyed_all (description_commands text) (inside front it) ≡ inside front (record it { description = text })
+description_set front it [] is = ap (λ (text : List ℕ). inside front (record it { description = text })) is
+description_set front it (byte ∷ more) is = rw (cons_is_not_empty byte more) (changes_it front it (changes.Description (byte ∷ more)))
+
+shutdown_set : (front : List Interface) (it : Interface) (is_down : Bool) → it.is_down ≡ false
+    → obeyed_all (shutdown_commands is_down) (inside front it) ≡ inside front (record it { is_down = is_down })
+shutdown_set front it true is = changes_it front it (changes.Shutdown true)
+shutdown_set front it false is = ap (λ (is_down : Bool). inside front (record it { is_down = is_down })) is
+
+-- the commands of one interface make it behind those that stand below it
+made : (front : List Interface) (it : Interface) → all_below it.name front ≡ true → is_interface_name it.name ≡ true
+    → length front < INTERFACE_LIMIT → obeyed_all (commands_of it) (configuring front) ≡ configuring (front ++ it ∷ [])
+made front it below is room =
+    ap (obeyed_all settings) (enters it.name front below is room)
+    ∙ both (address_commands it.address) _ _
+    ∙ ap (obeyed_all (description_commands it.description ++ (shutdown_commands it.is_down ++ commands.Exit ∷ [])))
+    (address_set front (fresh it.name) it.address refl)
+    ∙ both (description_commands it.description) _ _
+    ∙ ap (obeyed_all (shutdown_commands it.is_down ++ commands.Exit ∷ []))
+    (description_set front (record (fresh it.name) { address = it.address }) it.description refl)
+    ∙ both (shutdown_commands it.is_down) _ _
+    ∙ ap (obeyed_all (commands.Exit ∷ []))
+    (shutdown_set front (record (fresh it.name) { address = it.address; description = it.description }) it.is_down refl)
+  where
+    settings : List Command
+    settings = address_commands it.address ++ (description_commands it.description ++ (shutdown_commands it.is_down ++ commands.Exit ∷ []))
+
+-- those before an element of a sorted list stand below it
+front_below : (front : List Interface) (it : Interface) (rest : List Interface) → is_sorted by_name (front ++ it ∷ rest) ≡ true
+    → all_below it.name front ≡ true
+front_below [] it rest sorted = refl
+front_below (first ∷ front) it rest sorted =
+    let parts = and_parts _ _ sorted in
+    and_from _ _ (above_here front parts.0) (front_below front it rest parts.1)
+  where
+    above_here : (front : List Interface) → all_above by_name first (front ++ it ∷ rest) ≡ true → is_lt (by_name first it) ≡ true
+    above_here [] above = (and_parts _ _ above).0
+    above_here (other ∷ front) above = above_here front (and_parts _ _ above).1
+
+named_here : (front : List Interface) (it : Interface) (rest : List Interface)
+    → list_all (λ (other : Interface). is_interface_name other.name) (front ++ it ∷ rest) ≡ true → is_interface_name it.name ≡ true
+named_here [] it rest all = (and_parts _ _ all).0
+named_here (other ∷ front) it rest all = named_here front it rest (and_parts _ _ all).1
+
+all_made : (front more : List Interface) → length (front ++ more) ≤ INTERFACE_LIMIT
+    → list_all (λ (it : Interface). is_interface_name it.name) (front ++ more) ≡ true → is_sorted by_name (front ++ more) ≡ true
+    → obeyed_all (listing more) (configuring front) ≡ configuring (front ++ more)
+all_made front [] few named sorted = ap configuring (sym (append-nil front))
+all_made front (it ∷ more) few named sorted =
+    let size = length-append front (it ∷ more) in
+    let room : length front < INTERFACE_LIMIT = omega arith in
+    let whole : (front ++ it ∷ []) ++ more ≡ front ++ it ∷ more = append_assoc front (it ∷ []) more in
+    both (commands_of it) (listing more) (configuring front)
+    ∙ ap (obeyed_all (listing more)) (made front it (front_below front it more sorted) (named_here front it more named) room)
+    ∙ all_made (front ++ it ∷ []) more (subst (λ (xs : List Interface). length xs ≤ INTERFACE_LIMIT) (sym whole) few)
+    (ap (list_all (λ (other : Interface). is_interface_name other.name)) whole ∙ named) (ap (is_sorted by_name) whole ∙ sorted)
+    ∙ ap configuring whole
+
+pub makes_the_same : (interfaces : List Interface) → AreInterfaces interfaces
+    → obeyed_all (listing interfaces) (configuring []) ≡ configuring interfaces
+makes_the_same interfaces are =
+    all_made [] interfaces are.few are.names (sorted_ascends by_name by_name_total interfaces are.ascend)
+
+-- the lines of several commands
+abbrev lines : List Command → List ℕ
+lines all = flat_map line_of all
+
+address_typed : (address : Option Address) → address_line address ≡ lines (address_commands address)
+unfolding address_line
+address_typed None = refl
+address_typed (Some address) = sym (append-nil _)
+
+description_typed : (text : List ℕ) → description_line text ≡ lines (description_commands text)
+unfolding description_line
+description_typed [] = refl
+description_typed (byte ∷ more) = rw (cons_is_not_empty byte more) (sym (append-nil _))
+
+shutdown_typed : (is_down : Bool) → shutdown_line is_down ≡ lines (shutdown_commands is_down)
+unfolding shutdown_line
+shutdown_typed true = sym (append-nil _)
+shutdown_typed false = refl
+
+typed_of : (it : Interface) → configuration_of it ≡ lines (commands_of it)
+unfolding configuration_of
+typed_of it =
+    let leave : List Command = commands.Exit ∷ [] in
+    let shut : List Command = shutdown_commands it.is_down ++ leave in
+    let described : List Command = description_commands it.description ++ shut in
+    let first : lines (address_commands it.address ++ described) ≡ address_line it.address ++ lines described =
+    flat_map-append line_of (address_commands it.address) described ∙ ap (λ (text : List ℕ). text ++ lines described) (sym (address_typed it.address)) in
+    let second : lines described ≡ description_line it.description ++ lines shut =
+    flat_map-append line_of (description_commands it.description) shut ∙ ap (λ (text : List ℕ). text ++ lines shut) (sym (description_typed it.description)) in
+    let third : lines shut ≡ shutdown_line it.is_down ++ lines leave =
+    flat_map-append line_of (shutdown_commands it.is_down) leave ∙ ap (λ (text : List ℕ). text ++ lines leave) (sym (shutdown_typed it.is_down)) in
+    rw (first, second, third) (simp (append_assoc, append-nil))
+
+pub is_its_commands : (interfaces : List Interface) → configuration interfaces ≡ lines (listing interfaces)
+unfolding configuration
+is_its_commands [] = refl
+is_its_commands (it ∷ more) =
+    ap (λ (text : List ℕ). text ++ configuration more) (typed_of it)
+    ∙ ap (λ (text : List ℕ). lines (commands_of it) ++ text) (is_its_commands more)
+    ∙ sym (flat_map-append line_of (commands_of it) (listing more))

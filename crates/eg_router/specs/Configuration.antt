@@ -1,0 +1,139 @@
+-- What the router shows, and the commands that its configuration is made of.
+use Rattle.std.specs.Prelude.{ℕ, ◌==◌, Bool, true, if◌then◌else◌, List, [], ◌∷◌, ◌++◌, length, codes, Option, None, Some}
+use Rattle.std.specs.Fmt.{decimal}
+use Rattle.std.specs.List.{flat_map}
+use Rattle.cm_text.specs.Shown.{end_of_line}
+use Rattle.eg_router.specs.Interfaces.{may_enter}
+use Rattle.eg_router.specs.declared.command.Command.{Command}
+use Rattle.eg_router.specs.declared.command.Command.TheVariants as commands
+use Rattle.eg_router.specs.declared.command.Shown.TheVariants as shown
+use Rattle.eg_router.specs.declared.interface.Address.{Address}
+use Rattle.eg_router.specs.declared.interface.Change.TheVariants as changes
+use Rattle.eg_router.specs.declared.interface.Interface.{Interface}
+
+unfoldable pub point : List ℕ
+point = codes "."
+
+unfoldable pub blank : List ℕ
+blank = codes " "
+
+-- an address as it is typed: four numbers with points between
+unfoldable pub dotted : Address → List ℕ
+dotted it =
+    decimal it.first ++ point ++ decimal it.second ++ point ++ decimal it.third ++ point ++ decimal it.fourth
+
+-- a byte of a quoted text: a quote stands twice
+unfoldable pub quoted_byte : ℕ → List ℕ
+quoted_byte byte = if byte == 34 then 34 ∷ 34 ∷ [] else byte ∷ []
+
+unfoldable pub quote : List ℕ
+quote = codes "\""
+
+-- a text as it is typed in quotes
+unfoldable pub quoted : List ℕ → List ℕ
+quoted text = quote ++ flat_map quoted_byte text ++ quote
+
+-- the fixed texts of the configuration
+unfoldable pub interface_word : List ℕ
+interface_word = codes "interface "
+
+unfoldable pub address_word : List ℕ
+address_word = codes " address "
+
+unfoldable pub description_word : List ℕ
+description_word = codes " description "
+
+unfoldable pub shutdown_word : List ℕ
+shutdown_word = codes " shutdown"
+
+unfoldable pub exit_word : List ℕ
+exit_word = codes "exit"
+
+-- the lines of each setting; what is as in a new interface has none
+unfoldable pub address_line : Option Address → List ℕ
+address_line None = []
+address_line (Some address) = address_word ++ dotted address ++ end_of_line
+
+unfoldable pub description_line : List ℕ → List ℕ
+description_line text = if length text == 0 then [] else description_word ++ quoted text ++ end_of_line
+
+unfoldable pub shutdown_line : Bool → List ℕ
+shutdown_line is_down = if is_down then shutdown_word ++ end_of_line else []
+
+-- the lines of an interface
+unfoldable pub configuration_of : Interface → List ℕ
+configuration_of it =
+    interface_word ++ it.name ++ end_of_line ++ address_line it.address ++ description_line it.description
+    ++ shutdown_line it.is_down ++ exit_word ++ end_of_line
+
+-- the configuration, as it is shown
+unfoldable pub configuration : List Interface → List ℕ
+configuration interfaces = flat_map configuration_of interfaces
+
+-- the commands that make each setting
+abbrev pub address_commands : Option Address → List Command
+address_commands None = []
+address_commands (Some address) = commands.Set (changes.Address (Some address)) ∷ []
+
+abbrev pub description_commands : List ℕ → List Command
+description_commands text = if length text == 0 then [] else commands.Set (changes.Description text) ∷ []
+
+abbrev pub shutdown_commands : Bool → List Command
+shutdown_commands is_down = if is_down then commands.Set (changes.Shutdown true) ∷ [] else []
+
+-- the commands that make an interface
+abbrev pub commands_of : Interface → List Command
+commands_of it =
+    commands.Interface it.name
+    ∷ (address_commands it.address ++ (description_commands it.description
+    ++ (shutdown_commands it.is_down ++ commands.Exit ∷ [])))
+
+-- the commands that make them all, in their order
+abbrev pub listing : List Interface → List Command
+listing interfaces = flat_map commands_of interfaces
+
+-- what is typed for a command of a listing
+abbrev pub typed : Command → List ℕ
+typed (commands.Interface name) = interface_word ++ name
+typed (commands.Set (changes.Address (Some address))) = address_word ++ dotted address
+typed (commands.Set (changes.Description text)) = description_word ++ quoted text
+typed (commands.Set (changes.Shutdown true)) = shutdown_word
+typed commands.Exit = exit_word
+typed command = []
+
+-- on a line of its own
+abbrev pub line_of : Command → List ℕ
+line_of command = typed command ++ end_of_line
+
+-- the line of an interface in SHOW INTERFACES: `ETH0 up 10.0.0.1 by the door`
+unfoldable pub up_word : List ℕ
+up_word = codes " up"
+
+unfoldable pub down_word : List ℕ
+down_word = codes " down"
+
+unfoldable pub address_text : Option Address → List ℕ
+address_text None = []
+address_text (Some address) = blank ++ dotted address
+
+unfoldable pub interface_line : Interface → List ℕ
+interface_line it =
+    it.name ++ (if it.is_down then down_word else up_word) ++ address_text it.address
+    ++ (if length it.description == 0 then [] else blank) ++ it.description ++ end_of_line
+
+unfoldable pub interface_lines : List Interface → List ℕ
+interface_lines interfaces = flat_map interface_line interfaces
+
+unfoldable pub version : List ℕ
+version = codes "The router of Lughvero"
+
+unfoldable pub too_many : List ℕ
+too_many = codes "?Too many interfaces"
+
+-- what a command shows; an interface that may not be made is refused
+abbrev pub reply : Command → List Interface → List ℕ
+reply (commands.Show shown.Interfaces) interfaces = interface_lines interfaces
+reply (commands.Show shown.Configuration) interfaces = configuration interfaces
+reply (commands.Show shown.Version) interfaces = version ++ end_of_line
+reply (commands.Interface name) interfaces = if may_enter name interfaces then [] else too_many ++ end_of_line
+reply command interfaces = []

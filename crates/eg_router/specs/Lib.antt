@@ -1,0 +1,10 @@
+pub mod Command
+pub mod Configuration
+pub mod Graph
+pub mod Interfaces
+pub mod Octet
+pub mod OctetLaws
+pub mod Program
+pub mod Prompts
+pub mod Router
+pub mod Tables

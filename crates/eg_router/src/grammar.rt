@@ -1,0 +1,139 @@
+// The grammar of the router.
+ghost use Rattle.std.specs.Prelude.{◌≡◌, IfOk};
+ghost use Rattle.eg_router.specs.Graph.{blocks, confirm, first_nodes, keyword, octet, point, router_graph, router_nodes};
+
+use crate::tables::tables;
+use cm_blocks::{Block, Function, Grammar, Node, Role};
+use cm_io::NoMemory;
+use cm_text::Name;
+use std::alloc::Global;
+
+// The codes of the keywords. TERMINAL has that of CONFIGURE, and INTERFACES that of INTERFACE.
+pub(crate) const ADDRESS: u16 = 1;
+
+pub(crate) const CONFIGURE: u16 = 2;
+
+pub(crate) const DESCRIPTION: u16 = 3;
+
+pub(crate) const ENABLE: u16 = 4;
+
+pub(crate) const END: u16 = 5;
+
+pub(crate) const EXIT: u16 = 6;
+
+pub(crate) const INTERFACE: u16 = 7;
+
+pub(crate) const NO: u16 = 8;
+
+pub(crate) const ROUTER: u16 = 9;
+
+pub(crate) const RUNNING_CONFIG: u16 = 10;
+
+pub(crate) const SHOW: u16 = 11;
+
+pub(crate) const SHUTDOWN: u16 = 12;
+
+pub(crate) const VERSION: u16 = 13;
+
+// The nodes where the lines of each mode begin, and that where a line ends.
+pub(crate) const USER_LINES: u16 = 0;
+
+pub(crate) const PRIVILEGED_LINES: u16 = 1;
+
+pub(crate) const CONFIGURATION_LINES: u16 = 2;
+
+pub(crate) const INTERFACE_LINES: u16 = 3;
+
+pub(crate) const PROTOCOL_LINES: u16 = 4;
+
+pub(crate) const LINE_END: u16 = 6;
+
+/// The grammar of the router: for each mode the node where its lines begin.
+#[tactic(auto, using(crate::proofs::Faultless::graph_has_no_fault), unfolding(crate::specs::Graph::router_graph))]
+pub fn grammar(alloc: Global) -> Result<Grammar, NoMemory>
+    ensures { IfOk result (λ grammar. grammar ≡ router_graph) }
+{
+    let tables = tables(alloc)?;
+    Ok(Grammar::of(nodes(alloc)?, tables))
+}
+
+#[tactic(auto, unfolding(crate::specs::Graph::router_nodes))]
+fn nodes(alloc: Global) -> Result<Vec<Node>, NoMemory>
+    ensures { IfOk result (λ nodes. nodes.items ≡ router_nodes) }
+{
+    let mut nodes = first_nodes(alloc)?;
+    for block in blocks(alloc)? {
+        nodes.push(Node::new(vec![in alloc; block]?))?;
+    }
+    Ok(nodes)
+}
+
+// Nodes 0 to 5: in each mode a line begins with nothing or a command; and behind INTERFACE stands the name of one that
+// is there, or a new one.
+#[tactic(auto, unfolding(crate::specs::Graph::first_nodes))]
+fn first_nodes(alloc: Global) -> Result<Vec<Node>, NoMemory>
+    ensures { IfOk result (λ nodes. nodes.items ≡ first_nodes) }
+{
+    let old = Block::new(Function::User, Role::Files, LINE_END);
+    let new = Block::new(Function::Word, Role::Files, LINE_END);
+    let mut nodes = Vec::new(alloc);
+    nodes.push(Node::new(vec![in alloc; confirm(), keyword(0, Role::Verb)]?))?;
+    nodes.push(Node::new(vec![in alloc; confirm(), keyword(1, Role::Verb)]?))?;
+    nodes.push(Node::new(vec![in alloc; confirm(), keyword(2, Role::Verb)]?))?;
+    nodes.push(Node::new(vec![in alloc; confirm(), keyword(3, Role::Verb)]?))?;
+    nodes.push(Node::new(vec![in alloc; confirm(), keyword(4, Role::Verb)]?))?;
+    nodes.push(Node::new(vec![in alloc; old, new]?))?;
+    Ok(nodes)
+}
+
+// Nodes 6 to 20, of one block each: the end of a line; CONFIGURE; SHOW; NO and what it takes back; ROUTER; the address,
+// four numbers with points between; the description.
+#[tactic(auto, unfolding(crate::specs::Graph::blocks))]
+fn blocks(alloc: Global) -> Result<Vec<Block>, NoMemory>
+    ensures { IfOk result (λ items. items.items ≡ blocks) }
+{
+    Ok(vec![in alloc;
+        confirm(),
+        keyword(5, Role::None),
+        keyword(6, Role::What),
+        keyword(7, Role::What),
+        Block::new(Function::User, Role::Files, LINE_END),
+        keyword(8, Role::What),
+        Block::new(Function::Word, Role::Value, LINE_END),
+        octet(1, 14),
+        point(15),
+        octet(2, 16),
+        point(17),
+        octet(3, 18),
+        point(19),
+        octet(4, LINE_END),
+        Block::new(Function::Quoted, Role::Value, LINE_END),
+    ]?)
+}
+
+fn confirm() -> Block
+    ensures { result ≡ confirm }
+{
+    Block::new(Function::Confirm, Role::None, LINE_END)
+}
+
+// A keyword of this table.
+fn keyword(table: u16, role: Role) -> Block
+    ensures { result ≡ keyword table role }
+{
+    Block::new(Function::Key(table), role, LINE_END)
+}
+
+// A number of an address, by its place from 1.
+fn octet(place: u8, next: u16) -> Block
+    ensures { result ≡ octet place next }
+{
+    Block::new(Function::Hook(0), Role::Own(place), next)
+}
+
+// A point between two of them.
+fn point(next: u16) -> Block
+    ensures { result ≡ point next }
+{
+    Block::new(Function::Token(Name::new(".")), Role::None, next)
+}

@@ -1,0 +1,183 @@
+// The interfaces of the router, and the catalogue in which a line names them.
+ghost use Rattle.std.specs.Prelude.{◌≡◌, ◌≤◌, [], true, length};
+ghost use Rattle.std.specs.List.{list_all};
+ghost use Rattle.eg_router.specs.Interfaces.{AreInterfaces, has, is_interface_name, is_name_byte, may_enter, place, with_change, with_name, without_name};
+
+use crate::{Change, Interface};
+use arrayvec::ArrayVec;
+use cm_files::{Names, Row};
+use cm_text::{NAME_LIMIT, Name, is_word};
+use std::cmp::Ordering;
+use std::marker::Model;
+
+/// The most interfaces.
+pub const INTERFACE_LIMIT: usize = 16;
+
+/// At most 16 interfaces, in the order of their names. Contracts see the list of them.
+#[derive(Drop)]
+pub struct Interfaces {
+    items: ArrayVec<Interface, INTERFACE_LIMIT>,
+}
+
+impl Model for Interfaces {
+    ghost use Rattle.std.specs.Prelude.{List};
+    ghost use Rattle.eg_router.specs.Interfaces.{AreInterfaces};
+    ghost use Rattle.eg_router.specs.declared.interface.Interface.{Interface};
+
+    ghost Value = { List Interface };
+
+    ghost view = { λ it. it.items.items };
+
+    ghost invariant = { λ it. AreInterfaces it.items.items };
+}
+
+impl Interfaces {
+    /// No interfaces.
+    pub fn new() -> Interfaces
+        ensures { result ≡ [] }
+    {
+        Interfaces {
+            items: ArrayVec::new(),
+        }
+    }
+
+    /// The interfaces.
+    pub fn as_slice(&self) -> &[Interface]
+        ensures value { result.now ≡ self.now }
+        ensures lawful { AreInterfaces self.now }
+    {
+        &self.items
+    }
+
+    /// Whether the interface of this name is there, or may be made: it is a name, of 1 to 39 capital letters, digits and
+    /// hyphens, and there are fewer than 16 others.
+    pub fn may_enter(&self, name: &Name) -> bool
+        ensures { result ≡ may_enter name.now self.now }
+    {
+        has(name, &self.items) || (is_interface_name(name.as_bytes()) && !self.items.is_full())
+    }
+
+    /// Makes the interface of this name, where there is none, and tells its place.
+    pub fn enter(&mut self, name: &Name) -> usize
+        requires { may_enter name.now self.old ≡ true }
+        ensures place { result ≡ place name.now self.old }
+        ensures made { self.new ≡ with_name name.now self.old }
+    {
+        let at = place(name, &self.items);
+        self.make(at, name);
+        at
+    }
+
+    // Makes the interface of this name at its place, where there is none.
+    fn make(&mut self, at: usize, name: &Name)
+        requires may_enter { may_enter name.now self.old ≡ true }
+        requires place { at ≡ place name.now self.old }
+        ensures { self.new ≡ with_name name.now self.old }
+    {
+        if !has(name, &self.items) {
+            self.items
+                .insert(at, Interface::new(Name::new(name.as_str())));
+        }
+    }
+
+    /// Removes the interface of this name, where there is one.
+    pub fn remove(&mut self, name: &Name)
+        ensures { self.new ≡ without_name name.now self.old }
+    {
+        if has(name, &self.items) {
+            self.items.remove(place(name, &self.items));
+        }
+    }
+
+    /// Changes the interface at a place, where there is one.
+    pub fn change(&mut self, at: usize, change: Change)
+        ensures { self.new ≡ with_change at change self.old }
+    {
+        if at < self.items.len() {
+            self.items[at].change(change);
+        }
+    }
+}
+
+// How many interfaces stand below a name.
+fn place(name: &Name, interfaces: &[Interface]) -> usize
+    ensures value { result ≡ place name.now interfaces.now }
+    ensures within { result ≤ length interfaces.now }
+{
+    interfaces
+        .iter()
+        .take_while(|it| it.name.cmp(name) == Ordering::Less)
+        .count()
+}
+
+// Whether one has this name.
+fn has(name: &Name, interfaces: &[Interface]) -> bool
+    ensures { result ≡ has name.now interfaces.now }
+{
+    interfaces
+        .iter()
+        .any(|it| it.name.cmp(name) == Ordering::Equal)
+}
+
+// Whether a byte may stand in the name of an interface.
+fn is_name_byte(byte: u8) -> bool
+    ensures { result ≡ is_name_byte byte }
+{
+    is_word(byte) && !byte.is_ascii_lowercase()
+}
+
+// Whether all bytes are so.
+fn are_name_bytes(text: &[u8]) -> bool
+    ensures { result ≡ list_all is_name_byte text.now }
+{
+    text.iter().all(|byte| is_name_byte(*byte))
+}
+
+fn is_interface_name(text: &[u8]) -> bool
+    ensures { result ≡ is_interface_name text.now }
+{
+    !text.is_empty() && text.len() <= NAME_LIMIT && are_name_bytes(text)
+}
+
+impl Names for Interfaces {
+    ghost use Rattle.eg_router.specs.Interfaces.{catalogue_of};
+
+    ghost catalogue = { λ it. catalogue_of it };
+
+    fn directories(&self) -> u16 {
+        self.items.len() as u16 + 1
+    }
+
+    fn directory(&self, i: u16) -> &str {
+        match i {
+            0 => "$.ROUTER",
+            _ => self.items[usize::from(i) - 1].name.as_str(),
+        }
+    }
+
+    fn connected(&self) -> u16 {
+        0
+    }
+
+    fn logical(&self, _name: &[u8]) -> Option<u16> {
+        None
+    }
+
+    fn rows(&self, directory: u16) -> u32 {
+        // That it is a catalogue, for the proof.
+        self.directories();
+        match directory {
+            0 => 1,
+            _ => 0,
+        }
+    }
+
+    fn row(&self, _directory: u16, _i: u32) -> Row<'_> {
+        Row {
+            name: "NONE",
+            kind: "",
+            generation: 1,
+            deleted: false,
+        }
+    }
+}

@@ -1,0 +1,23 @@
+//! The command line of a router: modes, a tree of keywords, interfaces that come and go, and a configuration that can be
+//! typed again.
+#![tactic(auto)]
+
+mod command;
+mod configuration;
+pub mod grammar;
+mod interface;
+mod interfaces;
+pub mod laws;
+pub mod octet;
+mod program;
+mod prompts;
+mod router;
+mod tables;
+
+pub use command::{Command, Shown, command_of};
+pub use interface::{Address, Change, Interface};
+pub use interfaces::{INTERFACE_LIMIT, Interfaces};
+pub use octet::OctetRules;
+pub use program::{Program, status_of};
+pub use prompts::Prompts;
+pub use router::{Mode, Router};

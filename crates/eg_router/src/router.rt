@@ -1,0 +1,107 @@
+// The router in its course, and what a command makes of it.
+ghost use Rattle.std.specs.Prelude.{◌≡◌, ◌≤◌};
+ghost use Rattle.cm_io.specs.Fault.{PutCause};
+ghost use Rattle.cm_io.specs.Told.{Adds};
+ghost use Rattle.eg_router.specs.Configuration.{reply};
+ghost use Rattle.eg_router.specs.Router.{above, entered, obeyed, router_start, with_setting};
+
+use crate::configuration::put_reply;
+use crate::{Change, Command, Interfaces};
+use cm_io::{Put, Sink, Writer};
+use cm_text::Name;
+
+/// Where the router is: what its next line may be.
+#[derive(Clone, Copy, Debug, PartialEq, Eq)]
+pub enum Mode {
+    /// At first, `router>`.
+    User,
+    /// Behind ENABLE, `router#`.
+    Privileged,
+    /// Behind CONFIGURE TERMINAL, `router(config)#`.
+    Configuration,
+    /// Behind INTERFACE, `router(config-if)#`: of the interface at this place.
+    Interface(usize),
+    /// Behind ROUTER, `router(config-router)#`.
+    Protocol,
+    /// Behind EXIT in the first mode: the run has ended.
+    Ended,
+}
+
+/// The router in its course.
+#[derive(Drop)]
+pub struct Router {
+    /// Its interfaces. They are also the names that a line may mean.
+    pub interfaces: Interfaces,
+    /// Where it is.
+    pub mode: Mode,
+}
+
+impl Router {
+    /// The router at its start: it has no interfaces, and is in its first mode.
+    pub fn new() -> Router
+        ensures { result ≡ router_start }
+    {
+        Router {
+            interfaces: Interfaces::new(),
+            mode: Mode::User,
+        }
+    }
+
+    /// Does what a command says, and shows its reply. It acts also where the screen fails.
+    pub fn obey_command<S: Sink>(&mut self, command: Command, screen: &mut S) -> Put
+        ensures state { self.new ≡ obeyed command self.old }
+        ensures reply { Adds (S.told screen.old) (S.told screen.new) (reply command self.old.interfaces) result }
+        ensures later { S.faults screen.old ≤ S.faults screen.new }
+        ensures cause { PutCause (S.faults screen.old) (S.faults screen.new) result }
+    {
+        let mut out = Writer::new(screen);
+        put_reply(&command, &self.interfaces, &mut out);
+        self.change(command);
+        out.went()
+    }
+
+    fn change(&mut self, command: Command)
+        ensures { self.new ≡ obeyed command self.old }
+    {
+        match command {
+            Command::Nothing | Command::Show(_) => {}
+            Command::Go(mode) => self.mode = mode,
+            Command::Exit => self.mode = above(self.mode),
+            Command::Interface(name) => self.enter(&name),
+            Command::NoInterface(name) => self.interfaces.remove(&name),
+            Command::Set(change) => self.set(change),
+        }
+    }
+
+    // Goes to the mode of an interface.
+    fn enter(&mut self, name: &Name)
+        ensures { self.new ≡ entered name.now self.old }
+    {
+        if self.interfaces.may_enter(name) {
+            self.mode = Mode::Interface(self.interfaces.enter(name));
+        }
+    }
+
+    // Changes the interface whose mode it is.
+    fn set(&mut self, change: Change)
+        ensures { self.new ≡ record self.old {
+          interfaces = with_setting self.old.mode change self.old.interfaces;
+        } }
+    {
+        if let Mode::Interface(at) = self.mode {
+            self.interfaces.change(at, change);
+        }
+    }
+}
+
+// One mode up.
+fn above(mode: Mode) -> Mode
+    ensures { result ≡ above mode }
+{
+    match mode {
+        Mode::User | Mode::Ended => Mode::Ended,
+        Mode::Privileged => Mode::User,
+        Mode::Configuration => Mode::Privileged,
+        Mode::Interface(_) | Mode::Protocol => Mode::Configuration,
+    }
+}
