@@ -30,20 +30,22 @@ pub(crate) fn outcome_of(
     room: u32,
 ) -> Result<Outcome, NoMemory> {
     let alloc = runtime.alloc();
-    let mut outcome = Outcome {
-        went: Err(Stop::Memory),
-        program: Program::new(),
-        keys: MemSource::new(alloc, keys, failing_get)?,
-        screen: MemSink::new(alloc, room)?,
-    };
-    outcome.went = run_with_hook::<MemSource, MemSink, Brand>(
+    let mut program = Program::new();
+    let mut source = MemSource::new(alloc, keys, failing_get)?;
+    let mut screen = MemSink::new(alloc, room)?;
+    let went = run_with_hook::<MemSource, MemSink, Brand>(
         runtime,
         Blank::new(1),
-        &mut outcome.program,
-        &mut outcome.keys,
-        &mut outcome.screen,
+        &mut program,
+        &mut source,
+        &mut screen,
     );
-    Ok(outcome)
+    Ok(Outcome {
+        went,
+        program,
+        keys: source,
+        screen,
+    })
 }
 
 // Whether these keys are left, and no more.
