@@ -8,21 +8,18 @@ use Rattle.std.proofs.lemmas.Bool.{and_parts}
 use Rattle.std.proofs.lemmas.Bool.Decides.{nat_tests}
 use Rattle.std.proofs.lemmas.List.{append-nil, drop_all, length-set, take_all}
 use Rattle.std.proofs.lemmas.List.Folds.{list_all-map}
-use Rattle.std.proofs.lemmas.Option.{get_or_from_slice_get, slice_get_past, slice_get_read}
+use Rattle.std.proofs.lemmas.Option.{get_or_from_slice_get, slice_get_read}
 use Rattle.std.proofs.Math.Seq.{map-set_same}
 use Rattle.cm_lists.proofs.Bools.{second_of_or}
 use Rattle.cm_lists.proofs.Quantifiers.{all_filter}
 use Rattle.cm_files.specs.Catalogue.{ascends, by_bytes}
-use Rattle.eg_router.specs.Interfaces.{AreInterfaces, by_name, changed, fresh, has, is_interface_name, may_enter, names_of, place, with_change, with_name, without_name}
+use Rattle.eg_router.specs.Interfaces.{AreInterfaces, by_name, changed, fresh, has, is_interface_name, may_enter, names_of, place, with_change, without_name}
 use Rattle.eg_router.specs.declared.interface.Change.{Change}
 use Rattle.eg_router.specs.declared.interface.Change.TheVariants.{Address, Description, Shutdown}
 use Rattle.eg_router.specs.declared.interface.Interface.{Interface}
 use Rattle.eg_router.specs.declared.interfaces.TheConstants.{INTERFACE_LIMIT}
 use Rattle.eg_router.proofs.Insertions.{found_within, inserted_all, inserted_ascends, inserted_length, inserted_there, insertion, kept_ascends, none_removed, removed_there, sorted_ascends}
 use Rattle.eg_router.proofs.Names.{ascends_names, by_name_total}
-
-pub none_are : AreInterfaces []
-none_are = record { few = omega arith; names = refl; ascend = refl }
 
 -- a new one has a name, and there is room for it
 new_may : (name : List ℕ) (interfaces : List Interface) → may_enter name interfaces ≡ true → has name interfaces ≡ false
@@ -53,15 +50,6 @@ pub made_are : (name : List ℕ) (interfaces : List Interface) → AreInterfaces
 made_are name interfaces are may none =
     let new = new_may name interfaces may none in
     rw (inserted_there by_name (fresh name) interfaces) (inserted_are name interfaces are none new.0 new.1)
-
--- where there is none it is put in, and where there is one nothing is
-pub made_is : (name : List ℕ) (interfaces : List Interface) → has name interfaces ≡ false
-    → insert interfaces (place name interfaces) (fresh name) ≡ with_name name interfaces
-made_is name interfaces none = rw none refl
-
-pub there_is : (name : List ℕ) (interfaces : List Interface) → has name interfaces ≡ true
-    → interfaces ≡ with_name name interfaces
-there_is name interfaces some = rw some refl
 
 -- one that is there stands at its place
 pub there_within : (name : List ℕ) (interfaces : List Interface) → has name interfaces ≡ true
@@ -109,10 +97,6 @@ pub set_at : (at : ℕ) (change : Change) (interfaces : List Interface) (it : In
     → it ≡ get_or interfaces at it → set interfaces at (changed change it) ≡ with_change at change interfaces
 set_at at change interfaces it within is =
     rw (slice_get_read interfaces (length interfaces) at it refl within is) refl
-
-pub none_at : (at : ℕ) (change : Change) (interfaces : List Interface) → length interfaces ≤ at
-    → interfaces ≡ with_change at change interfaces
-none_at at change interfaces past = rw (slice_get_past interfaces at past) refl
 
 -- what is written through a loan of the whole is the whole
 whole : (interfaces lent : List Interface) → length lent ≡ length interfaces → refill (length interfaces) interfaces lent ≡ lent

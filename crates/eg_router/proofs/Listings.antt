@@ -80,9 +80,6 @@ changes_it : (front : List Interface) (it : Interface) (change : Change)
     → obeyed (commands.Set change) (inside front it) ≡ inside front (changed change it)
 changes_it front it change = rw (slice_get_at it [] front, set-append_seam front it [] (changed change it)) refl
 
-leaves_it : (front : List Interface) (it : Interface) → obeyed commands.Exit (inside front it) ≡ configuring (front ++ it ∷ [])
-leaves_it front it = refl
-
 -- what is as in a new interface needs no command
 address_set : (front : List Interface) (it : Interface) (address : Option Address) → it.address ≡ None
     → obeyed_all (address_commands address) (inside front it) ≡ inside front (record it { address = address })
