@@ -1,15 +1,11 @@
 //! The program of `./batch20`: a control file over standard output, the system's clock and its files.
 #![tactic(auto)]
 
-ghost use Rattle.std.specs.Prelude.{◌≡◌, ◌≤◌, ◌<◌, length};
-ghost use Rattle.ex_grammar.specs.ExecRules.{rule_completion, rule_help, rule_verdict};
+ghost use Rattle.std.specs.Prelude.{◌≡◌, ◌<◌};
 
 use cm_blocks::Steps;
-use cm_hooks::{Answer, Hook, Hooks, Tail};
 use cm_io::{Clock, Host, Sink, StdClock, StdHost, StdSink};
-use cm_text::Name;
 use ex_batch::{Status, Words, batch20};
-use ex_grammar::{ExecRules, rule_completion, rule_help, rule_verdict};
 use std::env;
 use std::marker::Brand;
 use std::process::ExitCode;
@@ -22,7 +18,7 @@ fn main(rt: HostRuntime) -> ExitCode {
     let mut host = StdHost::new(&rt);
     let mut screen = StdSink::new(&rt);
     let mut clock = StdClock::new(&rt);
-    let status = run_with_rules::<StdHost, StdSink, StdClock, Brand>(
+    let status = run::<StdHost, StdSink, StdClock, Brand>(
         &rt,
         Blank::new(1),
         &words,
@@ -33,9 +29,8 @@ fn main(rt: HostRuntime) -> ExitCode {
     ExitCode::from(status.number())
 }
 
-// Boxes the EXEC's rules, makes the counter for this ledger, and runs `batch20`. NoMemory also where there is no memory
-// for the rules.
-fn run_with_rules<H: Host, S: Sink, C: Clock, L: Ledger>(
+// Makes the counter for this ledger, and runs `batch20`.
+fn run<H: Host, S: Sink, C: Clock, L: Ledger>(
     rt: &HostRuntime,
     blank: Blank,
     words: &Words,
@@ -47,34 +42,8 @@ fn run_with_rules<H: Host, S: Sink, C: Clock, L: Ledger>(
     requires parts { blank.parts ≡ L.parts }
     requires some { 0 < L.parts }
 {
-    let alloc = rt.alloc();
-    let mut hooks: Hooks<ExecRules> = Hooks::new();
-    for id in 0..3u8 {
-        let verdict = move |atom: &[u8]| -> Answer
-            requires id { id < 3 }
-            requires short { length atom.now ≤ 255 }
-            ensures { result ≡ rule_verdict id atom.now }
-        { rule_verdict(id, atom) };
-        let completion = move |atom: &[u8]| -> Tail
-            requires id { id < 3 }
-            requires short { length atom.now ≤ 255 }
-            ensures { result ≡ rule_completion id atom.now }
-        { rule_completion(id, atom) };
-        let help = move || -> Name
-            requires { id < 3 }
-            ensures { result ≡ rule_help id }
-        { rule_help(id) };
-        let (Ok(verdict), Ok(completion), Ok(help)) = (
-            Box::new(alloc, verdict),
-            Box::new(alloc, completion),
-            Box::new(alloc, help),
-        ) else {
-            return Status::NoMemory;
-        };
-        let _ = hooks.push(Hook::new(id, verdict, completion, help));
-    }
     let mut steps: Steps<L> = Steps::new(rt, blank);
-    batch20(alloc, words, host, screen, clock, &hooks, &mut steps)
+    batch20(rt.alloc(), words, host, screen, clock, &mut steps)
 }
 
 // The words behind the program's name. They are too many where the system cannot tell them.

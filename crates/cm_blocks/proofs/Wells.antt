@@ -13,7 +13,7 @@ use Rattle.cm_blocks.specs.declared.grammar.GrammarFault.{GrammarFault}
 use Rattle.cm_blocks.specs.declared.node.Block.{Block}
 use Rattle.cm_blocks.specs.declared.node.Node.{Node}
 use Rattle.cm_blocks.specs.Fault.{grammar_fault, has_flags, has_phrase, has_size, has_table, has_texts, leads_within, node_fault, nodes_fault, or_fault}
-use Rattle.cm_blocks.specs.Grammar.{Graph, blocks_limit, hook_limit, nodes_limit}
+use Rattle.cm_blocks.specs.Grammar.{Graph}
 use Rattle.cm_blocks.specs.Well.{IsWell}
 
 -- a test that gives no fault is passed, and what comes behind it gives none
@@ -73,19 +73,6 @@ node_none tables count number (first ∷ more) (suc place) node none found =
     let parts = both (node_fault tables count number first) _ none in
     node_none tables count (number + 1) more place node parts.later_none found
 
--- the hooks of a block, and of a node, are among those that the grammar wants
-limit_at : (blocks : List Block) (place : ℕ) (d : Block) → place < length blocks
-    → hook_limit (get_or blocks place d).function ≤ blocks_limit blocks
-limit_at [] place d below = absurd (omega arith)
-limit_at (block ∷ more) zero d below = omega arith
-limit_at (block ∷ more) (suc place) d below = let later = limit_at more place d (omega arith) in omega arith
-
-limit_of : (nodes : List Node) (place : ℕ) (node : Node) → slice_get nodes place ≡ Some node
-    → blocks_limit node.chain ≤ nodes_limit nodes
-limit_of [] place node found = cc
-limit_of (first ∷ more) zero node found = let same : first ≡ node = cc in rw (← same) (omega arith)
-limit_of (first ∷ more) (suc place) node found = let later = limit_of more place node found in omega arith
-
 -- the tests that a node passes which has no fault
 record Tests (tables : List (List Entry)) (count : ℕ) (node : Node) : Type 0 where
   some : (length node.chain == 0) ≡ false
@@ -119,7 +106,6 @@ pub well_node : (graph : Graph) (place : ℕ) (node : Node) → grammar_fault gr
 well_node graph place node none found =
     let at = node_none graph.tables (length graph.nodes) 0 graph.nodes place node (all_none graph none) found in
     let passed = tests graph.tables (length graph.nodes) at.0 node at.1 in
-    let limit = limit_of graph.nodes place node found in
     let texts = and_parts (option_map_or is_shown node.default true) _ passed.texts in
     let is_some = passed.some in
     let is_few = passed.few in
@@ -129,7 +115,6 @@ well_node graph place node none found =
       blocks = λ k d below. record {
         table = AllPass-from_list_all _ node.chain passed.have_tables k d below;
         leads = AllPass-from_list_all _ node.chain passed.lead k d below;
-        hook = (let here = limit_at node.chain k d below in omega arith);
         phrase = (and_parts (has_phrase (get_or node.chain k d).function) _
             (AllPass-from_list_all has_texts node.chain texts.1 k d below)).0;
       };

@@ -6,14 +6,12 @@ use Rattle.cm_blocks.specs.declared.fault.TheConstants.{BLOCK_LIMIT}
 use Rattle.cm_blocks.specs.declared.node.Block.{Block}
 use Rattle.cm_blocks.specs.declared.node.Node.{Node}
 use Rattle.cm_blocks.specs.Fault.{has_phrase, has_table, leads_within}
-use Rattle.cm_blocks.specs.Grammar.{Graph, hook_count, hook_limit}
+use Rattle.cm_blocks.specs.Grammar.{Graph}
 
--- the table and the nodes that a block names are there, its hook is one of those that the grammar wants, and
--- its phrase is one that it may read
+-- the table and the nodes that a block names are there, and its phrase is one that it may read
 pub record IsWellBlock (graph : Graph) (block : Block) : Type 0 where
   pub table : has_table graph.tables block.function ≡ true
   pub leads : leads_within graph.tables (length graph.nodes) block ≡ true
-  pub hook : hook_limit block.function ≤ hook_count graph
   pub phrase : has_phrase block.function ≡ true
 
 -- a node has some blocks, and no more than it may, each of them well

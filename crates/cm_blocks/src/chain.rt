@@ -3,11 +3,9 @@ ghost use Rattle.std.specs.Prelude.{◌≡◌, ◌+◌, ◌≤◌, ◌<◌, ◌&
 ghost use Rattle.cm_text.specs.Text.{finished};
 ghost use Rattle.cm_fields.specs.Skip.{skip};
 ghost use Rattle.cm_fields.specs.declared.code.Code.TheVariants.{NotConfirmed};
-ghost use Rattle.cm_hooks.specs.Ties.{Ties, count};
 ghost use Rattle.cm_blocks.specs.Chain.{ChainLeads, IsNear, answered, chain_at, is_line_end, spent, walk};
-ghost use Rattle.cm_blocks.specs.Grammar.{hook_count};
 ghost use Rattle.cm_blocks.specs.Setting.{setting};
-ghost use Rattle.cm_blocks.specs.Well.{IsWell, IsWellBlock};
+ghost use Rattle.cm_blocks.specs.Well.{IsWellBlock};
 
 use crate::fault::BLOCK_LIMIT;
 use crate::trial::{looked_of, next_of, try_function};
@@ -15,7 +13,7 @@ use crate::{Block, Chain, Fault, Field, Grammar, Node, Open, Role, Steps};
 use arrayvec::ArrayVec;
 use cm_fields::{Code, Try, Value, skip};
 use cm_files::Names;
-use cm_hooks::{Hooks, Rules};
+use cm_hooks::Rules;
 use cm_text::{NAME_LIMIT, Name, TEXT_LIMIT};
 use std::sync::ledger::Ledger;
 
@@ -51,18 +49,16 @@ fn walk_blocks<N: Names, R: Rules, L: Ledger>(
     text: &[u8],
     at: usize,
     names: &N,
-    hooks: &Hooks<R>,
+    rules: &R,
     steps: &mut Steps<L>,
 ) -> Walk
     requires few { length blocks.now ≤ BLOCK_LIMIT }
     requires well { All (IsWellBlock grammar.now) blocks.now }
-    requires ties { Ties R.meanings hooks.now }
-    requires hooks { hook_count grammar.now ≤ count hooks.now }
     requires short { length text.now ≤ TEXT_LIMIT }
     requires place { at ≤ length text.now }
-    ensures value { result ≡ walk (setting grammar.now (N.catalogue names.now) R.meanings)
+    ensures value { result ≡ walk (setting grammar.now (N.catalogue names.now) (R.meanings rules.now))
         (drop at text.now) at 0 0 NotConfirmed blocks.now }
-    ensures steps { steps.new ≡ steps.old + spent (setting grammar.now (N.catalogue names.now) R.meanings)
+    ensures steps { steps.new ≡ steps.old + spent (setting grammar.now (N.catalogue names.now) (R.meanings rules.now))
         (drop at text.now) at blocks.now }
     ensures near { IsNear result }
 {
@@ -70,7 +66,7 @@ fn walk_blocks<N: Names, R: Rules, L: Ledger>(
     let mut looked = 0;
     let mut code = Code::NotConfirmed;
     for (number, block) in blocks.iter().enumerate() {
-        let answer = try_function(grammar, block, text, at, names, hooks);
+        let answer = try_function(grammar, block, text, at, names, rules);
         let seen = looked_of(size, answer);
         steps.add(seen as u64 + 1);
         looked = seen.max(looked);
@@ -227,18 +223,16 @@ pub fn try_chain<N: Names, R: Rules, L: Ledger>(
     text: &[u8],
     at: usize,
     names: &N,
-    hooks: &Hooks<R>,
+    rules: &R,
     steps: &mut Steps<L>,
 ) -> Chain
     requires node { node < length grammar.now.nodes }
     requires short { length text.now ≤ TEXT_LIMIT }
     requires place { at ≤ length text.now }
-    requires ties { Ties R.meanings hooks.now }
-    requires hooks { hook_count grammar.now ≤ count hooks.now }
     ensures value { result
-        ≡ (chain_at (setting grammar.now (N.catalogue names.now) R.meanings) node text.now at).chain }
+        ≡ (chain_at (setting grammar.now (N.catalogue names.now) (R.meanings rules.now)) node text.now at).chain }
     ensures steps { steps.new ≡ steps.old
-        + (chain_at (setting grammar.now (N.catalogue names.now) R.meanings) node text.now at).spent }
+        + (chain_at (setting grammar.now (N.catalogue names.now) (R.meanings rules.now)) node text.now at).spent }
     ensures leads { ChainLeads (length grammar.now.nodes) at (length text.now) result }
 {
     let found = grammar.node(node);
@@ -261,7 +255,7 @@ pub fn try_chain<N: Names, R: Rules, L: Ledger>(
         tried,
         place,
         names,
-        hooks,
+        rules,
         steps,
     );
     answered(on_default, node, start as u16, &walk)

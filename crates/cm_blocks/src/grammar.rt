@@ -1,11 +1,11 @@
 // Grammars.
-ghost use Rattle.std.specs.Prelude.{◌≡◌, ◌≤◌, ◌<◌, Some, None, MatchResult, length, slice_get};
+ghost use Rattle.std.specs.Prelude.{◌≡◌, ◌<◌, Some, None, MatchResult, length, slice_get};
 ghost use Rattle.cm_blocks.specs.Fault.{grammar_fault};
-ghost use Rattle.cm_blocks.specs.Grammar.{Graph, blocks_limit, hook_count, hook_limit, nodes_limit};
+ghost use Rattle.cm_blocks.specs.Grammar.{Graph};
 ghost use Rattle.cm_blocks.specs.Well.{AreTables, IsWell};
 
+use crate::Node;
 use crate::fault::grammar_fault;
-use crate::{Block, Function, Node};
 use cm_tables::Table;
 use std::marker::Model;
 use thiserror::Error;
@@ -105,13 +105,6 @@ impl Grammar {
         let _ = &self.tables;
     }
 
-    /// How many hooks the grammar wants: one past the greatest id, 0 with none.
-    pub fn hooks(&self) -> u16
-        ensures { result ≡ hook_count self.now }
-    {
-        nodes_limit(&self.nodes)
-    }
-
     /// How many nodes there are.
     pub fn nodes(&self) -> u16
         ensures { result ≡ length self.now.nodes }
@@ -145,39 +138,4 @@ fn have_no_fault(tables: &[Table])
     for table in tables {
         table.has_no_fault();
     }
-}
-
-// One past the greatest id that a hook may have.
-const ID_LIMIT: u16 = 256;
-
-// One past the id of the hook that a block asks, 0 where it asks none.
-fn hook_limit(block: &Block) -> u16
-    ensures value { result ≡ hook_limit block.now.function }
-    ensures most { result ≤ ID_LIMIT }
-{
-    match block.function {
-        Function::Hook(id) => u16::from(id) + 1,
-        _ => 0,
-    }
-}
-
-fn blocks_limit(blocks: &[Block]) -> u16
-    ensures value { result ≡ blocks_limit blocks.now }
-    ensures most { result ≤ ID_LIMIT }
-{
-    let mut limit = 0;
-    for block in blocks {
-        limit = hook_limit(block).max(limit);
-    }
-    limit
-}
-
-fn nodes_limit(nodes: &[Node]) -> u16
-    ensures { result ≡ nodes_limit nodes.now }
-{
-    let mut limit = 0;
-    for node in nodes {
-        limit = blocks_limit(node.chain.as_slice()).max(limit);
-    }
-    limit
 }

@@ -2,9 +2,7 @@
 ghost use Rattle.std.specs.Prelude.{◌≡◌, ◌-◌, ◌≤◌, ◌<◌, true, drop, length};
 ghost use Rattle.cm_fields.specs.Local.{IsSeen};
 ghost use Rattle.cm_files.specs.Fields.{file};
-ghost use Rattle.cm_hooks.specs.Ties.{Ties, count};
 ghost use Rattle.cm_blocks.specs.Fault.{has_table};
-ghost use Rattle.cm_blocks.specs.Grammar.{hook_limit};
 ghost use Rattle.cm_blocks.specs.Setting.{setting};
 ghost use Rattle.cm_blocks.specs.Trial.{entry_next, keyword_next, looked_of, next_of, table_of, trial};
 
@@ -14,7 +12,7 @@ use cm_fields::{
     FileKind, Try, Value, comma, confirm, noise, number, quoted, text_field, token, word,
 };
 use cm_files::{Names, directory, file, user};
-use cm_hooks::{Hooks, Rules, hook_field};
+use cm_hooks::{Rules, hook_field};
 use cm_text::TEXT_LIMIT;
 
 /// What the function of a block makes of a text from a place on, with the flags of the block where it reads files or
@@ -26,14 +24,12 @@ pub fn try_function<N: Names, R: Rules>(
     text: &[u8],
     at: usize,
     names: &N,
-    hooks: &Hooks<R>,
+    rules: &R,
 ) -> Try
     requires table { has_table grammar.now.tables block.now.function ≡ true }
-    requires ties { Ties R.meanings hooks.now }
-    requires hook { hook_limit block.now.function ≤ count hooks.now }
     requires short { length text.now ≤ TEXT_LIMIT }
     requires place { at ≤ length text.now }
-    ensures value { result ≡ trial (setting grammar.now (N.catalogue names.now) R.meanings)
+    ensures value { result ≡ trial (setting grammar.now (N.catalogue names.now) (R.meanings rules.now))
         block.now.function block.now.flags (drop at text.now) at }
     ensures seen { IsSeen (length text.now - at) result }
 {
@@ -55,7 +51,7 @@ pub fn try_function<N: Names, R: Rules>(
         Function::Text => return text_field(text, at),
         Function::Comma => return comma(text, at),
         Function::Confirm => return confirm(text, at),
-        Function::Hook(id) => return hook_field(hooks, *id, text, at),
+        Function::Hook(id) => return hook_field(rules, *id, text, at),
     }
 }
 

@@ -1,11 +1,10 @@
-// What the chains of the tests are tried under: one hook, and a counter.
-ghost use Rattle.std.specs.Prelude.{◌≡◌, ◌<◌, ◌==◌, [], IfOk, if◌then◌else◌, length};
-ghost use Rattle.cm_hooks.specs.Ties.{Ties};
+// What the chains of the tests are tried under: rules, and a counter.
+ghost use Rattle.std.specs.Prelude.{◌≡◌, ◌<◌};
 
 use crate::cases::{compare, numbered, place_of, sides, told};
 use crate::sample::Sample;
 use cm_blocks::{Grammar, Steps, try_chain};
-use cm_hooks::{Answer, Hook, Hooks, Rules, Tail};
+use cm_hooks::{Answer, Rules, Tail};
 use cm_text::Name;
 use std::alloc::Global;
 use std::marker::Brand;
@@ -20,61 +19,44 @@ impl Rules for Sizes {
     ghost use Rattle.cm_hooks.specs.declared.answer.Answer.TheVariants.{Yes, No};
     ghost use Rattle.cm_hooks.specs.declared.answer.Tail.TheVariants as tails;
 
-    ghost meanings = { record {
+    ghost meanings = { λ it. record {
       verdict = λ id atom. if length atom == 3 then No else Yes (length atom);
       completion = λ id atom. tails.None;
       help = λ id. [];
     } };
 
-    ghost lawful = { record { completes = λ id atom short. tt } };
-}
-
-// The one hook that answers so.
-fn hooks(alloc: Global) -> Result<Hooks<Sizes>, Fail>
-    ensures { IfOk result (λ hooks. Ties ⟦<Sizes as Rules>⟧.meanings hooks) }
-{
-    let verdict = |atom: &[u8]| -> Answer
-        ensures { result ≡ (if length atom.now == 3 then Answer.No else Answer.Yes (length atom.now)) }
-    {
+    fn verdict(&self, _id: u8, atom: &[u8]) -> Answer {
         match atom.len() {
             3 => Answer::No,
             size => Answer::Yes(size as u64),
         }
-    };
-    let completion = |_atom: &[u8]| -> Tail
-        ensures { result ≡ Tail.None }
-    { Tail::None };
-    let help = || -> Name
-        ensures { result ≡ [] }
-    { Name::new("") };
-    let hook = Hook::new(
-        0,
-        Box::new(alloc, verdict)?,
-        Box::new(alloc, completion)?,
-        Box::new(alloc, help)?,
-    );
-    let mut hooks = Hooks::new();
-    hooks.push(hook).ok().ok_or("the first hook")?;
-    Ok(hooks)
+    }
+
+    fn completion(&self, _id: u8, _atom: &[u8]) -> Tail {
+        Tail::None
+    }
+
+    fn help(&self, _id: u8) -> Name {
+        Name::new("")
+    }
+
+    fn are_lawful(&self) {}
 }
 
 // The node that a case gives answers on its text, from the place that it gives.
 fn answers_case<L: Ledger>(
     alloc: Global,
     grammar: &Grammar,
-    hooks: &Hooks<Sizes>,
     steps: &mut Steps<L>,
     case: &str,
-) -> Result<(), Fail>
-    requires { Ties ⟦<Sizes as Rules>⟧.meanings hooks.now }
-{
+) -> Result<(), Fail> {
     let (given, wanted) = sides(case)?;
     let (node, rest) = numbered(given)?;
     let given = place_of(rest)?;
-    if node >= grammar.nodes() || grammar.hooks() > u16::from(hooks.len()) {
-        return Err(Fail::new("no such node or hook"));
+    if node >= grammar.nodes() {
+        return Err(Fail::new("no such node"));
     }
-    let chain = try_chain(grammar, node, given.text, given.at, &Sample, hooks, steps);
+    let chain = try_chain(grammar, node, given.text, given.at, &Sample, &Sizes, steps);
     let answer = told(alloc, &chain)?;
     compare(case, answer.as_str(), wanted)
 }
@@ -90,10 +72,9 @@ fn answer_counted<L: Ledger>(
     requires parts { blank.parts ≡ L.parts }
     requires some { 0 < L.parts }
 {
-    let hooks = hooks(rt.alloc())?;
     let mut steps: Steps<L> = Steps::new(rt, blank);
     for case in str::from_utf8(cases)?.lines() {
-        answers_case(rt.alloc(), grammar, &hooks, &mut steps, case)?;
+        answers_case(rt.alloc(), grammar, &mut steps, case)?;
     }
     Ok(())
 }

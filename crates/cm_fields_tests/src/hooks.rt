@@ -1,12 +1,12 @@
-// Hooks over a small set of meanings.
-ghost use Rattle.std.specs.Prelude.{◌≡◌, ◌+◌, ◌==◌, [], ◌∷◌, codes, if◌then◌else◌, length};
-ghost use Rattle.cm_hooks.specs.Ties.{Ties, count};
+// Rules, and the field that asks them.
+ghost use Rattle.std.specs.Prelude.{◌≡◌, codes};
 
 use crate::cases::{is_wanted, number, part};
 use cm_fields::Reason;
-use cm_hooks::{Answer, Hook, Hooks, Rules, Tail, completion_among, hook_field, verdict_among};
+use cm_hooks::{Answer, NoRules, Rules, Tail, completion_among, hook_field, verdict_among};
 use cm_text::Name;
 use std::alloc::Global;
+use std::convert::AsStr;
 use std::process::Abort;
 use std::test::Fail;
 
@@ -15,12 +15,11 @@ use std::test::Fail;
 struct Sample;
 
 impl Rules for Sample {
-    ghost use Rattle.std.specs.Prelude.{◌+◌, ◌==◌, [], ◌∷◌, codes, if◌then◌else◌, length, refl};
-    ghost use Rattle.cm_text.specs.Bytes.{is_name, is_word};
+    ghost use Rattle.std.specs.Prelude.{◌+◌, ◌==◌, [], ◌∷◌, codes, if◌then◌else◌, length};
     ghost use Rattle.cm_hooks.specs.declared.answer.Answer.TheVariants.{Yes, No, NoBecause};
     ghost use Rattle.cm_hooks.specs.declared.answer.Tail.TheVariants as tails;
 
-    ghost meanings = { record {
+    ghost meanings = { λ it. record {
       verdict = λ id atom. if length atom == 3 then No
           else if length atom == 5 then NoBecause (record { number = 200; text = codes "Five bytes" })
           else Yes (length atom + id);
@@ -28,7 +27,24 @@ impl Rules for Sample {
       help = λ id. 88 ∷ [];
     } };
 
-    ghost lawful = { unfold is_name in unfold is_word in record { completes = λ id atom short. refl } };
+    fn verdict(&self, id: u8, atom: &[u8]) -> Answer {
+        match atom.len() {
+            3 => Answer::No,
+            5 => Answer::NoBecause(five_bytes()),
+            size => Answer::Yes(size as u64 + u64::from(id)),
+        }
+    }
+
+    fn completion(&self, _id: u8, _atom: &[u8]) -> Tail {
+        Tail::Part(Name::new("X"))
+    }
+
+    fn help(&self, _id: u8) -> Name {
+        Name::new("X")
+    }
+
+    #[tactic(auto, unfolding(cm_text::specs::Bytes::is_name, cm_text::specs::Bytes::is_word))]
+    fn are_lawful(&self) {}
 }
 
 #[tactic(auto, unfolding(cm_fields::specs::Reason::is_reason, cm_fields::specs::Reason::is_reason_text))]
@@ -36,21 +52,6 @@ fn five_bytes() -> Reason
     ensures { result ≡ record { number = 200; text = codes "Five bytes" } }
 {
     Reason::of(200, "Five bytes")
-}
-
-fn answers_by_id(rt: &impl Abort, hooks: &Hooks<Sample>)
-    requires hooks { Ties ⟦<Sample as Rules>⟧.meanings hooks.now }
-    requires all { count hooks.now ≡ 16 }
-{
-    assert_eq!(rt; hooks.ask(0, b"AB").answer(), Answer::Yes(2));
-    assert_eq!(rt; hooks.ask(7, b"ABC").answer(), Answer::No);
-    assert_eq!(rt; hooks.ask(15, b"ABCD").answer(), Answer::Yes(19));
-    assert_eq!(rt;
-        hooks.ask(15, b"ABCDE").answer(),
-        Answer::NoBecause(five_bytes())
-    );
-    assert!(rt; matches!(hooks.complete(3, b"AB"), Tail::Part(text) if text.as_str() == "X"));
-    assert_eq!(rt; hooks.help(15).as_str(), "X");
 }
 
 // What the hook with the id 2 makes of texts.
@@ -63,80 +64,109 @@ AB ABCDE\r|3|Refuse { code: Own(Reason { number: 200, text: \"Five bytes\" }), l
 AB .|3|Refuse { code: NoField, looked: 1 }
 AB |3|More";
 
-fn judges_a_field(
-    rt: &impl Abort,
-    alloc: Global,
-    hooks: &Hooks<Sample>,
-    case: &str,
-) -> Result<(), Fail>
-    requires hooks { Ties ⟦<Sample as Rules>⟧.meanings hooks.now }
-    requires all { count hooks.now ≡ 16 }
-{
+fn judges_a_field(rt: &impl Abort, alloc: Global, case: &str) -> Result<(), Fail> {
     let text = part(rt, case, 0).as_bytes();
     let at = usize::from(number(rt, part(rt, case, 1)));
     assert!(rt; at <= text.len() && text.len() <= 256, "{case}");
-    let tried = hook_field(hooks, 2, text, at);
+    let tried = hook_field(&Sample, 2, text, at);
     is_wanted(rt, case, format!(in alloc; "{tried:?}")?.as_str());
     Ok(())
 }
 
-fn judges_fields(rt: &impl Abort, alloc: Global, hooks: &Hooks<Sample>) -> Result<(), Fail>
-    requires hooks { Ties ⟦<Sample as Rules>⟧.meanings hooks.now }
-    requires all { count hooks.now ≡ 16 }
-{
+#[test]
+fn rules_judge_a_field(rt: HostRuntime) -> Result<(), Fail> {
     for case in FIELDS.lines() {
-        judges_a_field(rt, alloc, hooks, case)?;
+        judges_a_field(&rt, rt.alloc(), case)?;
     }
     Ok(())
 }
 
-#[test]
-fn hooks_are_held_in_the_order_of_their_ids(rt: HostRuntime) -> Result<(), Fail> {
-    let alloc = rt.alloc();
-    let mut hooks: Hooks<Sample> = Hooks::new();
-    // The seventeenth is refused, whichever its id.
-    let ids = [
-        1, 0, 0, 2, 1, 2, 3, 4, 5, 6, 7, 8, 9, 10, 11, 12, 13, 14, 16, 15, 16, 15,
-    ];
-    for id in ids.as_slice() {
-        let id = *id;
-        let held = hooks.len();
-        let verdict = move |atom: &[u8]| -> Answer
-            ensures { result ≡
-                (if length atom.now == 3 then Answer.No
-                else if length atom.now == 5
-                then Answer.NoBecause (record { number = 200; text = codes "Five bytes" })
-                else Answer.Yes (length atom.now + id)) }
-        {
-            match atom.len() {
-                3 => Answer::No,
-                5 => Answer::NoBecause(five_bytes()),
-                size => Answer::Yes(size as u64 + u64::from(id)),
-            }
-        };
-        let completion = |_atom: &[u8]| -> Tail
-            ensures { result ≡ Tail.Part (88 ∷ []) }
-        { Tail::Part(Name::new("X")) };
-        let help = || -> Name
-            ensures { result ≡ 88 ∷ [] }
-        { Name::new("X") };
-        let hook = Hook::new(
-            id,
-            Box::new(alloc, verdict)?,
-            Box::new(alloc, completion)?,
-            Box::new(alloc, help)?,
-        );
-        match hooks.push(hook) {
-            Ok(()) => assert!(rt; held < 16 && held == id, "{id} is taken"),
-            Err(hook) => {
-                assert_eq!(rt; hook.id(), id);
-                assert!(rt; held == 16 || held != id, "{id} is refused");
-            }
-        }
+// A lamp, which lends its name.
+#[derive(Drop)]
+struct Lamp {
+    name: Name,
+}
+
+impl AsStr for Lamp {
+    ghost text = { λ lamp. lamp.name };
+
+    fn as_str(&self) -> &str {
+        self.name.as_str()
     }
-    assert_eq!(rt; hooks.len(), 16);
-    answers_by_id(&rt, &hooks);
-    judges_fields(&rt, alloc, &hooks)
+}
+
+// Rules that look into data: an atom stands for one of the lamps that are there now.
+#[derive(Drop)]
+struct Lamps {
+    lamps: Vec<Lamp>,
+}
+
+impl Rules for Lamps {
+    ghost use Rattle.std.specs.Prelude.{[], map};
+    ghost use Rattle.cm_hooks.specs.Among.{verdict_among};
+    ghost use Rattle.cm_hooks.specs.declared.answer.Tail.TheVariants as tails;
+    ghost use Rattle.cm_fields_tests.specs.declared.hooks.Lamp.{Lamp};
+
+    ghost meanings = { λ it. record {
+      verdict = λ id atom. verdict_among (map (λ (lamp : Lamp). lamp.name) it.lamps.items) atom;
+      completion = λ id atom. tails.None;
+      help = λ id. [];
+    } };
+
+    fn verdict(&self, _id: u8, atom: &[u8]) -> Answer {
+        verdict_among(self.lamps.as_slice(), atom)
+    }
+
+    fn completion(&self, _id: u8, _atom: &[u8]) -> Tail {
+        Tail::None
+    }
+
+    fn help(&self, _id: u8) -> Name {
+        Name::new("")
+    }
+
+    fn are_lawful(&self) {}
+}
+
+fn judge(rt: &impl Abort, alloc: Global, rules: &impl Rules, wanted: &str) -> Result<(), Fail> {
+    let tried = hook_field(rules, 0, b"HALL ", 0);
+    is_wanted(rt, wanted, format!(in alloc; "{tried:?}")?.as_str());
+    Ok(())
+}
+
+#[test]
+fn rules_change_with_their_data(rt: HostRuntime) -> Result<(), Fail> {
+    let alloc = rt.alloc();
+    let mut rules = Lamps {
+        lamps: Vec::new(alloc),
+    };
+    judge(&rt, alloc, &rules, "|Refuse { code: Rejected, looked: 5 }")?;
+    rules.lamps.push(Lamp {
+        name: Name::new("HALLWAY"),
+    })?;
+    judge(
+        &rt,
+        alloc,
+        &rules,
+        "|Accept { value: Hook { id: 0, value: 0 }, looked: 5, end: 4 }",
+    )?;
+    rules.lamps.push(Lamp {
+        name: Name::new("HALL-2"),
+    })?;
+    judge(&rt, alloc, &rules, "|Refuse { code: Rejected, looked: 5 }")
+}
+
+#[test]
+fn without_rules_no_field_is_taken(rt: HostRuntime) -> Result<(), Fail> {
+    judge(
+        &rt,
+        rt.alloc(),
+        &NoRules,
+        "|Refuse { code: Rejected, looked: 5 }",
+    )?;
+    assert_eq!(rt; shown(&NoRules.completion(0, b"H")), None);
+    assert_eq!(rt; NoRules.help(0).as_str(), "");
+    Ok(())
 }
 
 // STAIR is the beginning of STAIRS. Two names go on alike but for the case of letters.
@@ -221,8 +251,8 @@ fn an_atom_goes_on_to_the_names_under_it(rt: HostRuntime) -> Result<(), Fail> {
 #[test]
 #[tactic(auto, unfolding(cm_text::specs::Bytes::is_name, cm_text::specs::Bytes::is_word))]
 fn of_no_names_none_is_told(rt: HostRuntime) {
-    assert_eq!(rt; verdict_among(&[], b"A"), Answer::No);
-    assert_eq!(rt; shown(&completion_among(&[], b"A")), None);
+    assert_eq!(rt; verdict_among::<&str>(&[], b"A"), Answer::No);
+    assert_eq!(rt; shown(&completion_among::<&str>(&[], b"A")), None);
 }
 
 #[test]

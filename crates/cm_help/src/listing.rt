@@ -8,8 +8,6 @@ ghost use Rattle.cm_io.specs.Told.{Adds};
 ghost use Rattle.cm_io.specs.Fault.{PutCause};
 ghost use Rattle.cm_io.specs.Writer.{Writes};
 ghost use Rattle.cm_fields.specs.Code.{code_text};
-ghost use Rattle.cm_hooks.specs.Ties.{Ties, count};
-ghost use Rattle.cm_blocks.specs.Grammar.{hook_count};
 ghost use Rattle.cm_blocks.specs.Setting.{setting};
 ghost use Rattle.cm_blocks.specs.Trial.{trial};
 ghost use Rattle.cm_blocks.specs.Well.{IsWell, IsWellBlock};
@@ -20,7 +18,7 @@ use crate::phrase::put_phrase;
 use cm_blocks::{Block, Ending, Function, Grammar, Node, Open, try_function};
 use cm_fields::{Code, Try};
 use cm_files::Names;
-use cm_hooks::{Hooks, Rules};
+use cm_hooks::Rules;
 use cm_io::{Put, Sink, Writer};
 use cm_text::{LINE_LIMIT, end_of_line};
 
@@ -50,16 +48,15 @@ fn put_item<R: Rules, S: Sink>(
     grammar: &Grammar,
     block: &Block,
     atom: &[u8],
-    hooks: &Hooks<R>,
+    rules: &R,
     out: &mut Writer<'_, S>,
 )
     requires well { IsWellBlock grammar.now block.now }
-    requires ties { Ties R.meanings hooks.now }
-    requires hooks { hook_count grammar.now ≤ count hooks.now }
-    ensures { Writes S.Sink out.old out.new (lead first ++ phrase grammar.now R.meanings atom.now block.now) }
+    ensures { Writes S.Sink out.old out.new
+        (lead first ++ phrase grammar.now (R.meanings rules.now) atom.now block.now) }
 {
     put_lead(first, out);
-    put_phrase(grammar, block, atom, hooks, out);
+    put_phrase(grammar, block, atom, rules, out);
 }
 
 // Puts the phrases of these blocks, of which nothing is typed, behind others.
@@ -67,35 +64,27 @@ fn put_item<R: Rules, S: Sink>(
 fn put_untouched<R: Rules, S: Sink>(
     grammar: &Grammar,
     blocks: &[Block],
-    hooks: &Hooks<R>,
+    rules: &R,
     out: &mut Writer<'_, S>,
 )
     requires well { All (IsWellBlock grammar.now) blocks.now }
-    requires ties { Ties R.meanings hooks.now }
-    requires hooks { hook_count grammar.now ≤ count hooks.now }
-    ensures { Writes S.Sink out.old out.new (listing false (map (phrase grammar.now R.meanings []) blocks.now)) }
+    ensures { Writes S.Sink out.old out.new
+        (listing false (map (phrase grammar.now (R.meanings rules.now) []) blocks.now)) }
 {
     for block in blocks {
-        put_item(false, grammar, block, b"", hooks, out);
+        put_item(false, grammar, block, b"", rules, out);
     }
 }
 
 // Puts the phrases of all blocks of a node, of which nothing is typed, behind others.
-fn put_node<R: Rules, S: Sink>(
-    grammar: &Grammar,
-    number: u16,
-    hooks: &Hooks<R>,
-    out: &mut Writer<'_, S>,
-)
-    requires ties { Ties R.meanings hooks.now }
-    requires hooks { hook_count grammar.now ≤ count hooks.now }
+fn put_node<R: Rules, S: Sink>(grammar: &Grammar, number: u16, rules: &R, out: &mut Writer<'_, S>)
     ensures { Writes S.Sink out.old out.new
-        (listing false (node_phrases grammar.now R.meanings (slice_get grammar.now.nodes number))) }
+        (listing false (node_phrases grammar.now (R.meanings rules.now) (slice_get grammar.now.nodes number))) }
 {
     if number >= grammar.nodes() {
         return;
     }
-    put_untouched(grammar, grammar.node(number).chain.as_slice(), hooks, out);
+    put_untouched(grammar, grammar.node(number).chain.as_slice(), rules, out);
 }
 
 fn is_guide(function: &Function) -> bool
@@ -110,16 +99,14 @@ fn put_behind_guide<R: Rules, S: Sink>(
     grammar: &Grammar,
     block: &Block,
     atom: &[u8],
-    hooks: &Hooks<R>,
+    rules: &R,
     out: &mut Writer<'_, S>,
 )
-    requires ties { Ties R.meanings hooks.now }
-    requires hooks { hook_count grammar.now ≤ count hooks.now }
     ensures { Writes S.Sink out.old out.new
-        (listing false (behind_guide grammar.now R.meanings block.now atom.now)) }
+        (listing false (behind_guide grammar.now (R.meanings rules.now) block.now atom.now)) }
 {
     if is_guide(&block.function) && atom.is_empty() {
-        put_node(grammar, block.next, hooks, out);
+        put_node(grammar, block.next, rules, out);
     }
 }
 
@@ -129,16 +116,15 @@ fn put_phrases<R: Rules, S: Sink>(
     grammar: &Grammar,
     block: &Block,
     atom: &[u8],
-    hooks: &Hooks<R>,
+    rules: &R,
     out: &mut Writer<'_, S>,
 )
     requires well { IsWellBlock grammar.now block.now }
-    requires ties { Ties R.meanings hooks.now }
-    requires hooks { hook_count grammar.now ≤ count hooks.now }
-    ensures { Writes S.Sink out.old out.new (listing first (phrases grammar.now R.meanings atom.now block.now)) }
+    ensures { Writes S.Sink out.old out.new
+        (listing first (phrases grammar.now (R.meanings rules.now) atom.now block.now)) }
 {
-    put_item(first, grammar, block, atom, hooks, out);
-    put_behind_guide(grammar, block, atom, hooks, out);
+    put_item(first, grammar, block, atom, rules, out);
+    put_behind_guide(grammar, block, atom, rules, out);
 }
 
 // Whether the function of a block refuses the line from a place on.
@@ -148,17 +134,15 @@ fn refuses<N: Names, R: Rules>(
     line: &[u8],
     at: usize,
     names: &N,
-    hooks: &Hooks<R>,
+    rules: &R,
 ) -> bool
     requires well { IsWellBlock grammar.now block.now }
-    requires ties { Ties R.meanings hooks.now }
-    requires hooks { hook_count grammar.now ≤ count hooks.now }
     requires short { length line.now ≤ LINE_LIMIT }
     requires place { at ≤ length line.now }
-    ensures { result ≡ refuses (trial (setting grammar.now (N.catalogue names.now) R.meanings)
+    ensures { result ≡ refuses (trial (setting grammar.now (N.catalogue names.now) (R.meanings rules.now))
         block.now.function block.now.flags (drop at line.now) at) }
 {
-    match try_function(grammar, block, line, at, names, hooks) {
+    match try_function(grammar, block, line, at, names, rules) {
         Try::Refuse { .. } => true,
         Try::Accept { .. } | Try::More => false,
     }
@@ -172,25 +156,24 @@ fn put_possible<N: Names, R: Rules, S: Sink>(
     line: &[u8],
     at: usize,
     names: &N,
-    hooks: &Hooks<R>,
+    rules: &R,
     out: &mut Writer<'_, S>,
 )
     requires well { All (IsWellBlock grammar.now) blocks.now }
-    requires ties { Ties R.meanings hooks.now }
-    requires hooks { hook_count grammar.now ≤ count hooks.now }
     requires short { length line.now ≤ LINE_LIMIT }
     requires place { at ≤ length line.now }
     ensures { Writes S.Sink out.old out.new
-        (listing true (flat_map (phrases grammar.now R.meanings (drop at line.now))
-        (possible (setting grammar.now (N.catalogue names.now) R.meanings) (drop at line.now) at blocks.now))) }
+        (listing true (flat_map (phrases grammar.now (R.meanings rules.now) (drop at line.now))
+        (possible (setting grammar.now (N.catalogue names.now) (R.meanings rules.now)) (drop at line.now) at
+        blocks.now))) }
 {
     let atom = line.split_at(at).1;
     let mut first = true;
     for block in blocks {
-        if refuses(grammar, block, line, at, names, hooks) {
+        if refuses(grammar, block, line, at, names, rules) {
             continue;
         }
-        put_phrases(first, grammar, block, atom, hooks, out);
+        put_phrases(first, grammar, block, atom, rules, out);
         first = false;
     }
 }
@@ -203,20 +186,19 @@ fn put_waiting<N: Names, R: Rules, S: Sink>(
     line: &[u8],
     at: usize,
     names: &N,
-    hooks: &Hooks<R>,
+    rules: &R,
     out: &mut Writer<'_, S>,
 )
     requires well { IsWell grammar.now node.now }
-    requires ties { Ties R.meanings hooks.now }
-    requires hooks { hook_count grammar.now ≤ count hooks.now }
     requires short { length line.now ≤ LINE_LIMIT }
     requires place { at ≤ length line.now }
     ensures { Writes S.Sink out.old out.new
-        (waiting (setting grammar.now (N.catalogue names.now) R.meanings) node.now block (drop at line.now) at) }
+        (waiting (setting grammar.now (N.catalogue names.now) (R.meanings rules.now)) node.now block
+        (drop at line.now) at) }
 {
     let chain = node.chain.as_slice();
     let first = usize::from(block).min(chain.len());
-    put_possible(grammar, &chain[first..], line, at, names, hooks, out);
+    put_possible(grammar, &chain[first..], line, at, names, rules, out);
 }
 
 // Puts what may come at a place of the line.
@@ -225,15 +207,13 @@ fn put_place<N: Names, R: Rules, S: Sink>(
     place: Open,
     line: &[u8],
     names: &N,
-    hooks: &Hooks<R>,
+    rules: &R,
     out: &mut Writer<'_, S>,
 )
-    requires ties { Ties R.meanings hooks.now }
-    requires hooks { hook_count grammar.now ≤ count hooks.now }
     requires short { length line.now ≤ LINE_LIMIT }
     requires place { place.at ≤ length line.now }
     ensures { Writes S.Sink out.old out.new
-        (at_place (setting grammar.now (N.catalogue names.now) R.meanings) line.now place.at place.block
+        (at_place (setting grammar.now (N.catalogue names.now) (R.meanings rules.now)) line.now place.at place.block
         (slice_get grammar.now.nodes place.node)) }
 {
     let Some(block) = place.block else {
@@ -245,7 +225,7 @@ fn put_place<N: Names, R: Rules, S: Sink>(
     }
     let node = grammar.node(place.node);
     let at = usize::from(place.at);
-    put_waiting(grammar, node, block, line, at, names, hooks, out);
+    put_waiting(grammar, node, block, line, at, names, rules, out);
 }
 
 // Puts why a line is refused.
@@ -270,19 +250,17 @@ pub fn help<N: Names, R: Rules, S: Sink>(
     ending: Ending,
     line: &[u8],
     names: &N,
-    hooks: &Hooks<R>,
+    rules: &R,
     sink: &mut S,
 ) -> Put
     requires line { length line.now ≤ LINE_LIMIT }
-    requires ties { Ties R.meanings hooks.now }
-    requires hooks { hook_count grammar.now ≤ count hooks.now }
     ensures bytes { Adds (S.told sink.old) (S.told sink.new)
-        (help_text (setting grammar.now (N.catalogue names.now) R.meanings) ending line.now) result }
+        (help_text (setting grammar.now (N.catalogue names.now) (R.meanings rules.now)) ending line.now) result }
     ensures later { S.faults sink.old ≤ S.faults sink.new }
     ensures cause { PutCause (S.faults sink.old) (S.faults sink.new) result }
 {
     let mut out = Writer::new(sink);
-    put_help(grammar, ending, line, names, hooks, &mut out);
+    put_help(grammar, ending, line, names, rules, &mut out);
     out.went()
 }
 
@@ -293,18 +271,16 @@ pub fn put_help<N: Names, R: Rules, S: Sink>(
     ending: Ending,
     line: &[u8],
     names: &N,
-    hooks: &Hooks<R>,
+    rules: &R,
     out: &mut Writer<'_, S>,
 )
     requires line { length line.now ≤ LINE_LIMIT }
-    requires ties { Ties R.meanings hooks.now }
-    requires hooks { hook_count grammar.now ≤ count hooks.now }
     ensures { Writes S.Sink out.old out.new
-        (help_text (setting grammar.now (N.catalogue names.now) R.meanings) ending line.now) }
+        (help_text (setting grammar.now (N.catalogue names.now) (R.meanings rules.now)) ending line.now) }
 {
     match ending {
         Ending::Open(place) if usize::from(place.at) <= line.len() => {
-            put_place(grammar, place, line, names, hooks, out);
+            put_place(grammar, place, line, names, rules, out);
         }
         Ending::Fault(fault) => put_refusal(fault.code, out),
         Ending::Open(_) | Ending::Done => {}

@@ -1,18 +1,16 @@
 // What a block reads, in words.
 #![tactic(auto, using(cm_io::proofs::Texts::texts))]
 
-ghost use Rattle.std.specs.Prelude.{◌≡◌, ◌≤◌, ◌<◌, ◌++◌, ◌&&◌, true, drop, None};
+ghost use Rattle.std.specs.Prelude.{◌≡◌, ◌<◌, ◌++◌, ◌&&◌, true, drop, None};
 ghost use Rattle.cm_text.specs.Shown.{end_of_line};
 ghost use Rattle.cm_tables.specs.Listed.{listed_from};
 ghost use Rattle.cm_io.specs.Writer.{Writes};
-ghost use Rattle.cm_hooks.specs.Ties.{Ties, count};
 ghost use Rattle.cm_blocks.specs.Fault.{has_table};
-ghost use Rattle.cm_blocks.specs.Grammar.{hook_count, hook_limit};
 ghost use Rattle.cm_blocks.specs.Well.{IsWellBlock};
 ghost use Rattle.cm_help.specs.Phrase.{colon, entry_help, entry_line, entry_lines, function_phrase, gap, guide_end, guide_word, indent, keywords, none_matches, one_of, phrase, quote};
 
 use cm_blocks::{Block, Function, Grammar};
-use cm_hooks::{Hooks, Rules};
+use cm_hooks::Rules;
 use cm_io::{Sink, Writer};
 use cm_tables::{Entry, Table};
 use cm_text::{Name, end_of_line};
@@ -145,13 +143,11 @@ fn put_function<R: Rules, S: Sink>(
     grammar: &Grammar,
     function: &Function,
     atom: &[u8],
-    hooks: &Hooks<R>,
+    rules: &R,
     out: &mut Writer<'_, S>,
 )
     requires table { has_table grammar.now.tables function.now ≡ true }
-    requires ties { Ties R.meanings hooks.now }
-    requires hook { hook_limit function.now ≤ count hooks.now }
-    ensures { Writes S.Sink out.old out.new (function_phrase grammar.now R.meanings function.now atom.now) }
+    ensures { Writes S.Sink out.old out.new (function_phrase grammar.now (R.meanings rules.now) function.now atom.now) }
 {
     match function {
         Function::Key(table) => put_keywords(false, grammar.table(*table), atom, out),
@@ -175,7 +171,7 @@ fn put_function<R: Rules, S: Sink>(
         Function::Text => out.put(b"text to end of line"),
         Function::Comma => out.put(b"comma"),
         Function::Confirm => out.put(b"confirm with carriage return"),
-        Function::Hook(id) => out.put(hooks.help(*id).as_bytes()),
+        Function::Hook(id) => out.put(rules.help(*id).as_bytes()),
     }
 }
 
@@ -185,16 +181,14 @@ pub(crate) fn put_phrase<R: Rules, S: Sink>(
     grammar: &Grammar,
     block: &Block,
     atom: &[u8],
-    hooks: &Hooks<R>,
+    rules: &R,
     out: &mut Writer<'_, S>,
 )
     requires well { IsWellBlock grammar.now block.now }
-    requires ties { Ties R.meanings hooks.now }
-    requires hooks { hook_count grammar.now ≤ count hooks.now }
-    ensures { Writes S.Sink out.old out.new (phrase grammar.now R.meanings atom.now block.now) }
+    ensures { Writes S.Sink out.old out.new (phrase grammar.now (R.meanings rules.now) atom.now block.now) }
 {
     match &block.help {
         Some(text) => out.put(text.as_bytes()),
-        None => put_function(grammar, &block.function, atom, hooks, out),
+        None => put_function(grammar, &block.function, atom, rules, out),
     }
 }

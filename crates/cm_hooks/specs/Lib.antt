@@ -2,4 +2,3 @@ pub mod Among
 pub mod AmongLaws
 pub mod Field
 pub mod Meanings
-pub mod Ties

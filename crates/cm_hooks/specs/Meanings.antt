@@ -1,5 +1,5 @@
 -- What hooks mean: for each id and atom a verdict and a completion, for each id a help text.
-use Rattle.std.specs.Prelude.{ℕ, ◌≡◌, ◌≤◌, ◌++◌, true, List, length}
+use Rattle.std.specs.Prelude.{ℕ, ◌≡◌, ◌≤◌, ◌++◌, true, List, [], length}
 use Rattle.std.specs.List.{list_all}
 use Rattle.cm_text.specs.declared.text.TheConstants.{LINE_LIMIT}
 use Rattle.cm_text.specs.Bytes.{is_name}
@@ -35,3 +35,7 @@ Completes verdict atom (tails.Whole text) = (list_all is_name text ≡ true) × 
 pub record IsLawful (meanings : Meanings) : Type 0 where
   pub completes : (id : ℕ) (atom : List ℕ) → length atom ≤ LINE_LIMIT
       → Completes (meanings.verdict id) atom (meanings.completion id atom)
+
+-- no field of one's own is taken, nor completed, and the help is empty
+abbrev pub no_meanings : Meanings
+no_meanings = record { verdict = λ id atom. No; completion = λ id atom. tails.None; help = λ id. [] }

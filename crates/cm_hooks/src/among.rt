@@ -1,25 +1,26 @@
 // Which of several names an atom stands for by its beginning.
-ghost use Rattle.std.specs.Prelude.{◌≡◌, ◌≤◌, drop, length, true};
+ghost use Rattle.std.specs.Prelude.{◌≡◌, ◌≤◌, drop, length, map, true};
 ghost use Rattle.std.specs.Str.{IsAscii};
 ghost use Rattle.cm_text.specs.Case.{begins_with};
-ghost use Rattle.cm_hooks.specs.Among.{are_names, completion_among, is_name_text, joined, shared, texts, verdict_among};
+ghost use Rattle.cm_hooks.specs.Among.{are_names, completion_among, is_name_text, joined, shared, verdict_among};
 
 use crate::{Answer, Tail};
 use cm_text::{NAME_LIMIT, Name, begins_with, common_len};
+use std::convert::AsStr;
 
-/// Whether an atom stands for one of some names: it is the name or abbreviates it, with no regard to the case of
-/// letters. Then Yes with the number of the name, its position in `names`. No where no name begins with the atom,
-/// where several do, also if the atom is one of them, and where the atom is empty.
+/// Whether an atom stands for one of some names, each a text or a value that lends one: it is the name or abbreviates
+/// it, with no regard to the case of letters. Then Yes with the number of the name, its position in `names`. No where
+/// no name begins with the atom, where several do, also if the atom is one of them, and where the atom is empty.
 #[tactic(auto, unfolding(crate::specs::Among::verdict_among))]
-pub fn verdict_among(names: &[&str], atom: &[u8]) -> Answer
-    ensures { result ≡ verdict_among (texts names.now) atom.now }
+pub fn verdict_among<T: AsStr>(names: &[T], atom: &[u8]) -> Answer
+    ensures { result ≡ verdict_among (map T.text names.now) atom.now }
 {
     if atom.is_empty() {
         return Answer::No;
     }
     let mut found = None;
     for (number, name) in names.iter().enumerate() {
-        if begins_with(name.as_bytes(), atom) {
+        if begins_with(name.as_str().as_bytes(), atom) {
             if found.is_some() {
                 return Answer::No;
             }
@@ -66,17 +67,17 @@ fn joined(tail: Tail, rest: &str) -> Tail
 /// name that begins with it, Part with what the rests of several begin with alike, byte for byte. None where no
 /// name begins with it, and where the atom is empty.
 #[tactic(auto, unfolding(crate::specs::Among::completion_among))]
-pub fn completion_among(names: &[&str], atom: &[u8]) -> Tail
-    requires { are_names (texts names.now) ≡ true }
-    ensures { result ≡ completion_among (texts names.now) atom.now }
+pub fn completion_among<T: AsStr>(names: &[T], atom: &[u8]) -> Tail
+    requires { are_names (map T.text names.now) ≡ true }
+    ensures { result ≡ completion_among (map T.text names.now) atom.now }
 {
     if atom.is_empty() {
         return Tail::None;
     }
     let mut tail = Tail::None;
     for name in names {
-        if begins_with(name.as_bytes(), atom) {
-            tail = joined(tail, rest(name, atom));
+        if begins_with(name.as_str().as_bytes(), atom) {
+            tail = joined(tail, rest(name.as_str(), atom));
         }
     }
     tail

@@ -1,11 +1,10 @@
 // A field that a hook judges.
-ghost use Rattle.std.specs.Prelude.{◌≡◌, ◌<◌, ◌≤◌, drop, length};
+ghost use Rattle.std.specs.Prelude.{◌≡◌, ◌≤◌, drop, length};
 ghost use Rattle.std.specs.List.{prefix_len};
 ghost use Rattle.cm_text.specs.Bytes.{is_name};
 ghost use Rattle.cm_hooks.specs.Field.{hook, hook_of};
-ghost use Rattle.cm_hooks.specs.Ties.{Ties, count};
 
-use crate::{Answer, Hooks, Rules};
+use crate::{Answer, Rules};
 use cm_fields::{Code, Try, Value, said};
 use cm_text::{LINE_LIMIT, TEXT_LIMIT, is_name};
 
@@ -19,16 +18,14 @@ fn name_run(text: &[u8]) -> usize
 
 // What the hook with this id makes of a run.
 #[tactic(auto, unfolding(crate::specs::Field::hook_of))]
-fn hook_of<R: Rules>(hooks: &Hooks<R>, id: u8, run: &[u8]) -> Result<Value, Code>
-    requires hooks { Ties R.meanings hooks.now }
-    requires id { id < count hooks.now }
+fn hook_of<R: Rules>(rules: &R, id: u8, run: &[u8]) -> Result<Value, Code>
     requires short { length run.now ≤ LINE_LIMIT }
-    ensures { result ≡ hook_of R.meanings.verdict id run.now }
+    ensures { result ≡ hook_of (R.meanings rules.now).verdict id run.now }
 {
     if run.is_empty() {
         return Err(Code::NoField);
     }
-    match hooks.ask(id, run).answer() {
+    match rules.verdict(id, run) {
         Answer::Yes(value) => Ok(Value::Hook { id, value }),
         Answer::No => Err(Code::Rejected),
         Answer::NoBecause(reason) => Err(Code::Own(reason)),
@@ -38,17 +35,15 @@ fn hook_of<R: Rules>(hooks: &Hooks<R>, id: u8, run: &[u8]) -> Result<Value, Code
 /// A field of the program's own: a run of name bytes that its hook with this id takes. Refused with NoField
 /// where the run is empty, with Rejected where the hook says No, and with the hook's own reason where it says
 /// NoBecause.
-pub fn hook_field<R: Rules>(hooks: &Hooks<R>, id: u8, text: &[u8], at: usize) -> Try
-    requires hooks { Ties R.meanings hooks.now }
-    requires id { id < count hooks.now }
+pub fn hook_field<R: Rules>(rules: &R, id: u8, text: &[u8], at: usize) -> Try
     requires short { length text.now ≤ TEXT_LIMIT }
     requires place { at ≤ length text.now }
-    ensures { result ≡ hook R.meanings.verdict id (drop at text.now) at }
+    ensures { result ≡ hook (R.meanings rules.now).verdict id (drop at text.now) at }
 {
     let rest = &text[at..];
     let size = name_run(rest);
     if size == rest.len() {
         return Try::More;
     }
-    said(at, size, size + 1, hook_of(hooks, id, &rest[..size]))
+    said(at, size, size + 1, hook_of(rules, id, &rest[..size]))
 }

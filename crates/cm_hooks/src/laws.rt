@@ -5,7 +5,6 @@ ghost use Rattle.cm_hooks.specs.Among.{are_names, completion_among, verdict_amon
 ghost use Rattle.cm_hooks.specs.Field.{hook};
 ghost use Rattle.cm_hooks.specs.Meanings.{Completes, IsLawful};
 ghost use Rattle.cm_hooks.specs.declared.answer.Answer.{Answer};
-ghost use Rattle.cm_hooks.specs.declared.hooks.TheConstants.{HOOKS_LIMIT};
 
 use crate::Rules;
 
@@ -17,18 +16,15 @@ pub fn hook_field_is_local()
 
 /// Whatever the rules, what completes an atom is name bytes, and an atom with its whole completion has at most 255
 /// bytes and is taken.
-pub fn completions_are_taken<R: Rules>()
-    ensures { IsLawful R.meanings }
-{}
+pub fn completions_are_taken<R: Rules>(rules: &R)
+    ensures { IsLawful (R.meanings rules.now) }
+{
+    rules.are_lawful();
+}
 
 /// What completes an atom to one of several names is name bytes, and where it completes it whole, the two together
 /// have at most 255 bytes and are taken. So it is of all names of name bytes, each of at most 39.
 pub fn completions_among_names_are_taken()
     ensures { (names : List (List ℕ)) → are_names names ≡ true → (atom : List ℕ)
         → Completes (verdict_among names) atom (completion_among names atom) }
-{}
-
-/// At most 16 hooks are held.
-pub fn these_are_the_numbers()
-    ensures hooks { HOOKS_LIMIT ≡ 16 }
 {}

@@ -4,8 +4,6 @@ ghost use Rattle.std.specs.List.{AllByRecursion};
 ghost use Rattle.cm_text.specs.Bytes.{is_text};
 ghost use Rattle.cm_text.specs.Text.{IsLine};
 ghost use Rattle.cm_files.specs.Catalogue.{IsCatalogue};
-ghost use Rattle.cm_hooks.specs.Ties.{Ties, count};
-ghost use Rattle.cm_blocks.specs.Grammar.{hook_count};
 ghost use Rattle.cm_blocks.specs.Setting.{setting};
 ghost use Rattle.cm_blocks.specs.Well.{IsWell, IsWellBlock};
 ghost use Rattle.cm_recognise.specs.Insertion.{asked, at_block, behind, block_put, default_put, first_put, fitted, guide_behind, insertion, is_asked, put_in, bell_only};
@@ -15,8 +13,8 @@ use crate::Bytes;
 use crate::outcome::{Outcome, TAIL_LIMIT, guide, outcome_of};
 use cm_blocks::{Block, Ending, Function, Grammar, Node, Open};
 use cm_files::Names;
-use cm_hooks::{Hooks, Rules};
-use cm_text::{LINE_LIMIT, Name};
+use cm_hooks::Rules;
+use cm_text::LINE_LIMIT;
 
 /// Which key completes.
 #[derive(Clone, Copy, Debug, PartialEq, Eq)]
@@ -131,15 +129,14 @@ fn block_put<N: Names, R: Rules>(
     line: &[u8],
     at: usize,
     names: &N,
-    hooks: &Hooks<R>,
+    rules: &R,
     mode: Mode,
 ) -> Option<Insertion>
     requires well { IsWellBlock grammar.now block.now }
-    requires ties { Ties R.meanings hooks.now }
-    requires hooks { hook_count grammar.now ≤ count hooks.now }
     requires short { length line.now < LINE_LIMIT }
     requires place { at ≤ length line.now }
-    ensures { result ≡ block_put (setting grammar.now (N.catalogue names.now) R.meanings) mode (drop at line.now) at
+    ensures { result ≡ block_put (setting grammar.now (N.catalogue names.now) (R.meanings rules.now)) mode
+        (drop at line.now) at
         block.now }
 {
     if !is_asked(mode, &block.function) {
@@ -147,7 +144,7 @@ fn block_put<N: Names, R: Rules>(
     }
     put_in(
         grammar,
-        outcome_of(grammar, block, line, at, names, hooks, mode),
+        outcome_of(grammar, block, line, at, names, rules, mode),
     )
 }
 
@@ -158,19 +155,18 @@ fn first_put<N: Names, R: Rules>(
     line: &[u8],
     at: usize,
     names: &N,
-    hooks: &Hooks<R>,
+    rules: &R,
     mode: Mode,
 ) -> Option<Insertion>
     requires well { All (IsWellBlock grammar.now) blocks.now }
-    requires ties { Ties R.meanings hooks.now }
-    requires hooks { hook_count grammar.now ≤ count hooks.now }
     requires short { length line.now < LINE_LIMIT }
     requires place { at ≤ length line.now }
-    ensures { result ≡ first_put (setting grammar.now (N.catalogue names.now) R.meanings) mode (drop at line.now) at
+    ensures { result ≡ first_put (setting grammar.now (N.catalogue names.now) (R.meanings rules.now)) mode
+        (drop at line.now) at
         blocks.now }
 {
     for block in blocks {
-        let put = block_put(grammar, block, line, at, names, hooks, mode);
+        let put = block_put(grammar, block, line, at, names, rules, mode);
         if put.is_some() {
             return put;
         }
@@ -204,27 +200,25 @@ fn asked<N: Names, R: Rules>(
     line: &[u8],
     at: usize,
     names: &N,
-    hooks: &Hooks<R>,
+    rules: &R,
     mode: Mode,
 ) -> Option<Insertion>
     requires well { IsWell grammar.now node.now }
-    requires ties { Ties R.meanings hooks.now }
-    requires hooks { hook_count grammar.now ≤ count hooks.now }
     requires short { length line.now < LINE_LIMIT }
     requires place { at ≤ length line.now }
-    ensures { result ≡ asked (setting grammar.now (N.catalogue names.now) R.meanings) mode node.now block
+    ensures { result ≡ asked (setting grammar.now (N.catalogue names.now) (R.meanings rules.now)) mode node.now block
         (drop at line.now) at }
 {
     let chain = node.chain.as_slice();
     let blocks = &chain[usize::from(block).min(chain.len())..];
     match mode {
-        Mode::Part => first_put(grammar, blocks, line, at, names, hooks, Mode::Part),
+        Mode::Part => first_put(grammar, blocks, line, at, names, rules, Mode::Part),
         Mode::Escape => {
             let put = default_put(&line[at..], node);
             if put.is_some() {
                 return put;
             }
-            first_put(grammar, blocks, line, at, names, hooks, Mode::Escape)
+            first_put(grammar, blocks, line, at, names, rules, Mode::Escape)
         }
     }
 }
@@ -235,14 +229,13 @@ fn at_block<N: Names, R: Rules>(
     place: Open,
     line: &[u8],
     names: &N,
-    hooks: &Hooks<R>,
+    rules: &R,
     mode: Mode,
 ) -> Option<Insertion>
-    requires ties { Ties R.meanings hooks.now }
-    requires hooks { hook_count grammar.now ≤ count hooks.now }
     requires short { length line.now < LINE_LIMIT }
     requires place { place.at ≤ length line.now }
-    ensures { result ≡ at_block (setting grammar.now (N.catalogue names.now) R.meanings) mode line.now place.at
+    ensures { result ≡ at_block (setting grammar.now (N.catalogue names.now) (R.meanings rules.now)) mode line.now
+        place.at
         place.block (slice_get grammar.now.nodes place.node) }
 {
     let block = place.block?;
@@ -257,7 +250,7 @@ fn at_block<N: Names, R: Rules>(
         line,
         usize::from(place.at),
         names,
-        hooks,
+        rules,
         mode,
     )
 }
@@ -269,19 +262,18 @@ fn inserted<N: Names, R: Rules>(
     ending: Ending,
     line: &[u8],
     names: &N,
-    hooks: &Hooks<R>,
+    rules: &R,
     mode: Mode,
 ) -> Insertion
     requires line { length line.now ≤ LINE_LIMIT }
-    requires ties { Ties R.meanings hooks.now }
-    requires hooks { hook_count grammar.now ≤ count hooks.now }
-    ensures { result ≡ insertion (setting grammar.now (N.catalogue names.now) R.meanings) ending line.now mode }
+    ensures { result ≡ insertion (setting grammar.now (N.catalogue names.now) (R.meanings rules.now)) ending line.now
+        mode }
 {
     match ending {
         Ending::Open(place) if line.len() < LINE_LIMIT && usize::from(place.at) <= line.len() => {
             fitted(
                 line.len(),
-                at_block(grammar, place, line, names, hooks, mode),
+                at_block(grammar, place, line, names, rules, mode),
             )
         }
         _ => bell_only(),
@@ -308,14 +300,12 @@ pub fn complete<N: Names, R: Rules>(
     ending: Ending,
     line: &[u8],
     names: &N,
-    hooks: &Hooks<R>,
+    rules: &R,
     mode: Mode,
 ) -> Insertion
     requires line { IsLine line.now }
-    requires ties { Ties R.meanings hooks.now }
-    requires hooks { hook_count grammar.now ≤ count hooks.now }
     ensures value { result
-        ≡ insertion (setting grammar.now (N.catalogue names.now) R.meanings) ending line.now mode }
+        ≡ insertion (setting grammar.now (N.catalogue names.now) (R.meanings rules.now)) ending line.now mode }
     // They may be typed, and with them it is a line again.
     ensures text { AllByRecursion (λ byte. is_text byte ≡ true) result.bytes }
     ensures line { IsLine (line.now ++ result.bytes) }
@@ -323,5 +313,6 @@ pub fn complete<N: Names, R: Rules>(
     grammar.has_no_fault();
     grammar.has_tables();
     is_catalogue(names);
-    inserted(grammar, ending, line, names, hooks, mode)
+    rules.are_lawful();
+    inserted(grammar, ending, line, names, rules, mode)
 }

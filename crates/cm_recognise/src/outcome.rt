@@ -1,10 +1,8 @@
 // How a field goes on that a block has begun to read.
 ghost use Rattle.std.specs.Prelude.{◌≡◌, ◌≤◌, ◌<◌, ◌+◌, ◌==◌, ◌&&◌, [], ◌∷◌, ◌++◌, if◌then◌else◌, drop, length, true};
-ghost use Rattle.cm_hooks.specs.Ties.{Ties, count};
 ghost use Rattle.cm_tables.specs.Common.{common};
 ghost use Rattle.cm_tables.specs.Look.{has_text, look};
 ghost use Rattle.cm_blocks.specs.Fault.{has_table};
-ghost use Rattle.cm_blocks.specs.Grammar.{hook_count, hook_limit};
 ghost use Rattle.cm_blocks.specs.Keyword.{has_colon};
 ghost use Rattle.cm_blocks.specs.Setting.{setting};
 ghost use Rattle.cm_blocks.specs.Trial.{trial};
@@ -18,7 +16,7 @@ use arrayvec::ArrayVec;
 use cm_blocks::{Block, Function, Grammar, try_function};
 use cm_fields::{FileKind, Try};
 use cm_files::Names;
-use cm_hooks::{Hooks, Rules, Tail};
+use cm_hooks::{Rules, Tail};
 use cm_tables::{Look, Table};
 use cm_text::{LINE_LIMIT, Name, TEXT_LIMIT, begins_with};
 
@@ -155,22 +153,20 @@ fn plain_outcome<N: Names, R: Rules>(
     line: &[u8],
     at: usize,
     names: &N,
-    hooks: &Hooks<R>,
+    rules: &R,
 ) -> Outcome
     requires table { has_table grammar.now.tables block.now.function ≡ true }
-    requires ties { Ties R.meanings hooks.now }
-    requires hook { hook_limit block.now.function ≤ count hooks.now }
     requires short { length line.now < LINE_LIMIT }
     requires place { at ≤ length line.now }
     ensures value { result ≡ plain_outcome block.now.next
-        (trial (setting grammar.now (N.catalogue names.now) R.meanings) block.now.function
+        (trial (setting grammar.now (N.catalogue names.now) (R.meanings rules.now)) block.now.function
         block.now.flags (drop at line.now ++ 32 ∷ []) at) }
     ensures short { IsShort TAIL_LIMIT result }
 {
     let mut text: ArrayVec<u8, TEXT_LIMIT> = ArrayVec::new();
     let _ = text.try_extend_from_slice(line);
     text.push(b' ');
-    match try_function(grammar, block, text.as_slice(), at, names, hooks) {
+    match try_function(grammar, block, text.as_slice(), at, names, rules) {
         Try::Accept { .. } => Outcome::Whole {
             bytes: Bytes::new(),
             next: block.next,
@@ -194,25 +190,17 @@ fn token_outcome(text: &[u8], next: u16, atom: &[u8]) -> Outcome
 }
 
 // What the hook of this id says of what is typed.
-fn hook_outcome<R: Rules>(
-    hooks: &Hooks<R>,
-    id: u8,
-    next: u16,
-    atom: &[u8],
-    plain: Outcome,
-) -> Outcome
-    requires ties { Ties R.meanings hooks.now }
-    requires id { id < count hooks.now }
+fn hook_outcome<R: Rules>(rules: &R, id: u8, next: u16, atom: &[u8], plain: Outcome) -> Outcome
     requires atom { length atom.now ≤ LINE_LIMIT }
     requires plain { IsShort TAIL_LIMIT plain }
     ensures value { result ≡ (if length atom.now == 0 then Outcome.Nothing
-        else hook_outcome next plain (R.meanings.completion id atom.now)) }
+        else hook_outcome next plain ((R.meanings rules.now).completion id atom.now)) }
     ensures short { IsShort TAIL_LIMIT result }
 {
     if atom.is_empty() {
         return Outcome::Nothing;
     }
-    match hooks.complete(id, atom) {
+    match rules.completion(id, atom) {
         Tail::None => plain,
         Tail::Part(text) => Outcome::Part(copied(text.as_bytes())),
         Tail::Whole(text) => Outcome::Whole {
@@ -245,15 +233,13 @@ pub(crate) fn outcome_of<N: Names, R: Rules>(
     line: &[u8],
     at: usize,
     names: &N,
-    hooks: &Hooks<R>,
+    rules: &R,
     mode: Mode,
 ) -> Outcome
     requires well { IsWellBlock grammar.now block.now }
-    requires ties { Ties R.meanings hooks.now }
-    requires hooks { hook_count grammar.now ≤ count hooks.now }
     requires short { length line.now < LINE_LIMIT }
     requires place { at ≤ length line.now }
-    ensures value { result ≡ outcome (setting grammar.now (N.catalogue names.now) R.meanings) mode block.now
+    ensures value { result ≡ outcome (setting grammar.now (N.catalogue names.now) (R.meanings rules.now)) mode block.now
         (drop at line.now) at }
     ensures short { IsShort TAIL_LIMIT result }
 {
@@ -266,21 +252,21 @@ pub(crate) fn outcome_of<N: Names, R: Rules>(
         Function::Token(text) => token_outcome(text.as_bytes(), next, atom),
         Function::User => user_outcome(names, next, atom),
         Function::Directory => {
-            let plain = plain_outcome(grammar, block, line, at, names, hooks);
+            let plain = plain_outcome(grammar, block, line, at, names, rules);
             directory_outcome(names, block.flags.new, next, atom, plain)
         }
         Function::InFile => {
-            let plain = plain_outcome(grammar, block, line, at, names, hooks);
+            let plain = plain_outcome(grammar, block, line, at, names, rules);
             file_outcome(request(mode, FileKind::In, block), names, atom, plain)
         }
         Function::AnyFile => {
-            let plain = plain_outcome(grammar, block, line, at, names, hooks);
+            let plain = plain_outcome(grammar, block, line, at, names, rules);
             file_outcome(request(mode, FileKind::Any, block), names, atom, plain)
         }
         Function::Hook(id) => {
-            let plain = plain_outcome(grammar, block, line, at, names, hooks);
-            hook_outcome(hooks, *id, next, atom, plain)
+            let plain = plain_outcome(grammar, block, line, at, names, rules);
+            hook_outcome(rules, *id, next, atom, plain)
         }
-        _ => plain_outcome(grammar, block, line, at, names, hooks),
+        _ => plain_outcome(grammar, block, line, at, names, rules),
     }
 }

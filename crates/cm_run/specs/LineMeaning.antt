@@ -9,11 +9,11 @@ use Rattle.cm_run.specs.Meaning.{Deed, Meaning}
 use Rattle.cm_run.specs.declared.mode.Mode.{Mode}
 use Rattle.cm_run.specs.declared.mode.Mode.TheVariants as mode
 
--- the grammar and the rules; the catalogue of a state; the node and the prompt of the next line, none where the program
+-- the grammar; the rules and the catalogue of a state; the node and the prompt of the next line, none where the program
 -- has ended; and of a line that is confirmed the state that it leaves, and what it shows
 pub record LineMeaning (S : Type 0) : Type 0 where
   pub graph : Graph
-  pub rules : Meanings
+  pub rules_of : S → Meanings
   pub catalogue_of : S → Catalogue
   pub line_of : S → Option (ℕ × Prompt)
   pub state_of : S → SessionState → S
@@ -37,7 +37,7 @@ line_deed p state session = record {
 abbrev pub lines_only : {S : Type 0} → LineMeaning S → Meaning S
 lines_only p = record {
   graph = p.graph;
-  rules = p.rules;
+  rules_of = p.rules_of;
   catalogue_of = p.catalogue_of;
   mode_of = λ state. line_mode (p.line_of state);
   line_deeds = λ state session moment. line_deed p state session ∷ [];

@@ -15,12 +15,12 @@ pub record Deed (S : Type 0) : Type 0 where
   pub state : S
   pub reply : List ℕ
 
--- the grammar and the rules; the catalogue and the mode of a state; the acts of a line that is confirmed, and the state
+-- the grammar; the rules, the catalogue and the mode of a state; the acts of a line that is confirmed, and the state
 -- behind one that is refused and one that is given up; what a raw key shows, and its acts; the line that waits in a
 -- command file, and its acts
 pub record Meaning (S : Type 0) : Type 0 where
   pub graph : Graph
-  pub rules : Meanings
+  pub rules_of : S → Meanings
   pub catalogue_of : S → Catalogue
   pub mode_of : S → Mode
   pub line_deeds : S → SessionState → ℕ → List (Deed S)
@@ -45,7 +45,7 @@ pub record IsSparing {S : Type 0} (m : Meaning S) : Type 0 where
 
 -- what a line is parsed under in this state
 abbrev pub setting_of : {S : Type 0} → Meaning S → S → Setting
-setting_of m state = setting m.graph (m.catalogue_of state) m.rules
+setting_of m state = setting m.graph (m.catalogue_of state) (m.rules_of state)
 
 -- a line begins at a node of the grammar
 abbrev pub IsModeOf : Graph → Mode → Type 0

@@ -21,7 +21,7 @@ pub trait Application {
     ghost use Rattle.cm_run.specs.Meaning.{IsLineAt, IsModeOf, Meaning, setting_of};
     ghost use Rattle.cm_run.specs.Obey.{Obeys, stage};
 
-    /// What its hooks mean.
+    /// What it says of its own kinds of field.
     type Rules: Rules;
 
     /// The directories and files that its lines may name.
@@ -34,6 +34,10 @@ pub trait Application {
     fn names(&self) -> &Self::Names
         ensures { Self.Names.catalogue result.now ≡ means.catalogue_of self.now };
 
+    /// What it says now of its own kinds of field.
+    fn rules(&self) -> &Self::Rules
+        ensures { Self.Rules.meanings result.now ≡ means.rules_of self.now };
+
     /// What the next key is for.
     fn mode(&self) -> Mode
         ensures mode { result ≡ means.mode_of self.now }
@@ -43,7 +47,7 @@ pub trait Application {
     /// the application has become that before it puts its reply.
     fn obey_line<S: Sink>(
         &mut self,
-        session: &Session<Self::Rules>,
+        session: &Session,
         grammar: &Grammar,
         moment: u64,
         screen: &mut S,
@@ -87,7 +91,7 @@ pub trait Application {
     /// refusal. The moment is that of the line that took the file.
     fn obey_file_line<S: Sink>(
         &mut self,
-        session: &Session<Self::Rules>,
+        session: &Session,
         grammar: &Grammar,
         moment: u64,
         screen: &mut S,

@@ -6,7 +6,6 @@ ghost use Rattle.cm_run.specs.Meaning.{IsSparing, setting_of};
 ghost use Rattle.cm_run.specs.Moments.{RunsTo};
 ghost use Rattle.cm_run.specs.Observed.{observed};
 ghost use Rattle.cm_run.specs.Progress.{MeetSound};
-ghost use Rattle.cm_run.specs.Ready.{Serves};
 ghost use Rattle.cm_run.specs.Sound.{IsSound};
 ghost use Rattle.cm_run.specs.Trace.{is_ended, run_trace, starting};
 
@@ -15,7 +14,7 @@ use crate::line::open_line;
 use crate::{Application, Mode, Stop};
 use cm_blocks::{Grammar, Steps};
 use cm_files::Names;
-use cm_hooks::Hooks;
+use cm_hooks::Rules;
 use cm_io::{Clock, Got, Sink, Source};
 use cm_state::Session;
 use std::sync::ledger::Ledger;
@@ -31,15 +30,14 @@ pub fn run<A: Application, K: Source, S: Sink, W: Sink, C: Clock, L: Ledger>(
     logging: bool,
     app: &mut A,
     grammar: &Grammar,
-    hooks: &Hooks<A::Rules>,
     keys: &mut K,
     screen: &mut S,
     log: &mut W,
     clock: &mut C,
     steps: &mut Steps<L>,
 ) -> Result<(), Stop>
-    // The grammar is that of the application, and the hooks answer its rules.
-    requires serves { Serves A.means grammar.now A.Rules.meanings hooks.now }
+    // The grammar is that of the application.
+    requires grammar { grammar.now ≡ A.means.graph }
     // What stands is the trace of the run, or a cut of it.
     ensures traces { IsTrue K.tells → IsTrue C.tells → Traces
         (observed (S.told screen.old) (W.told log.old) (K.left keys.old) (K.gets keys.old) (C.left clock.old)
@@ -90,7 +88,6 @@ pub fn run<A: Application, K: Source, S: Sink, W: Sink, C: Clock, L: Ledger>(
             app,
             &mut session,
             grammar,
-            hooks,
             screen,
             log,
             clock,
@@ -121,10 +118,10 @@ fn has_ended<A: Application>(app: &A) -> bool
 // Hands on to a proof that what a key meets is sound. It does nothing.
 fn meets_sound<A: Application>(app: &A, grammar: &Grammar)
     requires grammar { grammar.now ≡ A.means.graph }
-    requires rules { A.Rules.meanings ≡ A.means.rules }
     ensures { IsSound (setting_of A.means app.now) }
 {
     grammar.has_no_fault();
     grammar.has_tables();
     let _ = app.names().directories();
+    app.rules().are_lawful();
 }

@@ -18,13 +18,12 @@ ghost use Rattle.cm_run.specs.Cut.{Traces};
 ghost use Rattle.cm_run.specs.Meaning.{IsLineAt, IsSparing, setting_of};
 ghost use Rattle.cm_run.specs.Moments.{Leads};
 ghost use Rattle.cm_run.specs.Observed.{observed};
-ghost use Rattle.cm_run.specs.Ready.{IsAtLine, IsReadyIn, ServesWell};
+ghost use Rattle.cm_run.specs.Ready.{IsAtLine, IsReadyIn};
 ghost use Rattle.cm_run.specs.Trace.{key_trace, line_stroke, moment_at, moments_later, outcome_trace, raw_log, raw_mark, raw_stroke, run_state, step, step_by, step_of, stroke_trace, takes_moment, turn_outcome};
 
 use crate::line::{confirm_line, open_line};
 use crate::{Application, Mode, Stop};
 use cm_blocks::{Grammar, Steps};
-use cm_hooks::{Hooks, Rules};
 use cm_io::{Clock, Put, Sink, Writer};
 use cm_state::{Session, Turn};
 use std::sync::ledger::Ledger;
@@ -35,15 +34,15 @@ pub(crate) fn handle_key<A: Application, S: Sink, W: Sink, C: Clock, L: Ledger>(
     logging: bool,
     key: u8,
     app: &mut A,
-    session: &mut Session<A::Rules>,
+    session: &mut Session,
     grammar: &Grammar,
-    hooks: &Hooks<A::Rules>,
     screen: &mut S,
     log: &mut W,
     clock: &mut C,
     steps: &mut Steps<L>,
 ) -> Result<(), Stop>
-    requires serves { ServesWell A.means grammar.now A.Rules.meanings hooks.now }
+    requires grammar { grammar.now ≡ A.means.graph }
+    requires faultless { grammar_fault A.means.graph ≡ None }
     requires ready { IsReadyIn A.means app.old session.old }
     ensures traces { IsTrue C.tells → (keys : List ℕ) → (gets : ℕ) → Traces
         (observed (S.told screen.old) (W.told log.old) keys gets (C.left clock.old) steps.old app.old)
@@ -61,7 +60,7 @@ pub(crate) fn handle_key<A: Application, S: Sink, W: Sink, C: Clock, L: Ledger>(
 {
     match app.mode() {
         Mode::Line { .. } => handle_line_key(
-            logging, key, app, session, grammar, hooks, screen, log, clock, steps,
+            logging, key, app, session, grammar, screen, log, clock, steps,
         ),
         Mode::Raw => handle_raw_key(logging, key, app, session, screen, log),
         Mode::Ended => handle_raw_key(logging, key, app, session, screen, log),
@@ -74,15 +73,15 @@ fn handle_line_key<A: Application, S: Sink, W: Sink, C: Clock, L: Ledger>(
     logging: bool,
     key: u8,
     app: &mut A,
-    session: &mut Session<A::Rules>,
+    session: &mut Session,
     grammar: &Grammar,
-    hooks: &Hooks<A::Rules>,
     screen: &mut S,
     log: &mut W,
     clock: &mut C,
     steps: &mut Steps<L>,
 ) -> Result<(), Stop>
-    requires serves { ServesWell A.means grammar.now A.Rules.meanings hooks.now }
+    requires grammar { grammar.now ≡ A.means.graph }
+    requires faultless { grammar_fault A.means.graph ≡ None }
     requires at { IsAtLine A.means app.old session.old }
     ensures traces { IsTrue C.tells → (keys : List ℕ) → (gets : ℕ) → Traces
         (observed (S.told screen.old) (W.told log.old) keys gets (C.left clock.old) steps.old app.old)
@@ -100,14 +99,14 @@ fn handle_line_key<A: Application, S: Sink, W: Sink, C: Clock, L: Ledger>(
         (counts (S.faults screen.new) (W.faults log.new) keys) result }
     ensures spares { IsSparing A.means → result ≢ Err Stop.Memory }
 {
-    let turn = edit_line(key, app, session, grammar, hooks, screen, steps);
+    let turn = edit_line(key, app, session, grammar, screen, steps);
     if let Turn::Failed = turn {
         return Err(Stop::Screen);
     }
     if let Put::Failed = log_line(logging, key, session, log) {
         return Err(Stop::Log);
     }
-    finish_key(turn, app, session, grammar, hooks, screen, clock, steps)
+    finish_key(turn, app, session, grammar, screen, clock, steps)
 }
 
 // Edits a line by a key, and shows the echo.
@@ -115,13 +114,13 @@ fn handle_line_key<A: Application, S: Sink, W: Sink, C: Clock, L: Ledger>(
 fn edit_line<A: Application, S: Sink, L: Ledger>(
     key: u8,
     app: &A,
-    session: &mut Session<A::Rules>,
+    session: &mut Session,
     grammar: &Grammar,
-    hooks: &Hooks<A::Rules>,
     screen: &mut S,
     steps: &mut Steps<L>,
 ) -> Turn
-    requires serves { ServesWell A.means grammar.now A.Rules.meanings hooks.now }
+    requires grammar { grammar.now ≡ A.means.graph }
+    requires faultless { grammar_fault A.means.graph ≡ None }
     requires ready { IsReady (setting_of A.means app.now) session.old }
     ensures edited { session.new ≡ edited (setting_of A.means app.now) session.old key }
     ensures parse { IsParse (setting_of A.means app.now) session.new.node (text_of session.new) session.new.fields
@@ -136,11 +135,11 @@ fn edit_line<A: Application, S: Sink, L: Ledger>(
     ensures steps { steps.new ≡ steps.old
         + cost (setting_of A.means app.now) session.old.node (met_line session.old) (text_of session.new) }
 {
-    session.key(key, grammar, app.names(), hooks, screen, steps)
+    session.key(key, grammar, app.names(), app.rules(), screen, steps)
 }
 
 // Logs a key of a line, where there is a log.
-fn log_line<R: Rules, W: Sink>(logging: bool, key: u8, session: &Session<R>, log: &mut W) -> Put
+fn log_line<W: Sink>(logging: bool, key: u8, session: &Session, log: &mut W) -> Put
     ensures bytes { logging ≡ true → Adds (W.told log.old) (W.told log.new) (log_line key session.now) result }
     ensures nothing { logging ≡ false → result ≡ Put.Done }
     ensures quiet { logging ≡ false → (W.told log.new ≡ W.told log.old) × (W.faults log.new ≡ W.faults log.old) }
@@ -159,14 +158,14 @@ fn log_line<R: Rules, W: Sink>(logging: bool, key: u8, session: &Session<R>, log
 fn finish_key<A: Application, S: Sink, C: Clock, L: Ledger>(
     turn: Turn,
     app: &mut A,
-    session: &mut Session<A::Rules>,
+    session: &mut Session,
     grammar: &Grammar,
-    hooks: &Hooks<A::Rules>,
     screen: &mut S,
     clock: &mut C,
     steps: &mut Steps<L>,
 ) -> Result<(), Stop>
-    requires serves { ServesWell A.means grammar.now A.Rules.meanings hooks.now }
+    requires grammar { grammar.now ≡ A.means.graph }
+    requires faultless { grammar_fault A.means.graph ≡ None }
     requires at { IsAtLine A.means app.old session.old }
     requires parse { turn ≡ Turn.Confirmed → IsParse (setting_of A.means app.old) session.old.node
         (text_of session.old) session.old.fields ending.Done }
@@ -187,7 +186,7 @@ fn finish_key<A: Application, S: Sink, C: Clock, L: Ledger>(
     match turn {
         Turn::Edited => Ok(()),
         Turn::Failed => Ok(()),
-        Turn::Confirmed => act(app, session, grammar, hooks, screen, clock, steps),
+        Turn::Confirmed => act(app, session, grammar, screen, clock, steps),
         Turn::Refused(_) => {
             app.refuse();
             open_line(app, session, screen)
@@ -217,14 +216,14 @@ fn moment_of<A: Application, C: Clock>(app: &A, clock: &mut C) -> u64
 #[tactic(auto, using(crate::proofs::Outcomes::acts_on, crate::proofs::Outcomes::acts_cut, crate::proofs::Causes::obey_cause_on), unfolding(crate::specs::Cause::ObeyCause))]
 fn act<A: Application, S: Sink, C: Clock, L: Ledger>(
     app: &mut A,
-    session: &mut Session<A::Rules>,
+    session: &mut Session,
     grammar: &Grammar,
-    hooks: &Hooks<A::Rules>,
     screen: &mut S,
     clock: &mut C,
     steps: &mut Steps<L>,
 ) -> Result<(), Stop>
-    requires serves { ServesWell A.means grammar.now A.Rules.meanings hooks.now }
+    requires grammar { grammar.now ≡ A.means.graph }
+    requires faultless { grammar_fault A.means.graph ≡ None }
     requires line { IsLineAt (A.means.mode_of app.old) session.old.node }
     requires parse { IsParse (setting_of A.means app.old) session.old.node (text_of session.old) session.old.fields
         ending.Done }
@@ -244,7 +243,7 @@ fn act<A: Application, S: Sink, C: Clock, L: Ledger>(
     ensures spares { IsSparing A.means → result ≢ Err Stop.Memory }
 {
     let moment = moment_of(app, clock);
-    match confirm_line(app, session, grammar, hooks, moment, screen, steps) {
+    match confirm_line(app, session, grammar, moment, screen, steps) {
         Ok(()) => open_line(app, session, screen),
         Err(stop) => Err(stop),
     }
@@ -256,7 +255,7 @@ fn handle_raw_key<A: Application, S: Sink, W: Sink>(
     logging: bool,
     key: u8,
     app: &mut A,
-    session: &mut Session<A::Rules>,
+    session: &mut Session,
     screen: &mut S,
     log: &mut W,
 ) -> Result<(), Stop>

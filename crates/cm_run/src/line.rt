@@ -11,12 +11,11 @@ ghost use Rattle.cm_run.specs.Cause.{ObeyCause};
 ghost use Rattle.cm_run.specs.Cut.{Traces};
 ghost use Rattle.cm_run.specs.Meaning.{IsLineAt, IsSparing, setting_of};
 ghost use Rattle.cm_run.specs.Observed.{observed};
-ghost use Rattle.cm_run.specs.Ready.{IsReadyIn, Serves, ServesWell};
+ghost use Rattle.cm_run.specs.Ready.{IsReadyIn};
 ghost use Rattle.cm_run.specs.Trace.{line_trace, file_session, file_trace, file_line_trace, next_line, node_of, line_start, opening};
 
 use crate::{Application, FILE_LINES, Mode, Stop};
 use cm_blocks::{Grammar, Steps};
-use cm_hooks::Hooks;
 use cm_io::{Put, Sink};
 use cm_state::Session;
 use std::sync::ledger::Ledger;
@@ -25,7 +24,7 @@ use std::sync::ledger::Ledger;
 #[tactic(auto, using(crate::proofs::ShownBytes::shows_whole, crate::proofs::ShownBytes::shows_part, crate::proofs::Joins::traces_none), unfolding(crate::specs::Ready::IsReadyIn, crate::specs::Cause::ObeyCause))]
 pub(crate) fn open_line<A: Application, S: Sink>(
     app: &A,
-    session: &mut Session<A::Rules>,
+    session: &mut Session,
     screen: &mut S,
 ) -> Result<(), Stop>
     requires faultless { grammar_fault A.means.graph ≡ None }
@@ -66,10 +65,10 @@ pub(crate) fn parse_line<A: Application, L: Ledger>(
     node: u16,
     line: &[u8],
     grammar: &Grammar,
-    hooks: &Hooks<A::Rules>,
     steps: &mut Steps<L>,
-) -> Session<A::Rules>
-    requires serves { ServesWell A.means grammar.now A.Rules.meanings hooks.now }
+) -> Session
+    requires grammar { grammar.now ≡ A.means.graph }
+    requires faultless { grammar_fault A.means.graph ≡ None }
     requires node { node_of (A.means.mode_of app.now) ≡ node }
     requires within { node < length A.means.graph.nodes }
     requires line { IsLine line.now }
@@ -79,7 +78,7 @@ pub(crate) fn parse_line<A: Application, L: Ledger>(
     ensures steps { steps.new ≡ steps.old + cost (setting_of A.means app.now) node [] (finished line.now) }
 {
     let mut session = Session::new();
-    session.whole(node, line, grammar, app.names(), hooks, steps);
+    session.whole(node, line, grammar, app.names(), app.rules(), steps);
     session
 }
 
@@ -88,12 +87,12 @@ pub(crate) fn parse_line<A: Application, L: Ledger>(
 fn take_line<A: Application, S: Sink, L: Ledger>(
     app: &mut A,
     grammar: &Grammar,
-    hooks: &Hooks<A::Rules>,
     moment: u64,
     screen: &mut S,
     steps: &mut Steps<L>,
 ) -> Result<(), Stop>
-    requires serves { ServesWell A.means grammar.now A.Rules.meanings hooks.now }
+    requires grammar { grammar.now ≡ A.means.graph }
+    requires faultless { grammar_fault A.means.graph ≡ None }
     ensures traces { (log : Told) → (keys : List ℕ) → (gets : ℕ) → (moments : List ℕ) → Traces
         (observed (S.told screen.old) log keys gets moments steps.old app.old)
         (observed (S.told screen.new) log keys gets moments steps.new app.new)
@@ -108,7 +107,7 @@ fn take_line<A: Application, S: Sink, L: Ledger>(
     let Some(line) = app.file_line() else {
         return Ok(());
     };
-    let session = parse_line(app, node, line, grammar, hooks, steps);
+    let session = parse_line(app, node, line, grammar, steps);
     app.obey_file_line(&session, grammar, moment, screen)
 }
 
@@ -117,12 +116,12 @@ fn take_line<A: Application, S: Sink, L: Ledger>(
 fn take_lines<A: Application, S: Sink, L: Ledger>(
     app: &mut A,
     grammar: &Grammar,
-    hooks: &Hooks<A::Rules>,
     moment: u64,
     screen: &mut S,
     steps: &mut Steps<L>,
 ) -> Result<(), Stop>
-    requires serves { ServesWell A.means grammar.now A.Rules.meanings hooks.now }
+    requires grammar { grammar.now ≡ A.means.graph }
+    requires faultless { grammar_fault A.means.graph ≡ None }
     ensures traces { (log : Told) → (keys : List ℕ) → (gets : ℕ) → (moments : List ℕ) → Traces
         (observed (S.told screen.old) log keys gets moments steps.old app.old)
         (observed (S.told screen.new) log keys gets moments steps.new app.new)
@@ -135,7 +134,7 @@ fn take_lines<A: Application, S: Sink, L: Ledger>(
         if !has_line(app) {
             return Ok(());
         }
-        match take_line(app, grammar, hooks, moment, screen, steps) {
+        match take_line(app, grammar, moment, screen, steps) {
             Ok(()) => {}
             Err(stop) => return Err(stop),
         }
@@ -148,12 +147,11 @@ fn take_lines<A: Application, S: Sink, L: Ledger>(
 pub fn run_lines<A: Application, S: Sink, L: Ledger>(
     app: &mut A,
     grammar: &Grammar,
-    hooks: &Hooks<A::Rules>,
     moment: u64,
     screen: &mut S,
     steps: &mut Steps<L>,
 ) -> Result<(), Stop>
-    requires serves { Serves A.means grammar.now A.Rules.meanings hooks.now }
+    requires grammar { grammar.now ≡ A.means.graph }
     ensures traces { (log : Told) → (keys : List ℕ) → (gets : ℕ) → (moments : List ℕ) → Traces
         (observed (S.told screen.old) log keys gets moments steps.old app.old)
         (observed (S.told screen.new) log keys gets moments steps.new app.new)
@@ -163,21 +161,21 @@ pub fn run_lines<A: Application, S: Sink, L: Ledger>(
     ensures spares { IsSparing A.means → result ≢ Err Stop.Memory }
 {
     grammar.has_no_fault();
-    take_lines(app, grammar, hooks, moment, screen, steps)
+    take_lines(app, grammar, moment, screen, steps)
 }
 
 /// Does what a confirmed line commands, and then takes the lines of the command files that it names.
 #[tactic(auto, using(crate::proofs::Outcomes::confirmed_on, crate::proofs::Outcomes::confirmed_cut, crate::proofs::Causes::obey_cause_on, crate::proofs::Memory::acts_spare), unfolding(crate::specs::Cause::ObeyCause))]
 pub(crate) fn confirm_line<A: Application, S: Sink, L: Ledger>(
     app: &mut A,
-    session: &Session<A::Rules>,
+    session: &Session,
     grammar: &Grammar,
-    hooks: &Hooks<A::Rules>,
     moment: u64,
     screen: &mut S,
     steps: &mut Steps<L>,
 ) -> Result<(), Stop>
-    requires serves { ServesWell A.means grammar.now A.Rules.meanings hooks.now }
+    requires grammar { grammar.now ≡ A.means.graph }
+    requires faultless { grammar_fault A.means.graph ≡ None }
     requires line { IsLineAt (A.means.mode_of app.old) session.now.node }
     requires parse { IsParse (setting_of A.means app.old) session.now.node (text_of session.now)
         session.now.fields ending.Done }
@@ -190,7 +188,7 @@ pub(crate) fn confirm_line<A: Application, S: Sink, L: Ledger>(
     ensures spares { IsSparing A.means → result ≢ Err Stop.Memory }
 {
     match app.obey_line(session, grammar, moment, screen) {
-        Ok(()) => take_lines(app, grammar, hooks, moment, screen, steps),
+        Ok(()) => take_lines(app, grammar, moment, screen, steps),
         Err(stop) => Err(stop),
     }
 }

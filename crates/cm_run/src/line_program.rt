@@ -1,15 +1,13 @@
 // Programs that act by lines alone.
 ghost use Rattle.std.specs.Prelude.{◌≡◌, [], IsTrue};
 ghost use Rattle.cm_io.specs.Told.{Number};
-ghost use Rattle.cm_run.specs.LineMeaning.{lines_only};
 ghost use Rattle.cm_run.specs.LineRun.{LineCause, LineRun};
 ghost use Rattle.cm_run.specs.Observed.{observed};
-ghost use Rattle.cm_run.specs.Ready.{Serves};
 
 use crate::{Application, Mode, NoClock, Stop, run};
 use cm_blocks::{Grammar, Steps};
 use cm_files::Names;
-use cm_hooks::{Hooks, Rules};
+use cm_hooks::Rules;
 use cm_io::{CountSink, Put, Sink, Source};
 use cm_state::{Prompt, Session};
 use std::sync::ledger::Ledger;
@@ -30,7 +28,7 @@ pub trait LineProgram {
     ghost use Rattle.cm_run.specs.LineMeaning.{LineMeaning, line_mode, lines_only};
     ghost use Rattle.cm_run.specs.Meaning.{IsLineAt, setting_of};
 
-    /// What its hooks mean.
+    /// What it says of its own kinds of field.
     type Rules: Rules;
 
     /// The directories and files that its lines may name.
@@ -43,6 +41,10 @@ pub trait LineProgram {
     fn names(&self) -> &Self::Names
         ensures { Self.Names.catalogue result.now ≡ means.catalogue_of self.now };
 
+    /// What it says now of its own kinds of field.
+    fn rules(&self) -> &Self::Rules
+        ensures { Self.Rules.meanings result.now ≡ means.rules_of self.now };
+
     /// The node at which the next line begins, and what it is asked for with. There is none where the program has
     /// ended.
     fn line(&self) -> Option<(u16, Prompt)>
@@ -51,12 +53,7 @@ pub trait LineProgram {
 
     /// Does what a confirmed line commands, and shows the reply. The state is that of the line also where the screen
     /// fails. Where the program has ended by then, it has before it puts its reply.
-    fn obey<S: Sink>(
-        &mut self,
-        session: &Session<Self::Rules>,
-        grammar: &Grammar,
-        screen: &mut S,
-    ) -> Put
+    fn obey<S: Sink>(&mut self, session: &Session, grammar: &Grammar, screen: &mut S) -> Put
         requires grammar { grammar.now ≡ means.graph }
         requires line { IsLineAt (line_mode (means.line_of self.old)) session.now.node }
         requires parse { IsParse (setting_of (lines_only means) self.old) session.now.node (text_of session.now)
@@ -80,6 +77,10 @@ impl<P: LineProgram> Application for P {
         LineProgram::names(self)
     }
 
+    fn rules(&self) -> &P::Rules {
+        LineProgram::rules(self)
+    }
+
     fn mode(&self) -> Mode {
         match self.line() {
             Some((node, prompt)) => Mode::Line {
@@ -94,7 +95,7 @@ impl<P: LineProgram> Application for P {
     #[tactic(auto, using(crate::proofs::Acts::obeys_done, crate::proofs::Acts::obeys_cut), unfolding(crate::specs::Cause::ObeyCause))]
     fn obey_line<S: Sink>(
         &mut self,
-        session: &Session<P::Rules>,
+        session: &Session,
         grammar: &Grammar,
         _moment: u64,
         screen: &mut S,
@@ -126,7 +127,7 @@ impl<P: LineProgram> Application for P {
     #[tactic(auto, using(crate::proofs::Acts::obeys_nothing), unfolding(crate::specs::Cause::ObeyCause))]
     fn obey_file_line<S: Sink>(
         &mut self,
-        _session: &Session<P::Rules>,
+        _session: &Session,
         _grammar: &Grammar,
         _moment: u64,
         _screen: &mut S,
@@ -140,13 +141,12 @@ impl<P: LineProgram> Application for P {
 pub fn run_line_program<P: LineProgram, K: Source, S: Sink, L: Ledger>(
     program: &mut P,
     grammar: &Grammar,
-    hooks: &Hooks<P::Rules>,
     keys: &mut K,
     screen: &mut S,
     steps: &mut Steps<L>,
 ) -> Result<(), Stop>
-    // The grammar is that of the program, and the hooks answer its rules.
-    requires serves { Serves (lines_only P.means) grammar.now P.Rules.meanings hooks.now }
+    // The grammar is that of the program.
+    requires grammar { grammar.now ≡ P.means.graph }
     // What stands is the trace of the run, or a cut of it.
     ensures stands { IsTrue K.tells → LineRun P.means
         (observed (S.told screen.old) (Number 0) (K.left keys.old) (K.gets keys.old) [] steps.old program.old)
@@ -159,6 +159,6 @@ pub fn run_line_program<P: LineProgram, K: Source, S: Sink, L: Ledger>(
     let mut log = CountSink::new();
     let mut clock = NoClock;
     run(
-        LINE_KEYS, false, program, grammar, hooks, keys, screen, &mut log, &mut clock, steps,
+        LINE_KEYS, false, program, grammar, keys, screen, &mut log, &mut clock, steps,
     )
 }

@@ -1,19 +1,18 @@
 // A line that is handed in.
-ghost use Rattle.std.specs.Prelude.{◌≡◌, ◌≢◌, ◌≤◌, ℕ, List, Err, Some};
+ghost use Rattle.std.specs.Prelude.{◌≡◌, ◌≢◌, ◌≤◌, ℕ, List, Err, None, Some};
 ghost use Rattle.cm_text.specs.Text.{IsLine};
 ghost use Rattle.cm_io.specs.Told.{Told};
+ghost use Rattle.cm_blocks.specs.Fault.{grammar_fault};
 ghost use Rattle.cm_run.specs.Cause.{ObeyCause};
 ghost use Rattle.cm_run.specs.Cut.{Traces};
 ghost use Rattle.cm_run.specs.SingleLine.{handed_trace};
 ghost use Rattle.cm_run.specs.Meaning.{IsSparing};
 ghost use Rattle.cm_run.specs.Observed.{observed};
-ghost use Rattle.cm_run.specs.Ready.{Serves, ServesWell};
 ghost use Rattle.cm_run.specs.Trace.{file_line_trace, line_by};
 
 use crate::line::parse_line;
 use crate::{Application, Mode, Stop, run_lines};
 use cm_blocks::{Grammar, Steps};
-use cm_hooks::Hooks;
 use cm_io::Sink;
 use std::sync::ledger::Ledger;
 
@@ -24,12 +23,12 @@ fn take_handed<A: Application, S: Sink, L: Ledger>(
     app: &mut A,
     line: &[u8],
     grammar: &Grammar,
-    hooks: &Hooks<A::Rules>,
     moment: u64,
     screen: &mut S,
     steps: &mut Steps<L>,
 ) -> Result<(), Stop>
-    requires serves { ServesWell A.means grammar.now A.Rules.meanings hooks.now }
+    requires grammar { grammar.now ≡ A.means.graph }
+    requires faultless { grammar_fault A.means.graph ≡ None }
     requires line { IsLine line.now }
     ensures traces { (log : Told) → (keys : List ℕ) → (gets : ℕ) → (moments : List ℕ) → Traces
         (observed (S.told screen.old) log keys gets moments steps.old app.old)
@@ -42,7 +41,7 @@ fn take_handed<A: Application, S: Sink, L: Ledger>(
     let Mode::Line { node, .. } = app.mode() else {
         return Ok(());
     };
-    let session = parse_line(app, node, line, grammar, hooks, steps);
+    let session = parse_line(app, node, line, grammar, steps);
     app.obey_file_line(&session, grammar, moment, screen)
 }
 
@@ -54,12 +53,11 @@ pub fn run_line<A: Application, S: Sink, L: Ledger>(
     app: &mut A,
     line: &[u8],
     grammar: &Grammar,
-    hooks: &Hooks<A::Rules>,
     moment: u64,
     screen: &mut S,
     steps: &mut Steps<L>,
 ) -> Result<(), Stop>
-    requires serves { Serves A.means grammar.now A.Rules.meanings hooks.now }
+    requires grammar { grammar.now ≡ A.means.graph }
     requires line { IsLine line.now }
     ensures traces { (log : Told) → (keys : List ℕ) → (gets : ℕ) → (moments : List ℕ) → Traces
         (observed (S.told screen.old) log keys gets moments steps.old app.old)
@@ -70,8 +68,8 @@ pub fn run_line<A: Application, S: Sink, L: Ledger>(
     ensures spares { IsSparing A.means → result ≢ Err Stop.Memory }
 {
     grammar.has_no_fault();
-    match take_handed(app, line, grammar, hooks, moment, screen, steps) {
-        Ok(()) => run_lines(app, grammar, hooks, moment, screen, steps),
+    match take_handed(app, line, grammar, moment, screen, steps) {
+        Ok(()) => run_lines(app, grammar, moment, screen, steps),
         Err(stop) => Err(stop),
     }
 }

@@ -28,7 +28,7 @@ unfoldable pub prompt_text : Prompt → List ℕ
 prompt_text Main = codes "@"
 prompt_text Sub = codes "@@"
 prompt_text (Own text) = text.now
-prompt_text (Named name mark) = label_name name ++ mark.now
+prompt_text (Named name mark) = label_name name ++ mark ∷ []
 
 -- a line behind its prompt
 unfoldable pub with_prompt : Prompt → List ℕ → List ℕ

@@ -1,12 +1,10 @@
 // What a key shows.
 #![tactic(auto, using(cm_io::proofs::Texts::texts))]
 
-ghost use Rattle.std.specs.Prelude.{◌≡◌, ◌+◌, ◌≤◌, ◌==◌, ◌++◌, length};
+ghost use Rattle.std.specs.Prelude.{◌≡◌, ◌+◌, ◌≤◌, ◌==◌, [], ◌∷◌, ◌++◌, length};
 ghost use Rattle.cm_io.specs.Writer.{Writes};
 ghost use Rattle.cm_text.specs.Shown.{end_of_line, question, shown_byte};
 ghost use Rattle.cm_text.specs.declared.text.TheConstants.{JOIN};
-ghost use Rattle.cm_hooks.specs.Ties.{Ties, count};
-ghost use Rattle.cm_blocks.specs.Grammar.{hook_count};
 ghost use Rattle.cm_blocks.specs.Setting.{setting};
 ghost use Rattle.cm_help.specs.Help.{help_text};
 ghost use Rattle.cm_state.specs.Label.{label_name};
@@ -18,7 +16,7 @@ use cm_blocks::{Ending, Grammar};
 use cm_fields::Code;
 use cm_files::Names;
 use cm_help::put_help;
-use cm_hooks::{Hooks, Rules};
+use cm_hooks::Rules;
 use cm_io::{Sink, Writer};
 use cm_line::{KeyClass, Line};
 use cm_text::{JOIN, LINE_LIMIT, bell, end_of_line, join_shown, question, rubout, screen_byte};
@@ -70,16 +68,16 @@ pub(crate) fn put_prompt<S: Sink>(prompt: &Prompt, out: &mut Writer<'_, S>)
         Prompt::Main => out.put(b"@"),
         Prompt::Sub => out.put(b"@@"),
         Prompt::Own(text) => out.put(text.as_bytes()),
-        Prompt::Named(name, mark) => put_named(name, mark, out),
+        Prompt::Named(name, mark) => put_named(name, *mark, out),
     }
 }
 
 // Shows a name and the mark behind it.
-fn put_named<S: Sink>(name: &Label, mark: &str, out: &mut Writer<'_, S>)
-    ensures { Writes S.Sink out.old out.new (label_name name.now ++ mark.now) }
+fn put_named<S: Sink>(name: &Label, mark: u8, out: &mut Writer<'_, S>)
+    ensures { Writes S.Sink out.old out.new (label_name name.now ++ mark ∷ []) }
 {
     out.put(name.as_bytes());
-    out.put(mark.as_bytes());
+    out.put(&[mark]);
 }
 
 // Shows a line behind its prompt.
@@ -109,18 +107,16 @@ pub(crate) fn put_help_and_line<N: Names, R: Rules, S: Sink>(
     prompt: &Prompt,
     line: &[u8],
     names: &N,
-    hooks: &Hooks<R>,
+    rules: &R,
     out: &mut Writer<'_, S>,
 )
     requires line { length line.now ≤ LINE_LIMIT }
-    requires ties { Ties R.meanings hooks.now }
-    requires hooks { hook_count grammar.now ≤ count hooks.now }
     ensures { Writes S.Sink out.old out.new
-        (question ++ help_text (setting grammar.now (N.catalogue names.now) R.meanings) ending line.now
+        (question ++ help_text (setting grammar.now (N.catalogue names.now) (R.meanings rules.now)) ending line.now
         ++ again prompt.now line.now) }
 {
     out.put(question());
-    put_help(grammar, ending, line, names, hooks, out);
+    put_help(grammar, ending, line, names, rules, out);
     put_again(prompt, line, out);
 }
 
@@ -195,8 +191,8 @@ fn put_complaint<S: Sink>(ending: Ending, out: &mut Writer<'_, S>)
     }
 }
 
-/// Shows why a line is refused: `?`, the text of the code, and the end of the line. So a program refuses what a confirmed
-/// line commands, by a code of the library or by one of its own.
+/// Shows why a line is refused: `?`, the text of the code, and the end of the line. So a program refuses what a
+/// confirmed line commands, by a code of the library or by one of its own.
 #[tactic(auto, using(cm_io::proofs::Texts::texts), unfolding(crate::specs::Echo::refusal))]
 pub fn put_refusal<S: Sink>(code: Code, out: &mut Writer<'_, S>)
     ensures { Writes S.Sink out.old out.new (refusal code) }

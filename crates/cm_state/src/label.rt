@@ -9,7 +9,7 @@ use cm_text::{NAME_LIMIT, Name};
 #[derive(Clone, Copy, Debug, PartialEq, Eq)]
 pub struct Label {
     cells: [u8; NAME_LIMIT],
-    size: usize,
+    size: u8,
 }
 
 impl Label {
@@ -22,7 +22,7 @@ impl Label {
         let text = name.as_bytes();
         Label {
             cells: cells_of(text),
-            size: text.len(),
+            size: text.len() as u8,
         }
     }
 
@@ -32,7 +32,7 @@ impl Label {
         ensures value { result.now ≡ label_name self.now }
         ensures within { length result.now ≤ NAME_LIMIT }
     {
-        &self.cells[..self.size.min(NAME_LIMIT)]
+        &self.cells[..usize::from(self.size).min(NAME_LIMIT)]
     }
 }
 

@@ -1,8 +1,6 @@
 // The parse of a text, behind the fields that are known already.
 ghost use Rattle.std.specs.Prelude.{◌≡◌, ◌+◌, ◌-◌, ◌<◌, ◌≤◌, length};
 ghost use Rattle.cm_text.specs.declared.text.TheConstants.{TEXT_LIMIT};
-ghost use Rattle.cm_hooks.specs.Ties.{Ties, count};
-ghost use Rattle.cm_blocks.specs.Grammar.{hook_count};
 ghost use Rattle.cm_blocks.specs.Kept.{cost_behind};
 ghost use Rattle.cm_blocks.specs.declared.field.Chain.TheVariants as chain;
 ghost use Rattle.cm_blocks.specs.Parse.{ending_of, parse_of};
@@ -13,7 +11,7 @@ use crate::stack::Stack;
 use cm_blocks::{Chain, Ending, FIELD_LIMIT, Fault, Field, Grammar, Steps, try_chain};
 use cm_fields::Code;
 use cm_files::Names;
-use cm_hooks::{Hooks, Rules};
+use cm_hooks::Rules;
 use std::sync::ledger::Ledger;
 
 // How a parse ends that has one field too many.
@@ -34,23 +32,22 @@ pub(crate) fn parse_rest<N: Names, R: Rules, L: Ledger>(
     start: u16,
     text: &[u8],
     names: &N,
-    hooks: &Hooks<R>,
+    rules: &R,
     fields: &mut Stack,
     steps: &mut Steps<L>,
 ) -> Ending
-    requires starts { Starts (setting grammar.now (N.catalogue names.now) R.meanings) start text.now fields.old }
+    requires starts { Starts (setting grammar.now (N.catalogue names.now) (R.meanings rules.now)) start text.now
+        fields.old }
     requires short { length text.now ≤ TEXT_LIMIT }
-    requires ties { Ties R.meanings hooks.now }
-    requires hooks { hook_count grammar.now ≤ count hooks.now }
     ensures parse { record { fields = fields.new; ending = result }
-        ≡ parse_of (setting grammar.now (N.catalogue names.now) R.meanings) start text.now }
+        ≡ parse_of (setting grammar.now (N.catalogue names.now) (R.meanings rules.now)) start text.now }
     ensures steps { steps.new ≡ steps.old
-        + cost_behind (setting grammar.now (N.catalogue names.now) R.meanings) start text.now fields.old }
+        + cost_behind (setting grammar.now (N.catalogue names.now) (R.meanings rules.now)) start text.now fields.old }
 {
     let mut node = fields.node_behind(start);
     let mut at = fields.place_behind();
     loop {
-        match try_chain(grammar, node, text, at, names, hooks, steps) {
+        match try_chain(grammar, node, text, at, names, rules, steps) {
             Chain::Field(field) => {
                 if usize::from(fields.len()) == FIELD_LIMIT {
                     return too_many(&field);

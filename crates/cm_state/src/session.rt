@@ -6,9 +6,7 @@ ghost use Rattle.cm_line.specs.Keys.{class_at};
 ghost use Rattle.cm_io.specs.Told.{Adds};
 ghost use Rattle.cm_io.specs.Fault.{PutCause};
 ghost use Rattle.cm_io.specs.Writer.{Writes};
-ghost use Rattle.cm_hooks.specs.Ties.{Ties, count};
 ghost use Rattle.cm_blocks.specs.Fault.{grammar_fault};
-ghost use Rattle.cm_blocks.specs.Grammar.{hook_count};
 ghost use Rattle.cm_blocks.specs.Kept.{BeginsWith, cost, kept, needing};
 ghost use Rattle.cm_blocks.specs.Parse.{IsParse, open_at};
 ghost use Rattle.cm_blocks.specs.Setting.{Setting, setting};
@@ -29,11 +27,11 @@ use crate::stack::Stack;
 use crate::{Prompt, Turn};
 use cm_blocks::{Ending, Grammar, Steps};
 use cm_files::Names;
-use cm_hooks::{Hooks, Rules};
+use cm_hooks::Rules;
 use cm_io::{Page, Put, Sink, Writer};
 use cm_line::{KeyClass, Line};
 use cm_text::{LINE_LIMIT, bell, control_c, end_of_line, screen_byte};
-use std::marker::{Model, PhantomData};
+use std::marker::Model;
 use std::sync::ledger::Ledger;
 
 mod again;
@@ -52,10 +50,9 @@ struct Keystroke {
     rings: bool,
 }
 
-/// A command line: the line under edit, its parse as it then stands, and what control-H may bring back. `R` is what
-/// the hooks mean that its grammar asks.
+/// A command line: the line under edit, its parse as it then stands, and what control-H may bring back.
 #[derive(Drop)]
-pub struct Session<R: Rules> {
+pub struct Session {
     node: u16,
     prompt: Prompt,
     line: Line,
@@ -63,10 +60,9 @@ pub struct Session<R: Rules> {
     fields: Stack,
     ending: Ending,
     restorable: Restorable,
-    rules: PhantomData<R>,
 }
 
-impl<R: Rules> Model for Session<R> {
+impl Model for Session {
     ghost use Rattle.cm_state.specs.Front.{front};
     ghost use Rattle.cm_state.specs.SessionState.{SessionState};
 
@@ -83,9 +79,9 @@ impl<R: Rules> Model for Session<R> {
     } };
 }
 
-impl<R: Rules> Session<R> {
+impl Session {
     /// A session at its start: an empty line from node 0 on, and nothing that control-H would bring back.
-    pub fn new() -> Session<R>
+    pub fn new() -> Session
         ensures session { result ≡ at_start 0 Prompt.Main None }
         // It is ready for a key under every grammar.
         ensures ready { (s : Setting) → grammar_fault s.graph ≡ None → IsReady s result }
@@ -118,44 +114,44 @@ impl<R: Rules> Session<R> {
     /// that ends in a hyphen, but continue it. It is Failed only where the sink failed; the session is then where the
     /// key left it, and the counter has risen as ever.
     #[tactic(auto, unfolding(crate::specs::Echo::echo))]
-    pub fn key<N: Names, S: Sink, L: Ledger>(
+    pub fn key<N: Names, R: Rules, S: Sink, L: Ledger>(
         &mut self,
         key: u8,
         grammar: &Grammar,
         names: &N,
-        hooks: &Hooks<R>,
+        rules: &R,
         sink: &mut S,
         steps: &mut Steps<L>,
     ) -> Turn
-        requires ready { IsReady (setting grammar.now (N.catalogue names.now) R.meanings) self.old }
-        requires ties { Ties R.meanings hooks.now }
-        requires hooks { hook_count grammar.now ≤ count hooks.now }
+        requires ready { IsReady (setting grammar.now (N.catalogue names.now) (R.meanings rules.now)) self.old }
         // The line, what control-H brings back, and the parse after the key.
-        ensures edited { self.new ≡ edited (setting grammar.now (N.catalogue names.now) R.meanings) self.old key }
+        ensures edited { self.new ≡ edited (setting grammar.now (N.catalogue names.now) (R.meanings rules.now))
+            self.old key }
         // What is held is the parse of the whole text.
-        ensures parse { IsParse (setting grammar.now (N.catalogue names.now) R.meanings)
+        ensures parse { IsParse (setting grammar.now (N.catalogue names.now) (R.meanings rules.now))
             self.new.node (text_of self.new) self.new.fields self.new.ending }
-        ensures ready { IsReady (setting grammar.now (N.catalogue names.now) R.meanings) self.new }
+        ensures ready { IsReady (setting grammar.now (N.catalogue names.now) (R.meanings rules.now)) self.new }
         // It begins with the fields that the unchanged front decides.
-        ensures keeps { BeginsWith (kept (setting grammar.now (N.catalogue names.now) R.meanings)
+        ensures keeps { BeginsWith (kept (setting grammar.now (N.catalogue names.now) (R.meanings rules.now))
             self.old.node (met_line self.old) (text_of self.new)) self.new.fields }
         ensures turn { put_of result ≡ Put.Done → result ≡ turn_of (class_at (met_line self.old) key) self.new.ending }
 
         // What the key shows.
         ensures bytes { Adds (S.told sink.old) (S.told sink.new)
-            (echo (setting grammar.now (N.catalogue names.now) R.meanings) self.old key) (put_of result) }
+            (echo (setting grammar.now (N.catalogue names.now) (R.meanings rules.now)) self.old key) (put_of result) }
         ensures later { S.faults sink.old ≤ S.faults sink.new }
         ensures cause { PutCause (S.faults sink.old) (S.faults sink.new) (put_of result) }
 
         // What the trials cost behind the fields that are kept: that of the ending alone where the line stays.
-        ensures steps { steps.new ≡ steps.old + cost (setting grammar.now (N.catalogue names.now) R.meanings)
+        ensures steps { steps.new ≡ steps.old + cost
+            (setting grammar.now (N.catalogue names.now) (R.meanings rules.now))
             self.old.node (met_line self.old) (text_of self.new) }
     {
         let class = self.class(key);
         let size = self.met_size();
         let joins = self.takes_join(class);
         let restores = self.restorable.is_some();
-        let rings = self.edit_and_parse(class, key, grammar, names, hooks, steps);
+        let rings = self.edit_and_parse(class, key, grammar, names, rules, steps);
         let stroke = Keystroke {
             class,
             key,
@@ -165,7 +161,7 @@ impl<R: Rules> Session<R> {
             rings,
         };
         let mut out = Writer::new(sink);
-        self.echo(stroke, grammar, names, hooks, &mut out);
+        self.echo(stroke, grammar, names, rules, &mut out);
         match out.went() {
             Put::Done => self.turn(class),
             Put::Failed => Turn::Failed,
@@ -185,7 +181,7 @@ impl<R: Rules> Session<R> {
     }
 
     // A session at its start.
-    fn started() -> Session<R>
+    fn started() -> Session
         ensures { result ≡ at_start 0 Prompt.Main None }
     {
         Session {
@@ -196,7 +192,6 @@ impl<R: Rules> Session<R> {
             fields: Stack::new(),
             ending: open_at(0),
             restorable: Restorable::new(),
-            rules: PhantomData,
         }
     }
 
@@ -252,37 +247,37 @@ impl<R: Rules> Session<R> {
 
     // Edits the line by a key, and holds the parse of the text as it then stands. The answer is whether a key that
     // completes rings.
-    fn edit_and_parse<N: Names, L: Ledger>(
+    fn edit_and_parse<N: Names, R: Rules, L: Ledger>(
         &mut self,
         class: KeyClass,
         key: u8,
         grammar: &Grammar,
         names: &N,
-        hooks: &Hooks<R>,
+        rules: &R,
         steps: &mut Steps<L>,
     ) -> bool
         requires class { class ≡ class_at (met_line self.old) key }
         requires text { class ≡ KeyClass.Text → is_text key ≡ true }
         requires join { class ≡ KeyClass.Join → ends_in_hyphen (met_line self.old) ≡ true }
-        requires ready { IsReady (setting grammar.now (N.catalogue names.now) R.meanings) self.old }
-        requires ties { Ties R.meanings hooks.now }
-        requires hooks { hook_count grammar.now ≤ count hooks.now }
-        ensures edited { self.new ≡ edited (setting grammar.now (N.catalogue names.now) R.meanings) self.old key }
-        ensures parse { IsParse (setting grammar.now (N.catalogue names.now) R.meanings)
+        requires ready { IsReady (setting grammar.now (N.catalogue names.now) (R.meanings rules.now)) self.old }
+        ensures edited { self.new ≡ edited (setting grammar.now (N.catalogue names.now) (R.meanings rules.now))
+            self.old key }
+        ensures parse { IsParse (setting grammar.now (N.catalogue names.now) (R.meanings rules.now))
             self.new.node (text_of self.new) self.new.fields self.new.ending }
-        ensures ready { IsReady (setting grammar.now (N.catalogue names.now) R.meanings) self.new }
-        ensures keeps { BeginsWith (kept (setting grammar.now (N.catalogue names.now) R.meanings)
+        ensures ready { IsReady (setting grammar.now (N.catalogue names.now) (R.meanings rules.now)) self.new }
+        ensures keeps { BeginsWith (kept (setting grammar.now (N.catalogue names.now) (R.meanings rules.now))
             self.old.node (met_line self.old) (text_of self.new)) self.new.fields }
         ensures bell { result
-            ≡ (completed (setting grammar.now (N.catalogue names.now) R.meanings) self.old class).bell }
-        ensures steps { steps.new ≡ steps.old + cost (setting grammar.now (N.catalogue names.now) R.meanings)
+            ≡ (completed (setting grammar.now (N.catalogue names.now) (R.meanings rules.now)) self.old class).bell }
+        ensures steps { steps.new ≡ steps.old + cost
+            (setting grammar.now (N.catalogue names.now) (R.meanings rules.now))
             self.old.node (met_line self.old) (text_of self.new) }
     {
         grammar.has_no_fault();
         self.reopen();
-        let change = self.apply_edit(class, key, grammar, names, hooks);
+        let change = self.apply_edit(class, key, grammar, names, rules);
         self.truncate(change.front);
-        self.reparse(grammar, names, hooks, steps);
+        self.reparse(grammar, names, rules, steps);
         change.rings
     }
 
@@ -294,18 +289,17 @@ impl<R: Rules> Session<R> {
     }
 
     // Shows the echo of a key.
-    fn echo<N: Names, S: Sink>(
+    fn echo<N: Names, R: Rules, S: Sink>(
         &self,
         stroke: Keystroke,
         grammar: &Grammar,
         names: &N,
-        hooks: &Hooks<R>,
+        rules: &R,
         out: &mut Writer<'_, S>,
     )
         requires size { stroke.size ≤ LINE_LIMIT }
-        requires ties { Ties R.meanings hooks.now }
-        requires hooks { hook_count grammar.now ≤ count hooks.now }
-        ensures { Writes S.Sink out.old out.new (echo_of (setting grammar.now (N.catalogue names.now) R.meanings)
+        ensures { Writes S.Sink out.old out.new
+            (echo_of (setting grammar.now (N.catalogue names.now) (R.meanings rules.now))
             stroke.class stroke.key stroke.size stroke.joins stroke.restores stroke.rings self.now) }
     {
         let line = self.line.bytes();
@@ -317,7 +311,7 @@ impl<R: Rules> Session<R> {
             }
             KeyClass::Show => put_again(&self.prompt, line, out),
             KeyClass::Help => {
-                put_help_and_line(grammar, self.ending, &self.prompt, line, names, hooks, out)
+                put_help_and_line(grammar, self.ending, &self.prompt, line, names, rules, out)
             }
             KeyClass::Back if stroke.restores => put_screen_line(line, out),
             KeyClass::Escape => put_inserted(behind, stroke.rings, out),

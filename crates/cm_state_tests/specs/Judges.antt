@@ -1,4 +1,4 @@
--- What the hooks of the tests mean, by their ids: 0 takes a logical name, with its number of bytes, and refuses three
+-- The rules of the tests, by the ids of the hooks: 0 takes a logical name, with its number of bytes, and refuses three
 -- bytes that are none with a reason; 1 and 2 take an atom that has not three bytes, with their number, and 1 says that
 -- it goes on with a Z; 3 takes all, and asks for a lamp.
 use Rattle.std.specs.Prelude.{ℕ, ◌==◌, ◌-◌, ◌^◌, List, [], ◌∷◌, codes, length, if◌then◌else◌}

@@ -1,7 +1,4 @@
 // What `?` shows: the ending of a line, the line, and what is shown of it.
-ghost use Rattle.std.specs.Prelude.{◌≤◌};
-ghost use Rattle.cm_blocks.specs.Grammar.{hook_count};
-ghost use Rattle.cm_hooks.specs.Ties.{Ties, count};
 
 use crate::cabinet::Cabinet;
 use crate::cases::text_of;
@@ -9,7 +6,6 @@ use crate::endings::{Question, tries};
 use crate::judges::Judges;
 use cm_blocks::{Ending, Grammar};
 use cm_help::help;
-use cm_hooks::{Hooks, Rules};
 use cm_io::{MemSink, Put};
 use cm_line::Line;
 use std::alloc::Global;
@@ -22,13 +18,16 @@ pub(crate) fn shown(
     ending: Ending,
     line: &Line,
     grammar: &Grammar,
-    hooks: &Hooks<Judges>,
-) -> Result<String, Fail>
-    requires ties { Ties ⟦<Judges as Rules>⟧.meanings hooks.now }
-    requires hooks { hook_count grammar.now ≤ count hooks.now }
-{
+) -> Result<String, Fail> {
     let mut screen = MemSink::new(alloc, 4096)?;
-    let put = help(grammar, ending, line.bytes(), &Cabinet, hooks, &mut screen);
+    let put = help(
+        grammar,
+        ending,
+        line.bytes(),
+        &Cabinet,
+        &Judges,
+        &mut screen,
+    );
     assert_eq!(rt; put, Put::Done);
     text_of(alloc, &screen)
 }

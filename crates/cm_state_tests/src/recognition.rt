@@ -1,14 +1,10 @@
 // What ESC and control-F put in: the ending of a line, the line, what goes in, and whether it rings.
-ghost use Rattle.std.specs.Prelude.{◌≤◌};
-ghost use Rattle.cm_blocks.specs.Grammar.{hook_count};
-ghost use Rattle.cm_hooks.specs.Ties.{Ties, count};
 
 use crate::cabinet::Cabinet;
 use crate::cases::repeat;
 use crate::endings::{Question, tries};
 use crate::judges::Judges;
 use cm_blocks::{Ending, Grammar};
-use cm_hooks::{Hooks, Rules};
 use cm_line::Line;
 use cm_recognise::laws::{
     a_whole_completion_is_put_in, a_whole_completion_is_taken, what_is_put_in_is_shown,
@@ -25,12 +21,8 @@ pub(crate) fn put_in(
     ending: Ending,
     line: &Line,
     grammar: &Grammar,
-    hooks: &Hooks<Judges>,
-) -> Result<String, Fail>
-    requires ties { Ties ⟦<Judges as Rules>⟧.meanings hooks.now }
-    requires hooks { hook_count grammar.now ≤ count hooks.now }
-{
-    let put = complete(grammar, ending, line.bytes(), &Cabinet, hooks, mode);
+) -> Result<String, Fail> {
+    let put = complete(grammar, ending, line.bytes(), &Cabinet, &Judges, mode);
     let bell = if put.bell { "bell" } else { "" };
     Ok(format!(in alloc; "{}|{bell}", str::from_utf8(put.bytes.as_slice())?)?)
 }

@@ -1,16 +1,11 @@
--- The grammar of the lamps: it has no fault, one hook, and twelve nodes.
+-- The grammar of the lamps: it has no fault, and twelve nodes.
 use Rattle.std.proofs.Common.{◌≡◌, length, None, refl}
 use Rattle.cm_blocks.specs.Fault.{grammar_fault}
-use Rattle.cm_blocks.specs.Grammar.{hook_count}
 use Rattle.eg_lamps.specs.Graph.{blocks, command_entries, lamp_graph, lamp_nodes, switch_entries}
 
 pub graph_has_no_fault : grammar_fault lamp_graph ≡ None
 unfolding grammar_fault lamp_graph lamp_nodes blocks command_entries switch_entries
 graph_has_no_fault = refl
-
-pub graph_hooks : hook_count lamp_graph ≡ 1
-unfolding lamp_graph lamp_nodes blocks command_entries switch_entries
-graph_hooks = refl
 
 pub graph_nodes : length lamp_graph.nodes ≡ 12
 unfolding lamp_graph lamp_nodes blocks command_entries switch_entries

@@ -26,7 +26,7 @@ is_quit command = false
 abbrev pub lamp_meaning : LineMeaning Program
 lamp_meaning = record {
   graph = lamp_graph;
-  rules = room_meanings;
+  rules_of = λ at. room_meanings;
   catalogue_of = λ at. at.names;
   line_of = λ at. if at.has_quit then None else Some (COMMANDS, Main);
   state_of = λ at session. record at {

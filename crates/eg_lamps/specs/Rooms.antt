@@ -1,4 +1,4 @@
--- The rooms, and what the hook means that reads one.
+-- The rooms, and what the program says of its one kind of field, which is one of them.
 use Rattle.std.specs.Prelude.{ℕ, List, [], ◌∷◌, codes}
 use Rattle.cm_hooks.specs.Among.{completion_among, verdict_among}
 use Rattle.cm_hooks.specs.declared.answer.Answer.{Answer}
@@ -19,7 +19,7 @@ room_completion atom = completion_among rooms atom
 unfoldable pub room_help : List ℕ
 room_help = codes "room"
 
--- the one hook of the program, with the id 0
+-- each hook reads a room
 abbrev pub room_meanings : Meanings
 room_meanings = record {
   verdict = λ id atom. room_verdict atom;

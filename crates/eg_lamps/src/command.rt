@@ -7,7 +7,7 @@ ghost use Rattle.eg_lamps.specs.Command.{change_of, command_of, room_of, value_o
 ghost use Rattle.eg_lamps.specs.Graph.{lamp_graph};
 
 use crate::grammar::{DIM, LIST, QUIT};
-use crate::{Change, Command, RoomRules};
+use crate::{Change, Command};
 use cm_blocks::{Grammar, Role};
 use cm_fields::{Value, unquoted};
 use cm_state::Session;
@@ -20,7 +20,7 @@ const NO_ROOM: u64 = u64::MAX;
 
 /// What the line that a session holds commands, where it is confirmed: the field of role Verb names the command,
 /// that of role What its room, and that of role Value how much or what.
-pub fn command_of(session: &Session<RoomRules>, grammar: &Grammar) -> Command
+pub fn command_of(session: &Session, grammar: &Grammar) -> Command
     requires { grammar.now ≡ lamp_graph }
     ensures { result ≡ command_of session.now }
 {
@@ -38,7 +38,7 @@ pub fn command_of(session: &Session<RoomRules>, grammar: &Grammar) -> Command
 
 // What the field of role Value changes: a quoted text is a note; a number is by how much DIM dims, or else how bright a
 // lamp is to be; and where there is none DIM goes by a step.
-fn change_of(verb: u16, session: &Session<RoomRules>, grammar: &Grammar) -> Change
+fn change_of(verb: u16, session: &Session, grammar: &Grammar) -> Change
     requires { grammar.now ≡ lamp_graph }
     ensures { result ≡ change_of verb (field_of roles.Value session.now.fields) (text_of session.now) }
 {
@@ -54,7 +54,7 @@ fn change_of(verb: u16, session: &Session<RoomRules>, grammar: &Grammar) -> Chan
 }
 
 // What the first field of a role stands for.
-fn value_of(session: &Session<RoomRules>, role: Role) -> Option<Value>
+fn value_of(session: &Session, role: Role) -> Option<Value>
     ensures { result ≡ value_of role session.now.fields }
 {
     match session.field_of(role) {

@@ -6,7 +6,7 @@ pub mod grammar;
 mod lamps;
 pub mod laws;
 mod program;
-pub mod rooms;
+mod rooms;
 
 pub use command::command_of;
 pub use lamps::{Change, Command, Lamp, dark_lamps, obey};

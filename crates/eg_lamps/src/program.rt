@@ -1,6 +1,5 @@
 // The program: the lamps, which act by lines alone, and their run.
 ghost use Rattle.std.specs.Prelude.{◌≡◌, ◌<◌, ◌++◌, ℕ, List, [], IsTrue};
-ghost use Rattle.cm_hooks.specs.Ties.{Ties, count};
 ghost use Rattle.cm_io.specs.Told.{Number};
 ghost use Rattle.cm_run.specs.Keeping.{KeepsLine};
 ghost use Rattle.cm_run.specs.LineMeaning.{lines_only};
@@ -10,13 +9,11 @@ ghost use Rattle.tt_screen.specs.Grid.{feed};
 ghost use Rattle.tt_screen.specs.Holds.{Holds};
 ghost use Rattle.eg_lamps.specs.Graph.{lamp_graph};
 ghost use Rattle.eg_lamps.specs.Program.{lamp_meaning, lamp_start, status_of};
-ghost use Rattle.eg_lamps.specs.Rooms.{room_meanings};
 
 use crate::grammar::COMMANDS;
 use crate::{Command, Lamp, RoomRules, command_of, dark_lamps, obey};
 use cm_blocks::{Grammar, Steps};
 use cm_files::OneDirectory;
-use cm_hooks::Hooks;
 use cm_io::{Put, Sink, Source};
 use cm_run::{LineProgram, Stop, run_line_program};
 use cm_state::{Prompt, Session};
@@ -48,18 +45,15 @@ impl Program {
     /// Shows a prompt and takes the keys in turn: each edits the line, and a line that is confirmed acts on the
     /// lamps and shows its reply. It ends where QUIT has acted, no key is left, or keys or screen fail.
     ///
-    /// The hooks have one that reads rooms, and `steps` counts the trials.
+    /// `steps` counts the trials.
     pub fn run<K: Source, S: Sink, L: Ledger>(
         &mut self,
         grammar: &Grammar,
-        hooks: &Hooks<RoomRules>,
         keys: &mut K,
         screen: &mut S,
         steps: &mut Steps<L>,
     ) -> Result<(), Stop>
         requires grammar { grammar.now ≡ lamp_graph }
-        requires ties { Ties room_meanings hooks.now }
-        requires hook { 0 < count hooks.now }
         // What stands is the trace of the run, or a cut of it.
         ensures stands { IsTrue K.tells → LineRun lamp_meaning
             (observed (S.told screen.old) (Number 0) (K.left keys.old) (K.gets keys.old) [] steps.old self.old)
@@ -73,7 +67,7 @@ impl Program {
         ensures cause { LineCause (K.faults keys.old) (K.faults keys.new)
             (S.faults screen.old) (S.faults screen.new) result }
     {
-        run_line_program(self, grammar, hooks, keys, screen, steps)
+        run_line_program(self, grammar, keys, screen, steps)
     }
 }
 
@@ -90,6 +84,10 @@ impl LineProgram for Program {
         &self.names
     }
 
+    fn rules(&self) -> &RoomRules {
+        &RoomRules
+    }
+
     #[tactic(auto, using(crate::proofs::Faultless::graph_nodes))]
     fn line(&self) -> Option<(u16, Prompt)> {
         if self.has_quit {
@@ -99,12 +97,7 @@ impl LineProgram for Program {
         }
     }
 
-    fn obey<S: Sink>(
-        &mut self,
-        session: &Session<RoomRules>,
-        grammar: &Grammar,
-        screen: &mut S,
-    ) -> Put {
+    fn obey<S: Sink>(&mut self, session: &Session, grammar: &Grammar, screen: &mut S) -> Put {
         let command = command_of(session, grammar);
         self.has_quit = matches!(command, Command::Quit);
         obey(command, &mut self.lamps, screen)

@@ -2,7 +2,7 @@
 //
 // What must stand is the trace of the whole session, cut where a call fails. The screen fails in one put alone, and
 // would take what is put behind it.
-use crate::given::run_with_hook;
+use crate::given::run_program;
 use cm_faults::{Faults, Part, PartSink, Stop as Cut, stands_at};
 use cm_io::{Got, MemSource, NoMemory, Source};
 use cm_run::Stop;
@@ -78,7 +78,7 @@ fn session(
     let mut program = Program::new();
     let mut keys = MemSource::new(runtime.alloc(), KEYS, get)?;
     let mut screen = PartSink::new(runtime.alloc(), 4096, put, part)?;
-    let went = run_with_hook::<MemSource, PartSink, Brand>(
+    let went = run_program::<MemSource, PartSink, Brand>(
         runtime,
         Blank::new(1),
         &mut program,

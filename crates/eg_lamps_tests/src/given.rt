@@ -1,14 +1,11 @@
 // What the runs of the tests are given, and what is to stand at their ends.
 ghost use Rattle.std.specs.Prelude.{◌≡◌, ◌<◌};
-ghost use Rattle.eg_lamps.specs.Rooms.{room_completion, room_help, room_verdict};
 
 use cm_blocks::Steps;
-use cm_hooks::{Answer, Hook, Hooks, Tail};
 use cm_io::{Got, MemSink, MemSource, NoMemory, Sink, Source};
 use cm_run::Stop;
-use cm_text::Name;
+use eg_lamps::Program;
 use eg_lamps::grammar::grammar;
-use eg_lamps::{Program, RoomRules, rooms};
 use std::marker::Brand;
 use std::sync::ledger::{Blank, Ledger};
 use std::test::Fail;
@@ -36,7 +33,7 @@ pub(crate) fn outcome_of(
         keys: MemSource::new(alloc, keys, failing_get)?,
         screen: MemSink::new(alloc, room)?,
     };
-    outcome.went = run_with_hook::<MemSource, MemSink, Brand>(
+    outcome.went = run_program::<MemSource, MemSink, Brand>(
         runtime,
         Blank::new(1),
         &mut outcome.program,
@@ -94,8 +91,8 @@ fn is_so(runtime: &HostRuntime, case: &Case<'_>) -> Result<bool, NoMemory> {
     )
 }
 
-// Boxes the hook, makes the grammar and the counter of trials, and runs the program, as its `main` does.
-pub(crate) fn run_with_hook<K: Source, S: Sink, L: Ledger>(
+// Makes the grammar and the counter of trials, and runs the program, as its `main` does.
+pub(crate) fn run_program<K: Source, S: Sink, L: Ledger>(
     rt: &HostRuntime,
     blank: Blank,
     program: &mut Program,
@@ -106,26 +103,9 @@ pub(crate) fn run_with_hook<K: Source, S: Sink, L: Ledger>(
     requires parts { blank.parts ≡ L.parts }
     requires some { 0 < L.parts }
 {
-    let alloc = rt.alloc();
-    let verdict = |atom: &[u8]| -> Answer
-        ensures { result ≡ room_verdict atom.now }
-    { rooms::verdict(atom) };
-    let completion = |atom: &[u8]| -> Tail
-        ensures { result ≡ room_completion atom.now }
-    { rooms::completion(atom) };
-    let help = || -> Name
-        ensures { result ≡ room_help }
-    { rooms::help() };
-    let (Ok(verdict), Ok(completion), Ok(help), Ok(grammar)) = (
-        Box::new(alloc, verdict),
-        Box::new(alloc, completion),
-        Box::new(alloc, help),
-        grammar(alloc),
-    ) else {
+    let Ok(grammar) = grammar(rt.alloc()) else {
         return Err(Stop::Memory);
     };
-    let mut hooks: Hooks<RoomRules> = Hooks::new();
-    let _ = hooks.push(Hook::new(0, verdict, completion, help));
     let mut steps: Steps<L> = Steps::new(rt, blank);
-    program.run(&grammar, &hooks, keys, screen, &mut steps)
+    program.run(&grammar, keys, screen, &mut steps)
 }

@@ -1,6 +1,6 @@
-// The hook, alone.
-use cm_hooks::{Answer, Tail};
-use eg_lamps::rooms::{completion, help, verdict};
+// The rules, alone.
+use cm_hooks::{Answer, Rules, Tail};
+use eg_lamps::RoomRules;
 
 #[test]
 fn rooms_are_abbreviated(rt: HostRuntime) {
@@ -15,7 +15,7 @@ fn rooms_are_abbreviated(rt: HostRuntime) {
         ("STU", Answer::Yes(3)),
         ("TUDY", Answer::No),
     ] {
-        assert_eq!(rt; verdict(atom.as_bytes()), answer, "{atom}");
+        assert_eq!(rt; RoomRules.verdict(0, atom.as_bytes()), answer, "{atom}");
     }
 }
 
@@ -39,7 +39,11 @@ fn rooms_are_completed(rt: HostRuntime) {
         ("stu", Some(("DY", true))),
         ("X", None),
     ] {
-        assert_eq!(rt; shown(&completion(atom.as_bytes())), tail, "{atom}");
+        assert_eq!(rt;
+            shown(&RoomRules.completion(0, atom.as_bytes())),
+            tail,
+            "{atom}"
+        );
     }
-    assert_eq!(rt; help().as_str(), "room");
+    assert_eq!(rt; RoomRules.help(0).as_str(), "room");
 }

@@ -1,7 +1,6 @@
 mod Courses
 mod Ends
 mod HandedLines
-mod Hooks
 mod Jobs
 mod LawLemmas
 mod LineKeys

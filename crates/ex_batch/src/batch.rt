@@ -4,8 +4,6 @@ ghost use Rattle.cm_io.specs.Told.{Told};
 ghost use Rattle.cm_run.specs.Cause.{ObeyCause};
 ghost use Rattle.cm_run.specs.Cut.{Traces};
 ghost use Rattle.cm_run.specs.Observed.{observed};
-ghost use Rattle.cm_run.specs.Ready.{Serves};
-ghost use Rattle.ex_grammar.specs.ExecRules.{exec_meanings};
 ghost use Rattle.ex_batch.specs.Batch.{batch_of, limit_end};
 ghost use Rattle.ex_batch.specs.Job.{job_meaning};
 ghost use Rattle.ex_batch.specs.Takes.{went};
@@ -14,11 +12,9 @@ use crate::job::Job;
 use crate::step::{Ended, Next, take_control};
 use cm_blocks::{Grammar, Steps};
 use cm_fields::Code;
-use cm_hooks::Hooks;
 use cm_io::{Clock, Sink};
 use cm_run::Stop;
 use ex_control::ControlFile;
-use ex_grammar::ExecRules;
 use std::sync::ledger::Ledger;
 
 /// The most lines of a control file that a run uses. A line that is used again is counted again.
@@ -41,12 +37,11 @@ pub fn run_batch<S: Sink, C: Clock, L: Ledger>(
     file: &ControlFile,
     job: &mut Job,
     grammar: &Grammar,
-    hooks: &Hooks<ExecRules>,
     screen: &mut S,
     clock: &mut C,
     steps: &mut Steps<L>,
 ) -> Result<Ended, Stop>
-    requires serves { Serves job_meaning grammar.now exec_meanings hooks.now }
+    requires grammar { grammar.now ≡ job_meaning.graph }
     // What stands is the trace of the run, or a cut of it.
     ensures traces { IsTrue C.tells → (log : Told) → (keys : List ℕ) → (gets : ℕ) → Traces
         (observed (S.told screen.old) log keys gets (C.left clock.old) steps.old job.old)
@@ -60,7 +55,7 @@ pub fn run_batch<S: Sink, C: Clock, L: Ledger>(
 {
     let mut place = 0;
     for _line in 0..CONTROL_LINES {
-        match take_control(file, place, job, grammar, hooks, screen, clock, steps) {
+        match take_control(file, place, job, grammar, screen, clock, steps) {
             Ok(Next::Line(next)) => place = next,
             Ok(Next::Over(end)) => return Ok(end),
             Err(stop) => return Err(stop),

@@ -1,5 +1,5 @@
 // The EXEC under a controller.
-ghost use Rattle.std.specs.Prelude.{◌≡◌, ◌≤◌, [], ◌∷◌, None, Some, true};
+ghost use Rattle.std.specs.Prelude.{◌≡◌, ◌≤◌, [], ◌∷◌, None, Some};
 ghost use Rattle.cm_blocks.specs.Parse.{IsParse};
 ghost use Rattle.cm_blocks.specs.Setting.{setting};
 ghost use Rattle.cm_blocks.specs.declared.field.Ending.TheVariants as ending;
@@ -110,7 +110,7 @@ impl Job {
     // Does what a line commands, unless it may not stand in a control file.
     fn obey_order<S: Sink>(
         &mut self,
-        session: &Session<ExecRules>,
+        session: &Session,
         grammar: &Grammar,
         moment: u64,
         screen: &mut S,
@@ -136,7 +136,7 @@ impl Job {
     #[tactic(auto, unfolding(cm_run::specs::Cause::ObeyCause))]
     fn take_order<S: Sink>(
         &mut self,
-        session: &Session<ExecRules>,
+        session: &Session,
         grammar: &Grammar,
         moment: u64,
         screen: &mut S,
@@ -172,13 +172,17 @@ impl Application for Job {
         self.exec.names()
     }
 
+    fn rules(&self) -> &ExecRules {
+        self.exec.rules()
+    }
+
     fn mode(&self) -> Mode {
         self.exec.mode()
     }
 
     fn obey_line<S: Sink>(
         &mut self,
-        session: &Session<ExecRules>,
+        session: &Session,
         grammar: &Grammar,
         moment: u64,
         screen: &mut S,
@@ -209,7 +213,7 @@ impl Application for Job {
     #[tactic(auto, using(crate::proofs::Jobs::rest_waits, crate::proofs::Jobs::job_rests, crate::proofs::Jobs::job_goes_on))]
     fn obey_file_line<S: Sink>(
         &mut self,
-        session: &Session<ExecRules>,
+        session: &Session,
         grammar: &Grammar,
         moment: u64,
         screen: &mut S,

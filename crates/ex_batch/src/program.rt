@@ -1,14 +1,7 @@
 // The program over what is outside of it.
-ghost use Rattle.std.specs.Prelude.{◌≡◌, ◌⊎◌, ◌≤◌, ◌<◌, ◌↔◌, ◌+◌, ℕ, List, IfOk, None, Some, IsTrue};
+ghost use Rattle.std.specs.Prelude.{◌≡◌, ◌⊎◌, ◌≤◌, ◌<◌, ◌↔◌, ◌+◌, None, Some, IsTrue};
 ghost use Rattle.std.specs.Option.{option_map};
-ghost use Rattle.cm_hooks.specs.Ties.{Ties, count};
-ghost use Rattle.cm_io.specs.Told.{Told};
-ghost use Rattle.cm_run.specs.Cause.{ObeyCause};
-ghost use Rattle.cm_run.specs.Cut.{Traces};
 ghost use Rattle.cm_run.specs.Event.{screen_bytes, state_behind, trials_of};
-ghost use Rattle.cm_run.specs.Observed.{observed};
-ghost use Rattle.cm_run.specs.Ready.{Serves};
-ghost use Rattle.ex_grammar.specs.ExecRules.{exec_meanings};
 ghost use Rattle.ex_image.specs.Image.{image_text};
 ghost use Rattle.ex_store.specs.State.{State};
 ghost use Rattle.ex_take.specs.ExecState.{exec_start};
@@ -29,12 +22,11 @@ use crate::ending::close;
 use crate::job::Job;
 use crate::step::Ended;
 use cm_blocks::{Grammar, Steps};
-use cm_hooks::Hooks;
 use cm_io::{Clock, Host, Sink, Status, Words};
 use cm_run::Stop;
 use ex_commands::file_bytes;
 use ex_control::ControlFile;
-use ex_grammar::{ExecRules, grammar};
+use ex_grammar::grammar;
 use ex_system::{Form, as_triple, in_out, refuse, refuse_usage, start};
 use std::alloc::Global;
 use std::sync::ledger::Ledger;
@@ -88,12 +80,11 @@ fn run_file<S: Sink, C: Clock, L: Ledger>(
     file: &[u8],
     job: &mut Job,
     grammar: &Grammar,
-    hooks: &Hooks<ExecRules>,
     screen: &mut S,
     clock: &mut C,
     steps: &mut Steps<L>,
 ) -> Result<Ended, Stop>
-    requires serves { Serves job_meaning grammar.now exec_meanings hooks.now }
+    requires grammar { grammar.now ≡ job_meaning.graph }
     ensures { (start : State) → job.old ≡ exec_start start → Ran (IsTrue C.tells) file.now start job.new result
         (scene S.Sink screen.old C.Clock clock.old steps.old) (scene S.Sink screen.new C.Clock clock.new steps.new) }
 {
@@ -105,22 +96,18 @@ fn run_file<S: Sink, C: Clock, L: Ledger>(
     let Ok(file) = ControlFile::read(alloc, file_bytes(held, &place)) else {
         return Err(Stop::Memory);
     };
-    run_batch(&file, job, grammar, hooks, screen, clock, steps)
+    run_batch(&file, job, grammar, screen, clock, steps)
 }
 
 // Runs a control file as a form asks.
-#[tactic(auto, using(crate::proofs::Hooks::serves_job))]
 fn run_form<H: Host, S: Sink, C: Clock, L: Ledger>(
     alloc: Global,
     asked: &JobForm<'_>,
     host: &mut H,
     screen: &mut S,
     clock: &mut C,
-    hooks: &Hooks<ExecRules>,
     steps: &mut Steps<L>,
 ) -> Status
-    requires hooks { Ties exec_meanings hooks.now }
-    requires three { 3 ≤ count hooks.now }
     ensures { Course (IsTrue C.tells) (job_view asked.now)
         (scene S.Sink screen.old C.Clock clock.old steps.old) (scene S.Sink screen.new C.Clock clock.new steps.new)
         (disk_of H.Host host.old) (disk_of H.Host host.new) result }
@@ -138,7 +125,6 @@ fn run_form<H: Host, S: Sink, C: Clock, L: Ledger>(
         asked.file.as_bytes(),
         &mut job,
         &grammar,
-        hooks,
         screen,
         clock,
         steps,
@@ -154,17 +140,14 @@ fn run_words<H: Host, S: Sink, C: Clock, L: Ledger>(
     host: &mut H,
     screen: &mut S,
     clock: &mut C,
-    hooks: &Hooks<ExecRules>,
     steps: &mut Steps<L>,
 ) -> Status
-    requires hooks { Ties exec_meanings hooks.now }
-    requires three { 3 ≤ count hooks.now }
     ensures { Heads (IsTrue C.tells) (form_of words.now)
         (scene S.Sink screen.old C.Clock clock.old steps.old) (scene S.Sink screen.new C.Clock clock.new steps.new)
         (disk_of H.Host host.old) (disk_of H.Host host.new) result }
 {
     match form_of(words) {
-        Some(asked) => run_form(alloc, &asked, host, screen, clock, hooks, steps),
+        Some(asked) => run_form(alloc, &asked, host, screen, clock, steps),
         None => refuse_usage(usage(), screen),
     }
 }
@@ -176,19 +159,15 @@ fn run_words<H: Host, S: Sink, C: Clock, L: Ledger>(
 /// line of the EXEC's at a moment of `clock`, and the image is then written to the file OUT. Behind the save stands why
 /// the run was stopped, or the message of the status.
 ///
-/// `hooks` answer the EXEC's rules. `steps` counts the trials.
+/// `steps` counts the trials.
 pub fn batch20<H: Host, S: Sink, C: Clock, L: Ledger>(
     alloc: Global,
     words: &Words,
     host: &mut H,
     screen: &mut S,
     clock: &mut C,
-    hooks: &Hooks<ExecRules>,
     steps: &mut Steps<L>,
 ) -> Status
-    requires hooks { Ties exec_meanings hooks.now }
-    requires three { 3 ≤ count hooks.now }
-
     // Done and Stopped come where the whole run ends so, from the state that it begins in, that whose image the file
     // IN has: a run is stopped where FILE is refused, or at a line ..
     ensures whole { IsTrue C.tells → IsWhole result → (asked : Asked) → (start : State)
@@ -240,5 +219,5 @@ pub fn batch20<H: Host, S: Sink, C: Clock, L: Ledger>(
         → IsQuiet (S.faults screen.old) (S.faults screen.new) → IsQuiet (H.faults host.old) (H.faults host.new)
         → (result ≡ end_status (whole_of start asked.file (C.left clock.old)).end) ⊎ (result ≡ Status.NoMemory) }
 {
-    run_words(alloc, words, host, screen, clock, hooks, steps)
+    run_words(alloc, words, host, screen, clock, steps)
 }

@@ -6,9 +6,7 @@ ghost use Rattle.cm_run.specs.Cause.{ObeyCause};
 ghost use Rattle.cm_run.specs.Cut.{Traces};
 ghost use Rattle.cm_run.specs.Event.{Moment};
 ghost use Rattle.cm_run.specs.Observed.{observed};
-ghost use Rattle.cm_run.specs.Ready.{Serves};
 ghost use Rattle.ex_control.specs.Control.{AreNamed, IsNamed, control_view, order_view};
-ghost use Rattle.ex_grammar.specs.ExecRules.{exec_meanings};
 ghost use Rattle.ex_batch.specs.Batch.{behind_event, behind_text, condition_step, control_step, is_met, label_next, line_step, nothing_but, order_step, text_step, text_trace, unless_refused};
 ghost use Rattle.ex_batch.specs.Job.{job_meaning};
 ghost use Rattle.ex_batch.specs.Takes.{Takes, went};
@@ -17,11 +15,9 @@ use crate::job::Job;
 use crate::line_bytes::show_line;
 use cm_blocks::{Grammar, Steps};
 use cm_fields::Code;
-use cm_hooks::Hooks;
 use cm_io::{Clock, Sink};
 use cm_run::{Stop, run_line};
 use ex_control::{Control, ControlFile, Order, control_of, parsable};
-use ex_grammar::ExecRules;
 use std::sync::ledger::Ledger;
 
 /// How a run over the lines of a control file ends.
@@ -48,12 +44,11 @@ fn take_text<S: Sink, L: Ledger>(
     text: &[u8],
     job: &mut Job,
     grammar: &Grammar,
-    hooks: &Hooks<ExecRules>,
     moment: u64,
     screen: &mut S,
     steps: &mut Steps<L>,
 ) -> Result<(), Stop>
-    requires serves { Serves job_meaning grammar.now exec_meanings hooks.now }
+    requires grammar { grammar.now ≡ job_meaning.graph }
     ensures traces { (log : Told) → (keys : List ℕ) → (gets : ℕ) → (moments : List ℕ) → Traces
         (observed (S.told screen.old) log keys gets moments steps.old job.old)
         (observed (S.told screen.new) log keys gets moments steps.new job.new)
@@ -62,7 +57,7 @@ fn take_text<S: Sink, L: Ledger>(
     ensures cause { ObeyCause (S.faults screen.old) (S.faults screen.new) result }
 {
     match parsable(text) {
-        Some(line) => run_line(job, line, grammar, hooks, moment, screen, steps),
+        Some(line) => run_line(job, line, grammar, moment, screen, steps),
         None => job.refuse_line(Code::BadLine, screen),
     }
 }
@@ -85,12 +80,11 @@ fn do_text<S: Sink, C: Clock, L: Ledger>(
     text: &[u8],
     job: &mut Job,
     grammar: &Grammar,
-    hooks: &Hooks<ExecRules>,
     screen: &mut S,
     clock: &mut C,
     steps: &mut Steps<L>,
 ) -> Result<Next, Stop>
-    requires serves { Serves job_meaning grammar.now exec_meanings hooks.now }
+    requires grammar { grammar.now ≡ job_meaning.graph }
     requires within { place + 1 < 2 ^ 64 }
     ensures takes { IsTrue C.tells → (log : Told) → (keys : List ℕ) → (gets : ℕ) → Takes
         (observed (S.told screen.old) log keys gets (C.left clock.old) steps.old job.old)
@@ -100,7 +94,7 @@ fn do_text<S: Sink, C: Clock, L: Ledger>(
     ensures cause { ObeyCause (S.faults screen.old) (S.faults screen.new) (went result) }
 {
     let moment = clock.now();
-    match take_text(text, job, grammar, hooks, moment, screen, steps) {
+    match take_text(text, job, grammar, moment, screen, steps) {
         Ok(()) => Ok(behind_text(place, job)),
         Err(stop) => Err(stop),
     }
@@ -124,12 +118,11 @@ fn do_order<S: Sink, C: Clock, L: Ledger>(
     order: Order<'_>,
     job: &mut Job,
     grammar: &Grammar,
-    hooks: &Hooks<ExecRules>,
     screen: &mut S,
     clock: &mut C,
     steps: &mut Steps<L>,
 ) -> Result<Next, Stop>
-    requires serves { Serves job_meaning grammar.now exec_meanings hooks.now }
+    requires grammar { grammar.now ≡ job_meaning.graph }
     requires within { place + 1 < 2 ^ 64 }
     requires named { IsNamed (order_view order) }
     ensures takes { IsTrue C.tells → (log : Told) → (keys : List ℕ) → (gets : ℕ) → Takes
@@ -141,7 +134,7 @@ fn do_order<S: Sink, C: Clock, L: Ledger>(
 {
     match order {
         Order::Goto(name) => Ok(label_next(file.place(name))),
-        Order::Exec(text) => do_text(place, text, job, grammar, hooks, screen, clock, steps),
+        Order::Exec(text) => do_text(place, text, job, grammar, screen, clock, steps),
         Order::Bad => Ok(Next::Over(Ended::Stopped(Code::BadControl))),
     }
 }
@@ -162,12 +155,11 @@ fn do_condition<S: Sink, C: Clock, L: Ledger>(
     order: Order<'_>,
     job: &mut Job,
     grammar: &Grammar,
-    hooks: &Hooks<ExecRules>,
     screen: &mut S,
     clock: &mut C,
     steps: &mut Steps<L>,
 ) -> Result<Next, Stop>
-    requires serves { Serves job_meaning grammar.now exec_meanings hooks.now }
+    requires grammar { grammar.now ≡ job_meaning.graph }
     requires within { place + 1 < 2 ^ 64 }
     requires named { IsNamed (order_view order) }
     ensures takes { IsTrue C.tells → (log : Told) → (keys : List ℕ) → (gets : ℕ) → Takes
@@ -179,9 +171,7 @@ fn do_condition<S: Sink, C: Clock, L: Ledger>(
 {
     job.forgive();
     if met {
-        do_order(
-            file, place, order, job, grammar, hooks, screen, clock, steps,
-        )
+        do_order(file, place, order, job, grammar, screen, clock, steps)
     } else {
         Ok(Next::Line(place + 1))
     }
@@ -195,12 +185,11 @@ fn do_unless_refused<S: Sink, C: Clock, L: Ledger>(
     order: Order<'_>,
     job: &mut Job,
     grammar: &Grammar,
-    hooks: &Hooks<ExecRules>,
     screen: &mut S,
     clock: &mut C,
     steps: &mut Steps<L>,
 ) -> Result<Next, Stop>
-    requires serves { Serves job_meaning grammar.now exec_meanings hooks.now }
+    requires grammar { grammar.now ≡ job_meaning.graph }
     requires within { place + 1 < 2 ^ 64 }
     requires named { IsNamed (order_view order) }
     ensures takes { IsTrue C.tells → (log : Told) → (keys : List ℕ) → (gets : ℕ) → Takes
@@ -213,9 +202,7 @@ fn do_unless_refused<S: Sink, C: Clock, L: Ledger>(
 {
     match job.stop() {
         Some(code) => Ok(Next::Over(Ended::Stopped(code))),
-        None => do_order(
-            file, place, order, job, grammar, hooks, screen, clock, steps,
-        ),
+        None => do_order(file, place, order, job, grammar, screen, clock, steps),
     }
 }
 
@@ -238,12 +225,11 @@ fn do_control<S: Sink, C: Clock, L: Ledger>(
     control: Control<'_>,
     job: &mut Job,
     grammar: &Grammar,
-    hooks: &Hooks<ExecRules>,
     screen: &mut S,
     clock: &mut C,
     steps: &mut Steps<L>,
 ) -> Result<Next, Stop>
-    requires serves { Serves job_meaning grammar.now exec_meanings hooks.now }
+    requires grammar { grammar.now ≡ job_meaning.graph }
     requires within { place + 1 < 2 ^ 64 }
     requires named { AreNamed (control_view control) }
     ensures takes { IsTrue C.tells → (log : Told) → (keys : List ℕ) → (gets : ℕ) → Takes
@@ -262,14 +248,13 @@ fn do_control<S: Sink, C: Clock, L: Ledger>(
             order,
             job,
             grammar,
-            hooks,
             screen,
             clock,
             steps,
         ),
         Control::Label(_) => Ok(behind_label(place, job)),
         Control::Plain(order) => do_unless_refused(
-            file, place, order, job, grammar, hooks, screen, clock, steps,
+            file, place, order, job, grammar, screen, clock, steps,
         ),
     }
 }
@@ -281,12 +266,11 @@ pub(crate) fn take_control<S: Sink, C: Clock, L: Ledger>(
     place: usize,
     job: &mut Job,
     grammar: &Grammar,
-    hooks: &Hooks<ExecRules>,
     screen: &mut S,
     clock: &mut C,
     steps: &mut Steps<L>,
 ) -> Result<Next, Stop>
-    requires serves { Serves job_meaning grammar.now exec_meanings hooks.now }
+    requires grammar { grammar.now ≡ job_meaning.graph }
     ensures takes { IsTrue C.tells → (log : Told) → (keys : List ℕ) → (gets : ℕ) → Takes
         (observed (S.told screen.old) log keys gets (C.left clock.old) steps.old job.old)
         (observed (S.told screen.new) log keys gets (C.left clock.new) steps.new job.new)
@@ -304,7 +288,6 @@ pub(crate) fn take_control<S: Sink, C: Clock, L: Ledger>(
             control_of(line),
             job,
             grammar,
-            hooks,
             screen,
             clock,
             steps,

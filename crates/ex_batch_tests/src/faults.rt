@@ -2,7 +2,7 @@
 //
 // What must stand is the trace of the whole run, cut where a put fails. The screen fails in one put alone, and would
 // take what is put behind it.
-use crate::given::run_with_rules;
+use crate::given::run_program;
 use cm_faults::{
     Failing, NOTHING, Part, PartSink, Stands, closing, has_image, is_written, push_text, stands_at,
     status_of,
@@ -65,7 +65,7 @@ fn run(runtime: &HostRuntime, failing: &Failing) -> Result<Outcome, NoMemory> {
         screen: PartSink::new(alloc, 4096, failing.screen, failing.part)?,
         host: failing.host(alloc, INPUT)?,
     };
-    outcome.status = run_with_rules::<MemHost, PartSink, MemClock, Brand>(
+    outcome.status = run_program::<MemHost, PartSink, MemClock, Brand>(
         runtime,
         Blank::new(1),
         &words(),

@@ -1,13 +1,9 @@
 // What the runs of the tests are given, and what is to stand at their ends.
-ghost use Rattle.std.specs.Prelude.{◌≡◌, ◌≤◌, ◌<◌, length};
-ghost use Rattle.ex_grammar.specs.ExecRules.{rule_completion, rule_help, rule_verdict};
+ghost use Rattle.std.specs.Prelude.{◌≡◌, ◌<◌};
 
 use cm_blocks::Steps;
-use cm_hooks::{Answer, Hook, Hooks, Tail};
 use cm_io::{Clock, Host, MemClock, MemHost, MemSink, NoMemory, Sink};
-use cm_text::Name;
 use ex_batch::{Status, Words, batch20};
-use ex_grammar::{ExecRules, rule_completion, rule_help, rule_verdict};
 use std::marker::Brand;
 use std::sync::ledger::{Blank, Ledger};
 
@@ -42,7 +38,7 @@ pub(crate) fn outcome_of(
         host: host_of(runtime, given)?,
         clock: MemClock::new(alloc, &[1, 2, 3, 4, 5, 6, 7, 8])?,
     };
-    outcome.status = run_with_rules::<MemHost, MemSink, MemClock, Brand>(
+    outcome.status = run_program::<MemHost, MemSink, MemClock, Brand>(
         runtime,
         Blank::new(1),
         words,
@@ -60,8 +56,8 @@ fn host_of(runtime: &HostRuntime, given: &Given<'_>) -> Result<MemHost, NoMemory
     }
 }
 
-// Boxes the EXEC's rules, makes the counter for this ledger, and runs `batch20`, as its program does.
-pub(crate) fn run_with_rules<H: Host, S: Sink, C: Clock, L: Ledger>(
+// Makes the counter for this ledger, and runs `batch20`, as its program does.
+pub(crate) fn run_program<H: Host, S: Sink, C: Clock, L: Ledger>(
     rt: &HostRuntime,
     blank: Blank,
     words: &Words,
@@ -73,32 +69,6 @@ pub(crate) fn run_with_rules<H: Host, S: Sink, C: Clock, L: Ledger>(
     requires parts { blank.parts ≡ L.parts }
     requires some { 0 < L.parts }
 {
-    let alloc = rt.alloc();
-    let mut hooks: Hooks<ExecRules> = Hooks::new();
-    for id in 0..3u8 {
-        let verdict = move |atom: &[u8]| -> Answer
-            requires id { id < 3 }
-            requires short { length atom.now ≤ 255 }
-            ensures { result ≡ rule_verdict id atom.now }
-        { rule_verdict(id, atom) };
-        let completion = move |atom: &[u8]| -> Tail
-            requires id { id < 3 }
-            requires short { length atom.now ≤ 255 }
-            ensures { result ≡ rule_completion id atom.now }
-        { rule_completion(id, atom) };
-        let help = move || -> Name
-            requires { id < 3 }
-            ensures { result ≡ rule_help id }
-        { rule_help(id) };
-        let (Ok(verdict), Ok(completion), Ok(help)) = (
-            Box::new(alloc, verdict),
-            Box::new(alloc, completion),
-            Box::new(alloc, help),
-        ) else {
-            return Status::NoMemory;
-        };
-        let _ = hooks.push(Hook::new(id, verdict, completion, help));
-    }
     let mut steps: Steps<L> = Steps::new(rt, blank);
-    batch20(alloc, words, host, screen, clock, &hooks, &mut steps)
+    batch20(rt.alloc(), words, host, screen, clock, &mut steps)
 }

@@ -11,7 +11,6 @@ use cm_fields::Value;
 use cm_files::Names;
 use cm_state::Session;
 use cm_text::Name;
-use ex_grammar::ExecRules;
 use ex_store::Place;
 
 /// The code of a keyword.
@@ -69,7 +68,7 @@ pub(crate) fn code_in(field: Option<&Field>) -> u16
 /// The files that a field means.
 pub(crate) fn place_in<N: Names>(
     field: Option<&Field>,
-    session: &Session<ExecRules>,
+    session: &Session,
     grammar: &Grammar,
     names: &N,
 ) -> Option<Place>
@@ -90,7 +89,7 @@ pub(crate) fn place_in<N: Names>(
 /// The directory that a field names.
 pub(crate) fn directory_in<N: Names>(
     field: Option<&Field>,
-    session: &Session<ExecRules>,
+    session: &Session,
     grammar: &Grammar,
     names: &N,
 ) -> Option<Name>
@@ -106,7 +105,7 @@ pub(crate) fn directory_in<N: Names>(
 
 /// The files that a command works from, and those that it makes of them.
 pub(crate) fn between<N: Names>(
-    session: &Session<ExecRules>,
+    session: &Session,
     grammar: &Grammar,
     names: &N,
 ) -> Option<(Place, Place)>
@@ -124,14 +123,14 @@ pub(crate) fn between<N: Names>(
 }
 
 /// Whether a comma stands at the end of the line, so that subcommands follow.
-pub(crate) fn has_subs(session: &Session<ExecRules>) -> bool
+pub(crate) fn has_subs(session: &Session) -> bool
     ensures { result ≡ is_some (field_of roles.Sub session.now.fields) }
 {
     session.field_of(Role::Sub).is_some()
 }
 
 /// The last field that a node took.
-pub(crate) fn last_at(node: u16, session: &Session<ExecRules>) -> Option<&Field>
+pub(crate) fn last_at(node: u16, session: &Session) -> Option<&Field>
     ensures { option_copied result ≡ last_at node session.now.fields }
 {
     let mut number = session.held();

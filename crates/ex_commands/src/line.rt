@@ -23,15 +23,15 @@ use cm_blocks::{Field, Grammar, Role};
 use cm_files::Names;
 use cm_state::Session;
 use ex_grammar::{
-    APPEND, BEFORE, BUILD, CONNECT, COPY, DEFINE, DELETE, DELETED, DIRECTORY, EXPUNGE, ExecRules,
-    INFORMATION, LOGOUT, PRINT, READ, REMARK, RENAME, SET, SINCE, TAKE, TYPE, UNDELETE,
+    APPEND, BEFORE, BUILD, CONNECT, COPY, DEFINE, DELETE, DELETED, DIRECTORY, EXPUNGE, INFORMATION,
+    LOGOUT, PRINT, READ, REMARK, RENAME, SET, SINCE, TAKE, TYPE, UNDELETE,
 };
 
 impl Command {
     /// What the line that a session holds commands. The line is finished, and its parse from the first node of the
     /// EXEC's grammar on, under these names, is held and done.
     #[tactic(auto, unfolding(crate::specs::Command::command_of))]
-    pub fn of<N: Names>(session: &Session<ExecRules>, grammar: &Grammar, names: &N) -> Command
+    pub fn of<N: Names>(session: &Session, grammar: &Grammar, names: &N) -> Command
         requires exec { grammar.now ≡ exec_graph }
         requires parse { IsParse (setting exec_graph (N.catalogue names.now) exec_meanings) COMMANDS
             (text_of session.now) session.now.fields ending.Done }
@@ -51,7 +51,7 @@ impl Command {
     /// Adds what the subcommand line that a session holds says. The line is finished, and its parse from the
     /// subcommand node of this command on is held and done. A subcommand that is given twice counts as last given.
     /// False exactly where the line is empty: it has no field, and the command waits for no more.
-    pub fn add_sub(&mut self, session: &Session<ExecRules>) -> bool
+    pub fn add_sub(&mut self, session: &Session) -> bool
         requires parse { (c : Catalogue) × IsParse (setting exec_graph c exec_meanings) (subcommand_node self.old)
             (text_of session.now) session.now.fields ending.Done }
         ensures more { result ≡ nat_lt 0 (length session.now.fields) }
@@ -77,7 +77,7 @@ impl Command {
     }
 
     // Adds what a line says that has a field.
-    fn extend(&mut self, session: &Session<ExecRules>)
+    fn extend(&mut self, session: &Session)
         requires { IsReadable session.now.fields }
         ensures { self.new ≡ extended session.now.fields self.old }
     {
@@ -112,7 +112,7 @@ impl Command {
 }
 
 // The command that the keyword of this code names, with what its other fields say.
-fn named<N: Names>(verb: u16, session: &Session<ExecRules>, grammar: &Grammar, names: &N) -> Command
+fn named<N: Names>(verb: u16, session: &Session, grammar: &Grammar, names: &N) -> Command
     requires { IsReadable session.now.fields }
     ensures { result ≡ named (line_of grammar.now (N.catalogue names.now) session.now) verb }
 {

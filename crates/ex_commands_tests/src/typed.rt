@@ -1,9 +1,7 @@
 // The commands of lines that are typed.
-ghost use Rattle.std.specs.Prelude.{◌≡◌, ◌<◌, ◌≤◌, length};
-ghost use Rattle.cm_blocks.specs.Grammar.{hook_count};
+ghost use Rattle.std.specs.Prelude.{◌≡◌, ◌<◌, length};
 ghost use Rattle.cm_blocks.specs.Parse.{IsParse};
 ghost use Rattle.cm_blocks.specs.Setting.{setting};
-ghost use Rattle.cm_hooks.specs.Ties.{Ties, count};
 ghost use Rattle.cm_state.specs.SessionState.{IsReady, text_of};
 ghost use Rattle.ex_grammar.specs.ExecRules.{exec_meanings};
 ghost use Rattle.ex_grammar.specs.Graph.{exec_graph};
@@ -11,11 +9,9 @@ ghost use Rattle.ex_store.specs.State.{catalogue_of};
 ghost use Rattle.ex_commands.specs.Command.{subcommand_node};
 
 use crate::bytes::cut;
-use crate::rules::hooks;
 use crate::script::run;
 use cm_blocks::{Ending, Grammar, Steps};
 use cm_files::Flags;
-use cm_hooks::Hooks;
 use cm_io::MemSink;
 use cm_state::{Prompt, Session};
 use cm_text::Name;
@@ -31,23 +27,20 @@ use std::test::Fail;
 // Takes one key, which leaves the node.
 #[tactic(auto, unfolding(cm_state::specs::Edit::edited_as))]
 fn take_key<L: Ledger>(
-    session: &mut Session<ExecRules>,
+    session: &mut Session,
     key: u8,
     grammar: &Grammar,
     names: &Store,
-    hooks: &Hooks<ExecRules>,
     shown: &mut MemSink,
     steps: &mut Steps<L>,
 )
     requires ready { IsReady (setting grammar.now (catalogue_of names.now.state) exec_meanings) session.old }
-    requires ties { Ties exec_meanings hooks.now }
-    requires hooks { hook_count grammar.now ≤ count hooks.now }
     ensures ready { IsReady (setting grammar.now (catalogue_of names.now.state) exec_meanings) session.new }
     ensures node { session.new.node ≡ session.old.node }
     ensures parse { IsParse (setting grammar.now (catalogue_of names.now.state) exec_meanings)
         session.new.node (text_of session.new) session.new.fields session.new.ending }
 {
-    let _ = session.key(key, grammar, names, hooks, shown, steps);
+    let _ = session.key(key, grammar, names, &ExecRules, shown, steps);
 }
 
 // A session that has taken a line from a node on, and its end.
@@ -56,13 +49,10 @@ fn typed<L: Ledger>(
     line: &str,
     grammar: &Grammar,
     names: &Store,
-    hooks: &Hooks<ExecRules>,
     shown: &mut MemSink,
     steps: &mut Steps<L>,
-) -> Session<ExecRules>
+) -> Session
     requires node { node < length grammar.now.nodes }
-    requires ties { Ties exec_meanings hooks.now }
-    requires hooks { hook_count grammar.now ≤ count hooks.now }
     ensures node { result.node ≡ node }
     ensures parse { IsParse (setting grammar.now (catalogue_of names.now.state) exec_meanings)
         node (text_of result) result.fields result.ending }
@@ -71,9 +61,9 @@ fn typed<L: Ledger>(
     let mut session = Session::new();
     let _ = session.begin(node, Prompt::Main, shown);
     for key in line.as_bytes() {
-        take_key(&mut session, *key, grammar, names, hooks, shown, steps);
+        take_key(&mut session, *key, grammar, names, shown, steps);
     }
-    take_key(&mut session, b'\r', grammar, names, hooks, shown, steps);
+    take_key(&mut session, b'\r', grammar, names, shown, steps);
     session
 }
 
@@ -82,16 +72,13 @@ fn command_of<L: Ledger>(
     line: &str,
     grammar: &Grammar,
     names: &Store,
-    hooks: &Hooks<ExecRules>,
     shown: &mut MemSink,
     steps: &mut Steps<L>,
 ) -> Option<Command>
     requires exec { grammar.now ≡ exec_graph }
-    requires ties { Ties exec_meanings hooks.now }
-    requires hooks { hook_count grammar.now ≤ count hooks.now }
 {
     ex_grammar::laws::a_command_begins_at_a_node();
-    let session = typed(COMMANDS, line, grammar, names, hooks, shown, steps);
+    let session = typed(COMMANDS, line, grammar, names, shown, steps);
     match session.ending() {
         Ending::Done => Some(Command::of(&session, grammar, names)),
         _ => None,
@@ -116,17 +103,14 @@ fn add_sub<L: Ledger>(
     line: &str,
     grammar: &Grammar,
     names: &Store,
-    hooks: &Hooks<ExecRules>,
     shown: &mut MemSink,
     steps: &mut Steps<L>,
 ) -> bool
     requires exec { grammar.now ≡ exec_graph }
-    requires ties { Ties exec_meanings hooks.now }
-    requires hooks { hook_count grammar.now ≤ count hooks.now }
 {
     ex_grammar::laws::a_command_begins_at_a_node();
     let node = subcommand_node(command);
-    let session = typed(node, line, grammar, names, hooks, shown, steps);
+    let session = typed(node, line, grammar, names, shown, steps);
     match session.ending() {
         Ending::Done => command.add_sub(&session),
         _ => panic!(rt; "{line} is refused"),
@@ -310,16 +294,13 @@ fn try_lines<L: Ledger, A: Abort + AllocGlobal>(
     requires some { 0 < L.parts }
 {
     let grammar = grammar(rt.alloc())?;
-    let hooks = hooks(rt.alloc())?;
     let mut shown = MemSink::new(rt.alloc(), 65_536)?;
     let mut steps: Steps<L> = Steps::new(runtime, blank);
-    ex_grammar::laws::the_grammar_wants_three_hooks();
     for case in str::from_utf8(cases)?.lines() {
         let (typed, wanted) = cut(case.trim_start());
         let mut lines = typed.split('~');
         let line = lines.next().unwrap_or("");
-        let Some(mut command) = command_of(line, &grammar, store, &hooks, &mut shown, &mut steps)
-        else {
+        let Some(mut command) = command_of(line, &grammar, store, &mut shown, &mut steps) else {
             assert_eq!(rt; wanted, "?", "{line} is refused");
             continue;
         };
@@ -330,7 +311,6 @@ fn try_lines<L: Ledger, A: Abort + AllocGlobal>(
                 line,
                 &grammar,
                 store,
-                &hooks,
                 &mut shown,
                 &mut steps,
             );

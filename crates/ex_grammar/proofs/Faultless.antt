@@ -3,7 +3,6 @@ use Rattle.std.proofs.Common.{◌≡◌, length, None, refl}
 use Rattle.cm_text.specs.Case.{begins_with, equals}
 use Rattle.cm_tables.specs.Order.{table_fault}
 use Rattle.cm_blocks.specs.Fault.{grammar_fault}
-use Rattle.cm_blocks.specs.Grammar.{hook_count}
 use Rattle.ex_grammar.specs.Graph.{append_blocks, build_blocks, define_blocks, delete_blocks, directory_nodes, exec_graph, exec_nodes, first_nodes, last_nodes, listing_nodes, print_blocks, retention_nodes, set_blocks, source_nodes, switch_blocks, target_blocks, type_blocks}
 use Rattle.ex_grammar.specs.Tables.{build_entries, command_entries, directory_entries, exec_tables, file_entries, set_entries, switch_entries, topic_entries}
 
@@ -38,10 +37,6 @@ file_words_have_no_fault = refl
 pub graph_has_no_fault : grammar_fault exec_graph ≡ None
 unfolding grammar_fault begins_with equals exec_graph exec_nodes first_nodes source_nodes target_blocks append_blocks delete_blocks type_blocks listing_nodes define_blocks build_blocks last_nodes print_blocks switch_blocks directory_nodes retention_nodes set_blocks exec_tables command_entries topic_entries directory_entries build_entries switch_entries set_entries file_entries
 graph_has_no_fault = refl
-
-pub graph_hooks : hook_count exec_graph ≡ 3
-unfolding exec_graph exec_nodes first_nodes source_nodes target_blocks append_blocks delete_blocks type_blocks listing_nodes define_blocks build_blocks last_nodes print_blocks switch_blocks directory_nodes retention_nodes set_blocks
-graph_hooks = refl
 
 pub graph_nodes : length exec_graph.nodes ≡ 57
 unfolding exec_graph exec_nodes first_nodes source_nodes target_blocks append_blocks delete_blocks type_blocks listing_nodes define_blocks build_blocks last_nodes print_blocks switch_blocks directory_nodes retention_nodes set_blocks

@@ -1,7 +1,6 @@
 //! Laws of the EXEC's grammar.
 ghost use Rattle.std.specs.Prelude.{◌≡◌, ◌<◌, None, length};
 ghost use Rattle.cm_blocks.specs.Fault.{grammar_fault};
-ghost use Rattle.cm_blocks.specs.Grammar.{hook_count};
 ghost use Rattle.ex_grammar.specs.declared.code.TheConstants.{AFTER, APPEND, BEFORE, BUILD, CONNECT, COPIES, COPY, DEFINE, DELETE, DELETED, DIRECTORY, DIRECTORY_TOPIC, EXPUNGE, FILE, FORMS, GENERATION_RETENTION_COUNT, GENERATIONS, INFORMATION, JOBNAME, LOGICAL_NAMES, LOGOUT, NO_KEYWORD, NOTE, OUTPUT_REQUESTS, PRINT, READ, REMARK, RENAME, SET, SINCE, TAKE, TYPE, UNDELETE, VERSION};
 ghost use Rattle.ex_grammar.specs.declared.node.TheConstants.{BUILD_SUBCOMMANDS, COMMANDS, DIRECTORY_SUBCOMMANDS, LINE_END, SWITCHES};
 ghost use Rattle.ex_grammar.specs.declared.retention.TheConstants.{MOST_KEPT};
@@ -12,12 +11,6 @@ ghost use Rattle.ex_grammar.specs.Graph.{exec_graph};
 #[tactic(auto, using(crate::proofs::Faultless::graph_has_no_fault))]
 pub fn the_grammar_has_no_fault()
     ensures { grammar_fault exec_graph ≡ None }
-{}
-
-/// The grammar wants three hooks, with the ids 0, 1 and 2, as the rules have them.
-#[tactic(auto, using(crate::proofs::Faultless::graph_hooks))]
-pub fn the_grammar_wants_three_hooks()
-    ensures { hook_count exec_graph ≡ 3 }
 {}
 
 /// The nodes where a command, and a subcommand of DIRECTORY and of BUILD, begin are of the 57 nodes.

@@ -18,4 +18,4 @@ pub use code::{
 };
 pub use graph::grammar;
 pub use node::{BUILD_SUBCOMMANDS, COMMANDS, DIRECTORY_SUBCOMMANDS};
-pub use rules::{ExecRules, rule_completion, rule_help, rule_verdict};
+pub use rules::ExecRules;

@@ -4,7 +4,6 @@ mod GeneratedRuns
 mod GeneratedKeyLaws
 mod Harmless
 mod Heads
-mod Hooks
 mod KeySteps
 mod KeysLeft
 mod KnownRuns

@@ -1,9 +1,7 @@
 // A generated run.
 ghost use Rattle.std.specs.Prelude.{◌≡◌, ◌≤◌, ◌+◌, IfOk, OnErr};
 ghost use Rattle.cm_io.specs.Told.{Number, add};
-ghost use Rattle.cm_hooks.specs.Ties.{Ties, count};
 ghost use Rattle.cm_run.specs.Event.{trials_of};
-ghost use Rattle.ex_grammar.specs.ExecRules.{exec_meanings};
 ghost use Rattle.ex_program.specs.declared.progress.TheConstants.{GENERATED_LINES};
 ghost use Rattle.ex_run.specs.Over.{closing};
 ghost use Rattle.ex_program.specs.Summary.{LacksMemory, generated_trace, summary_of};
@@ -12,11 +10,10 @@ use crate::generator::Generator;
 use crate::progress::GENERATED_KEYS;
 use crate::summary::Summary;
 use cm_blocks::Steps;
-use cm_hooks::Hooks;
 use cm_io::{CountSink, NoMemory, Sink};
 use cm_run::{NoClock, Stop, run};
 use cm_text::end_of_line;
-use ex_grammar::{ExecRules, grammar};
+use ex_grammar::grammar;
 use ex_store::Store;
 use ex_take::Exec;
 use std::alloc::Global;
@@ -42,16 +39,12 @@ fn end_line(ended: bool, screen: &mut CountSink)
 
 /// Runs the EXEC over the keys of so many generated lines, from the first store, without a log, at the moment 0 for
 /// each line, and sums up what came of it. `steps` counts the trials. NoMemory where memory is wanting.
-#[tactic(auto, using(crate::proofs::Hooks::serves_exec))]
 pub fn summarize<L: Ledger>(
     alloc: Global,
     lines: u32,
-    hooks: &Hooks<ExecRules>,
     steps: &mut Steps<L>,
 ) -> Result<Summary, NoMemory>
     requires lines { lines ≤ GENERATED_LINES }
-    requires hooks { Ties exec_meanings hooks.now }
-    requires three { 3 ≤ count hooks.now }
     ensures summary { IfOk result (λ summary. summary ≡ summary_of lines) }
     // The counter has risen by what the trials of all keys cost ..
     ensures counted { IfOk result (λ summary. steps.new ≡ steps.old + trials_of (generated_trace lines)) }
@@ -68,7 +61,6 @@ pub fn summarize<L: Ledger>(
         false,
         &mut exec,
         &grammar,
-        hooks,
         &mut keys,
         &mut screen,
         &mut CountSink::new(),

@@ -1,13 +1,11 @@
 // The program over what is outside of it.
 ghost use Rattle.std.specs.Prelude.{◌≡◌, ◌⊎◌, ◌≤◌, ◌<◌, ◌↔◌, ◌+◌, ℕ, false, List, ◌++◌, length, None, Some, IsTrue};
 ghost use Rattle.cm_io.specs.Told.{add};
-ghost use Rattle.cm_hooks.specs.Ties.{Ties, count};
 ghost use Rattle.cm_run.specs.Cause.{counts};
 ghost use Rattle.cm_run.specs.Event.{log_bytes, trials_of};
 ghost use Rattle.cm_run.specs.Keeping.{KeepsLine};
 ghost use Rattle.tt_screen.specs.Grid.{feed};
 ghost use Rattle.tt_screen.specs.Holds.{Holds};
-ghost use Rattle.ex_grammar.specs.ExecRules.{exec_meanings};
 ghost use Rattle.ex_image.specs.Image.{image_text};
 ghost use Rattle.ex_store.specs.State.{State};
 ghost use Rattle.ex_take.specs.Exec.{exec_meaning};
@@ -32,9 +30,8 @@ use crate::generated_run::summarize;
 use crate::summary::Summary;
 use crate::words::{read_form, read_lines, usage};
 use cm_blocks::{Grammar, Steps};
-use cm_hooks::Hooks;
 use cm_io::{Clock, Host, NoMemory, Put, Sink, Source, Writer};
-use ex_grammar::{ExecRules, grammar};
+use ex_grammar::grammar;
 use ex_run::{Program, run_program};
 use ex_store::Store;
 use ex_system::{Status, Words, refuse, refuse_usage};
@@ -69,7 +66,6 @@ impl Program<Exec> for ExecProgram {
 }
 
 // Runs the EXEC over the keys, as a form asks.
-#[tactic(auto, using(crate::proofs::Hooks::served_exec))]
 fn run_form<H: Host, K: Source, S: Sink, W: Sink, C: Clock, L: Ledger>(
     alloc: Global,
     form: &ex_system::Form<'_>,
@@ -78,18 +74,15 @@ fn run_form<H: Host, K: Source, S: Sink, W: Sink, C: Clock, L: Ledger>(
     screen: &mut S,
     log: &mut W,
     clock: &mut C,
-    hooks: &Hooks<ExecRules>,
     steps: &mut Steps<L>,
 ) -> Status
-    requires hooks { Ties exec_meanings hooks.now }
-    requires three { 3 ≤ count hooks.now }
     ensures { Course (telling K.tells C.tells) exec_over (form_view form.now)
         (scene S.Sink screen.old W.Sink log.old K.Source keys.old C.Clock clock.old steps.old)
         (scene S.Sink screen.new W.Sink log.new K.Source keys.new C.Clock clock.new steps.new)
         (disk_of H.Host host.old) (disk_of H.Host host.new) result }
 {
     run_program::<Exec, ExecProgram, H, K, S, W, C, L>(
-        alloc, form, host, keys, screen, log, clock, hooks, steps,
+        alloc, form, host, keys, screen, log, clock, steps,
     )
 }
 
@@ -111,17 +104,14 @@ fn generate<S: Sink, L: Ledger>(
     alloc: Global,
     lines: u32,
     screen: &mut S,
-    hooks: &Hooks<ExecRules>,
     steps: &mut Steps<L>,
 ) -> Status
     requires lines { lines ≤ GENERATED_LINES }
-    requires hooks { Ties exec_meanings hooks.now }
-    requires three { 3 ≤ count hooks.now }
     ensures screen { Sums lines (S.told screen.old) (S.told screen.new)
         (S.faults screen.old) (S.faults screen.new) result }
     ensures counter { Rises lines steps.old steps.new result }
 {
-    match summarize(alloc, lines, hooks, steps) {
+    match summarize(alloc, lines, steps) {
         Ok(summary) => show_summary(&summary, screen),
         Err(NoMemory) => refuse(Status::NoMemory, screen),
     }
@@ -137,8 +127,8 @@ fn generate<S: Sink, L: Ledger>(
 /// before anything else is touched, and NoMemory where memory is wanting, before the first prompt or at a line that
 /// needs it. The others are said of below, clause by clause.
 ///
-/// `hooks` answer the EXEC's rules. `steps` counts the trials: a key costs those of its line behind the
-/// fields that the unchanged front of the line decides.
+/// `steps` counts the trials: a key costs those of its line behind the fields that the unchanged front of the line
+/// decides.
 pub fn exec20<H: Host, K: Source, S: Sink, W: Sink, C: Clock, L: Ledger>(
     alloc: Global,
     words: &Words,
@@ -147,12 +137,8 @@ pub fn exec20<H: Host, K: Source, S: Sink, W: Sink, C: Clock, L: Ledger>(
     screen: &mut S,
     log: &mut W,
     clock: &mut C,
-    hooks: &Hooks<ExecRules>,
     steps: &mut Steps<L>,
 ) -> Status
-    requires hooks { Ties exec_meanings hooks.now }
-    requires three { 3 ≤ count hooks.now }
-
     // Where the run is Done, the screen was given what the run over all keys shows, from the state that it begins in,
     // the first one or that whose image the file IN has ..
     ensures done_shown { IsTrue K.tells → IsTrue C.tells → result ≡ Status.Done
@@ -229,7 +215,7 @@ pub fn exec20<H: Host, K: Source, S: Sink, W: Sink, C: Clock, L: Ledger>(
         let Some(lines) = read_lines(words) else {
             return refuse_usage(usage(), screen);
         };
-        return generate(alloc, lines, screen, hooks, steps);
+        return generate(alloc, lines, screen, steps);
     };
-    run_form(alloc, &form, host, keys, screen, log, clock, hooks, steps)
+    run_form(alloc, &form, host, keys, screen, log, clock, steps)
 }

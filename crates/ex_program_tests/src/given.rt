@@ -1,12 +1,8 @@
 // What the runs of the tests are given, and what is to stand at their ends.
-ghost use Rattle.std.specs.Prelude.{◌≡◌, ◌≤◌, ◌<◌, length};
-ghost use Rattle.ex_grammar.specs.ExecRules.{rule_completion, rule_help, rule_verdict};
+ghost use Rattle.std.specs.Prelude.{◌≡◌, ◌<◌};
 
 use cm_blocks::Steps;
-use cm_hooks::{Answer, Hook, Hooks, Tail};
 use cm_io::{Clock, Host, MemClock, MemHost, MemSink, MemSource, NoMemory, Sink, Source};
-use cm_text::Name;
-use ex_grammar::{ExecRules, rule_completion, rule_help, rule_verdict};
 use ex_program::{Status, Words, exec20};
 use std::marker::Brand;
 use std::sync::ledger::{Blank, Ledger};
@@ -50,7 +46,7 @@ pub(crate) fn outcome_of(
     given: &Given<'_>,
 ) -> Result<Outcome, NoMemory> {
     let mut outcome = before(runtime, given)?;
-    outcome.status = run_with_rules::<MemHost, MemSource, MemSink, MemSink, MemClock, Brand>(
+    outcome.status = run_program::<MemHost, MemSource, MemSink, MemSink, MemClock, Brand>(
         runtime,
         Blank::new(1),
         words,
@@ -90,8 +86,8 @@ fn clock_of(runtime: &HostRuntime, has_moments: bool) -> Result<MemClock, NoMemo
         MemClock::new(runtime.alloc(), &[])
     }
 }
-// Boxes the EXEC's rules, makes the counter for this ledger, and runs `exec20`, as its program does.
-pub(crate) fn run_with_rules<H: Host, K: Source, S: Sink, W: Sink, C: Clock, L: Ledger>(
+// Makes the counter for this ledger, and runs `exec20`, as its program does.
+pub(crate) fn run_program<H: Host, K: Source, S: Sink, W: Sink, C: Clock, L: Ledger>(
     rt: &HostRuntime,
     blank: Blank,
     words: &Words,
@@ -105,34 +101,15 @@ pub(crate) fn run_with_rules<H: Host, K: Source, S: Sink, W: Sink, C: Clock, L: 
     requires parts { blank.parts ≡ L.parts }
     requires some { 0 < L.parts }
 {
-    let alloc = rt.alloc();
-    let mut hooks: Hooks<ExecRules> = Hooks::new();
-    for id in 0..3u8 {
-        let verdict = move |atom: &[u8]| -> Answer
-            requires id { id < 3 }
-            requires short { length atom.now ≤ 255 }
-            ensures { result ≡ rule_verdict id atom.now }
-        { rule_verdict(id, atom) };
-        let completion = move |atom: &[u8]| -> Tail
-            requires id { id < 3 }
-            requires short { length atom.now ≤ 255 }
-            ensures { result ≡ rule_completion id atom.now }
-        { rule_completion(id, atom) };
-        let help = move || -> Name
-            requires { id < 3 }
-            ensures { result ≡ rule_help id }
-        { rule_help(id) };
-        let (Ok(verdict), Ok(completion), Ok(help)) = (
-            Box::new(alloc, verdict),
-            Box::new(alloc, completion),
-            Box::new(alloc, help),
-        ) else {
-            return Status::NoMemory;
-        };
-        let _ = hooks.push(Hook::new(id, verdict, completion, help));
-    }
     let mut steps: Steps<L> = Steps::new(rt, blank);
     exec20(
-        alloc, words, host, keys, screen, log, clock, &hooks, &mut steps,
+        rt.alloc(),
+        words,
+        host,
+        keys,
+        screen,
+        log,
+        clock,
+        &mut steps,
     )
 }

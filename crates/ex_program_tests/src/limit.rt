@@ -2,7 +2,7 @@
 ghost use Rattle.std.specs.Prelude.{[], false};
 ghost use Rattle.cm_io.specs.Told.{Nothing};
 
-use crate::given::{run_with_rules, words_of};
+use crate::given::{run_program, words_of};
 use cm_io::{Got, MemClock, MemHost, MemSink, NoMemory, Put, Sink, Source};
 use ex_program::Status;
 use std::marker::Brand;
@@ -65,7 +65,7 @@ fn ends_with(runtime: &HostRuntime, room: u32, message: &[u8]) -> Result<bool, N
     };
     let mut log = MemSink::new(alloc, 0)?;
     let mut host = MemHost::new(alloc, "IN", None, 64, &[])?;
-    let status = run_with_rules::<MemHost, Endless, LateScreen, MemSink, MemClock, Brand>(
+    let status = run_program::<MemHost, Endless, LateScreen, MemSink, MemClock, Brand>(
         runtime,
         Blank::new(1),
         &words_of(&["-n", "OUT"]),

@@ -3,7 +3,7 @@
 //
 // What must stand is the trace of the whole session, cut where a call fails. Screen and log fail in one put alone, and
 // would take what is put behind it.
-use crate::given::{run_with_rules, words_of};
+use crate::given::{run_program, words_of};
 use cm_faults::{
     Failing, NOTHING, Part, PartSink, Stands, closing, has_image, is_written, push_text, stands_at,
     status_of,
@@ -78,7 +78,7 @@ fn session(runtime: &HostRuntime, failing: &Failing) -> Result<Outcome, NoMemory
     let alloc = runtime.alloc();
     let mut outcome = before(alloc, failing)?;
     let mut clock = MemClock::new(alloc, &[])?;
-    outcome.status = run_with_rules::<MemHost, MemSource, PartSink, PartSink, MemClock, Brand>(
+    outcome.status = run_program::<MemHost, MemSource, PartSink, PartSink, MemClock, Brand>(
         runtime,
         Blank::new(1),
         &words_of(&["-w", "IN", "OUT"]),

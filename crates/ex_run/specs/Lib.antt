@@ -4,4 +4,3 @@ pub mod Course
 pub mod Over
 pub mod Runs
 pub mod Scene
-pub mod Served

@@ -2,7 +2,6 @@
 // A call of run stands alone in a function generic over the application (run_application) that hands on one record
 // (Runs): at the application itself each clause is stated unfolded.
 ghost use Rattle.std.specs.Prelude.{◌≡◌};
-ghost use Rattle.cm_run.specs.Ready.{Serves};
 ghost use Rattle.cm_run.specs.Trace.{is_ended};
 ghost use Rattle.ex_store.specs.State.{State};
 ghost use Rattle.ex_system.specs.Asked.{form_view};
@@ -11,11 +10,9 @@ ghost use Rattle.ex_run.specs.Course.{Comes, Course};
 ghost use Rattle.ex_run.specs.Over.{over};
 ghost use Rattle.ex_run.specs.Runs.{Runs};
 ghost use Rattle.ex_run.specs.Scene.{scene, telling};
-ghost use Rattle.ex_run.specs.Served.{IsServed};
 
 use crate::closing::close;
 use cm_blocks::{Grammar, Steps};
-use cm_hooks::Hooks;
 use cm_io::{Clock, Host, NoMemory, Sink, Source, Status};
 use cm_run::{Application, Mode, Stop, run};
 use ex_store::Store;
@@ -73,21 +70,20 @@ fn run_application<A: Application, K: Source, S: Sink, W: Sink, C: Clock, L: Led
     logging: bool,
     app: &mut A,
     grammar: &Grammar,
-    hooks: &Hooks<A::Rules>,
     keys: &mut K,
     screen: &mut S,
     log: &mut W,
     clock: &mut C,
     steps: &mut Steps<L>,
 ) -> Result<(), Stop>
-    requires { Serves A.means grammar.now A.Rules.meanings hooks.now }
+    requires grammar { grammar.now ≡ A.means.graph }
     ensures { Runs A.means logging (telling K.tells C.tells) app.old app.new
         (scene S.Sink screen.old W.Sink log.old K.Source keys.old C.Clock clock.old steps.old)
         (scene S.Sink screen.new W.Sink log.new K.Source keys.new C.Clock clock.new steps.new)
         result }
 {
     run(
-        KEY_LIMIT, logging, app, grammar, hooks, keys, screen, log, clock, steps,
+        KEY_LIMIT, logging, app, grammar, keys, screen, log, clock, steps,
     )
 }
 
@@ -105,7 +101,6 @@ fn run_store<
     form: &Form<'_>,
     app: &mut A,
     grammar: &Grammar,
-    hooks: &Hooks<A::Rules>,
     host: &mut H,
     keys: &mut K,
     screen: &mut S,
@@ -113,16 +108,14 @@ fn run_store<
     clock: &mut C,
     steps: &mut Steps<L>,
 ) -> Status
-    requires { Serves A.means grammar.now A.Rules.meanings hooks.now }
+    requires grammar { grammar.now ≡ A.means.graph }
     ensures { (start : State) → app.old ≡ P.begins start
         → Comes (telling K.tells C.tells) (over A.means P.begins P.store_of) (form_view form.now) start
         (scene S.Sink screen.old W.Sink log.old K.Source keys.old C.Clock clock.old steps.old)
         (scene S.Sink screen.new W.Sink log.new K.Source keys.new C.Clock clock.new steps.new)
         (disk_of H.Host host.old) (disk_of H.Host host.new) result }
 {
-    let stop = run_application(
-        form.logs, app, grammar, hooks, keys, screen, log, clock, steps,
-    );
+    let stop = run_application(form.logs, app, grammar, keys, screen, log, clock, steps);
     close(stop, has_ended(app), P::store(app), form.out, host, screen)
 }
 
@@ -133,7 +126,6 @@ fn run_store<
 /// Before the first prompt the message of a status is shown alone, IN is loaded once, if there is one, and OUT is not
 /// created. Past it the trace of the run stands, or a cut of it, and then how it was closed; OUT is created once, is
 /// closed, and holds the image of the state that the run left. No other file changes.
-#[tactic(auto, using(crate::proofs::Hooks::serves))]
 pub fn run_program<
     A: Application + Drop,
     P: Program<A>,
@@ -151,10 +143,8 @@ pub fn run_program<
     screen: &mut S,
     log: &mut W,
     clock: &mut C,
-    hooks: &Hooks<A::Rules>,
     steps: &mut Steps<L>,
 ) -> Status
-    requires { IsServed A.means A.Rules.meanings hooks.now }
     ensures { Course (telling K.tells C.tells) (over A.means P.begins P.store_of) (form_view form.now)
         (scene S.Sink screen.old W.Sink log.old K.Source keys.old C.Clock clock.old steps.old)
         (scene S.Sink screen.new W.Sink log.new K.Source keys.new C.Clock clock.new steps.new)
@@ -169,6 +159,6 @@ pub fn run_program<
     };
     let mut app = P::begin(alloc, store);
     run_store::<A, P, H, K, S, W, C, L>(
-        form, &mut app, &grammar, hooks, host, keys, screen, log, clock, steps,
+        form, &mut app, &grammar, host, keys, screen, log, clock, steps,
     )
 }

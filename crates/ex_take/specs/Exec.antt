@@ -223,7 +223,7 @@ raw_deeds at key =
 abbrev pub exec_meaning : Meaning ExecState
 exec_meaning = record {
   graph = exec_graph;
-  rules = exec_meanings;
+  rules_of = λ state. exec_meanings;
   catalogue_of = λ at. catalogue_of at.interpreter.state;
   mode_of = λ at. mode_of at.interpreter;
   line_deeds = line_deeds;

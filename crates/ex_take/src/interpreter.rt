@@ -32,7 +32,7 @@ use cm_run::{Mode, Stop};
 use cm_state::{Prompt, Session};
 use ex_commands::laws::{a_line_may_act, a_subcommand_may_act};
 use ex_commands::{Acted, Command, Data, DataTurn, act, write_data};
-use ex_grammar::{COMMANDS, ExecRules};
+use ex_grammar::COMMANDS;
 use ex_store::{Place, Store};
 use std::alloc::Global;
 use std::marker::Model;
@@ -99,7 +99,7 @@ impl Interpreter {
     }
 
     /// What a confirmed line commands.
-    pub fn command_of(&self, session: &Session<ExecRules>, grammar: &Grammar) -> Command
+    pub fn command_of(&self, session: &Session, grammar: &Grammar) -> Command
         requires grammar { grammar.now ≡ exec_graph }
         requires parse { IsParse (setting exec_graph (catalogue_of self.now.state) exec_meanings) COMMANDS
             (text_of session.now) session.now.fields ending.Done }
@@ -260,7 +260,7 @@ impl Interpreter {
     pub fn add_subcommands<S: Sink>(
         &mut self,
         mut pending: Pending,
-        session: &Session<ExecRules>,
+        session: &Session,
         screen: &mut S,
     ) -> Acted
         requires may_act { MayAct pending.command self.old.state }

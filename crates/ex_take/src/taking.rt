@@ -4,8 +4,6 @@ ghost use Rattle.cm_io.specs.Told.{Told};
 ghost use Rattle.cm_run.specs.Cause.{ObeyCause};
 ghost use Rattle.cm_run.specs.Cut.{Traces};
 ghost use Rattle.cm_run.specs.Observed.{observed};
-ghost use Rattle.cm_run.specs.Ready.{Serves};
-ghost use Rattle.ex_grammar.specs.ExecRules.{exec_meanings};
 ghost use Rattle.ex_store.specs.Plan.{IsSource};
 ghost use Rattle.ex_take.specs.Exec.{exec_meaning};
 ghost use Rattle.ex_take.specs.Taking.{Rests, Takes, is_at_rest, outcome_of, take_trace, took_by, took_of};
@@ -13,10 +11,8 @@ ghost use Rattle.ex_take.specs.Taking.{Rests, Takes, is_at_rest, outcome_of, tak
 use crate::Exec;
 use cm_blocks::{Grammar, Steps};
 use cm_fields::Code;
-use cm_hooks::Hooks;
 use cm_io::Sink;
 use cm_run::{Stop, run_lines};
-use ex_grammar::ExecRules;
 use ex_store::Place;
 use std::sync::ledger::Ledger;
 
@@ -43,13 +39,12 @@ pub fn take<S: Sink, L: Ledger>(
     file: &Place,
     moment: u64,
     grammar: &Grammar,
-    hooks: &Hooks<ExecRules>,
     screen: &mut S,
     steps: &mut Steps<L>,
 ) -> Took
     requires rest { is_at_rest exec.old ≡ true }
     requires source { IsSource file.now exec.old.interpreter.state }
-    requires serves { Serves exec_meaning grammar.now exec_meanings hooks.now }
+    requires grammar { grammar.now ≡ exec_meaning.graph }
     // What stands is the trace of the file, or a cut of it.
     ensures takes { (log : Told) → (keys : List ℕ) → (gets : ℕ) → (moments : List ℕ) → Takes
         (observed (S.told screen.old) log keys gets moments steps.old exec.old)
@@ -61,7 +56,7 @@ pub fn take<S: Sink, L: Ledger>(
     ensures later { S.faults screen.old ≤ S.faults screen.new }
     ensures cause { ObeyCause (S.faults screen.old) (S.faults screen.new) (outcome_of result) }
 {
-    let took = take_lines(exec, file, moment, grammar, hooks, screen, steps);
+    let took = take_lines(exec, file, moment, grammar, screen, steps);
     exec.rest();
     took
 }
@@ -72,12 +67,11 @@ fn take_lines<S: Sink, L: Ledger>(
     file: &Place,
     moment: u64,
     grammar: &Grammar,
-    hooks: &Hooks<ExecRules>,
     screen: &mut S,
     steps: &mut Steps<L>,
 ) -> Took
     requires source { IsSource file.now exec.old.interpreter.state }
-    requires serves { Serves exec_meaning grammar.now exec_meanings hooks.now }
+    requires grammar { grammar.now ≡ exec_meaning.graph }
     ensures traces { (log : Told) → (keys : List ℕ) → (gets : ℕ) → (moments : List ℕ) → Traces
         (observed (S.told screen.old) log keys gets moments steps.old exec.old)
         (observed (S.told screen.new) log keys gets moments steps.new exec.new)
@@ -88,7 +82,7 @@ fn take_lines<S: Sink, L: Ledger>(
 {
     match exec.take(file, screen) {
         Ok(()) => {
-            let stop = run_lines(exec, grammar, hooks, moment, screen, steps);
+            let stop = run_lines(exec, grammar, moment, screen, steps);
             took_by(exec, stop)
         }
         Err(stop) => took_by(exec, Err(stop)),

@@ -4,19 +4,14 @@
 // Each other line is a step: what is asked, on a screen with so much room, what is answered and what is shown, with
 // bars between. `take NAME` asks `take` for a file, `keys TEXT` runs the engine over keys, and `lines` takes the lines
 // that wait. The steps are done in order, with the EXEC as the one before left it.
-ghost use Rattle.std.specs.Prelude.{◌≡◌, ◌<◌, ◌≤◌};
-ghost use Rattle.cm_run.specs.Ready.{Serves};
-ghost use Rattle.ex_grammar.specs.ExecRules.{exec_meanings};
+ghost use Rattle.std.specs.Prelude.{◌≡◌, ◌<◌};
 ghost use Rattle.ex_grammar.specs.Graph.{exec_graph};
-ghost use Rattle.ex_take.specs.Exec.{exec_meaning};
 
 use crate::files::{cut, exec_of, has, place, shown_as};
-use crate::rules::hooks;
 use cm_blocks::{Grammar, Steps};
-use cm_hooks::Hooks;
 use cm_io::{CountSink, MemSink, MemSource, NoMemory};
 use cm_run::{Application, NoClock, Stop, run, run_lines};
-use ex_grammar::{ExecRules, grammar};
+use ex_grammar::grammar;
 use ex_store::Place;
 use ex_take::{Exec, Took, take};
 use std::alloc::{AllocError, Global};
@@ -51,10 +46,9 @@ fn run_keys<A: Application, L: Ledger>(
     app: &mut A,
     outside: &mut Outside,
     grammar: &Grammar,
-    hooks: &Hooks<A::Rules>,
     steps: &mut Steps<L>,
 ) -> Result<(), Stop>
-    requires { Serves A.means grammar.now A.Rules.meanings hooks.now }
+    requires { grammar.now ≡ A.means.graph }
 {
     let mut log = CountSink::new();
     run(
@@ -62,7 +56,6 @@ fn run_keys<A: Application, L: Ledger>(
         false,
         app,
         grammar,
-        hooks,
         &mut outside.keys,
         &mut outside.screen,
         &mut log,
@@ -77,10 +70,9 @@ fn take_file<L: Ledger>(
     file: &Place,
     screen: &mut MemSink,
     grammar: &Grammar,
-    hooks: &Hooks<ExecRules>,
     steps: &mut Steps<L>,
 ) -> Answer
-    requires { Serves exec_meaning grammar.now exec_meanings hooks.now }
+    requires { grammar.now ≡ exec_graph }
 {
     if !exec.is_at_rest() {
         return Answer::None;
@@ -88,7 +80,7 @@ fn take_file<L: Ledger>(
     if !has(exec.store(), &file.directory) {
         return Answer::None;
     }
-    Answer::Took(take(exec, file, 0, grammar, hooks, screen, steps))
+    Answer::Took(take(exec, file, 0, grammar, screen, steps))
 }
 
 // What is answered to a step.
@@ -98,19 +90,18 @@ fn answer_of<L: Ledger>(
     name: &str,
     outside: &mut Outside,
     grammar: &Grammar,
-    hooks: &Hooks<ExecRules>,
     steps: &mut Steps<L>,
 ) -> Answer
-    requires { Serves exec_meaning grammar.now exec_meanings hooks.now }
+    requires { grammar.now ≡ exec_graph }
 {
     if step == "take" {
         let file = place(name);
-        return take_file(exec, &file, &mut outside.screen, grammar, hooks, steps);
+        return take_file(exec, &file, &mut outside.screen, grammar, steps);
     }
     if step == "keys" {
-        return Answer::Went(run_keys(exec, outside, grammar, hooks, steps));
+        return Answer::Went(run_keys(exec, outside, grammar, steps));
     }
-    Answer::Went(run_lines(exec, grammar, hooks, 0, &mut outside.screen, steps))
+    Answer::Went(run_lines(exec, grammar, 0, &mut outside.screen, steps))
 }
 
 // An answer, as a case writes it.
@@ -144,16 +135,15 @@ fn try_step<L: Ledger>(
     exec: &mut Exec,
     line: &str,
     grammar: &Grammar,
-    hooks: &Hooks<ExecRules>,
     steps: &mut Steps<L>,
 ) -> Result<(), Fail>
-    requires { Serves exec_meaning grammar.now exec_meanings hooks.now }
+    requires { grammar.now ≡ exec_graph }
 {
     let (asked, rest) = cut(line);
     let (room, wanted) = cut(rest);
     let (step, text) = asked.split_once(' ').unwrap_or((asked, ""));
     let mut outside = outside_of(alloc, text, room.parse().unwrap_or(0))?;
-    let answer = answer_of(exec, step, text, &mut outside, grammar, hooks, steps);
+    let answer = answer_of(exec, step, text, &mut outside, grammar, steps);
     compare(alloc, line, wanted, answer, outside.screen.bytes())
 }
 
@@ -167,14 +157,13 @@ fn try_steps<L: Ledger>(
     exec: &mut Exec,
     case: &str,
     grammar: &Grammar,
-    hooks: &Hooks<ExecRules>,
     steps: &mut Steps<L>,
 ) -> Result<(), Fail>
-    requires { Serves exec_meaning grammar.now exec_meanings hooks.now }
+    requires { grammar.now ≡ exec_graph }
 {
     for line in case.lines() {
         if is_step(line) {
-            try_step(alloc, exec, line, grammar, hooks, steps)?;
+            try_step(alloc, exec, line, grammar, steps)?;
         }
     }
     Ok(())
@@ -184,32 +173,30 @@ fn try_case<L: Ledger>(
     alloc: Global,
     case: &str,
     grammar: &Grammar,
-    hooks: &Hooks<ExecRules>,
     steps: &mut Steps<L>,
 ) -> Result<(), Fail>
-    requires { Serves exec_meaning grammar.now exec_meanings hooks.now }
+    requires { grammar.now ≡ exec_graph }
 {
     let mut exec = exec_of(alloc, case)?;
-    try_steps(alloc, &mut exec, case, grammar, hooks, steps)
+    try_steps(alloc, &mut exec, case, grammar, steps)
 }
 
 fn try_all<L: Ledger>(
     alloc: Global,
     cases: &str,
     grammar: &Grammar,
-    hooks: &Hooks<ExecRules>,
     steps: &mut Steps<L>,
 ) -> Result<(), Fail>
-    requires { Serves exec_meaning grammar.now exec_meanings hooks.now }
+    requires { grammar.now ≡ exec_graph }
 {
     for case in cases.split("\n\n") {
-        try_case(alloc, case, grammar, hooks, steps)?;
+        try_case(alloc, case, grammar, steps)?;
     }
     Ok(())
 }
 
-// Makes the rules and the counter, and tries the cases.
-fn try_with_rules<L: Ledger>(
+// Makes the counter, and tries the cases.
+fn try_counted<L: Ledger>(
     rt: &HostRuntime,
     blank: Blank,
     cases: &str,
@@ -220,10 +207,8 @@ fn try_with_rules<L: Ledger>(
     requires some { 0 < L.parts }
     requires grammar { grammar.now ≡ exec_graph }
 {
-    let hooks = hooks(rt.alloc())?;
     let mut steps: Steps<L> = Steps::new(rt, blank);
-    ex_grammar::laws::the_grammar_wants_three_hooks();
-    try_all(rt.alloc(), cases, grammar, &hooks, &mut steps)
+    try_all(rt.alloc(), cases, grammar, &mut steps)
 }
 
 // Makes the grammar, and tries the cases.
@@ -234,7 +219,7 @@ fn try_with_grammar<L: Ledger>(rt: &HostRuntime, blank: Blank, cases: &[u8]) -> 
 {
     let cases = str::from_utf8(cases)?;
     let grammar = grammar(rt.alloc())?;
-    try_with_rules::<L>(rt, blank, cases, &grammar)
+    try_counted::<L>(rt, blank, cases, &grammar)
 }
 
 /// Does the steps of each case, and fails where something is not as it is said.

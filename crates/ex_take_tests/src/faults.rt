@@ -2,19 +2,14 @@
 //
 // What must stand is the trace of the whole, cut where a put fails, and the EXEC is at rest behind it. The screen fails
 // in one put alone, and would take what is put behind it.
-ghost use Rattle.std.specs.Prelude.{◌≡◌, ◌<◌, ◌≤◌};
-ghost use Rattle.cm_run.specs.Ready.{Serves};
-ghost use Rattle.ex_grammar.specs.ExecRules.{exec_meanings};
+ghost use Rattle.std.specs.Prelude.{◌≡◌, ◌<◌};
 ghost use Rattle.ex_grammar.specs.Graph.{exec_graph};
-ghost use Rattle.ex_take.specs.Exec.{exec_meaning};
 
 use crate::files::{exec_of, has, place};
-use crate::rules::hooks;
 use cm_blocks::{Grammar, Steps};
 use cm_faults::{Faults, Part, PartSink, Stop, stands_at};
-use cm_hooks::Hooks;
 use cm_io::{MemHost, NoMemory};
-use ex_grammar::{ExecRules, grammar};
+use ex_grammar::grammar;
 use ex_image::encode;
 use ex_store::Store;
 use ex_take::{Exec, Took, take};
@@ -62,10 +57,9 @@ fn take_first<L: Ledger>(
     exec: &mut Exec,
     screen: &mut PartSink,
     grammar: &Grammar,
-    hooks: &Hooks<ExecRules>,
     steps: &mut Steps<L>,
 ) -> Option<Took>
-    requires { Serves exec_meaning grammar.now exec_meanings hooks.now }
+    requires { grammar.now ≡ exec_graph }
 {
     let file = place("A.CMD");
     if !exec.is_at_rest() {
@@ -74,7 +68,7 @@ fn take_first<L: Ledger>(
     if !has(exec.store(), &file.directory) {
         return None;
     }
-    Some(take(exec, &file, 0, grammar, hooks, screen, steps))
+    Some(take(exec, &file, 0, grammar, screen, steps))
 }
 
 fn outcome_of<L: Ledger>(
@@ -82,14 +76,13 @@ fn outcome_of<L: Ledger>(
     put: Option<usize>,
     part: Part,
     grammar: &Grammar,
-    hooks: &Hooks<ExecRules>,
     steps: &mut Steps<L>,
 ) -> Result<Outcome, Fail>
-    requires { Serves exec_meaning grammar.now exec_meanings hooks.now }
+    requires { grammar.now ≡ exec_graph }
 {
     let mut exec = exec_of(alloc, FILES)?;
     let mut screen = PartSink::new(alloc, 4096, put, part)?;
-    let took = take_first(&mut exec, &mut screen, grammar, hooks, steps);
+    let took = take_first(&mut exec, &mut screen, grammar, steps);
     Ok(Outcome {
         took,
         is_at_rest: exec.is_at_rest(),
@@ -127,12 +120,11 @@ fn try_put<L: Ledger>(
     part: Part,
     whole: &Outcome,
     grammar: &Grammar,
-    hooks: &Hooks<ExecRules>,
     steps: &mut Steps<L>,
 ) -> Result<(), Fail>
-    requires { Serves exec_meaning grammar.now exec_meanings hooks.now }
+    requires { grammar.now ≡ exec_graph }
 {
-    let outcome = outcome_of(alloc, Some(put), part, grammar, hooks, steps)?;
+    let outcome = outcome_of(alloc, Some(put), part, grammar, steps)?;
     if is_cut(alloc, &outcome, whole.screen.held_behind(put, part))? {
         return Ok(());
     }
@@ -149,20 +141,19 @@ fn try_puts<L: Ledger>(
     alloc: Global,
     part: Part,
     grammar: &Grammar,
-    hooks: &Hooks<ExecRules>,
     steps: &mut Steps<L>,
 ) -> Result<(), Fail>
-    requires { Serves exec_meaning grammar.now exec_meanings hooks.now }
+    requires { grammar.now ≡ exec_graph }
 {
-    let whole = outcome_of(alloc, None, part, grammar, hooks, steps)?;
+    let whole = outcome_of(alloc, None, part, grammar, steps)?;
     for put in 0..whole.screen.puts().saturating_add(1) {
-        try_put(alloc, put, part, &whole, grammar, hooks, steps)?;
+        try_put(alloc, put, part, &whole, grammar, steps)?;
     }
     Ok(())
 }
 
 // Makes the rules and the counter.
-fn try_with_rules<L: Ledger>(
+fn try_counted<L: Ledger>(
     rt: &HostRuntime,
     blank: Blank,
     part: Part,
@@ -173,10 +164,8 @@ fn try_with_rules<L: Ledger>(
     requires some { 0 < L.parts }
     requires grammar { grammar.now ≡ exec_graph }
 {
-    let hooks = hooks(rt.alloc())?;
     let mut steps: Steps<L> = Steps::new(rt, blank);
-    ex_grammar::laws::the_grammar_wants_three_hooks();
-    try_puts(rt.alloc(), part, grammar, &hooks, &mut steps)
+    try_puts(rt.alloc(), part, grammar, &mut steps)
 }
 
 // Makes the grammar.
@@ -186,7 +175,7 @@ fn try_with_grammar<L: Ledger>(rt: &HostRuntime, blank: Blank, part: Part) -> Re
     requires some { 0 < L.parts }
 {
     let grammar = grammar(rt.alloc())?;
-    try_with_rules::<L>(rt, blank, part, &grammar)
+    try_counted::<L>(rt, blank, part, &grammar)
 }
 
 fn try_part(rt: &HostRuntime, part: Part) -> Result<(), Fail> {

@@ -8,6 +8,4 @@ mod faults;
 #[cfg(test)]
 mod files;
 #[cfg(test)]
-mod rules;
-#[cfg(test)]
 mod taking;

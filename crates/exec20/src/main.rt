@@ -1,14 +1,10 @@
 //! The program of `./exec20`: the EXEC's run over the standard streams, the system's clock and its files.
 #![tactic(auto)]
 
-ghost use Rattle.std.specs.Prelude.{◌≡◌, ◌≤◌, ◌<◌, length};
-ghost use Rattle.ex_grammar.specs.ExecRules.{rule_completion, rule_help, rule_verdict};
+ghost use Rattle.std.specs.Prelude.{◌≡◌, ◌<◌};
 
 use cm_blocks::Steps;
-use cm_hooks::{Answer, Hook, Hooks, Tail};
 use cm_io::{Clock, Host, Sink, Source, StdClock, StdHost, StdLog, StdSink, StdSource};
-use cm_text::Name;
-use ex_grammar::{ExecRules, rule_completion, rule_help, rule_verdict};
 use ex_program::{Status, Words, exec20};
 use std::env;
 use std::marker::Brand;
@@ -24,7 +20,7 @@ fn main(rt: HostRuntime) -> ExitCode {
     let mut screen = StdSink::new(&rt);
     let mut log = StdLog::new(&rt);
     let mut clock = StdClock::new(&rt);
-    let status = run_with_rules::<StdHost, StdSource, StdSink, StdLog, StdClock, Brand>(
+    let status = run::<StdHost, StdSource, StdSink, StdLog, StdClock, Brand>(
         &rt,
         Blank::new(1),
         &words,
@@ -37,9 +33,8 @@ fn main(rt: HostRuntime) -> ExitCode {
     ExitCode::from(status.number())
 }
 
-// Boxes the EXEC's rules, makes the counter for this ledger, and runs `exec20`. NoMemory also where there is
-// no memory for the rules.
-fn run_with_rules<H: Host, K: Source, S: Sink, W: Sink, C: Clock, L: Ledger>(
+// Makes the counter for this ledger, and runs `exec20`.
+fn run<H: Host, K: Source, S: Sink, W: Sink, C: Clock, L: Ledger>(
     rt: &HostRuntime,
     blank: Blank,
     words: &Words,
@@ -53,35 +48,16 @@ fn run_with_rules<H: Host, K: Source, S: Sink, W: Sink, C: Clock, L: Ledger>(
     requires parts { blank.parts ≡ L.parts }
     requires some { 0 < L.parts }
 {
-    let alloc = rt.alloc();
-    let mut hooks: Hooks<ExecRules> = Hooks::new();
-    for id in 0..3u8 {
-        let verdict = move |atom: &[u8]| -> Answer
-            requires id { id < 3 }
-            requires short { length atom.now ≤ 255 }
-            ensures { result ≡ rule_verdict id atom.now }
-        { rule_verdict(id, atom) };
-        let completion = move |atom: &[u8]| -> Tail
-            requires id { id < 3 }
-            requires short { length atom.now ≤ 255 }
-            ensures { result ≡ rule_completion id atom.now }
-        { rule_completion(id, atom) };
-        let help = move || -> Name
-            requires { id < 3 }
-            ensures { result ≡ rule_help id }
-        { rule_help(id) };
-        let (Ok(verdict), Ok(completion), Ok(help)) = (
-            Box::new(alloc, verdict),
-            Box::new(alloc, completion),
-            Box::new(alloc, help),
-        ) else {
-            return Status::NoMemory;
-        };
-        let _ = hooks.push(Hook::new(id, verdict, completion, help));
-    }
     let mut steps: Steps<L> = Steps::new(rt, blank);
     exec20(
-        alloc, words, host, keys, screen, log, clock, &hooks, &mut steps,
+        rt.alloc(),
+        words,
+        host,
+        keys,
+        screen,
+        log,
+        clock,
+        &mut steps,
     )
 }
 

@@ -2,15 +2,12 @@
 #![tactic(auto)]
 
 ghost use Rattle.std.specs.Prelude.{◌≡◌, ◌<◌};
-ghost use Rattle.eg_lamps.specs.Rooms.{room_completion, room_help, room_verdict};
 
 use cm_blocks::Steps;
-use cm_hooks::{Answer, Hook, Hooks, Tail};
 use cm_io::{Sink, Source, StdSink, StdSource};
 use cm_run::Stop;
-use cm_text::Name;
 use eg_lamps::grammar::grammar;
-use eg_lamps::{Program, RoomRules, rooms, status_of};
+use eg_lamps::{Program, status_of};
 use std::marker::Brand;
 use std::process::ExitCode;
 use std::sync::ledger::{Blank, Ledger};
@@ -20,7 +17,7 @@ fn main(rt: HostRuntime) -> ExitCode {
     let mut program = Program::new();
     let mut keys = StdSource::new(&rt);
     let mut screen = StdSink::new(&rt);
-    let went = run_with_hook::<StdSource, StdSink, Brand>(
+    let went = run::<StdSource, StdSink, Brand>(
         &rt,
         Blank::new(1),
         &mut program,
@@ -30,8 +27,8 @@ fn main(rt: HostRuntime) -> ExitCode {
     ExitCode::from(status_of(went))
 }
 
-// Boxes the hook, makes the grammar and the counter of trials, and runs the program.
-fn run_with_hook<K: Source, S: Sink, L: Ledger>(
+// Makes the grammar, and the counter of trials for this ledger, and runs the program.
+fn run<K: Source, S: Sink, L: Ledger>(
     rt: &HostRuntime,
     blank: Blank,
     program: &mut Program,
@@ -42,26 +39,9 @@ fn run_with_hook<K: Source, S: Sink, L: Ledger>(
     requires parts { blank.parts ≡ L.parts }
     requires some { 0 < L.parts }
 {
-    let alloc = rt.alloc();
-    let verdict = |atom: &[u8]| -> Answer
-        ensures { result ≡ room_verdict atom.now }
-    { rooms::verdict(atom) };
-    let completion = |atom: &[u8]| -> Tail
-        ensures { result ≡ room_completion atom.now }
-    { rooms::completion(atom) };
-    let help = || -> Name
-        ensures { result ≡ room_help }
-    { rooms::help() };
-    let (Ok(verdict), Ok(completion), Ok(help), Ok(grammar)) = (
-        Box::new(alloc, verdict),
-        Box::new(alloc, completion),
-        Box::new(alloc, help),
-        grammar(alloc),
-    ) else {
+    let Ok(grammar) = grammar(rt.alloc()) else {
         return Err(Stop::Memory);
     };
-    let mut hooks: Hooks<RoomRules> = Hooks::new();
-    let _ = hooks.push(Hook::new(0, verdict, completion, help));
     let mut steps: Steps<L> = Steps::new(rt, blank);
-    program.run(&grammar, &hooks, keys, screen, &mut steps)
+    program.run(&grammar, keys, screen, &mut steps)
 }

@@ -1,6 +1,5 @@
 mod Deliveries
 mod Faultless
-mod Hooks
 mod KnownRuns
 mod LineFields
 mod MailKeys

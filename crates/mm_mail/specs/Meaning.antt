@@ -100,7 +100,7 @@ echo_by key (Some message) = echo_text (echo_of message.typed key)
 abbrev pub mail_meaning : Meaning MailState
 mail_meaning = record {
   graph = mail_graph;
-  rules = mail_meanings;
+  rules_of = λ state. mail_meanings;
   catalogue_of = λ mail. catalogue_of mail.state;
   mode_of = mode_of;
   line_deeds = λ mail session moment. deed_of mail moment (command_of (catalogue_of mail.state) session) ∷ [];

@@ -1,5 +1,4 @@
 // Mail, as the engine runs it.
-ghost use Rattle.std.specs.Prelude.{◌≡◌};
 
 use crate::mail::Mail;
 use crate::rules::MailRules;
@@ -22,13 +21,17 @@ impl Application for Mail {
         self.store()
     }
 
+    fn rules(&self) -> &MailRules {
+        &MailRules
+    }
+
     fn mode(&self) -> Mode {
         self.mode()
     }
 
     fn obey_line<S: Sink>(
         &mut self,
-        session: &Session<MailRules>,
+        session: &Session,
         _grammar: &Grammar,
         moment: u64,
         screen: &mut S,
@@ -56,7 +59,7 @@ impl Application for Mail {
     #[tactic(auto, using(cm_run::proofs::Acts::obeys_nothing), unfolding(cm_run::specs::Cause::ObeyCause))]
     fn obey_file_line<S: Sink>(
         &mut self,
-        _session: &Session<MailRules>,
+        _session: &Session,
         _grammar: &Grammar,
         _moment: u64,
         _screen: &mut S,

@@ -3,7 +3,6 @@ ghost use Rattle.std.specs.Prelude.{◌≡◌};
 ghost use Rattle.mm_mail.specs.Command.{command_of, named, number_in, receiver_in, sends_of, subject_in, value_of};
 
 use crate::grammar::{DELETE, HEADERS, QUIT, READ, SEND};
-use crate::rules::MailRules;
 use cm_blocks::Role;
 use cm_fields::Value;
 use cm_files::Names;
@@ -35,7 +34,7 @@ pub enum Command {
 
 /// What the line that a session holds commands, where it is confirmed: the field of role Verb names the command, that
 /// of role Files who receives, and that of role Value the number of a message or a subject.
-pub fn command_of<N: Names>(session: &Session<MailRules>, names: &N) -> Command
+pub fn command_of<N: Names>(session: &Session, names: &N) -> Command
     ensures { result ≡ command_of (N.catalogue names.now) session.now }
 {
     match value_of(Role::Verb, session) {
@@ -45,7 +44,7 @@ pub fn command_of<N: Names>(session: &Session<MailRules>, names: &N) -> Command
 }
 
 // What the first field of a role stands for.
-fn value_of(role: Role, session: &Session<MailRules>) -> Option<Value>
+fn value_of(role: Role, session: &Session) -> Option<Value>
     ensures { result ≡ value_of role session.now.fields }
 {
     match session.field_of(role) {
@@ -55,7 +54,7 @@ fn value_of(role: Role, session: &Session<MailRules>) -> Option<Value>
 }
 
 // The command that a keyword names.
-fn named<N: Names>(verb: u16, session: &Session<MailRules>, names: &N) -> Command
+fn named<N: Names>(verb: u16, session: &Session, names: &N) -> Command
     ensures { result ≡ named verb (N.catalogue names.now) session.now }
 {
     match verb {
@@ -69,7 +68,7 @@ fn named<N: Names>(verb: u16, session: &Session<MailRules>, names: &N) -> Comman
 }
 
 // The number of a message, as the hook judged it.
-fn number_in(session: &Session<MailRules>) -> Option<u64>
+fn number_in(session: &Session) -> Option<u64>
     ensures { result ≡ number_in session.now.fields }
 {
     match value_of(Role::Value, session) {
@@ -79,7 +78,7 @@ fn number_in(session: &Session<MailRules>) -> Option<u64>
 }
 
 // The directory that is to receive a message.
-fn receiver_in<N: Names>(session: &Session<MailRules>, names: &N) -> Option<Name>
+fn receiver_in<N: Names>(session: &Session, names: &N) -> Option<Name>
     ensures { result ≡ receiver_in (N.catalogue names.now) session.now.fields }
 {
     match value_of(Role::Files, session) {
@@ -89,7 +88,7 @@ fn receiver_in<N: Names>(session: &Session<MailRules>, names: &N) -> Option<Name
 }
 
 // What a message is about.
-fn subject_in(session: &Session<MailRules>) -> Name
+fn subject_in(session: &Session) -> Name
     ensures { result ≡ subject_in session.now }
 {
     match session.field_of(Role::Value) {
@@ -98,7 +97,7 @@ fn subject_in(session: &Session<MailRules>) -> Name
     }
 }
 
-fn send<N: Names>(session: &Session<MailRules>, names: &N) -> Command
+fn send<N: Names>(session: &Session, names: &N) -> Command
     ensures { result ≡ sends_of (N.catalogue names.now) session.now }
 {
     match receiver_in(session, names) {

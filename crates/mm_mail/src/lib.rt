@@ -23,4 +23,4 @@ pub use mail::Mail;
 pub use message::Message;
 pub use message_name::MOST_MESSAGES;
 pub use program::{MailProgram, mm20};
-pub use rules::{MailRules, mail_completion, mail_help, mail_verdict};
+pub use rules::MailRules;

@@ -25,7 +25,6 @@ use crate::delivery::send;
 use crate::grammar::COMMANDS;
 use crate::laws::a_line_may_act;
 use crate::message::Message;
-use crate::rules::MailRules;
 use cm_io::{NoMemory, Put, Sink};
 use cm_run::{Mode, Stop};
 use cm_state::{Prompt, Session};
@@ -92,7 +91,7 @@ impl Mail {
     }
 
     // What a confirmed line commands.
-    pub(crate) fn command_of(&self, session: &Session<MailRules>) -> Command
+    pub(crate) fn command_of(&self, session: &Session) -> Command
         requires { IsParse (setting mail_graph (catalogue_of self.now.state) mail_meanings) COMMANDS
             (text_of session.now) session.now.fields ending.Done }
         ensures command { result ≡ command_of (catalogue_of self.now.state) session.now }

@@ -1,7 +1,6 @@
 // The program over what is outside of it.
 ghost use Rattle.std.specs.Prelude.{◌≡◌, ◌⊎◌, ◌<◌, ◌↔◌, ◌+◌, ℕ, false, List, ◌++◌, length, None, Some, IsTrue};
 ghost use Rattle.cm_io.specs.Told.{add};
-ghost use Rattle.cm_hooks.specs.Ties.{Ties, count};
 ghost use Rattle.cm_run.specs.Cause.{counts};
 ghost use Rattle.cm_run.specs.Event.{trials_of};
 ghost use Rattle.cm_run.specs.Keeping.{KeepsLine};
@@ -19,17 +18,14 @@ ghost use Rattle.ex_run.specs.Course.{Asks, Course, StartCause};
 ghost use Rattle.ex_run.specs.Scene.{telling, unlogged_scene};
 ghost use Rattle.ex_run.specs.declared.program.TheConstants.{KEY_LIMIT};
 ghost use Rattle.mm_mail.specs.Form.{form_of};
-ghost use Rattle.mm_mail.specs.MailRules.{mail_meanings};
 ghost use Rattle.mm_mail.specs.MailRun.{Stands, mail_left, mail_trace, run_shown};
 ghost use Rattle.mm_mail.specs.MailState.{mail_start};
 ghost use Rattle.mm_mail.specs.Meaning.{mail_meaning, mail_over};
 
 use crate::grammar::mail_grammar;
 use crate::mail::Mail;
-use crate::rules::MailRules;
 use crate::words::{read_form, usage};
 use cm_blocks::{Grammar, Steps};
-use cm_hooks::Hooks;
 use cm_io::{Clock, Host, NoMemory, Sink, Source};
 use ex_run::{NoLog, Program, run_program};
 use ex_store::Store;
@@ -64,7 +60,6 @@ impl Program<Mail> for MailProgram {
 }
 
 // Runs mail over the keys, as a form asks.
-#[tactic(auto, using(crate::proofs::Hooks::served_mail))]
 fn run_form<H: Host, K: Source, S: Sink, C: Clock, L: Ledger>(
     alloc: Global,
     form: &ex_system::Form<'_>,
@@ -72,18 +67,15 @@ fn run_form<H: Host, K: Source, S: Sink, C: Clock, L: Ledger>(
     keys: &mut K,
     screen: &mut S,
     clock: &mut C,
-    hooks: &Hooks<MailRules>,
     steps: &mut Steps<L>,
 ) -> Status
-    requires hooks { Ties mail_meanings hooks.now }
-    requires one { 0 < count hooks.now }
     ensures { Course (telling K.tells C.tells) mail_over (form_view form.now)
         (unlogged_scene S.Sink screen.old K.Source keys.old C.Clock clock.old steps.old)
         (unlogged_scene S.Sink screen.new K.Source keys.new C.Clock clock.new steps.new)
         (disk_of H.Host host.old) (disk_of H.Host host.new) result }
 {
     run_program::<Mail, MailProgram, H, K, S, NoLog, C, L>(
-        alloc, form, host, keys, screen, &mut NoLog, clock, hooks, steps,
+        alloc, form, host, keys, screen, &mut NoLog, clock, steps,
     )
 }
 
@@ -96,8 +88,8 @@ fn run_form<H: Host, K: Source, S: Sink, C: Clock, L: Ledger>(
 /// anything else is touched, and NoMemory where memory is wanting, before the first prompt, at a line of SEND or where
 /// its message is sent. The others are said of below, clause by clause.
 ///
-/// `hooks` answer the rules of mail. `steps` counts the trials: a key costs those of its line behind the fields that
-/// the unchanged front of the line decides.
+/// `steps` counts the trials: a key costs those of its line behind the fields that the unchanged front of the line
+/// decides.
 pub fn mm20<H: Host, K: Source, S: Sink, C: Clock, L: Ledger>(
     alloc: Global,
     words: &Words,
@@ -105,12 +97,8 @@ pub fn mm20<H: Host, K: Source, S: Sink, C: Clock, L: Ledger>(
     keys: &mut K,
     screen: &mut S,
     clock: &mut C,
-    hooks: &Hooks<MailRules>,
     steps: &mut Steps<L>,
 ) -> Status
-    requires hooks { Ties mail_meanings hooks.now }
-    requires one { 0 < count hooks.now }
-
     // Where the run is Done, the screen was given what the run over all keys shows, from the state whose image the file
     // IN has ..
     ensures done_shown { IsTrue K.tells → IsTrue C.tells → result ≡ Status.Done
@@ -173,5 +161,5 @@ pub fn mm20<H: Host, K: Source, S: Sink, C: Clock, L: Ledger>(
     let Some(form) = read_form(words) else {
         return refuse_usage(usage(), screen);
     };
-    run_form(alloc, &form, host, keys, screen, clock, hooks, steps)
+    run_form(alloc, &form, host, keys, screen, clock, steps)
 }

@@ -3,7 +3,7 @@
 //
 // What must stand is the trace of the whole session, cut where a call fails. The screen fails in one put alone, and
 // would take what is put behind it.
-use crate::given::run_with_rules;
+use crate::given::run_program;
 use cm_faults::{
     Failing, NOTHING, Part, PartSink, Stands, closing, has_image, is_written, push_text, stands_at,
     status_of,
@@ -106,7 +106,7 @@ fn session(runtime: &HostRuntime, failing: &Failing) -> Result<Outcome, NoMemory
     let alloc = runtime.alloc();
     let mut outcome = before(alloc, failing)?;
     let mut clock = MemClock::new(alloc, &[1, 2, 3, 4])?;
-    outcome.status = run_with_rules::<MemHost, MemSource, PartSink, MemClock, Brand>(
+    outcome.status = run_program::<MemHost, MemSource, PartSink, MemClock, Brand>(
         runtime,
         Blank::new(1),
         &words(),

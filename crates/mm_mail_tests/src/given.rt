@@ -1,12 +1,9 @@
 // What the runs of the tests are given, and what is to stand at their ends.
-ghost use Rattle.std.specs.Prelude.{◌≡◌, ◌≤◌, ◌<◌, length};
-ghost use Rattle.mm_mail.specs.MailRules.{mail_completion, mail_help, mail_verdict};
+ghost use Rattle.std.specs.Prelude.{◌≡◌, ◌<◌};
 
 use cm_blocks::Steps;
-use cm_hooks::{Answer, Hook, Hooks, Tail};
 use cm_io::{Clock, Host, MemClock, MemHost, MemSink, MemSource, NoMemory, Sink, Source};
-use cm_text::Name;
-use mm_mail::{MailRules, Status, Words, mail_completion, mail_help, mail_verdict, mm20};
+use mm_mail::{Status, Words, mm20};
 use std::marker::Brand;
 use std::sync::ledger::{Blank, Ledger};
 
@@ -40,7 +37,7 @@ pub(crate) fn outcome_of(
     given: &Given<'_>,
 ) -> Result<Outcome, NoMemory> {
     let mut outcome = before(runtime, given)?;
-    outcome.status = run_with_rules::<MemHost, MemSource, MemSink, MemClock, Brand>(
+    outcome.status = run_program::<MemHost, MemSource, MemSink, MemClock, Brand>(
         runtime,
         Blank::new(1),
         words,
@@ -78,8 +75,8 @@ fn clock_of(runtime: &HostRuntime, first: Option<u64>) -> Result<MemClock, NoMem
     }
 }
 
-// Boxes the rule of mail, makes the counter for this ledger, and runs `mm20`, as its program does.
-pub(crate) fn run_with_rules<H: Host, K: Source, S: Sink, C: Clock, L: Ledger>(
+// Makes the counter for this ledger, and runs `mm20`, as its program does.
+pub(crate) fn run_program<H: Host, K: Source, S: Sink, C: Clock, L: Ledger>(
     rt: &HostRuntime,
     blank: Blank,
     words: &Words,
@@ -92,27 +89,6 @@ pub(crate) fn run_with_rules<H: Host, K: Source, S: Sink, C: Clock, L: Ledger>(
     requires parts { blank.parts ≡ L.parts }
     requires some { 0 < L.parts }
 {
-    let alloc = rt.alloc();
-    let verdict = |atom: &[u8]| -> Answer
-        requires { length atom.now ≤ 255 }
-        ensures { result ≡ mail_verdict atom.now }
-    { mail_verdict(atom) };
-    let completion = |atom: &[u8]| -> Tail
-        requires { length atom.now ≤ 255 }
-        ensures { result ≡ mail_completion atom.now }
-    { mail_completion(atom) };
-    let help = || -> Name
-        ensures { result ≡ mail_help }
-    { mail_help() };
-    let (Ok(verdict), Ok(completion), Ok(help)) = (
-        Box::new(alloc, verdict),
-        Box::new(alloc, completion),
-        Box::new(alloc, help),
-    ) else {
-        return Status::NoMemory;
-    };
-    let mut hooks: Hooks<MailRules> = Hooks::new();
-    let _ = hooks.push(Hook::new(0, verdict, completion, help));
     let mut steps: Steps<L> = Steps::new(rt, blank);
-    mm20(alloc, words, host, keys, screen, clock, &hooks, &mut steps)
+    mm20(rt.alloc(), words, host, keys, screen, clock, &mut steps)
 }

@@ -1,12 +1,11 @@
-// The rule of mail alone, and the grammar of mail under another rule.
-ghost use Rattle.std.specs.Prelude.{◌≡◌, ◌<◌, ◌==◌, [], IfOk, if◌then◌else◌, length};
-ghost use Rattle.cm_hooks.specs.Ties.{Ties};
+// The rules of mail alone, and the grammar of mail under other rules.
+ghost use Rattle.std.specs.Prelude.{◌≡◌, ◌<◌};
 
 use cm_blocks::{Chain, Grammar, Steps, try_chain};
 use cm_files::OneDirectory;
-use cm_hooks::{Answer, Hook, Hooks, Rules, Tail};
+use cm_hooks::{Answer, Rules, Tail};
 use cm_text::Name;
-use mm_mail::{mail_completion, mail_grammar, mail_help, mail_verdict};
+use mm_mail::{MailRules, mail_grammar};
 use std::alloc::{AllocError, Global};
 use std::marker::Brand;
 use std::sync::ledger::{Blank, Ledger};
@@ -38,7 +37,7 @@ fn has_verdict(alloc: Global, case: &str) -> Result<(), Fail> {
     if atom.len() > 255 {
         return Err(Fail::new("an atom that is no part of a line"));
     }
-    let answer = format!(in alloc; "{:?}", mail_verdict(atom.as_bytes()))?;
+    let answer = format!(in alloc; "{:?}", MailRules.verdict(0, atom.as_bytes()))?;
     compare(case, answer.as_str(), wanted)
 }
 
@@ -60,19 +59,18 @@ fn numbers_of_messages_are_told(rt: HostRuntime) -> Result<(), Fail> {
 
 #[test]
 fn nothing_goes_on_to_a_number(rt: HostRuntime) {
-    assert!(rt; matches!(mail_completion(b"12"), Tail::None));
-    assert!(rt; matches!(mail_completion(b""), Tail::None));
-    assert_eq!(rt; mail_help().as_str(), "message number");
+    assert!(rt; matches!(MailRules.completion(0, b"12"), Tail::None));
+    assert!(rt; matches!(MailRules.completion(0, b""), Tail::None));
+    assert_eq!(rt; MailRules.help(0).as_str(), "message number");
 }
 
 #[test]
-fn the_grammar_wants_one_hook(rt: HostRuntime) -> Result<(), Fail> {
-    let grammar = mail_grammar(rt.alloc())?;
-    assert_eq!(rt; (grammar.nodes(), grammar.hooks()), (8, 1));
+fn the_grammar_has_eight_nodes(rt: HostRuntime) -> Result<(), Fail> {
+    assert_eq!(rt; mail_grammar(rt.alloc())?.nodes(), 8);
     Ok(())
 }
 
-// Another rule: an atom is taken, with its number of bytes, unless it has three.
+// Other rules: an atom is taken, with its number of bytes, unless it has three.
 struct Sizes;
 
 impl Rules for Sizes {
@@ -80,45 +78,32 @@ impl Rules for Sizes {
     ghost use Rattle.cm_hooks.specs.declared.answer.Answer.TheVariants.{Yes, No};
     ghost use Rattle.cm_hooks.specs.declared.answer.Tail.TheVariants as tails;
 
-    ghost meanings = { record {
+    ghost meanings = { λ it. record {
       verdict = λ id atom. if length atom == 3 then No else Yes (length atom);
       completion = λ id atom. tails.None;
       help = λ id. [];
     } };
 
-    ghost lawful = { record { completes = λ id atom short. tt } };
-}
-
-fn hooks(alloc: Global) -> Result<Hooks<Sizes>, Fail>
-    ensures { IfOk result (λ hooks. Ties ⟦<Sizes as Rules>⟧.meanings hooks) }
-{
-    let verdict = |atom: &[u8]| -> Answer
-        ensures { result ≡ (if length atom.now == 3 then Answer.No else Answer.Yes (length atom.now)) }
-    {
+    fn verdict(&self, _id: u8, atom: &[u8]) -> Answer {
         match atom.len() {
             3 => Answer::No,
             size => Answer::Yes(size as u64),
         }
-    };
-    let completion = |_atom: &[u8]| -> Tail
-        ensures { result ≡ Tail.None }
-    { Tail::None };
-    let help = || -> Name
-        ensures { result ≡ [] }
-    { Name::new("") };
-    let hook = Hook::new(
-        0,
-        Box::new(alloc, verdict)?,
-        Box::new(alloc, completion)?,
-        Box::new(alloc, help)?,
-    );
-    let mut hooks = Hooks::new();
-    hooks.push(hook).ok().ok_or("the first hook")?;
-    Ok(hooks)
+    }
+
+    fn completion(&self, _id: u8, _atom: &[u8]) -> Tail {
+        Tail::None
+    }
+
+    fn help(&self, _id: u8) -> Name {
+        Name::new("")
+    }
+
+    fn are_lawful(&self) {}
 }
 
-// Each line has what stands where the number of a message is read, and what its chain says: the stored function is
-// asked, so that a number that the rule of mail takes is refused, and what it refuses is taken.
+// Each line has what stands where the number of a message is read, and what its chain says: the rules that are
+// lent are asked, so that a number that the rule of mail takes is refused, and what it refuses is taken.
 const FIELDS: &str = "123|Fault(Fault { code: Rejected, node: 2, at: 0 })
 0|Hook { id: 0, value: 1 } 0..1
 ABCDE|Hook { id: 0, value: 5 } 0..5
@@ -128,19 +113,16 @@ ABCDE|Hook { id: 0, value: 5 } 0..5
 fn answer_field<L: Ledger>(
     alloc: Global,
     grammar: &Grammar,
-    hooks: &Hooks<Sizes>,
     steps: &mut Steps<L>,
     case: &str,
-) -> Result<(), Fail>
-    requires { Ties ⟦<Sizes as Rules>⟧.meanings hooks.now }
-{
+) -> Result<(), Fail> {
     let (atom, wanted) = case.split_once('|').ok_or("an atom and an answer")?;
     let text = format!(in alloc; "{atom}\r")?;
-    if text.len() > 256 || grammar.nodes() <= 2 || grammar.hooks() > u16::from(hooks.len()) {
-        return Err(Fail::new("no such text, node or hook"));
+    if text.len() > 256 || grammar.nodes() <= 2 {
+        return Err(Fail::new("no such text or node"));
     }
     let names = OneDirectory::new("OPERATOR");
-    let chain = try_chain(grammar, 2, text.as_bytes(), 0, &names, hooks, steps);
+    let chain = try_chain(grammar, 2, text.as_bytes(), 0, &names, &Sizes, steps);
     compare(case, told(alloc, &chain)?.as_str(), wanted)
 }
 
@@ -161,10 +143,9 @@ fn answer_counted<L: Ledger>(rt: &HostRuntime, blank: Blank, cases: &[u8]) -> Re
     requires some { 0 < L.parts }
 {
     let grammar = mail_grammar(rt.alloc())?;
-    let hooks = hooks(rt.alloc())?;
     let mut steps: Steps<L> = Steps::new(rt, blank);
     for case in str::from_utf8(cases)?.lines() {
-        answer_field(rt.alloc(), &grammar, &hooks, &mut steps, case)?;
+        answer_field(rt.alloc(), &grammar, &mut steps, case)?;
     }
     Ok(())
 }
@@ -174,6 +155,6 @@ fn answer_fields(rt: &HostRuntime, cases: &str) -> Result<(), Fail> {
 }
 
 #[test]
-fn asks_the_function_that_is_stored(rt: HostRuntime) -> Result<(), Fail> {
+fn asks_the_rules_that_are_lent(rt: HostRuntime) -> Result<(), Fail> {
     answer_fields(&rt, FIELDS)
 }

@@ -1,27 +1,9 @@
 // The grammar of the sessions, which asks no hook.
 use cm_blocks::{Block, Function, Grammar, Node, Role};
-use cm_hooks::Rules;
 use cm_tables::{Entry, Table};
 use cm_text::Name;
 use std::alloc::Global;
 use std::test::Fail;
-
-// What hooks mean where there are none.
-pub(crate) struct NoRules;
-
-impl Rules for NoRules {
-    ghost use Rattle.std.specs.Prelude.{[]};
-    ghost use Rattle.cm_hooks.specs.declared.answer.Answer.TheVariants.{No};
-    ghost use Rattle.cm_hooks.specs.declared.answer.Tail.TheVariants as tails;
-
-    ghost meanings = { record {
-      verdict = λ id atom. No;
-      completion = λ id atom. tails.None;
-      help = λ id. [];
-    } };
-
-    ghost lawful = { record { completes = λ id atom short. tt } };
-}
 
 // `DELETE`, and `DIRECTORY (OF) text`.
 pub(crate) fn grammar_of(alloc: Global) -> Result<Grammar, Fail> {

@@ -1,18 +1,17 @@
 // What stands on the screen behind the keys of a session.
-ghost use Rattle.std.specs.Prelude.{◌≡◌, ◌<◌, ◌≤◌, [], ◌∷◌, length};
+ghost use Rattle.std.specs.Prelude.{◌≡◌, ◌<◌, [], ◌∷◌, length};
 ghost use Rattle.cm_text.specs.declared.text.TheConstants.{JOIN};
 ghost use Rattle.cm_blocks.specs.Fault.{grammar_fault};
-ghost use Rattle.cm_blocks.specs.Grammar.{hook_count};
 ghost use Rattle.cm_blocks.specs.Setting.{Setting, setting};
-ghost use Rattle.cm_hooks.specs.Ties.{Ties, count};
+ghost use Rattle.cm_hooks.specs.Meanings.{no_meanings};
 ghost use Rattle.cm_state.specs.SessionState.{IsReady};
 ghost use Rattle.cm_run.specs.Shows.{row_behind};
 
-use crate::commands::{NoRules, grammar_of};
+use crate::commands::grammar_of;
 use crate::notation::push_said;
 use cm_blocks::{Grammar, Steps};
 use cm_files::{Names, OneDirectory};
-use cm_hooks::{Hooks, Rules};
+use cm_hooks::NoRules;
 use cm_io::{MemSink, MemSource, Put};
 use cm_run::Display;
 use cm_state::{Label, Prompt, Session, Turn};
@@ -26,14 +25,14 @@ use tt_screen::{Status, tt20};
 
 // A session with its prompt, and what it has shown.
 #[derive(Drop)]
-struct Run<R: Rules> {
-    session: Session<R>,
+struct Run {
+    session: Session,
     prompt: Prompt,
     shown: MemSink,
 }
 
-impl<R: Rules> Run<R> {
-    fn new(alloc: Global, prompt: Prompt) -> Result<Run<R>, Fail> {
+impl Run {
+    fn new(alloc: Global, prompt: Prompt) -> Result<Run, Fail> {
         let shown = MemSink::new(alloc, 4096)?;
         Ok(Run {
             session: Session::new(),
@@ -58,19 +57,16 @@ impl<R: Rules> Run<R> {
         key: u8,
         grammar: &Grammar,
         names: &N,
-        hooks: &Hooks<R>,
         steps: &mut Steps<L>,
     )
-        requires ready { IsReady (setting grammar.now (N.catalogue names.now) R.meanings) self.old.session }
-        requires ties { Ties R.meanings hooks.now }
-        requires hooks { hook_count grammar.now ≤ count hooks.now }
+        requires ready { IsReady (setting grammar.now (N.catalogue names.now) no_meanings) self.old.session }
         requires some { 0 < length grammar.now.nodes }
-        ensures { IsReady (setting grammar.now (N.catalogue names.now) R.meanings) self.new.session }
+        ensures { IsReady (setting grammar.now (N.catalogue names.now) no_meanings) self.new.session }
     {
         grammar.has_no_fault();
         let turn = self
             .session
-            .key(key, grammar, names, hooks, &mut self.shown, steps);
+            .key(key, grammar, names, &NoRules, &mut self.shown, steps);
         if turn == Turn::Edited {
             return;
         }
@@ -79,25 +75,22 @@ impl<R: Rules> Run<R> {
 }
 
 // What a session shows that takes these keys.
-fn shown_of<N: Names, R: Rules, L: Ledger>(
+fn shown_of<N: Names, L: Ledger>(
     rt: &impl Abort,
     alloc: Global,
     prompt: Prompt,
     keys: &[u8],
     grammar: &Grammar,
     names: &N,
-    hooks: &Hooks<R>,
     steps: &mut Steps<L>,
 ) -> Result<MemSink, Fail>
-    requires ties { Ties R.meanings hooks.now }
-    requires hooks { hook_count grammar.now ≤ count hooks.now }
     requires some { 0 < length grammar.now.nodes }
 {
     grammar.has_no_fault();
     let mut run = Run::new(alloc, prompt)?;
     run.begin(rt);
     for key in keys {
-        run.key(rt, *key, grammar, names, hooks, steps);
+        run.key(rt, *key, grammar, names, steps);
     }
     Ok(run.shown)
 }
@@ -120,12 +113,12 @@ fn prompt_of(rt: &impl Abort, text: &str) -> Prompt {
 
 // A prompt that is made at run time.
 fn named(rt: &impl Abort, text: &str) -> Prompt {
-    let name = text.trim_end_matches("(config)#");
+    let name = text.trim_end_matches('#');
     assert!(rt;
         name.len() <= NAME_LIMIT && name != text,
         "{text} is no prompt"
     );
-    Prompt::Named(Label::of(&Name::new(name)), "(config)#")
+    Prompt::Named(Label::of(&Name::new(name)), b'#')
 }
 
 // The bytes that a text says.
@@ -148,27 +141,15 @@ fn try_case<N: Names, L: Ledger>(
     case: &str,
     grammar: &Grammar,
     names: &N,
-    hooks: &Hooks<NoRules>,
     steps: &mut Steps<L>,
 ) -> Result<(), Fail>
-    requires ties { Ties ⟦<NoRules as Rules>⟧.meanings hooks.now }
-    requires hooks { hook_count grammar.now ≤ count hooks.now }
     requires some { 0 < length grammar.now.nodes }
 {
     let (prompt, keys, rows) = parts(case).ok_or("a case")?;
     let prompt = prompt_of(rt, prompt);
     let keys = said(alloc, keys)?;
     let rows = said(alloc, rows)?;
-    let shown = shown_of(
-        rt,
-        alloc,
-        prompt,
-        keys.as_bytes(),
-        grammar,
-        names,
-        hooks,
-        steps,
-    )?;
+    let shown = shown_of(rt, alloc, prompt, keys.as_bytes(), grammar, names, steps)?;
     assert!(rt;
         are_rows(alloc, shown.bytes(), rows.as_bytes())?,
         "at {case}"
@@ -190,13 +171,11 @@ fn tries_with<L: Ledger, A: Abort>(
 {
     let alloc = runtime.alloc();
     let grammar = grammar_of(alloc)?;
-    let hooks = Hooks::new();
     assert!(rt; grammar.nodes() > 0);
-    assert!(rt; grammar.hooks() == 0);
     let house = OneDirectory::new("HOUSE");
     let mut steps: Steps<L> = Steps::new(runtime, blank);
     for case in str::from_utf8(cases)?.lines() {
-        try_case(rt, alloc, case, &grammar, &house, &hooks, &mut steps)?;
+        try_case(rt, alloc, case, &grammar, &house, &mut steps)?;
     }
     Ok(())
 }
@@ -224,8 +203,8 @@ LAMPS>|{255*A}{^R}|LAMPS>{74*A}{EOL}LAMPS>{74*A}{EOL}
 @|{70*SP}DIR{ESC}|@{70*SP}DIRECTORY{EOL}
 @|{70*SP}DIR{ESC}{6*DEL}X|@{70*SP}DIRECTORY{EOL}
 @|{70*SP}DIR{ESC}{7*DEL}X|@{70*SP}DIRECTORX{EOL}
-host(config)#|{66*A}BC|host(config)#{66*A}B{EOL}
-abcdefghijklmnopqrstuvwxyzabcdefghijklm(config)#|{255*A}{^R}|abcdefghijklmnopqrstuvwxyzabcdefghijklm(config)#{32*A}{EOL}abcdefghijklmnopqrstuvwxyzabcdefghijklm(config)#{32*A}{EOL}";
+host#|{74*A}BC|host#{74*A}B{EOL}
+abcdefghijklmnopqrstuvwxyzabcdefghijklm#|{255*A}{^R}|abcdefghijklmnopqrstuvwxyzabcdefghijklm#{40*A}{EOL}abcdefghijklmnopqrstuvwxyzabcdefghijklm#{40*A}{EOL}";
 
 #[test]
 fn shows_the_first_bytes_of_long_lines(rt: HostRuntime) -> Result<(), Fail> {
@@ -245,10 +224,10 @@ LAMPS>|A{TAB}{^R}B|LAMPS>A{EOL}LAMPS>A B{EOL}
 @|A{^H}B|@AB{EOL}
 @|D{CR}A|@D{EOL}?Ambiguous keyword{EOL}@A{EOL}
 LAMPS>|AB{^C}A|LAMPS>AB^C{EOL}LAMPS>A{EOL}
-host(config)#||host(config)#{EOL}
-(config)#|A{TAB}{^R}B|(config)#A{EOL}(config)#A B{EOL}
-r(config)#|DEL ?A|r(config)#DEL ? confirm with carriage return{EOL}r(config)#DEL A{EOL}
-host(config)#|AB{^C}A|host(config)#AB^C{EOL}host(config)#A{EOL}";
+host#||host#{EOL}
+#|A{TAB}{^R}B|#A{EOL}#A B{EOL}
+r#|DEL ?A|r#DEL ? confirm with carriage return{EOL}r#DEL A{EOL}
+host#|AB{^C}A|host#AB^C{EOL}host#A{EOL}";
 
 #[test]
 fn shows_prompt_and_line(rt: HostRuntime) -> Result<(), Fail> {

@@ -1,5 +1,5 @@
 use Rattle.batch20.proofs.main.Given as goal
 
 -- the ledger that was just opened
-abbrev pub ghosts-run_with_rules : goal.ghosts-run_with_rules
-ghosts-run_with_rules a = record { name = a.blank.name; parts = a.blank.parts }
+abbrev pub ghosts-run : goal.ghosts-run
+ghosts-run a = record { name = a.blank.name; parts = a.blank.parts }

@@ -4,8 +4,6 @@ ghost use Rattle.cm_text.specs.Text.{IsLine, finished};
 ghost use Rattle.cm_text.specs.declared.text.TheConstants.{LINE_LIMIT};
 ghost use Rattle.cm_io.specs.Told.{Adds};
 ghost use Rattle.cm_io.specs.Fault.{PutCause};
-ghost use Rattle.cm_hooks.specs.Ties.{Ties, count};
-ghost use Rattle.cm_blocks.specs.Grammar.{hook_count};
 ghost use Rattle.cm_blocks.specs.Kept.{cost, cost_behind};
 ghost use Rattle.cm_blocks.specs.Parse.{IsClosed, IsParse, parse_of};
 ghost use Rattle.cm_blocks.specs.Setting.{setting};
@@ -21,72 +19,70 @@ use crate::parse::parse_rest;
 use crate::{Session, Turn};
 use cm_blocks::{Grammar, Steps};
 use cm_files::Names;
-use cm_hooks::{Hooks, Rules};
+use cm_hooks::Rules;
 use cm_io::{Put, Sink, Writer};
 use cm_line::KeyClass;
 use std::sync::ledger::Ledger;
 
-impl<R: Rules> Session<R> {
+impl Session {
     /// Takes a whole line and finishes it, whatever its last byte, as `begin` at the node and then its keys and CR do
     /// with a line that ends in no hyphen: holds its parse, and shows nothing. The prompt stays.
     ///
     /// The answer is Confirmed exactly where the parse is done, and else Refused with its fault.
-    pub fn whole<N: Names, L: Ledger>(
+    pub fn whole<N: Names, R: Rules, L: Ledger>(
         &mut self,
         node: u16,
         line: &[u8],
         grammar: &Grammar,
         names: &N,
-        hooks: &Hooks<R>,
+        rules: &R,
         steps: &mut Steps<L>,
     ) -> Turn
         requires line { IsLine line.now }
         requires node { node < length grammar.now.nodes }
-        requires ties { Ties R.meanings hooks.now }
-        requires hooks { hook_count grammar.now ≤ count hooks.now }
         // It is as behind a CR that finishes that line, whatever its last byte.
-        ensures edited { self.new ≡ edited_as (setting grammar.now (N.catalogue names.now) R.meanings)
+        ensures edited { self.new ≡ edited_as (setting grammar.now (N.catalogue names.now) (R.meanings rules.now))
             (record (at_start node self.old.prompt self.old.restorable) { line = line.now }) KeyClass.End 13 }
-        ensures parse { IsParse (setting grammar.now (N.catalogue names.now) R.meanings)
+        ensures parse { IsParse (setting grammar.now (N.catalogue names.now) (R.meanings rules.now))
             node (finished line.now) self.new.fields self.new.ending }
-        ensures ready { IsReady (setting grammar.now (N.catalogue names.now) R.meanings) self.new }
+        ensures ready { IsReady (setting grammar.now (N.catalogue names.now) (R.meanings rules.now)) self.new }
         ensures decided { IsClosed self.new.ending }
         ensures turn { result ≡ turn_of KeyClass.End self.new.ending }
         ensures steps { steps.new ≡ steps.old
-            + cost (setting grammar.now (N.catalogue names.now) R.meanings) node [] (finished line.now) }
+            + cost (setting grammar.now (N.catalogue names.now) (R.meanings rules.now)) node [] (finished line.now) }
     {
         grammar.has_no_fault();
         self.start(node, self.prompt);
         self.finish(line);
-        self.reparse(grammar, names, hooks, steps);
+        self.reparse(grammar, names, rules, steps);
         self.turn(KeyClass::End)
     }
 
     /// Parses the text afresh, where the catalogue has changed since its last key: a file or a directory has come or
     /// gone. It shows nothing. Prompt and line stay, and the line stays finished where it is. What control-H brings
     /// back stays too, but behind a finished line, where it is as that line's end would leave it now.
-    pub fn parse_again<N: Names, L: Ledger>(
+    pub fn parse_again<N: Names, R: Rules, L: Ledger>(
         &mut self,
         grammar: &Grammar,
         names: &N,
-        hooks: &Hooks<R>,
+        rules: &R,
         steps: &mut Steps<L>,
     )
         requires node { self.old.node < length grammar.now.nodes }
-        requires ties { Ties R.meanings hooks.now }
-        requires hooks { hook_count grammar.now ≤ count hooks.now }
-        ensures session { self.new ≡ parsed_again (setting grammar.now (N.catalogue names.now) R.meanings) self.old }
+        ensures session { self.new ≡ parsed_again (setting grammar.now (N.catalogue names.now) (R.meanings rules.now))
+            self.old }
         // What is held is the parse of the whole text.
-        ensures parse { IsParse (setting grammar.now (N.catalogue names.now) R.meanings)
+        ensures parse { IsParse (setting grammar.now (N.catalogue names.now) (R.meanings rules.now))
             self.new.node (text_of self.new) self.new.fields self.new.ending }
-        ensures ready { IsReady (setting grammar.now (N.catalogue names.now) R.meanings) self.new }
+        ensures ready { IsReady (setting grammar.now (N.catalogue names.now) (R.meanings rules.now)) self.new }
         // It costs what the whole text costs, of which nothing is known.
         ensures steps { steps.new ≡ steps.old
-            + cost (setting grammar.now (N.catalogue names.now) R.meanings) self.old.node [] (text_of self.old) }
+            + cost (setting grammar.now (N.catalogue names.now) (R.meanings rules.now)) self.old.node []
+            (text_of self.old) }
     {
         grammar.has_no_fault();
         self.forget_fields();
-        self.parse_behind(grammar, names, hooks, steps);
+        self.parse_behind(grammar, names, rules, steps);
         self.hold_refused();
     }
 
@@ -123,21 +119,21 @@ impl<R: Rules> Session<R> {
     }
 
     // Holds the parse of the text, which begins with the fields that are held.
-    fn parse_behind<N: Names, L: Ledger>(
+    fn parse_behind<N: Names, R: Rules, L: Ledger>(
         &mut self,
         grammar: &Grammar,
         names: &N,
-        hooks: &Hooks<R>,
+        rules: &R,
         steps: &mut Steps<L>,
     )
-        requires starts { Starts (setting grammar.now (N.catalogue names.now) R.meanings)
+        requires starts { Starts (setting grammar.now (N.catalogue names.now) (R.meanings rules.now))
             self.old.node (text_of self.old) self.old.fields }
-        requires ties { Ties R.meanings hooks.now }
-        requires hooks { hook_count grammar.now ≤ count hooks.now }
         ensures parse { parse_held self.new
-            ≡ parse_of (setting grammar.now (N.catalogue names.now) R.meanings) self.old.node (text_of self.old) }
+            ≡ parse_of (setting grammar.now (N.catalogue names.now) (R.meanings rules.now)) self.old.node
+            (text_of self.old) }
         ensures same { self.new ≡ record self.old { fields = self.new.fields; ending = self.new.ending } }
-        ensures steps { steps.new ≡ steps.old + cost_behind (setting grammar.now (N.catalogue names.now) R.meanings)
+        ensures steps { steps.new ≡ steps.old + cost_behind
+            (setting grammar.now (N.catalogue names.now) (R.meanings rules.now))
             self.old.node (text_of self.old) self.old.fields }
     {
         let text = text_of(&self.line, self.is_finished);
@@ -146,7 +142,7 @@ impl<R: Rules> Session<R> {
             self.node,
             text,
             names,
-            hooks,
+            rules,
             &mut self.fields,
             steps,
         );
@@ -176,27 +172,27 @@ impl<R: Rules> Session<R> {
 
     // Holds the parse of the text, which begins with the fields that are held. Behind a refused line control-H brings
     // back the bytes before its faulty field.
-    pub(crate) fn reparse<N: Names, L: Ledger>(
+    pub(crate) fn reparse<N: Names, R: Rules, L: Ledger>(
         &mut self,
         grammar: &Grammar,
         names: &N,
-        hooks: &Hooks<R>,
+        rules: &R,
         steps: &mut Steps<L>,
     )
-        requires starts { Starts (setting grammar.now (N.catalogue names.now) R.meanings)
+        requires starts { Starts (setting grammar.now (N.catalogue names.now) (R.meanings rules.now))
             self.old.node (text_of self.old) self.old.fields }
-        requires ties { Ties R.meanings hooks.now }
-        requires hooks { hook_count grammar.now ≤ count hooks.now }
         ensures parse { parse_held self.new
-            ≡ parse_of (setting grammar.now (N.catalogue names.now) R.meanings) self.old.node (text_of self.old) }
+            ≡ parse_of (setting grammar.now (N.catalogue names.now) (R.meanings rules.now)) self.old.node
+            (text_of self.old) }
         ensures restorable { self.new.restorable
             ≡ (if self.old.is_finished then before_fault self.old.line self.new.ending else None) }
         ensures same { self.new
             ≡ record self.old { fields = self.new.fields; ending = self.new.ending; restorable = self.new.restorable } }
-        ensures steps { steps.new ≡ steps.old + cost_behind (setting grammar.now (N.catalogue names.now) R.meanings)
+        ensures steps { steps.new ≡ steps.old + cost_behind
+            (setting grammar.now (N.catalogue names.now) (R.meanings rules.now))
             self.old.node (text_of self.old) self.old.fields }
     {
-        self.parse_behind(grammar, names, hooks, steps);
+        self.parse_behind(grammar, names, rules, steps);
         hold_before_fault(
             self.is_finished,
             &self.line,

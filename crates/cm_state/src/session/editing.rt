@@ -1,10 +1,8 @@
 // What a key makes of the line of a session.
-ghost use Rattle.std.specs.Prelude.{◌≡◌, ◌≤◌, true, false, [], ◌++◌, None, unwrap_or, if◌then◌else◌};
+ghost use Rattle.std.specs.Prelude.{◌≡◌, true, false, [], ◌++◌, None, unwrap_or, if◌then◌else◌};
 ghost use Rattle.cm_text.specs.Bytes.{is_text};
 ghost use Rattle.cm_text.specs.Text.{ends_in_hyphen};
 ghost use Rattle.cm_line.specs.Keys.{is_end};
-ghost use Rattle.cm_hooks.specs.Ties.{Ties, count};
-ghost use Rattle.cm_blocks.specs.Grammar.{hook_count};
 ghost use Rattle.cm_blocks.specs.Kept.{common};
 ghost use Rattle.cm_blocks.specs.Parse.{open_at};
 ghost use Rattle.cm_blocks.specs.Setting.{setting};
@@ -17,7 +15,7 @@ use crate::Session;
 use crate::held::open_at;
 use cm_blocks::Grammar;
 use cm_files::Names;
-use cm_hooks::{Hooks, Rules};
+use cm_hooks::Rules;
 use cm_line::KeyClass;
 use cm_recognise::{Mode, complete};
 use cm_text::common_len;
@@ -31,7 +29,7 @@ pub(crate) struct Change {
     pub(crate) rings: bool,
 }
 
-impl<R: Rules> Session<R> {
+impl Session {
     // A key behind a finished text meets an empty line, of which nothing is known.
     pub(crate) fn reopen(&mut self)
         ensures { self.new ≡ record self.old {
@@ -50,33 +48,31 @@ impl<R: Rules> Session<R> {
     }
 
     // Edits the line by a key.
-    pub(crate) fn apply_edit<N: Names>(
+    pub(crate) fn apply_edit<N: Names, R: Rules>(
         &mut self,
         class: KeyClass,
         key: u8,
         grammar: &Grammar,
         names: &N,
-        hooks: &Hooks<R>,
+        rules: &R,
     ) -> Change
         requires open { self.old.is_finished ≡ false }
         requires text { class ≡ KeyClass.Text → is_text key ≡ true }
         requires join { class ≡ KeyClass.Join → ends_in_hyphen self.old.line ≡ true }
-        requires ties { Ties R.meanings hooks.now }
-        requires hooks { hook_count grammar.now ≤ count hooks.now }
         ensures edited { self.new ≡ record self.old {
           line = edit class key self.old.line self.old.restorable
-              (completion (setting grammar.now (N.catalogue names.now) R.meanings)
+              (completion (setting grammar.now (N.catalogue names.now) (R.meanings rules.now))
               class self.old.ending self.old.line).bytes;
           is_finished = is_end class;
           restorable = None;
         } }
         ensures front { result.front ≡ common self.old.line (text_of self.new) }
-        ensures bell { result.rings ≡ (completion (setting grammar.now (N.catalogue names.now) R.meanings)
+        ensures bell { result.rings ≡ (completion (setting grammar.now (N.catalogue names.now) (R.meanings rules.now))
             class self.old.ending self.old.line).bell }
     {
         match class {
-            KeyClass::Escape => self.insert(Mode::Escape, grammar, names, hooks),
-            KeyClass::Part => self.insert(Mode::Part, grammar, names, hooks),
+            KeyClass::Escape => self.insert(Mode::Escape, grammar, names, rules),
+            KeyClass::Part => self.insert(Mode::Part, grammar, names, rules),
             _ => Change {
                 front: self.edit_common(class, key),
                 rings: false,
@@ -85,27 +81,25 @@ impl<R: Rules> Session<R> {
     }
 
     // Puts in what completes the line.
-    fn insert<N: Names>(
+    fn insert<N: Names, R: Rules>(
         &mut self,
         mode: Mode,
         grammar: &Grammar,
         names: &N,
-        hooks: &Hooks<R>,
+        rules: &R,
     ) -> Change
         requires open { self.old.is_finished ≡ false }
-        requires ties { Ties R.meanings hooks.now }
-        requires hooks { hook_count grammar.now ≤ count hooks.now }
         ensures inserted { self.new ≡ record self.old {
-          line = self.old.line ++ (insertion (setting grammar.now (N.catalogue names.now) R.meanings)
+          line = self.old.line ++ (insertion (setting grammar.now (N.catalogue names.now) (R.meanings rules.now))
               self.old.ending self.old.line mode).bytes;
           restorable = None;
         } }
         ensures front { result.front ≡ common self.old.line self.new.line }
-        ensures bell { result.rings ≡ (insertion (setting grammar.now (N.catalogue names.now) R.meanings)
+        ensures bell { result.rings ≡ (insertion (setting grammar.now (N.catalogue names.now) (R.meanings rules.now))
             self.old.ending self.old.line mode).bell }
     {
         let front = self.line.bytes().len();
-        let insertion = complete(grammar, self.ending, self.line.bytes(), names, hooks, mode);
+        let insertion = complete(grammar, self.ending, self.line.bytes(), names, rules, mode);
         self.line.append(insertion.bytes.as_slice());
         self.restorable.forget();
         Change {

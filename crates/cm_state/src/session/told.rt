@@ -12,9 +12,8 @@ use crate::Session;
 use crate::held::text_of;
 use crate::said::{said_in, said_of};
 use cm_blocks::{Ending, Field, Grammar, Role};
-use cm_hooks::Rules;
 
-impl<R: Rules> Session<R> {
+impl Session {
     /// The whole text: the line, or the line and the CR that finished it.
     pub fn text(&self) -> &[u8]
         ensures value { result.now ≡ text_of self.now }

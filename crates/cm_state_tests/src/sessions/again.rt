@@ -1,7 +1,5 @@
 // A line that is shown again, and one that is parsed again.
-ghost use Rattle.std.specs.Prelude.{◌<◌, ◌≤◌, length};
-ghost use Rattle.cm_blocks.specs.Grammar.{hook_count};
-ghost use Rattle.cm_hooks.specs.Ties.{Ties, count};
+ghost use Rattle.std.specs.Prelude.{◌<◌, length};
 
 use super::question::{Question, tries};
 use super::run::{Run, run_of};
@@ -11,7 +9,6 @@ use crate::grammars::{exec, said};
 use crate::judges::Judges;
 use cm_blocks::{Grammar, Steps};
 use cm_files::{Names, OneDirectory};
-use cm_hooks::{Hooks, Rules};
 use cm_io::{MemSink, Put};
 use cm_state::Turn;
 use std::alloc::Global;
@@ -20,7 +17,7 @@ use std::sync::ledger::Ledger;
 use std::test::Fail;
 
 // What is shown again of a run.
-fn shown(rt: &impl Abort, alloc: Global, run: &Run<Judges>) -> Result<String, Fail> {
+fn shown(rt: &impl Abort, alloc: Global, run: &Run) -> Result<String, Fail> {
     let mut sink = MemSink::new(alloc, 400)?;
     assert_eq!(rt; run.session.show(&mut sink), Put::Done);
     text_of(alloc, &sink)
@@ -32,15 +29,12 @@ pub(crate) fn try_shown<L: Ledger>(
     alloc: Global,
     case: &str,
     grammar: &Grammar,
-    hooks: &Hooks<Judges>,
     steps: &mut Steps<L>,
 ) -> Result<(), Fail>
-    requires ties { Ties ⟦<Judges as Rules>⟧.meanings hooks.now }
-    requires hooks { hook_count grammar.now ≤ count hooks.now }
     requires nodes { 0 < length grammar.now.nodes }
 {
     let (keys, wanted) = case.split_once('|').ok_or("a case")?;
-    let run = run_of(rt, alloc, keys, grammar, &Cabinet, hooks, steps)?;
+    let run = run_of(rt, alloc, keys, grammar, &Cabinet, &Judges, steps)?;
     let found = shown(rt, alloc, &run)?;
     assert_eq!(rt; found.as_str(), wanted, "at {case}");
     Ok(())
@@ -67,22 +61,19 @@ LOGOUT\r|@";
 fn told<N: Names, L: Ledger>(
     rt: &impl Abort,
     alloc: Global,
-    run: &mut Run<Judges>,
+    run: &mut Run,
     grammar: &Grammar,
     names: &N,
-    hooks: &Hooks<Judges>,
     steps: &mut Steps<L>,
 ) -> Result<String, Fail>
-    requires ties { Ties ⟦<Judges as Rules>⟧.meanings hooks.now }
-    requires hooks { hook_count grammar.now ≤ count hooks.now }
     requires nodes { run.old.session.node < length grammar.now.nodes }
 {
     let mut sink = MemSink::new(alloc, 400)?;
-    run.session.parse_again(grammar, names, hooks, steps);
+    run.session.parse_again(grammar, names, &Judges, steps);
     let held = run.session.held();
     let turn = run
         .session
-        .key(b'\r', grammar, names, hooks, &mut sink, steps);
+        .key(b'\r', grammar, names, &Judges, &mut sink, steps);
     assert!(rt; turn != Turn::Failed);
     Ok(format!(in alloc; "{held} {turn:?}")?)
 }
@@ -94,22 +85,18 @@ fn answer<L: Ledger>(
     files: &str,
     keys: &str,
     grammar: &Grammar,
-    hooks: &Hooks<Judges>,
     steps: &mut Steps<L>,
 ) -> Result<String, Fail>
-    requires ties { Ties ⟦<Judges as Rules>⟧.meanings hooks.now }
-    requires hooks { hook_count grammar.now ≤ count hooks.now }
     requires nodes { 0 < length grammar.now.nodes }
 {
     if files == "gone" {
-        let mut run = run_of(rt, alloc, keys, grammar, &Cabinet, hooks, steps)?;
+        let mut run = run_of(rt, alloc, keys, grammar, &Cabinet, &Judges, steps)?;
         return told(
             rt,
             alloc,
             &mut run,
             grammar,
             &OneDirectory::nothing(),
-            hooks,
             steps,
         );
     }
@@ -119,10 +106,10 @@ fn answer<L: Ledger>(
         keys,
         grammar,
         &OneDirectory::nothing(),
-        hooks,
+        &Judges,
         steps,
     )?;
-    told(rt, alloc, &mut run, grammar, &Cabinet, hooks, steps)
+    told(rt, alloc, &mut run, grammar, &Cabinet, steps)
 }
 
 // A case is what happens to the files, keys, and what is held then, with what CR comes to.
@@ -137,15 +124,12 @@ pub(crate) fn try_case<L: Ledger>(
     alloc: Global,
     case: &str,
     grammar: &Grammar,
-    hooks: &Hooks<Judges>,
     steps: &mut Steps<L>,
 ) -> Result<(), Fail>
-    requires ties { Ties ⟦<Judges as Rules>⟧.meanings hooks.now }
-    requires hooks { hook_count grammar.now ≤ count hooks.now }
     requires nodes { 0 < length grammar.now.nodes }
 {
     let (files, keys, wanted) = parts(case).ok_or("a case")?;
-    let found = answer(rt, alloc, files, keys, grammar, hooks, steps)?;
+    let found = answer(rt, alloc, files, keys, grammar, steps)?;
     assert_eq!(rt; found.as_str(), wanted, "at {case}");
     Ok(())
 }

@@ -1,7 +1,5 @@
 // Fields that are kept over a key.
-ghost use Rattle.std.specs.Prelude.{◌<◌, ◌≤◌, length};
-ghost use Rattle.cm_blocks.specs.Grammar.{hook_count};
-ghost use Rattle.cm_hooks.specs.Ties.{Ties, count};
+ghost use Rattle.std.specs.Prelude.{◌<◌, length};
 
 use super::question::{Question, tries};
 use super::run::{Run, run_of};
@@ -10,7 +8,6 @@ use crate::cases::{numbered, repeat};
 use crate::grammars::exec;
 use crate::judges::Judges;
 use cm_blocks::{Grammar, Steps};
-use cm_hooks::{Hooks, Rules};
 use std::alloc::Global;
 use std::process::Abort;
 use std::sync::ledger::Ledger;
@@ -77,7 +74,7 @@ fn keys_of(alloc: Global, times: u16, more: &str) -> Result<String, Fail> {
 }
 
 // How many fields are held, and how the parse ends.
-fn tell(alloc: Global, run: &Run<Judges>) -> Result<String, Fail> {
+fn tell(alloc: Global, run: &Run) -> Result<String, Fail> {
     let session = &run.session;
     Ok(format!(in alloc; "{} {:?}", session.held(), session.ending())?)
 }
@@ -89,15 +86,12 @@ fn held<L: Ledger>(
     times: u16,
     more: &str,
     grammar: &Grammar,
-    hooks: &Hooks<Judges>,
     steps: &mut Steps<L>,
 ) -> Result<String, Fail>
-    requires ties { Ties ⟦<Judges as Rules>⟧.meanings hooks.now }
-    requires hooks { hook_count grammar.now ≤ count hooks.now }
     requires nodes { 0 < length grammar.now.nodes }
 {
     let keys = keys_of(alloc, times, more)?;
-    let run = run_of(rt, alloc, &keys, grammar, &Cabinet, hooks, steps)?;
+    let run = run_of(rt, alloc, &keys, grammar, &Cabinet, &Judges, steps)?;
     tell(alloc, &run)
 }
 
@@ -106,15 +100,12 @@ pub(crate) fn try_case<L: Ledger>(
     alloc: Global,
     case: &str,
     grammar: &Grammar,
-    hooks: &Hooks<Judges>,
     steps: &mut Steps<L>,
 ) -> Result<(), Fail>
-    requires ties { Ties ⟦<Judges as Rules>⟧.meanings hooks.now }
-    requires hooks { hook_count grammar.now ≤ count hooks.now }
     requires nodes { 0 < length grammar.now.nodes }
 {
     let (times, more, wanted) = numbered(case).ok_or("a case")?;
-    let found = held(rt, alloc, times, more, grammar, hooks, steps)?;
+    let found = held(rt, alloc, times, more, grammar, steps)?;
     assert_eq!(rt; found.as_str(), wanted, "at {case}");
     Ok(())
 }

@@ -1,7 +1,4 @@
 // Lines that are taken whole.
-ghost use Rattle.std.specs.Prelude.{◌≤◌};
-ghost use Rattle.cm_blocks.specs.Grammar.{hook_count};
-ghost use Rattle.cm_hooks.specs.Ties.{Ties, count};
 
 use super::question::{Question, tries};
 use crate::cabinet::Cabinet;
@@ -9,7 +6,6 @@ use crate::cases::{line, numbered};
 use crate::grammars::{exec, fields};
 use crate::judges::Judges;
 use cm_blocks::{Grammar, Steps};
-use cm_hooks::{Hooks, Rules};
 use cm_io::{MemSink, Put};
 use cm_state::{Session, Turn};
 use std::alloc::Global;
@@ -23,33 +19,24 @@ fn answer<L: Ledger>(
     alloc: Global,
     node: u16,
     text: &str,
-    session: &mut Session<Judges>,
+    session: &mut Session,
     grammar: &Grammar,
-    hooks: &Hooks<Judges>,
     steps: &mut Steps<L>,
-) -> Result<String, Fail>
-    requires ties { Ties ⟦<Judges as Rules>⟧.meanings hooks.now }
-    requires hooks { hook_count grammar.now ≤ count hooks.now }
-{
+) -> Result<String, Fail> {
     assert!(rt; node < grammar.nodes());
     let line = line(rt, text);
-    let turn = session.whole(node, line.bytes(), grammar, &Cabinet, hooks, steps);
+    let turn = session.whole(node, line.bytes(), grammar, &Cabinet, &Judges, steps);
     assert_eq!(rt; session.text(), line.finished());
     tell(rt, alloc, turn, session)
 }
 
-fn tell(
-    rt: &impl Abort,
-    alloc: Global,
-    turn: Turn,
-    session: &Session<Judges>,
-) -> Result<String, Fail> {
+fn tell(rt: &impl Abort, alloc: Global, turn: Turn, session: &Session) -> Result<String, Fail> {
     let log = logged(rt, alloc, session)?;
     Ok(format!(in alloc; "{turn:?}|{}", str::from_utf8(log.bytes())?.trim_end())?)
 }
 
 // The line of the log that tells of CR.
-fn logged(rt: &impl Abort, alloc: Global, session: &Session<Judges>) -> Result<MemSink, Fail> {
+fn logged(rt: &impl Abort, alloc: Global, session: &Session) -> Result<MemSink, Fail> {
     let mut log = MemSink::new(alloc, 400)?;
     assert_eq!(rt; session.log_line(b'\r', &mut log), Put::Done);
     Ok(log)
@@ -60,16 +47,12 @@ pub(crate) fn try_case<L: Ledger>(
     rt: &impl Abort,
     alloc: Global,
     case: &str,
-    session: &mut Session<Judges>,
+    session: &mut Session,
     grammar: &Grammar,
-    hooks: &Hooks<Judges>,
     steps: &mut Steps<L>,
-) -> Result<(), Fail>
-    requires ties { Ties ⟦<Judges as Rules>⟧.meanings hooks.now }
-    requires hooks { hook_count grammar.now ≤ count hooks.now }
-{
+) -> Result<(), Fail> {
     let (node, text, wanted) = numbered(case).ok_or("a case")?;
-    let found = answer(rt, alloc, node, text, session, grammar, hooks, steps)?;
+    let found = answer(rt, alloc, node, text, session, grammar, steps)?;
     assert_eq!(rt; found.as_str(), wanted, "at {case}");
     Ok(())
 }

@@ -1,7 +1,5 @@
 // Prompts that are made at run time.
-ghost use Rattle.std.specs.Prelude.{◌<◌, ◌≤◌, length};
-ghost use Rattle.cm_blocks.specs.Grammar.{hook_count};
-ghost use Rattle.cm_hooks.specs.Ties.{Ties, count};
+ghost use Rattle.std.specs.Prelude.{◌<◌, length};
 
 use super::question::{Question, tries};
 use super::run::run_behind;
@@ -10,7 +8,6 @@ use crate::cases::repeat;
 use crate::grammars::exec;
 use crate::judges::Judges;
 use cm_blocks::{Grammar, Steps};
-use cm_hooks::{Hooks, Rules};
 use cm_state::{Label, Prompt};
 use cm_text::{NAME_LIMIT, Name};
 use std::alloc::Global;
@@ -21,7 +18,7 @@ use std::test::Fail;
 // The prompt of a name, with one mark behind it.
 fn prompt_of(rt: &impl Abort, name: &str) -> Prompt {
     assert!(rt; name.len() <= NAME_LIMIT, "{name} is too long");
-    Prompt::Named(Label::of(&Name::new(name)), "(config)#")
+    Prompt::Named(Label::of(&Name::new(name)), b'#')
 }
 
 // A name, keys, and what is shown.
@@ -36,16 +33,13 @@ pub(crate) fn try_case<L: Ledger>(
     alloc: Global,
     case: &str,
     grammar: &Grammar,
-    hooks: &Hooks<Judges>,
     steps: &mut Steps<L>,
 ) -> Result<(), Fail>
-    requires ties { Ties ⟦<Judges as Rules>⟧.meanings hooks.now }
-    requires hooks { hook_count grammar.now ≤ count hooks.now }
     requires nodes { 0 < length grammar.now.nodes }
 {
     let (name, keys, wanted) = parts(case).ok_or("a case")?;
     let prompt = prompt_of(rt, name);
-    let run = run_behind(rt, alloc, prompt, keys, grammar, &Cabinet, hooks, steps)?;
+    let run = run_behind(rt, alloc, prompt, keys, grammar, &Cabinet, &Judges, steps)?;
     assert_eq!(rt; str::from_utf8(run.shown())?, wanted, "at {case}");
     Ok(())
 }
@@ -55,39 +49,39 @@ pub(crate) fn try_case<L: Ledger>(
 #[test]
 fn shows_names_and_marks(rt: HostRuntime) -> Result<(), Fail> {
     let cases = "\
-host||host(config)#
+host||host#
 
-host|INF X\x12V|host(config)#INF X\r
-host(config)#INF XV
+host|INF X\x12V|host#INF X\r
+host#INF XV
 
-host|INF ?V|host(config)#INF ? guide word (ABOUT)\r
+host|INF ?V|host#INF ? guide word (ABOUT)\r
  or one of the following:\r
   VERSION\r
-host(config)#INF V
+host#INF V
 
-host|INF -\rV\x15|host(config)#INF -\r
+host|INF -\rV\x15|host#INF -\r
 V\r
-host(config)#
+host#
 
-host|LOGOUT\rA|host(config)#LOGOUT\r
-host(config)#A
+host|LOGOUT\rA|host#LOGOUT\r
+host#A
 
-host|A\x03B|host(config)#A^C\r
-host(config)#B
+host|A\x03B|host#A^C\r
+host#B
 
-|INF\x12|(config)#INF\r
-(config)#INF
+|INF\x12|#INF\r
+#INF
 
-R|INF\x12|R(config)#INF\r
-R(config)#INF
+R|INF\x12|R#INF\r
+R#INF
 
-[R]|INF\x12|[R](config)#INF\r
-[R](config)#INF
+[R]|INF\x12|[R]#INF\r
+[R]#INF
 
-[R]|INF ?|[R](config)#INF ? guide word (ABOUT)\r
+[R]|INF ?|[R]#INF ? guide word (ABOUT)\r
  or one of the following:\r
   VERSION\r
-[R](config)#INF ";
+[R]#INF ";
     tries(
         &rt,
         &rt,

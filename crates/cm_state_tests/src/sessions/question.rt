@@ -1,12 +1,8 @@
 // What is asked of a session.
-ghost use Rattle.std.specs.Prelude.{◌≡◌, ◌<◌, ◌≤◌, length};
-ghost use Rattle.cm_blocks.specs.Grammar.{hook_count};
-ghost use Rattle.cm_hooks.specs.Ties.{Ties, count};
+ghost use Rattle.std.specs.Prelude.{◌≡◌, ◌<◌, length};
 
 use super::{again, fields, lines, prompts, run, said};
-use crate::judges::{Judges, hooks_of};
 use cm_blocks::{Grammar, Steps};
-use cm_hooks::{Hooks, Rules};
 use cm_state::Session;
 use std::alloc::Global;
 use std::marker::Brand;
@@ -15,8 +11,8 @@ use std::sync::ledger::{Blank, Ledger};
 use std::test::Fail;
 
 // What the keys of a run come to, how many fields it holds, what whole lines come to, what their fields said, a field
-// of a role, how a run is shown again, what it holds where its text is parsed again, or what it shows behind a prompt that
-// is made at run time.
+// of a role, how a run is shown again, what it holds where its text is parsed again, or what it shows behind a prompt
+// that is made at run time.
 #[derive(Clone, Copy)]
 pub(crate) enum Question {
     Keys,
@@ -51,24 +47,21 @@ fn try_case<L: Ledger>(
     alloc: Global,
     question: Question,
     case: &str,
-    session: &mut Session<Judges>,
+    session: &mut Session,
     grammar: &Grammar,
-    hooks: &Hooks<Judges>,
     steps: &mut Steps<L>,
 ) -> Result<(), Fail>
-    requires ties { Ties ⟦<Judges as Rules>⟧.meanings hooks.now }
-    requires hooks { hook_count grammar.now ≤ count hooks.now }
     requires nodes { 0 < length grammar.now.nodes }
 {
     match question {
-        Question::Keys => run::try_case(rt, alloc, case, grammar, hooks, steps),
-        Question::Count => fields::try_case(rt, alloc, case, grammar, hooks, steps),
-        Question::Lines => lines::try_case(rt, alloc, case, session, grammar, hooks, steps),
-        Question::Said => said::try_case(rt, alloc, case, session, grammar, hooks, steps),
-        Question::Role => said::try_role(rt, alloc, case, session, grammar, hooks, steps),
-        Question::Shown => again::try_shown(rt, alloc, case, grammar, hooks, steps),
-        Question::Again => again::try_case(rt, alloc, case, grammar, hooks, steps),
-        Question::Prompts => prompts::try_case(rt, alloc, case, grammar, hooks, steps),
+        Question::Keys => run::try_case(rt, alloc, case, grammar, steps),
+        Question::Count => fields::try_case(rt, alloc, case, grammar, steps),
+        Question::Lines => lines::try_case(rt, alloc, case, session, grammar, steps),
+        Question::Said => said::try_case(rt, alloc, case, session, grammar, steps),
+        Question::Role => said::try_role(rt, alloc, case, session, grammar, steps),
+        Question::Shown => again::try_shown(rt, alloc, case, grammar, steps),
+        Question::Again => again::try_case(rt, alloc, case, grammar, steps),
+        Question::Prompts => prompts::try_case(rt, alloc, case, grammar, steps),
     }
 }
 
@@ -86,21 +79,11 @@ fn tries_with<L: Ledger, A: Abort>(
     requires some { 0 < L.parts }
 {
     let alloc = runtime.alloc();
-    let hooks = hooks_of(rt, alloc, grammar)?;
     assert!(rt; grammar.nodes() > 0);
     let mut steps: Steps<L> = Steps::new(runtime, blank);
     let mut session = Session::new();
     for case in str::from_utf8(cases)?.split(question.separator()) {
-        try_case(
-            rt,
-            alloc,
-            question,
-            case,
-            &mut session,
-            grammar,
-            &hooks,
-            &mut steps,
-        )?;
+        try_case(rt, alloc, question, case, &mut session, grammar, &mut steps)?;
     }
     Ok(())
 }

@@ -1,17 +1,15 @@
 // Keys that are taken one behind another, and what they come to.
-ghost use Rattle.std.specs.Prelude.{◌≡◌, ◌<◌, ◌≤◌, None, IfOk, length};
+ghost use Rattle.std.specs.Prelude.{◌≡◌, ◌<◌, None, IfOk, length};
 ghost use Rattle.cm_blocks.specs.Fault.{grammar_fault};
-ghost use Rattle.cm_blocks.specs.Grammar.{hook_count};
 ghost use Rattle.cm_blocks.specs.Setting.{Setting, setting};
-ghost use Rattle.cm_hooks.specs.Ties.{Ties, count};
 ghost use Rattle.cm_state.specs.SessionState.{IsReady};
 
 use crate::cabinet::Cabinet;
 use crate::grammars::exec;
-use crate::judges::{Judges, hooks_of};
+use crate::judges::Judges;
 use cm_blocks::{Grammar, Steps};
 use cm_files::Names;
-use cm_hooks::{Hooks, Rules};
+use cm_hooks::Rules;
 use cm_io::{MemSink, Put};
 use cm_state::{Prompt, Session, Turn};
 use std::alloc::Global;
@@ -21,16 +19,16 @@ use std::test::Fail;
 
 // A session with what it has shown and logged, and what its last key came to.
 #[derive(Drop)]
-pub(crate) struct Run<R: Rules> {
-    pub(crate) session: Session<R>,
+pub(crate) struct Run {
+    pub(crate) session: Session,
     pub(crate) turn: Turn,
     prompt: Prompt,
     shown: MemSink,
     logged: MemSink,
 }
 
-impl<R: Rules> Run<R> {
-    fn new(alloc: Global, prompt: Prompt) -> Result<Run<R>, Fail> {
+impl Run {
+    fn new(alloc: Global, prompt: Prompt) -> Result<Run, Fail> {
         let shown = MemSink::new(alloc, 4096)?;
         let logged = MemSink::new(alloc, 131_072)?;
         Ok(Run {
@@ -52,25 +50,23 @@ impl<R: Rules> Run<R> {
     }
 
     // Takes one key and logs it. Behind a line that is over it begins another.
-    fn key<N: Names, L: Ledger>(
+    fn key<N: Names, R: Rules, L: Ledger>(
         &mut self,
         rt: &impl Abort,
         key: u8,
         grammar: &Grammar,
         names: &N,
-        hooks: &Hooks<R>,
+        rules: &R,
         steps: &mut Steps<L>,
     )
-        requires ready { IsReady (setting grammar.now (N.catalogue names.now) R.meanings) self.old.session }
-        requires ties { Ties R.meanings hooks.now }
-        requires hooks { hook_count grammar.now ≤ count hooks.now }
+        requires ready { IsReady (setting grammar.now (N.catalogue names.now) (R.meanings rules.now)) self.old.session }
         requires some { 0 < length grammar.now.nodes }
-        ensures { IsReady (setting grammar.now (N.catalogue names.now) R.meanings) self.new.session }
+        ensures { IsReady (setting grammar.now (N.catalogue names.now) (R.meanings rules.now)) self.new.session }
     {
         grammar.has_no_fault();
         self.turn = self
             .session
-            .key(key, grammar, names, hooks, &mut self.shown, steps);
+            .key(key, grammar, names, rules, &mut self.shown, steps);
         let logged = self.session.log_line(key, &mut self.logged);
         assert_eq!(rt; logged, Put::Done);
         if self.turn == Turn::Edited {
@@ -107,13 +103,12 @@ pub(crate) fn run_behind<N: Names, R: Rules, L: Ledger>(
     keys: &str,
     grammar: &Grammar,
     names: &N,
-    hooks: &Hooks<R>,
+    rules: &R,
     steps: &mut Steps<L>,
-) -> Result<Run<R>, Fail>
-    requires ties { Ties R.meanings hooks.now }
-    requires hooks { hook_count grammar.now ≤ count hooks.now }
+) -> Result<Run, Fail>
     requires some { 0 < length grammar.now.nodes }
-    ensures { IfOk result (λ run. IsReady (setting grammar.now (N.catalogue names.now) R.meanings) run.session) }
+    ensures { IfOk result
+        (λ run. IsReady (setting grammar.now (N.catalogue names.now) (R.meanings rules.now)) run.session) }
 {
     grammar.has_no_fault();
     let mut run = Run::new(alloc, prompt)?;
@@ -124,7 +119,7 @@ pub(crate) fn run_behind<N: Names, R: Rules, L: Ledger>(
             u8::try_from(u32::from(key))?,
             grammar,
             names,
-            hooks,
+            rules,
             steps,
         );
     }
@@ -138,30 +133,23 @@ pub(crate) fn run_of<N: Names, R: Rules, L: Ledger>(
     keys: &str,
     grammar: &Grammar,
     names: &N,
-    hooks: &Hooks<R>,
+    rules: &R,
     steps: &mut Steps<L>,
-) -> Result<Run<R>, Fail>
-    requires ties { Ties R.meanings hooks.now }
-    requires hooks { hook_count grammar.now ≤ count hooks.now }
+) -> Result<Run, Fail>
     requires some { 0 < length grammar.now.nodes }
-    ensures { IfOk result (λ run. IsReady (setting grammar.now (N.catalogue names.now) R.meanings) run.session) }
+    ensures { IfOk result
+        (λ run. IsReady (setting grammar.now (N.catalogue names.now) (R.meanings rules.now)) run.session) }
 {
-    run_behind(rt, alloc, Prompt::Main, keys, grammar, names, hooks, steps)
+    run_behind(rt, alloc, Prompt::Main, keys, grammar, names, rules, steps)
 }
 
-// The EXEC's grammar and its hooks.
-pub(crate) fn exec_and_hooks(
-    rt: &impl Abort,
-    alloc: Global,
-) -> Result<(Grammar, Hooks<Judges>), Fail>
-    ensures ties { IfOk result (λ made. Ties ⟦<Judges as Rules>⟧.meanings made.1) }
-    ensures hooks { IfOk result (λ made. hook_count made.0 ≤ count made.1) }
-    ensures nodes { IfOk result (λ made. 0 < length made.0.nodes) }
+// The EXEC's grammar.
+pub(crate) fn exec_of(rt: &impl Abort, alloc: Global) -> Result<Grammar, Fail>
+    ensures { IfOk result (λ grammar. 0 < length grammar.nodes) }
 {
     let grammar = exec(alloc)?;
-    let hooks = hooks_of(rt, alloc, &grammar)?;
     assert!(rt; grammar.nodes() > 0);
-    Ok((grammar, hooks))
+    Ok(grammar)
 }
 
 // The keys of a case, what they come to, and how the log ends.
@@ -178,14 +166,11 @@ fn answer_of<L: Ledger>(
     keys: &str,
     end: &str,
     grammar: &Grammar,
-    hooks: &Hooks<Judges>,
     steps: &mut Steps<L>,
 ) -> Result<String, Fail>
-    requires ties { Ties ⟦<Judges as Rules>⟧.meanings hooks.now }
-    requires hooks { hook_count grammar.now ≤ count hooks.now }
     requires nodes { 0 < length grammar.now.nodes }
 {
-    let run = run_of(rt, alloc, keys, grammar, &Cabinet, hooks, steps)?;
+    let run = run_of(rt, alloc, keys, grammar, &Cabinet, &Judges, steps)?;
     assert!(rt; run.logs(end), "the log ends otherwise than {end}");
     run.answer(alloc)
 }
@@ -196,15 +181,12 @@ pub(crate) fn try_case<L: Ledger>(
     alloc: Global,
     case: &str,
     grammar: &Grammar,
-    hooks: &Hooks<Judges>,
     steps: &mut Steps<L>,
 ) -> Result<(), Fail>
-    requires ties { Ties ⟦<Judges as Rules>⟧.meanings hooks.now }
-    requires hooks { hook_count grammar.now ≤ count hooks.now }
     requires nodes { 0 < length grammar.now.nodes }
 {
     let (keys, wanted, end) = parts(case).ok_or("a case")?;
-    let found = answer_of(rt, alloc, keys, end, grammar, hooks, steps)?;
+    let found = answer_of(rt, alloc, keys, end, grammar, steps)?;
     assert_eq!(rt; found.as_str(), wanted);
     Ok(())
 }

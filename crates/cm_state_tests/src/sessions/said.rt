@@ -1,7 +1,5 @@
 // What the fields of a line said, and the fields of a role.
-ghost use Rattle.std.specs.Prelude.{◌<◌, ◌≤◌, length};
-ghost use Rattle.cm_blocks.specs.Grammar.{hook_count};
-ghost use Rattle.cm_hooks.specs.Ties.{Ties, count};
+ghost use Rattle.std.specs.Prelude.{◌<◌, length};
 
 use super::question::{Question, tries};
 use crate::cabinet::Cabinet;
@@ -9,7 +7,6 @@ use crate::cases::line;
 use crate::grammars::{exec, said};
 use crate::judges::Judges;
 use cm_blocks::{Grammar, Role, Steps};
-use cm_hooks::{Hooks, Rules};
 use cm_state::Session;
 use std::alloc::Global;
 use std::process::Abort;
@@ -20,21 +17,18 @@ use std::test::Fail;
 fn take<L: Ledger>(
     rt: &impl Abort,
     text: &str,
-    session: &mut Session<Judges>,
+    session: &mut Session,
     grammar: &Grammar,
-    hooks: &Hooks<Judges>,
     steps: &mut Steps<L>,
 )
-    requires ties { Ties ⟦<Judges as Rules>⟧.meanings hooks.now }
-    requires hooks { hook_count grammar.now ≤ count hooks.now }
     requires nodes { 0 < length grammar.now.nodes }
 {
     let line = line(rt, text);
-    session.whole(0, line.bytes(), grammar, &Cabinet, hooks, steps);
+    session.whole(0, line.bytes(), grammar, &Cabinet, &Judges, steps);
 }
 
 // What each field said, with a bar behind it.
-fn all_said(alloc: Global, session: &Session<Judges>, grammar: &Grammar) -> Result<String, Fail> {
+fn all_said(alloc: Global, session: &Session, grammar: &Grammar) -> Result<String, Fail> {
     let mut all = String::new(alloc);
     for number in 0..session.held() {
         let said = session.said(session.field(number), grammar);
@@ -49,17 +43,14 @@ pub(crate) fn try_case<L: Ledger>(
     rt: &impl Abort,
     alloc: Global,
     case: &str,
-    session: &mut Session<Judges>,
+    session: &mut Session,
     grammar: &Grammar,
-    hooks: &Hooks<Judges>,
     steps: &mut Steps<L>,
 ) -> Result<(), Fail>
-    requires ties { Ties ⟦<Judges as Rules>⟧.meanings hooks.now }
-    requires hooks { hook_count grammar.now ≤ count hooks.now }
     requires nodes { 0 < length grammar.now.nodes }
 {
     let (text, wanted) = case.split_once('|').ok_or("a case")?;
-    take(rt, text, session, grammar, hooks, steps);
+    take(rt, text, session, grammar, steps);
     let found = all_said(alloc, session, grammar)?;
     assert_eq!(rt; found.as_str(), wanted, "at {case}");
     Ok(())
@@ -67,7 +58,7 @@ pub(crate) fn try_case<L: Ledger>(
 
 // What the field with a number among those of a role said.
 fn said_by<'a>(
-    session: &'a Session<Judges>,
+    session: &'a Session,
     role: Role,
     number: u8,
     grammar: &'a Grammar,
@@ -99,17 +90,14 @@ pub(crate) fn try_role<L: Ledger>(
     rt: &impl Abort,
     alloc: Global,
     case: &str,
-    session: &mut Session<Judges>,
+    session: &mut Session,
     grammar: &Grammar,
-    hooks: &Hooks<Judges>,
     steps: &mut Steps<L>,
 ) -> Result<(), Fail>
-    requires ties { Ties ⟦<Judges as Rules>⟧.meanings hooks.now }
-    requires hooks { hook_count grammar.now ≤ count hooks.now }
     requires nodes { 0 < length grammar.now.nodes }
 {
     let (text, role, number, wanted) = parts(case).ok_or("a case")?;
-    take(rt, text, session, grammar, hooks, steps);
+    take(rt, text, session, grammar, steps);
     let said = said_by(session, role, number, grammar).unwrap_or(b"-");
     let found = String::from_str(alloc, str::from_utf8(said)?)?;
     assert_eq!(rt; found.as_str(), wanted, "at {case}");

@@ -1,13 +1,10 @@
 // What a session tells of itself.
-ghost use Rattle.std.specs.Prelude.{◌≡◌, ◌<◌, ◌≤◌, length};
-ghost use Rattle.cm_blocks.specs.Grammar.{hook_count};
-ghost use Rattle.cm_hooks.specs.Ties.{Ties, count};
+ghost use Rattle.std.specs.Prelude.{◌≡◌, ◌<◌, length};
 
-use super::run::{Run, exec_and_hooks, run_of};
+use super::run::{Run, exec_of, run_of};
 use crate::cabinet::Cabinet;
 use crate::judges::Judges;
 use cm_blocks::{Grammar, Role, Steps};
-use cm_hooks::{Hooks, Rules};
 use cm_io::MemSink;
 use std::alloc::Global;
 use std::marker::Brand;
@@ -20,28 +17,30 @@ fn two_fields_with<L: Ledger, A: Abort>(
     rt: &A,
     runtime: &HostRuntime,
     blank: Blank,
-) -> Result<Run<Judges>, Fail>
+) -> Result<Run, Fail>
     requires name { blank.name ≡ L.name }
     requires parts { blank.parts ≡ L.parts }
     requires some { 0 < L.parts }
 {
     let alloc = runtime.alloc();
-    let (grammar, hooks) = exec_and_hooks(rt, alloc)?;
+    let grammar = exec_of(rt, alloc)?;
     let mut steps: Steps<L> = Steps::new(runtime, blank);
-    run_of(rt, alloc, "INF VER", &grammar, &Cabinet, &hooks, &mut steps)
+    run_of(
+        rt, alloc, "INF VER", &grammar, &Cabinet, &Judges, &mut steps,
+    )
 }
 
-fn two_fields(rt: &impl Abort, runtime: &HostRuntime) -> Result<Run<Judges>, Fail> {
+fn two_fields(rt: &impl Abort, runtime: &HostRuntime) -> Result<Run, Fail> {
     two_fields_with::<Brand, _>(rt, runtime, Blank::new(1))
 }
 
 // The node of the first field of a role.
-fn node_of(run: &Run<Judges>, role: Role) -> Option<u16> {
+fn node_of(run: &Run, role: Role) -> Option<u16> {
     run.session.field_of(role).map(|field| field.node())
 }
 
 // The first of two fields.
-fn first_of_two(rt: &impl Abort, alloc: Global, run: &Run<Judges>) -> Result<String, Fail> {
+fn first_of_two(rt: &impl Abort, alloc: Global, run: &Run) -> Result<String, Fail> {
     assert_eq!(rt; run.session.held(), 2);
     let verb = run.session.field(0);
     let places = [
@@ -86,7 +85,7 @@ fn finds_a_field_by_its_role(rt: HostRuntime) -> Result<(), Fail> {
 }
 
 // What the last key came to, the ending, and the text.
-fn told(alloc: Global, run: &Run<Judges>) -> Result<String, Fail> {
+fn told(alloc: Global, run: &Run) -> Result<String, Fail> {
     let text = str::from_utf8(run.session.text())?;
     Ok(format!(in alloc; "{:?} {:?} {text}", run.turn, run.session.ending())?)
 }
@@ -96,18 +95,15 @@ fn unshown<L: Ledger>(
     rt: &impl Abort,
     alloc: Global,
     grammar: &Grammar,
-    hooks: &Hooks<Judges>,
     steps: &mut Steps<L>,
 ) -> Result<String, Fail>
-    requires ties { Ties ⟦<Judges as Rules>⟧.meanings hooks.now }
-    requires hooks { hook_count grammar.now ≤ count hooks.now }
     requires nodes { 0 < length grammar.now.nodes }
 {
     let mut full = MemSink::new(alloc, 1)?;
-    let mut run = run_of(rt, alloc, "INF VER", grammar, &Cabinet, hooks, steps)?;
+    let mut run = run_of(rt, alloc, "INF VER", grammar, &Cabinet, &Judges, steps)?;
     run.turn = run
         .session
-        .key(b'\r', grammar, &Cabinet, hooks, &mut full, steps);
+        .key(b'\r', grammar, &Cabinet, &Judges, &mut full, steps);
     told(alloc, &run)
 }
 
@@ -120,9 +116,9 @@ fn key_unshown<L: Ledger, A: Abort>(
     requires parts { blank.parts ≡ L.parts }
     requires some { 0 < L.parts }
 {
-    let (grammar, hooks) = exec_and_hooks(rt, runtime.alloc())?;
+    let grammar = exec_of(rt, runtime.alloc())?;
     let mut steps: Steps<L> = Steps::new(runtime, blank);
-    unshown(rt, runtime.alloc(), &grammar, &hooks, &mut steps)
+    unshown(rt, runtime.alloc(), &grammar, &mut steps)
 }
 
 // Where a sink fails the session is where the key left it.

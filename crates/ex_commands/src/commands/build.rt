@@ -17,11 +17,11 @@ use cm_files::Names;
 use cm_io::{Sink, Writer};
 use cm_state::Session;
 use cm_text::Name;
-use ex_grammar::{ExecRules, GENERATIONS};
+use ex_grammar::GENERATIONS;
 use ex_store::{Plan, Store};
 
 /// What a line of BUILD commands.
-pub(crate) fn read<N: Names>(session: &Session<ExecRules>, grammar: &Grammar, names: &N) -> Command
+pub(crate) fn read<N: Names>(session: &Session, grammar: &Grammar, names: &N) -> Command
     requires { IsReadable session.now.fields }
     ensures { result ≡ build_of (line_of grammar.now (N.catalogue names.now) session.now) }
 {

@@ -1,5 +1,5 @@
 // CONNECT.
-ghost use Rattle.std.specs.Prelude.{Bool, ℕ, true, ◌≡◌};
+ghost use Rattle.std.specs.Prelude.{true, ◌≡◌};
 ghost use Rattle.ex_store.specs.State.{has_directory};
 ghost use Rattle.ex_commands.specs.Commands.Connect.{connect_of, connects};
 ghost use Rattle.ex_commands.specs.Said.{IsReadable, line_of};
@@ -10,11 +10,10 @@ use cm_blocks::{Grammar, Role};
 use cm_files::Names;
 use cm_state::Session;
 use cm_text::Name;
-use ex_grammar::ExecRules;
 use ex_store::Store;
 
 /// What a line of CONNECT commands.
-pub(crate) fn read<N: Names>(session: &Session<ExecRules>, grammar: &Grammar, names: &N) -> Command
+pub(crate) fn read<N: Names>(session: &Session, grammar: &Grammar, names: &N) -> Command
     requires { IsReadable session.now.fields }
     ensures { result ≡ connect_of (line_of grammar.now (N.catalogue names.now) session.now) }
 {

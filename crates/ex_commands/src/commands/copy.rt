@@ -18,11 +18,10 @@ use cm_fields::{Code, Value};
 use cm_files::Names;
 use cm_io::{Sink, Writer};
 use cm_state::Session;
-use ex_grammar::ExecRules;
 use ex_store::{Place, Plan, Store};
 
 /// What a line of COPY commands.
-pub(crate) fn read<N: Names>(session: &Session<ExecRules>, grammar: &Grammar, names: &N) -> Command
+pub(crate) fn read<N: Names>(session: &Session, grammar: &Grammar, names: &N) -> Command
     requires { IsReadable session.now.fields }
     ensures { result ≡ copy_of (line_of grammar.now (N.catalogue names.now) session.now) }
 {
@@ -46,7 +45,7 @@ fn is_token(value: &Value) -> bool
 fn copies_from<N: Names>(
     from: &Field,
     to: Option<Place>,
-    session: &Session<ExecRules>,
+    session: &Session,
     grammar: &Grammar,
     names: &N,
 ) -> Command

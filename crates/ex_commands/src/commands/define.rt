@@ -24,14 +24,13 @@ use cm_files::Names;
 use cm_io::{Sink, Writer};
 use cm_state::Session;
 use cm_text::Name;
-use ex_grammar::ExecRules;
 use ex_store::{Plan, Store};
 
 // The rule of logical names.
 pub(crate) const NAME_RULE: u8 = 0;
 
 /// What a line of DEFINE commands.
-pub(crate) fn read<N: Names>(session: &Session<ExecRules>, grammar: &Grammar, names: &N) -> Command
+pub(crate) fn read<N: Names>(session: &Session, grammar: &Grammar, names: &N) -> Command
     requires { IsReadable session.now.fields }
     ensures { result ≡ define_of (line_of grammar.now (N.catalogue names.now) session.now) }
 {
@@ -45,7 +44,7 @@ pub(crate) fn read<N: Names>(session: &Session<ExecRules>, grammar: &Grammar, na
 // The logical name that a field is.
 fn logical_in<N: Names>(
     field: Option<&Field>,
-    session: &Session<ExecRules>,
+    session: &Session,
     grammar: &Grammar,
     names: &N,
 ) -> Option<Name>
@@ -60,7 +59,7 @@ fn logical_in<N: Names>(
 }
 
 // The bytes of a field that the rule of logical names took, in upper case.
-fn logical_by(field: &Field, session: &Session<ExecRules>, grammar: &Grammar) -> Option<Name>
+fn logical_by(field: &Field, session: &Session, grammar: &Grammar) -> Option<Name>
     requires { IsLogical field.now field.now.value }
     ensures { result ≡ logical_by (said_of grammar.now (text_of session.now) field.now) field.now field.now.value }
 {

@@ -22,7 +22,6 @@ use cm_fields::{Code, Gen};
 use cm_files::{Flags, Names};
 use cm_io::{Sink, Writer};
 use cm_state::Session;
-use ex_grammar::ExecRules;
 use ex_store::{Place, Store};
 
 // All files of the connected directory.
@@ -44,7 +43,7 @@ fn everything<N: Names>(names: &N) -> Place
 }
 
 // The files of a line, or all where none are said.
-fn files_of<N: Names>(session: &Session<ExecRules>, grammar: &Grammar, names: &N) -> Place
+fn files_of<N: Names>(session: &Session, grammar: &Grammar, names: &N) -> Place
     requires { IsReadable session.now.fields }
     ensures { let line = line_of grammar.now (N.catalogue names.now) session.now in
         result ≡ unwrap_or (place_in line (field_of roles.Files line.fields)) (everything line.catalogue) }
@@ -56,7 +55,7 @@ fn files_of<N: Names>(session: &Session<ExecRules>, grammar: &Grammar, names: &N
 }
 
 /// What a line of DIRECTORY commands.
-pub(crate) fn read<N: Names>(session: &Session<ExecRules>, grammar: &Grammar, names: &N) -> Command
+pub(crate) fn read<N: Names>(session: &Session, grammar: &Grammar, names: &N) -> Command
     requires { IsReadable session.now.fields }
     ensures { result ≡ directory_of (line_of grammar.now (N.catalogue names.now) session.now) }
 {

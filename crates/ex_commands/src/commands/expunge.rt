@@ -17,11 +17,10 @@ use cm_files::Names;
 use cm_io::{Sink, Writer};
 use cm_state::Session;
 use cm_text::{Name, end_of_line};
-use ex_grammar::ExecRules;
 use ex_store::Store;
 
 /// What a line of EXPUNGE commands.
-pub(crate) fn read<N: Names>(session: &Session<ExecRules>, grammar: &Grammar, names: &N) -> Command
+pub(crate) fn read<N: Names>(session: &Session, grammar: &Grammar, names: &N) -> Command
     requires { IsReadable session.now.fields }
     ensures { result ≡ expunge_of (line_of grammar.now (N.catalogue names.now) session.now) }
 {

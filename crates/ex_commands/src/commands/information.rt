@@ -25,11 +25,11 @@ use cm_dates::day_text;
 use cm_io::{Sink, Writer};
 use cm_state::Session;
 use cm_text::end_of_line;
-use ex_grammar::{DIRECTORY_TOPIC, ExecRules, LOGICAL_NAMES, OUTPUT_REQUESTS, VERSION};
+use ex_grammar::{DIRECTORY_TOPIC, LOGICAL_NAMES, OUTPUT_REQUESTS, VERSION};
 use ex_store::{DefinitionView, Full, FullName, Parts, QueueEntry, Store, form_text};
 
 /// What a line of INFORMATION commands.
-pub(crate) fn read(session: &Session<ExecRules>) -> Command
+pub(crate) fn read(session: &Session) -> Command
     ensures { result ≡ commands.Information (code_in (field_of roles.What session.now.fields)) }
 {
     Command::Information {

@@ -1,7 +1,7 @@
 // PRINT.
 #![tactic(auto, using(cm_io::proofs::Texts::each))]
 
-ghost use Rattle.std.specs.Prelude.{true, ◌&&◌, nat_le, nat_lt, ◌≡◌, option_copied, option_and_then, unwrap_or};
+ghost use Rattle.std.specs.Prelude.{true, ◌&&◌, nat_le, nat_lt, ◌≡◌, unwrap_or};
 ghost use Rattle.std.specs.Str.{IsAscii};
 ghost use Rattle.ex_store.specs.declared.limits.TheConstants.{COPIES_LIMIT};
 ghost use Rattle.ex_store.specs.Plan.{IsSource};
@@ -22,7 +22,6 @@ use cm_files::Names;
 use cm_io::{Sink, Writer};
 use cm_state::{Session, part};
 use cm_text::Name;
-use ex_grammar::ExecRules;
 use ex_store::{COPIES_LIMIT, Place, Plan, Request, Store};
 
 // The rule of forms.
@@ -43,7 +42,7 @@ pub(crate) const NOTE_NODE: u16 = 44;
 pub(crate) const NORMAL: u8 = 1;
 
 /// What a line of PRINT commands.
-pub(crate) fn read<N: Names>(session: &Session<ExecRules>, grammar: &Grammar, names: &N) -> Command
+pub(crate) fn read<N: Names>(session: &Session, grammar: &Grammar, names: &N) -> Command
     requires { IsReadable session.now.fields }
     ensures { result ≡ print_of (line_of grammar.now (N.catalogue names.now) session.now) }
 {
@@ -70,7 +69,7 @@ fn number_by(value: &Value) -> Option<u64>
 }
 
 // How many copies.
-fn copies_in(session: &Session<ExecRules>) -> u64
+fn copies_in(session: &Session) -> u64
     ensures { result ≡ copies_in session.now.fields }
 {
     match last_at(COPIES_NODE, session) {
@@ -96,7 +95,7 @@ fn form_by(value: &Value) -> Option<u8>
 }
 
 // The form.
-fn form_in(session: &Session<ExecRules>) -> u8
+fn form_in(session: &Session) -> u8
     requires { IsReadable session.now.fields }
     ensures { result ≡ form_in session.now.fields }
 {
@@ -107,7 +106,7 @@ fn form_in(session: &Session<ExecRules>) -> u8
 }
 
 // The day.
-fn after_in(session: &Session<ExecRules>) -> Option<i32>
+fn after_in(session: &Session) -> Option<i32>
     ensures { result ≡ after_in session.now.fields }
 {
     match last_at(AFTER_NODE, session) {
@@ -129,7 +128,7 @@ fn word_by(text: &[u8], value: &Value) -> Option<Name>
 }
 
 // The name of the job.
-fn job_in<N: Names>(session: &Session<ExecRules>, grammar: &Grammar, names: &N) -> Option<Name>
+fn job_in<N: Names>(session: &Session, grammar: &Grammar, names: &N) -> Option<Name>
     requires { IsReadable session.now.fields }
     ensures { result ≡ job_in (line_of grammar.now (N.catalogue names.now) session.now) }
 {
@@ -151,7 +150,7 @@ pub fn quoted_by(text: &[u8], value: &Value) -> Name
 }
 
 // The note.
-fn note_in<N: Names>(session: &Session<ExecRules>, grammar: &Grammar, names: &N) -> Name
+fn note_in<N: Names>(session: &Session, grammar: &Grammar, names: &N) -> Name
     ensures { result ≡ note_in (line_of grammar.now (N.catalogue names.now) session.now) }
 {
     match last_at(NOTE_NODE, session) {

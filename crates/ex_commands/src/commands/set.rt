@@ -12,11 +12,10 @@ use cm_blocks::{Grammar, Role};
 use cm_files::Names;
 use cm_io::{Sink, Writer};
 use cm_state::Session;
-use ex_grammar::ExecRules;
 use ex_store::{Place, Store};
 
 /// What a line of SET commands.
-pub(crate) fn read<N: Names>(session: &Session<ExecRules>, grammar: &Grammar, names: &N) -> Command
+pub(crate) fn read<N: Names>(session: &Session, grammar: &Grammar, names: &N) -> Command
     requires { IsReadable session.now.fields }
     ensures { result ≡ set_of (line_of grammar.now (N.catalogue names.now) session.now) }
 {

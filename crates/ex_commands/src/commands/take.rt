@@ -10,11 +10,10 @@ use crate::lines::sources;
 use cm_blocks::{Grammar, Role};
 use cm_files::Names;
 use cm_state::Session;
-use ex_grammar::ExecRules;
 use ex_store::{Place, Store};
 
 /// What a line of TAKE commands.
-pub(crate) fn read<N: Names>(session: &Session<ExecRules>, grammar: &Grammar, names: &N) -> Command
+pub(crate) fn read<N: Names>(session: &Session, grammar: &Grammar, names: &N) -> Command
     requires { IsReadable session.now.fields }
     ensures { result ≡ take_of (line_of grammar.now (N.catalogue names.now) session.now) }
 {

@@ -36,13 +36,17 @@ impl Application for Exec {
         self.interpreter.store()
     }
 
+    fn rules(&self) -> &ExecRules {
+        &ExecRules
+    }
+
     fn mode(&self) -> Mode {
         self.interpreter.mode()
     }
 
     fn obey_line<S: Sink>(
         &mut self,
-        session: &Session<ExecRules>,
+        session: &Session,
         grammar: &Grammar,
         moment: u64,
         screen: &mut S,
@@ -78,7 +82,7 @@ impl Application for Exec {
 
     fn obey_file_line<S: Sink>(
         &mut self,
-        session: &Session<ExecRules>,
+        session: &Session,
         grammar: &Grammar,
         moment: u64,
         screen: &mut S,

@@ -16,12 +16,11 @@ use super::Exec;
 use cm_blocks::Grammar;
 use cm_state::Session;
 use ex_commands::Command;
-use ex_grammar::ExecRules;
 
 impl Exec {
     /// What a line commands that is confirmed where no command waits for subcommands.
     #[tactic(auto, using(crate::proofs::PendingCommands::main_line))]
-    pub fn command_of(&self, session: &Session<ExecRules>, grammar: &Grammar) -> Command
+    pub fn command_of(&self, session: &Session, grammar: &Grammar) -> Command
         requires grammar { grammar.now ≡ exec_graph }
         requires line { IsLineAt (mode_of self.now.interpreter) session.now.node }
         requires parse { IsParse (setting exec_graph (catalogue_of self.now.interpreter.state) exec_meanings)

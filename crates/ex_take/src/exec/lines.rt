@@ -27,7 +27,6 @@ use cm_io::Sink;
 use cm_run::Stop;
 use cm_state::Session;
 use ex_commands::{Command, file_bytes};
-use ex_grammar::ExecRules;
 use ex_store::Place;
 
 impl Exec {
@@ -112,7 +111,7 @@ impl Exec {
     fn add_subcommands<S: Sink>(
         &mut self,
         pending: Pending,
-        session: &Session<ExecRules>,
+        session: &Session,
         screen: &mut S,
     ) -> Result<(), Stop>
         requires may_act { MayAct pending.command self.old.interpreter.state }
@@ -138,7 +137,7 @@ impl Exec {
     #[tactic(auto, using(crate::proofs::PendingCommands::main_line, crate::proofs::PendingCommands::subcommand_line))]
     pub(super) fn obey_done<S: Sink>(
         &mut self,
-        session: &Session<ExecRules>,
+        session: &Session,
         grammar: &Grammar,
         moment: u64,
         screen: &mut S,

@@ -7,7 +7,7 @@ use Rattle.cm_blocks.proofs.chain.try_chain.Goals as goal
 
 pub returns-clause-leads : goal.returns-clause-leads
 returns-clause-leads g c =
-    let s = setting c.args.grammar.now (g.N.Names.catalogue c.args.names.now) g.R.Rules.meanings in
+    let s = setting c.args.grammar.now (g.N.Names.catalogue c.args.names.now) (g.R.Rules.meanings c.args.rules.now) in
     let node = c.node-found.result.now in
     let line : c.is_defaulted-on_default.result ≡ true → IfSome node.default (λ (text : List ℕ). c.as_slice.result.now ≡ finished text) =
     λ is. subst (λ (items : List ℕ). IfSome node.default (λ (text : List ℕ). items ≡ finished text)) (sym c.as_slice.ensures.value)

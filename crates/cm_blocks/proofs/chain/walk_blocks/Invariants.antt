@@ -8,7 +8,7 @@ use Rattle.cm_blocks.proofs.chain.walk_blocks.Given as goal
 
 abbrev pub invariant-loop-number : goal.invariant-loop-number
 invariant-loop-number g l =
-    let s = setting l.grammar (g.N.Names.catalogue l.names) g.R.Rules.meanings in
+    let s = setting l.grammar (g.N.Names.catalogue l.names) (g.R.Rules.meanings l.rules) in
     let rest = drop l.at l.text in
     record {
       walk : walk s rest l.at l.number l.looked l.code (drop l.number l.blocks)

@@ -6,7 +6,7 @@ use Rattle.cm_help.proofs.listing.put_possible.Goals as goal
 
 pub loop-block-preserved : goal.loop-block-preserved
 loop-block-preserved g c =
-    let s = setting c.args.grammar.now (g.N.Names.catalogue c.args.names.now) g.R.Rules.meanings in
+    let s = setting c.args.grammar.now (g.N.Names.catalogue c.args.names.now) (g.R.Rules.meanings c.args.rules.now) in
     left_less _ _ _ _ _ _ _ _ c.put_phrases.ensures c.loop-block.invariant
     (left_here s (drop c.args.at c.args.line.now) _ c.args.at c.loop-block.first c.args.blocks.now c.loop-block.block-index
     c.block-item.result c.split_at.ensures.back c.loop-block-test.true c.block-item.is (sym c.refuses.ensures ∙ c.if-refuses.false))

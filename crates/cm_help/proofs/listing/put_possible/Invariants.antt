@@ -7,6 +7,6 @@ use Rattle.cm_help.proofs.listing.put_possible.Given as goal
 
 abbrev pub invariant-loop-block : goal.invariant-loop-block
 invariant-loop-block g l =
-    let s = setting l.grammar (g.N.Names.catalogue l.names) g.R.Rules.meanings in
+    let s = setting l.grammar (g.N.Names.catalogue l.names) (g.R.Rules.meanings l.rules) in
     let atom = drop l.at l.line in
     Left g.S.Sink l.fn.out l.out (left s atom l.at l.first (drop l.block-index l.blocks)) (left s atom l.at true l.blocks)

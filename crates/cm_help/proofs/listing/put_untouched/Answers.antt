@@ -9,5 +9,5 @@ use Rattle.cm_help.proofs.listing.put_untouched.Goals as goal
 pub loop-block-preserved : goal.loop-block-preserved
 loop-block-preserved g c =
     left_less _ _ _ _ _ _ _ _ c.put_item.ensures c.loop-block.invariant
-    (ap (λ (blocks : List Block). listing false (map (phrase c.args.grammar.now g.R.Rules.meanings []) blocks))
+    (ap (λ (blocks : List Block). listing false (map (phrase c.args.grammar.now (g.R.Rules.meanings c.args.rules.now) []) blocks))
     (drop_here c.args.blocks.now c.loop-block.block-index c.block-item.result c.loop-block-test.true c.block-item.is))

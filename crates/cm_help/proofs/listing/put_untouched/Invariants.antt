@@ -7,5 +7,5 @@ use Rattle.cm_help.proofs.listing.put_untouched.Given as goal
 
 abbrev pub invariant-loop-block : goal.invariant-loop-block
 invariant-loop-block g l =
-    let phrases = map (phrase l.grammar g.R.Rules.meanings []) in
+    let phrases = map (phrase l.grammar (g.R.Rules.meanings l.rules) []) in
     Left g.S.Sink l.fn.out l.out (listing false (phrases (drop l.block-index l.blocks))) (listing false (phrases l.blocks))

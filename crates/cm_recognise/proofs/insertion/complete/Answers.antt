@@ -9,15 +9,15 @@ use Rattle.cm_recognise.proofs.insertion.complete.Goals as goal
 
 pub returns-clause-line : goal.returns-clause-line
 returns-clause-line g c =
-    let s = setting c.args.grammar.now (g.N.Names.catalogue c.args.names.now) g.R.Rules.meanings in
+    let s = setting c.args.grammar.now (g.N.Names.catalogue c.args.names.now) (g.R.Rules.meanings c.args.rules.now) in
     subst (λ (put : Insertion). IsLine (c.args.line.now ++ put.bytes)) (sym c.inserted.ensures)
     (line_goes_on s _ c.args.line.now _ c.has_no_fault.ensures c.is_catalogue.ensures
     c.has_tables.ensures
-    g.R.Rules.lawful c.requires.line)
+    c.are_lawful.ensures c.requires.line)
 
 pub returns-clause-text : goal.returns-clause-text
 returns-clause-text g c =
-    let s = setting c.args.grammar.now (g.N.Names.catalogue c.args.names.now) g.R.Rules.meanings in
+    let s = setting c.args.grammar.now (g.N.Names.catalogue c.args.names.now) (g.R.Rules.meanings c.args.rules.now) in
     subst (λ (put : Insertion). AllByRecursion (λ byte. is_text byte ≡ true) put.bytes) (sym c.inserted.ensures)
-    (insertion_is_typed s c.has_no_fault.ensures c.is_catalogue.ensures c.has_tables.ensures g.R.Rules.lawful _
+    (insertion_is_typed s c.has_no_fault.ensures c.is_catalogue.ensures c.has_tables.ensures c.are_lawful.ensures _
     c.args.line.now _)

@@ -6,6 +6,6 @@ use Rattle.cm_recognise.proofs.insertion.first_put.Given as goal
 
 abbrev pub invariant-loop-block : goal.invariant-loop-block
 invariant-loop-block g l =
-    let s = setting l.grammar (g.N.Names.catalogue l.names) g.R.Rules.meanings in
+    let s = setting l.grammar (g.N.Names.catalogue l.names) (g.R.Rules.meanings l.rules) in
     let atom = drop l.at l.line in
     first_put s l.mode atom l.at (drop l.block-index l.blocks) ≡ first_put s l.mode atom l.at l.blocks

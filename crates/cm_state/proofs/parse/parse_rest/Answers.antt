@@ -6,7 +6,7 @@ use Rattle.cm_state.proofs.parse.parse_rest.Goals as goal
 
 pub loop-field-preserved : goal.loop-field-preserved
 loop-field-preserved g c =
-    let s = setting c.args.grammar.now (g.N.Names.catalogue c.args.names.now) g.R.Rules.meanings in
+    let s = setting c.args.grammar.now (g.N.Names.catalogue c.args.names.now) (g.R.Rules.meanings c.args.rules.now) in
     let room : length c.loop-field.fields < FIELD_LIMIT =
     omega (arith, c.len.ensures.value, c.len.ensures.few, c.from.ensures, c.if-from-eq-FIELD_LIMIT.false) in
     let turn = turns s c.args.text.now c.loop-field.fields c.loop-field.node c.loop-field.at c.in-Field.field
@@ -24,7 +24,7 @@ loop-field-preserved g c =
 
 pub returns-in-Done-clause-steps : goal.returns-in-Done-clause-steps
 returns-in-Done-clause-steps g c =
-    let s = setting c.args.grammar.now (g.N.Names.catalogue c.args.names.now) g.R.Rules.meanings in
+    let s = setting c.args.grammar.now (g.N.Names.catalogue c.args.names.now) (g.R.Rules.meanings c.args.rules.now) in
     let last = ends_there s c.args.text.now c.loop-field.fields (FIELD_LIMIT - length c.loop-field.fields)
     c.loop-field.node c.loop-field.at
     _ (sym c.in-Done.ensures.value) tt in
@@ -32,7 +32,7 @@ returns-in-Done-clause-steps g c =
 
 pub returns-in-Fault-clause-steps : goal.returns-in-Fault-clause-steps
 returns-in-Fault-clause-steps g c =
-    let s = setting c.args.grammar.now (g.N.Names.catalogue c.args.names.now) g.R.Rules.meanings in
+    let s = setting c.args.grammar.now (g.N.Names.catalogue c.args.names.now) (g.R.Rules.meanings c.args.rules.now) in
     let last = ends_there s c.args.text.now c.loop-field.fields (FIELD_LIMIT - length c.loop-field.fields)
     c.loop-field.node c.loop-field.at
     _ (sym c.in-Fault.ensures.value) tt in
@@ -40,7 +40,7 @@ returns-in-Fault-clause-steps g c =
 
 pub returns-in-Open-clause-steps : goal.returns-in-Open-clause-steps
 returns-in-Open-clause-steps g c =
-    let s = setting c.args.grammar.now (g.N.Names.catalogue c.args.names.now) g.R.Rules.meanings in
+    let s = setting c.args.grammar.now (g.N.Names.catalogue c.args.names.now) (g.R.Rules.meanings c.args.rules.now) in
     let last = ends_there s c.args.text.now c.loop-field.fields (FIELD_LIMIT - length c.loop-field.fields)
     c.loop-field.node c.loop-field.at
     _ (sym c.in-Open.ensures.value) tt in

@@ -8,7 +8,7 @@ use Rattle.cm_state.proofs.parse.parse_rest.Given as goal
 -- behind the fields so far the parse goes on, and so does its cost
 abbrev pub invariant-loop-field : goal.invariant-loop-field
 invariant-loop-field g l =
-    let s = setting l.grammar (g.N.Names.catalogue l.names) g.R.Rules.meanings in
+    let s = setting l.grammar (g.N.Names.catalogue l.names) (g.R.Rules.meanings l.rules) in
     let room = FIELD_LIMIT - length l.fields in
     record {
       parse : with_fields l.fields (parse_from s l.text room l.node l.at) ≡ parse_of s l.start l.text;

@@ -1,5 +1,5 @@
 use Rattle.ex_batch_tests.proofs.given.outcome_of.Given as goal
 
 -- the ledger that was just opened
-abbrev pub ghosts-run_with_rules : goal.ghosts-run_with_rules
-ghosts-run_with_rules a = record { name = a.blank.name; parts = a.blank.parts }
+abbrev pub ghosts-run_program : goal.ghosts-run_program
+ghosts-run_program a = record { name = a.blank.name; parts = a.blank.parts }

@@ -1,5 +1,5 @@
 use Rattle.ex_program_tests.proofs.pairs.session.Given as goal
 
 -- the ledger that was just opened
-abbrev pub ghosts-run_with_rules : goal.ghosts-run_with_rules
-ghosts-run_with_rules a = record { name = a.blank.name; parts = a.blank.parts }
+abbrev pub ghosts-run_program : goal.ghosts-run_program
+ghosts-run_program a = record { name = a.blank.name; parts = a.blank.parts }

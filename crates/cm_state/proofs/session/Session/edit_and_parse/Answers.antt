@@ -1,4 +1,4 @@
-use Rattle.std.proofs.Common.{◌+◌, ℕ, ap, refl, ◌∙◌, arith}
+use Rattle.std.proofs.Common.{◌+◌, ℕ, ap, refl, ◌∙◌}
 use Rattle.cm_blocks.specs.Kept.{cost_behind}
 use Rattle.cm_blocks.specs.Setting.{Setting, setting}
 use Rattle.cm_recognise.specs.declared.insertion.Insertion.{Insertion}
@@ -9,17 +9,17 @@ use Rattle.cm_state.proofs.session.Session.edit_and_parse.Goals as goal
 
 pub reparse-requires : goal.reparse-requires
 reparse-requires g c =
-    let s = setting c.args.grammar.now (g.N.Names.catalogue c.args.names.now) g.R.Rules.meanings in
+    let s = setting c.args.grammar.now (g.N.Names.catalogue c.args.names.now) (g.R.Rules.meanings c.args.rules.now) in
     let trim = trims s c.args.self.now c.reopen.new.self c.apply_edit-change.new.self c.truncate.new.self c.args.class
     c.args.key c.apply_edit-change.result.front
     c.has_no_fault.ensures c.requires.ready c.reopen.ensures c.apply_edit-change.ensures.edited
     c.apply_edit-change.ensures.front c.truncate.ensures in
     let starts = trimmed_starts s c.args.self.now c.truncate.new.self c.has_no_fault.ensures c.requires.ready trim in
-    (omega arith, (starts, (c.requires.ties, c.requires.hooks)))
+    record { starts = starts }
 
 -- in what setting the key is done
 abbrev given : (g : Over) → goal.After-reparse g → Setting
-given g c = setting c.args.grammar.now (g.N.Names.catalogue c.args.names.now) g.R.Rules.meanings
+given g c = setting c.args.grammar.now (g.N.Names.catalogue c.args.names.now) (g.R.Rules.meanings c.args.rules.now)
 
 -- what the steps have made of the session
 done : (g : Over) (c : goal.After-reparse g)

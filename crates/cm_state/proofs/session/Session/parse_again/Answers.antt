@@ -1,4 +1,4 @@
-use Rattle.std.proofs.Common.{◌+◌, ℕ, ap, refl, ◌∙◌, arith}
+use Rattle.std.proofs.Common.{◌+◌, ℕ, ap, refl, ◌∙◌}
 use Rattle.cm_blocks.specs.Kept.{cost_behind}
 use Rattle.cm_blocks.specs.Setting.{Setting, setting}
 use Rattle.cm_state.specs.SessionState.{text_of}
@@ -8,14 +8,14 @@ use Rattle.cm_state.proofs.session.Session.parse_again.Goals as goal
 
 pub parse_behind-requires : goal.parse_behind-requires
 parse_behind-requires g c =
-    let s = setting c.args.grammar.now (g.N.Names.catalogue c.args.names.now) g.R.Rules.meanings in
+    let s = setting c.args.grammar.now (g.N.Names.catalogue c.args.names.now) (g.R.Rules.meanings c.args.rules.now) in
     let starts = again_starts s c.args.self.now c.forget_fields.new.self c.has_no_fault.ensures c.requires.node
     c.forget_fields.ensures in
-    (omega arith, (starts, (c.requires.ties, c.requires.hooks)))
+    record { starts = starts }
 
 -- in what setting it is done
 abbrev given : (g : Over) → goal.After-hold_refused g → Setting
-given g c = setting c.args.grammar.now (g.N.Names.catalogue c.args.names.now) g.R.Rules.meanings
+given g c = setting c.args.grammar.now (g.N.Names.catalogue c.args.names.now) (g.R.Rules.meanings c.args.rules.now)
 
 -- what the steps have made of the session
 done : (g : Over) (c : goal.After-hold_refused g)

@@ -1,4 +1,4 @@
-use Rattle.std.proofs.Common.{◌≡◌, ◌+◌, ℕ, ap, refl, ◌∙◌, arith}
+use Rattle.std.proofs.Common.{◌≡◌, ◌+◌, ℕ, ap, refl, ◌∙◌}
 use Rattle.cm_blocks.specs.Setting.{setting}
 use Rattle.cm_state.specs.SessionState.{SessionState}
 use Rattle.cm_state.proofs.Edits.{finishes, whole_starts}
@@ -6,14 +6,14 @@ use Rattle.cm_state.proofs.session.Session.whole.Goals as goal
 
 pub reparse-requires : goal.reparse-requires
 reparse-requires g c =
-    let s = setting c.args.grammar.now (g.N.Names.catalogue c.args.names.now) g.R.Rules.meanings in
+    let s = setting c.args.grammar.now (g.N.Names.catalogue c.args.names.now) (g.R.Rules.meanings c.args.rules.now) in
     let starts = whole_starts s c.start-2.new.self c.finish.new.self c.args.node _ _ c.args.line.now
     c.has_no_fault.ensures c.requires.node (c.start-2.ensures, c.finish.ensures) in
-    (omega arith, (starts, (c.requires.ties, c.requires.hooks)))
+    record { starts = starts }
 
 pub returns-clause-edited : goal.returns-clause-edited
 returns-clause-edited g c =
-    let s = setting c.args.grammar.now (g.N.Names.catalogue c.args.names.now) g.R.Rules.meanings in
+    let s = setting c.args.grammar.now (g.N.Names.catalogue c.args.names.now) (g.R.Rules.meanings c.args.rules.now) in
     let done = finishes s c.start-2.new.self c.finish.new.self c.reparse.new.self c.args.node _ _ c.args.line.now _
     c.has_no_fault.ensures c.requires.node (c.start-2.ensures, c.finish.ensures)
     c.reparse.ensures.restorable c.reparse.ensures.same c.reparse.ensures.parse refl in
@@ -23,7 +23,7 @@ returns-clause-edited g c =
 
 pub returns-clause-parse : goal.returns-clause-parse
 returns-clause-parse g c =
-    let s = setting c.args.grammar.now (g.N.Names.catalogue c.args.names.now) g.R.Rules.meanings in
+    let s = setting c.args.grammar.now (g.N.Names.catalogue c.args.names.now) (g.R.Rules.meanings c.args.rules.now) in
     let done = finishes s c.start-2.new.self c.finish.new.self c.reparse.new.self c.args.node _ _ c.args.line.now _
     c.has_no_fault.ensures c.requires.node (c.start-2.ensures, c.finish.ensures)
     c.reparse.ensures.restorable c.reparse.ensures.same c.reparse.ensures.parse refl in
@@ -31,7 +31,7 @@ returns-clause-parse g c =
 
 pub returns-clause-decided : goal.returns-clause-decided
 returns-clause-decided g c =
-    let s = setting c.args.grammar.now (g.N.Names.catalogue c.args.names.now) g.R.Rules.meanings in
+    let s = setting c.args.grammar.now (g.N.Names.catalogue c.args.names.now) (g.R.Rules.meanings c.args.rules.now) in
     let done = finishes s c.start-2.new.self c.finish.new.self c.reparse.new.self c.args.node _ _ c.args.line.now _
     c.has_no_fault.ensures c.requires.node (c.start-2.ensures, c.finish.ensures)
     c.reparse.ensures.restorable c.reparse.ensures.same c.reparse.ensures.parse refl in
@@ -39,7 +39,7 @@ returns-clause-decided g c =
 
 pub returns-clause-steps : goal.returns-clause-steps
 returns-clause-steps g c =
-    let s = setting c.args.grammar.now (g.N.Names.catalogue c.args.names.now) g.R.Rules.meanings in
+    let s = setting c.args.grammar.now (g.N.Names.catalogue c.args.names.now) (g.R.Rules.meanings c.args.rules.now) in
     let done = finishes s c.start-2.new.self c.finish.new.self c.reparse.new.self c.args.node _ _ c.args.line.now _
     c.has_no_fault.ensures c.requires.node (c.start-2.ensures, c.finish.ensures)
     c.reparse.ensures.restorable c.reparse.ensures.same c.reparse.ensures.parse refl in

@@ -1,27 +1,16 @@
--- A call of run_line_program has one answer: omega arith for the program's size below 2 ^ 63, and a record.
-use Rattle.std.proofs.Common.{[], ap, arith, refl}
-use Rattle.cm_blocks.specs.Grammar.{hook_count}
+-- A call of run_line_program has one answer, a record.
+use Rattle.std.proofs.Common.{[]}
 use Rattle.cm_run.specs.LineMeaning.{lines_only}
 use Rattle.cm_run.proofs.Displays.{run_keeps}
 use Rattle.tt_screen.specs.Grid.{feed}
 use Rattle.tt_screen.specs.Holds.{Holds}
 use Rattle.tt_screen.proofs.HeldTexts.{screen_is_a_display}
 use Rattle.eg_lamps.specs.Program.{lamp_meaning}
-use Rattle.eg_lamps.proofs.Faultless.{graph_hooks}
 use Rattle.eg_lamps.proofs.Replies.{lamps_keep_lines}
 use Rattle.eg_lamps.proofs.program.Program.run.Goals as goal
 
--- one hook is enough
 pub run_line_program-requires : goal.run_line_program-requires
-run_line_program-requires g c = (
-  omega arith,
-  record {
-    grammar = c.requires.grammar;
-    rules = refl;
-    ties = c.requires.ties;
-    enough = omega (arith, c.requires.hook, ap hook_count c.requires.grammar, graph_hooks);
-  },
-)
+run_line_program-requires g c = record { grammar = c.requires.grammar }
 
 -- each key that was taken met what is sound
 pub returns-clause-screen : goal.returns-clause-screen
