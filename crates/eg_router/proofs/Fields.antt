@@ -13,8 +13,8 @@ use Rattle.cm_fields.specs.Quoted.{unquoted}
 use Rattle.cm_hooks.specs.declared.answer.Answer.TheVariants.{Yes}
 use Rattle.eg_router.specs.Configuration.{quoted_byte}
 use Rattle.eg_router.specs.Interfaces.{is_interface_name, is_name_byte}
-use Rattle.eg_router.specs.Octet.{octet_verdict}
-use Rattle.eg_router.specs.declared.octet.TheConstants.{OCTET_LIMIT}
+use Rattle.eg_router.specs.Rules.{octet_verdict}
+use Rattle.eg_router.specs.declared.rules.TheConstants.{OCTET_LIMIT}
 
 pub octet_is : (number : ℕ) → number ≤ OCTET_LIMIT → octet_verdict (decimal number) ≡ Yes number
 unfolding octet_verdict
@@ -44,7 +44,7 @@ text_is (byte ∷ more) = by (byte == 34) refl (text_is more)
 same_byte : (byte : ℕ) → is_name_byte byte ≡ true → to_ascii_uppercase byte ≡ byte
 same_byte byte is = let upper = (and_parts (is_word byte) (not (is_ascii_lowercase byte)) is).1 in grind (arith, nat_tests)
 
-same_bytes : (name : List ℕ) → list_all is_name_byte name ≡ true → map to_ascii_uppercase name ≡ name
+pub same_bytes : (name : List ℕ) → list_all is_name_byte name ≡ true → map to_ascii_uppercase name ≡ name
 same_bytes [] all = refl
 same_bytes (byte ∷ more) all =
     let parts = and_parts (is_name_byte byte) (list_all is_name_byte more) all in

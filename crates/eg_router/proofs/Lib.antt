@@ -1,3 +1,5 @@
+pub mod Completions
+pub mod Entries
 pub mod Faultless
 pub mod Fields
 pub mod Insertions

@@ -13,6 +13,7 @@ use Rattle.cm_lists.proofs.Elements.{slice_get_at}
 use Rattle.cm_lists.proofs.Orders.{lt_is_not_eq}
 use Rattle.cm_lists.proofs.Pieces.{cons_is_not_empty}
 use Rattle.cm_files.specs.Catalogue.{by_bytes}
+use Rattle.cm_files.specs.OneDirectory.{no_files}
 use Rattle.eg_router.specs.Configuration.{address_commands, address_line, commands_of, configuration, configuration_of, description_commands, description_line, line_of, listing, shutdown_commands, shutdown_line}
 use Rattle.eg_router.specs.Interfaces.{AreInterfaces, by_name, changed, fresh, has, is_interface_name, place}
 use Rattle.eg_router.specs.Router.{configuring, obeyed, obeyed_all}
@@ -64,7 +65,7 @@ put_last (it ∷ front) new = ap (λ (others : List Interface). it ∷ others) (
 
 -- the mode of the interface behind these
 abbrev inside : List Interface → Interface → Router
-inside front it = record { interfaces = front ++ it ∷ []; mode = modes.Interface (length front) }
+inside front it = record { names = no_files; interfaces = front ++ it ∷ []; mode = modes.Interface (length front) }
 
 -- a new one is entered behind those that stand below it
 enters : (name : List ℕ) (front : List Interface) → all_below name front ≡ true → is_interface_name name ≡ true

@@ -16,7 +16,7 @@ use Rattle.eg_router.specs.Graph.{router_graph}
 use Rattle.eg_router.specs.declared.command.Command.{Command}
 use Rattle.eg_router.specs.declared.command.Command.TheVariants as commands
 use Rattle.eg_router.specs.declared.command.Shown.TheVariants as shown
-use Rattle.eg_router.specs.declared.grammar.TheConstants.{ADDRESS, CONFIGURE, DESCRIPTION, ENABLE, END, EXIT, INTERFACE, NO, ROUTER, RUNNING_CONFIG, SHOW, SHUTDOWN, VERSION}
+use Rattle.eg_router.specs.declared.grammar.TheConstants.{ADDRESS, CONFIGURE, DESCRIPTION, ENABLE, END, EXIT, INTERFACE, NO, ROUTER, RUNNING, SHOW, SHUTDOWN, VERSION}
 use Rattle.eg_router.specs.declared.interface.Address.{Address}
 use Rattle.eg_router.specs.declared.interface.Change.TheVariants as changes
 use Rattle.eg_router.specs.declared.router.Mode.TheVariants as modes
@@ -64,7 +64,7 @@ description_of held = take NAME_LIMIT (unquoted (said_by roles.Value held))
 abbrev pub shown_by : ℕ → Command
 shown_by what =
     if what == INTERFACE then commands.Show shown.Interfaces
-    else (if what == RUNNING_CONFIG then commands.Show shown.Configuration
+    else (if what == RUNNING then commands.Show shown.Configuration
     else (if what == VERSION then commands.Show shown.Version else commands.Nothing))
 
 -- what NO takes back, by its keyword
@@ -74,13 +74,6 @@ taken_back what held =
     else (if what == ADDRESS then commands.Set (changes.Address None)
     else (if what == DESCRIPTION then commands.Set (changes.Description [])
     else (if what == SHUTDOWN then commands.Set (changes.Shutdown false) else commands.Nothing)))
-
--- a setting, by its keyword
-abbrev pub setting_by : ℕ → SessionState → Command
-setting_by verb held =
-    if verb == ADDRESS then commands.Set (changes.Address (Some (address_of held.fields)))
-    else (if verb == DESCRIPTION then commands.Set (changes.Description (description_of held))
-    else (if verb == SHUTDOWN then commands.Set (changes.Shutdown true) else commands.Nothing))
 
 -- the command that a keyword names
 abbrev pub named : ℕ → SessionState → Command
@@ -92,7 +85,9 @@ named verb held =
     else (if verb == INTERFACE then commands.Interface (name_of held)
     else (if verb == SHOW then shown_by (code_by (value_of roles.What held.fields))
     else (if verb == NO then taken_back (code_by (value_of roles.What held.fields)) held
-    else setting_by verb held))))))
+    else (if verb == ADDRESS then commands.Set (changes.Address (Some (address_of held.fields)))
+    else (if verb == DESCRIPTION then commands.Set (changes.Description (description_of held))
+    else (if verb == SHUTDOWN then commands.Set (changes.Shutdown true) else commands.Nothing)))))))))
 
 -- the field of role Verb names the command, that of role What what it shows or takes back, that of role Files an
 -- interface, that of role Value a description, and those of the program's own roles an address

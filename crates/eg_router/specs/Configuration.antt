@@ -3,7 +3,6 @@ use Rattle.std.specs.Prelude.{ℕ, ◌==◌, Bool, true, if◌then◌else◌, Li
 use Rattle.std.specs.Fmt.{decimal}
 use Rattle.std.specs.List.{flat_map}
 use Rattle.cm_text.specs.Shown.{end_of_line}
-use Rattle.eg_router.specs.Interfaces.{may_enter}
 use Rattle.eg_router.specs.declared.command.Command.{Command}
 use Rattle.eg_router.specs.declared.command.Command.TheVariants as commands
 use Rattle.eg_router.specs.declared.command.Shown.TheVariants as shown
@@ -26,13 +25,6 @@ dotted it =
 unfoldable pub quoted_byte : ℕ → List ℕ
 quoted_byte byte = if byte == 34 then 34 ∷ 34 ∷ [] else byte ∷ []
 
-unfoldable pub quote : List ℕ
-quote = codes "\""
-
--- a text as it is typed in quotes
-unfoldable pub quoted : List ℕ → List ℕ
-quoted text = quote ++ flat_map quoted_byte text ++ quote
-
 -- the fixed texts of the configuration
 unfoldable pub interface_word : List ℕ
 interface_word = codes "interface "
@@ -41,7 +33,10 @@ unfoldable pub address_word : List ℕ
 address_word = codes " address "
 
 unfoldable pub description_word : List ℕ
-description_word = codes " description "
+description_word = codes " description \""
+
+unfoldable pub quote : List ℕ
+quote = codes "\""
 
 unfoldable pub shutdown_word : List ℕ
 shutdown_word = codes " shutdown"
@@ -55,7 +50,7 @@ address_line None = []
 address_line (Some address) = address_word ++ dotted address ++ end_of_line
 
 unfoldable pub description_line : List ℕ → List ℕ
-description_line text = if length text == 0 then [] else description_word ++ quoted text ++ end_of_line
+description_line text = if length text == 0 then [] else description_word ++ flat_map quoted_byte text ++ quote ++ end_of_line
 
 unfoldable pub shutdown_line : Bool → List ℕ
 shutdown_line is_down = if is_down then shutdown_word ++ end_of_line else []
@@ -96,7 +91,7 @@ listing interfaces = flat_map commands_of interfaces
 abbrev pub typed : Command → List ℕ
 typed (commands.Interface name) = interface_word ++ name
 typed (commands.Set (changes.Address (Some address))) = address_word ++ dotted address
-typed (commands.Set (changes.Description text)) = description_word ++ quoted text
+typed (commands.Set (changes.Description text)) = description_word ++ flat_map quoted_byte text ++ quote
 typed (commands.Set (changes.Shutdown true)) = shutdown_word
 typed commands.Exit = exit_word
 typed command = []
@@ -127,13 +122,9 @@ interface_lines interfaces = flat_map interface_line interfaces
 unfoldable pub version : List ℕ
 version = codes "The router of Lughvero"
 
-unfoldable pub too_many : List ℕ
-too_many = codes "?Too many interfaces"
-
--- what a command shows; an interface that may not be made is refused
+-- what a command shows
 abbrev pub reply : Command → List Interface → List ℕ
 reply (commands.Show shown.Interfaces) interfaces = interface_lines interfaces
 reply (commands.Show shown.Configuration) interfaces = configuration interfaces
 reply (commands.Show shown.Version) interfaces = version ++ end_of_line
-reply (commands.Interface name) interfaces = if may_enter name interfaces then [] else too_many ++ end_of_line
 reply command interfaces = []

@@ -1,6 +1,6 @@
 -- The grammar of the router: nodes, each a chain of blocks, and the keyword tables that they name.
 use Rattle.std.specs.Prelude.{ℕ, List, [], ◌∷◌, ◌++◌, codes, map}
-use Rattle.cm_blocks.specs.declared.function.Function.TheVariants.{Confirm, Hook, Key, Quoted, Token, User, Word}
+use Rattle.cm_blocks.specs.declared.function.Function.TheVariants.{Confirm, Hook, Key, Quoted, Token, Word}
 use Rattle.cm_blocks.specs.declared.function.Role.{Role}
 use Rattle.cm_blocks.specs.declared.function.Role.TheVariants as roles
 use Rattle.cm_blocks.specs.declared.node.Block.{Block}
@@ -9,6 +9,7 @@ use Rattle.cm_blocks.specs.Grammar.{Graph}
 use Rattle.cm_blocks.specs.Words.{block, node}
 use Rattle.eg_router.specs.Tables.{router_tables}
 use Rattle.eg_router.specs.declared.grammar.TheConstants.{LINE_END}
+use Rattle.eg_router.specs.declared.rules.TheConstants.{NAME, NEW_NAME, OCTET}
 
 abbrev pub confirm : Block
 confirm = block Confirm roles.None LINE_END
@@ -19,7 +20,7 @@ keyword table role = block (Key table) role LINE_END
 
 -- a number of an address, by its place from 1, and a point between two of them
 abbrev pub octet : ℕ → ℕ → Block
-octet place next = block (Hook 0) (roles.Own place) next
+octet place next = block (Hook OCTET) (roles.Own place) next
 
 abbrev pub point : ℕ → Block
 point next = block (Token (codes ".")) roles.None next
@@ -28,22 +29,21 @@ point next = block (Token (codes ".")) roles.None next
 abbrev pub lines : ℕ → Node
 lines table = node (confirm ∷ keyword table roles.Verb ∷ [])
 
--- nodes 0 to 5: the lines of each mode, and the name of an interface that is there, or a new one
+-- nodes 0 to 4: the lines of each mode
 unfoldable pub first_nodes : List Node
-first_nodes =
-    lines 0 ∷ lines 1 ∷ lines 2 ∷ lines 3 ∷ lines 4
-    ∷ node (block User roles.Files LINE_END ∷ block Word roles.Files LINE_END ∷ []) ∷ []
+first_nodes = lines 0 ∷ lines 1 ∷ lines 2 ∷ lines 3 ∷ lines 4 ∷ []
 
--- nodes 6 to 20, of one block each: the end of a line; CONFIGURE; SHOW; NO and what it takes back; ROUTER; the address;
--- the description
+-- nodes 5 to 20, of one block each: the end of a line; CONFIGURE; SHOW; NO and what it takes back; INTERFACE; ROUTER;
+-- the address; the description
 unfoldable pub blocks : List Block
 blocks =
     confirm
     ∷ keyword 5 roles.None
     ∷ keyword 6 roles.What
     ∷ keyword 7 roles.What
-    ∷ block User roles.Files LINE_END
+    ∷ block (Hook NAME) roles.Files LINE_END
     ∷ keyword 8 roles.What
+    ∷ block (Hook NEW_NAME) roles.Files LINE_END
     ∷ block Word roles.Value LINE_END
     ∷ octet 1 14 ∷ point 15 ∷ octet 2 16 ∷ point 17 ∷ octet 3 18 ∷ point 19 ∷ octet 4 LINE_END
     ∷ block Quoted roles.Value LINE_END

@@ -1,5 +1,5 @@
 -- The interfaces of the router, in the order of their names.
-use Rattle.std.specs.Prelude.{◌≡◌, ℕ, ◌≤◌, ◌&&◌, ◌||◌, Bool, true, false, not, nat_lt, nat_le, if◌then◌else◌, List, [], ◌∷◌, filter, length, codes, map, None, slice_get, slice_set}
+use Rattle.std.specs.Prelude.{◌≡◌, ℕ, ◌≤◌, ◌&&◌, ◌||◌, Bool, true, false, not, nat_lt, nat_le, if◌then◌else◌, List, [], filter, length, map, None, slice_get, slice_set}
 use Rattle.std.specs.Char.{is_ascii_lowercase}
 use Rattle.std.specs.List.{insert, list_all, list_any, prefix_len}
 use Rattle.std.specs.Option.{option_map_or}
@@ -7,7 +7,7 @@ use Rattle.std.specs.Ordering.{is_eq, is_lt, on}
 use Rattle.std.specs.declared.cmp.Ordering.{Ordering}
 use Rattle.cm_text.specs.Bytes.{is_word}
 use Rattle.cm_text.specs.declared.name.TheConstants.{NAME_LIMIT}
-use Rattle.cm_files.specs.Catalogue.{Catalogue, ascends, by_bytes}
+use Rattle.cm_files.specs.Catalogue.{ascends, by_bytes}
 use Rattle.eg_router.specs.declared.interface.Change.{Change}
 use Rattle.eg_router.specs.declared.interface.Change.TheVariants.{Address, Description, Shutdown}
 use Rattle.eg_router.specs.declared.interface.Interface.{Interface}
@@ -69,20 +69,3 @@ without_name name interfaces = filter (λ (it : Interface). not (is_eq (by_bytes
 abbrev pub with_change : ℕ → Change → List Interface → List Interface
 with_change at change interfaces =
     option_map_or (λ (it : Interface). slice_set interfaces at (changed change it)) (slice_get interfaces at) interfaces
-
--- the name that stands before theirs in the catalogue: it has a point, so that it is the name of no user
-unfoldable pub root : List ℕ
-root = codes "$.ROUTER"
-
--- a file that no line names, since a catalogue may not be without any
-unfoldable pub root_file : List ℕ
-root_file = codes "NONE"
-
--- as a line may name them: each is the directory of a user, behind one that is connected and has that file
-abbrev pub catalogue_of : List Interface → Catalogue
-catalogue_of interfaces = record {
-  directories = root ∷ names_of interfaces;
-  connected = 0;
-  logical = [];
-  rows = record { directory = 0; name = root_file; kind = []; generation = 1; deleted = false } ∷ [];
-}

@@ -2,9 +2,7 @@ pub mod Command
 pub mod Configuration
 pub mod Graph
 pub mod Interfaces
-pub mod Octet
-pub mod OctetLaws
 pub mod Program
-pub mod Prompts
 pub mod Router
+pub mod Rules
 pub mod Tables

@@ -1,40 +1,43 @@
 -- The program: what it means, and the number that its process ends with.
-use Rattle.std.specs.Prelude.{ℕ, Option, None, Some, Result, Ok, Err}
+use Rattle.std.specs.Prelude.{ℕ, List, codes, Option, None, Some, Result, Ok, Err}
+use Rattle.cm_state.specs.Label.{label_of}
 use Rattle.cm_state.specs.declared.prompt.Prompt.{Prompt}
-use Rattle.cm_state.specs.declared.prompt.Prompt.TheVariants.{Own}
+use Rattle.cm_state.specs.declared.prompt.Prompt.TheVariants.{Named}
 use Rattle.cm_run.specs.LineMeaning.{LineMeaning}
 use Rattle.cm_run.specs.declared.stop.Stop.{Stop}
 use Rattle.cm_run.specs.declared.stop.Stop.TheVariants as stop
 use Rattle.eg_router.specs.Command.{command_of}
 use Rattle.eg_router.specs.Configuration.{reply}
 use Rattle.eg_router.specs.Graph.{router_graph}
-use Rattle.eg_router.specs.Interfaces.{catalogue_of}
-use Rattle.eg_router.specs.Octet.{octet_meanings}
 use Rattle.eg_router.specs.Router.{obeyed}
+use Rattle.eg_router.specs.Rules.{router_rules}
 use Rattle.eg_router.specs.declared.grammar.TheConstants.{CONFIGURATION_LINES, INTERFACE_LINES, PRIVILEGED_LINES, PROTOCOL_LINES, USER_LINES}
-use Rattle.eg_router.specs.declared.program.Program.{Program}
-use Rattle.eg_router.specs.declared.prompts.Prompts.{Prompts}
 use Rattle.eg_router.specs.declared.router.Mode.{Mode}
 use Rattle.eg_router.specs.declared.router.Mode.TheVariants as modes
+use Rattle.eg_router.specs.declared.router.Router.{Router}
 
--- in each mode the node where a line begins, and its prompt
-abbrev pub line_in : Mode → Prompts → Option (ℕ × Prompt)
-line_in modes.User prompts = Some (USER_LINES, Own prompts.user)
-line_in modes.Privileged prompts = Some (PRIVILEGED_LINES, Own prompts.privileged)
-line_in modes.Configuration prompts = Some (CONFIGURATION_LINES, Own prompts.configuration)
-line_in (modes.Interface at) prompts = Some (INTERFACE_LINES, Own prompts.interface)
-line_in modes.Protocol prompts = Some (PROTOCOL_LINES, Own prompts.protocol)
-line_in modes.Ended prompts = None
+-- a name and a mark behind it
+abbrev pub prompt : List ℕ → ℕ → Prompt
+prompt name mark = Named (label_of name) mark
 
--- a line may name the interfaces that are there; one that is confirmed does what it commands, and shows its reply
-abbrev pub router_meaning : LineMeaning Program
+-- in each mode the node where a line begins, and its prompt: the mark is `>` in the first mode, and then `#`
+abbrev pub line_in : Mode → Option (ℕ × Prompt)
+line_in modes.User = Some (USER_LINES, prompt (codes "router") 62)
+line_in modes.Privileged = Some (PRIVILEGED_LINES, prompt (codes "router") 35)
+line_in modes.Configuration = Some (CONFIGURATION_LINES, prompt (codes "router(config)") 35)
+line_in (modes.Interface at) = Some (INTERFACE_LINES, prompt (codes "router(config-if)") 35)
+line_in modes.Protocol = Some (PROTOCOL_LINES, prompt (codes "router(config-router)") 35)
+line_in modes.Ended = None
+
+-- its interfaces are the rules; a line that is confirmed does what it commands, and shows its reply
+abbrev pub router_meaning : LineMeaning Router
 router_meaning = record {
   graph = router_graph;
-  rules = octet_meanings;
-  catalogue_of = λ at. catalogue_of at.router.interfaces;
-  line_of = λ at. line_in at.router.mode at.prompts;
-  state_of = λ at session. record at { router = obeyed (command_of session) at.router };
-  reply_of = λ at session. reply (command_of session) at.router.interfaces;
+  rules_of = λ at. router_rules at.interfaces;
+  catalogue_of = λ at. at.names;
+  line_of = λ at. line_in at.mode;
+  state_of = λ at session. obeyed (command_of session) at;
+  reply_of = λ at session. reply (command_of session) at.interfaces;
 }
 
 -- the number that the process ends with, where its run went so

@@ -1,5 +1,6 @@
 -- The router: its interfaces and the mode that it is in, and what a command makes of it.
 use Rattle.std.specs.Prelude.{ℕ, if◌then◌else◌, List, [], ◌∷◌}
+use Rattle.cm_files.specs.OneDirectory.{no_files}
 use Rattle.eg_router.specs.Interfaces.{may_enter, place, with_change, with_name, without_name}
 use Rattle.eg_router.specs.declared.command.Command.{Command}
 use Rattle.eg_router.specs.declared.command.Command.TheVariants as commands
@@ -11,11 +12,11 @@ use Rattle.eg_router.specs.declared.router.Router.{Router}
 
 -- without interfaces
 abbrev pub router_start : Router
-router_start = record { interfaces = []; mode = modes.User }
+router_start = record { names = no_files; interfaces = []; mode = modes.User }
 
 -- where these interfaces are configured
 abbrev pub configuring : List Interface → Router
-configuring interfaces = record { interfaces = interfaces; mode = modes.Configuration }
+configuring interfaces = record { names = no_files; interfaces = interfaces; mode = modes.Configuration }
 
 -- one mode up
 abbrev pub above : Mode → Mode
@@ -30,7 +31,7 @@ above modes.Ended = modes.Ended
 abbrev pub entered : List ℕ → Router → Router
 entered name at =
     if may_enter name at.interfaces
-    then record { interfaces = with_name name at.interfaces; mode = modes.Interface (place name at.interfaces) }
+    then record at { interfaces = with_name name at.interfaces; mode = modes.Interface (place name at.interfaces) }
     else at
 
 -- a change is of the interface whose mode it is

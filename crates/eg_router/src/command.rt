@@ -3,14 +3,14 @@ ghost use Rattle.std.specs.Prelude.{◌≡◌, ◌≤◌, length, map};
 ghost use Rattle.std.specs.Char.{to_ascii_uppercase};
 ghost use Rattle.std.specs.Str.{IsAscii};
 ghost use Rattle.cm_text.specs.declared.name.TheConstants.{NAME_LIMIT};
-ghost use Rattle.eg_router.specs.Command.{address_of, code_by, command_of, description_of, name_of, named, number_by, said_by, setting_by, shown_by, taken_back, value_of};
+ghost use Rattle.eg_router.specs.Command.{address_of, code_by, command_of, description_of, name_of, number_by, said_by, shown_by, taken_back, value_of};
 ghost use Rattle.eg_router.specs.Graph.{router_graph};
 
 use crate::grammar::{
-    ADDRESS, CONFIGURE, DESCRIPTION, ENABLE, END, EXIT, INTERFACE, NO, ROUTER, RUNNING_CONFIG,
-    SHOW, SHUTDOWN, VERSION,
+    ADDRESS, CONFIGURE, DESCRIPTION, ENABLE, END, EXIT, INTERFACE, NO, ROUTER, RUNNING, SHOW,
+    SHUTDOWN, VERSION,
 };
-use crate::{Address, Change, Mode, OctetRules};
+use crate::{Address, Change, Mode};
 use cm_blocks::{Grammar, Role};
 use cm_fields::{Value, unquoted};
 use cm_state::Session;
@@ -49,7 +49,7 @@ pub enum Command {
 /// What the line that a session holds commands, where it is confirmed: the field of role Verb names the command, that
 /// of role What what it shows or takes back, that of role Files an interface, that of role Value a description, and
 /// those of the program's own roles an address.
-pub fn command_of(session: &Session<OctetRules>, grammar: &Grammar) -> Command
+pub fn command_of(session: &Session, grammar: &Grammar) -> Command
     requires { grammar.now ≡ router_graph }
     ensures { result ≡ command_of session.now }
 {
@@ -63,7 +63,10 @@ pub fn command_of(session: &Session<OctetRules>, grammar: &Grammar) -> Command
         INTERFACE => Command::Interface(name_of(session, grammar)),
         SHOW => shown_by(what),
         NO => taken_back(what, session, grammar),
-        _ => setting_by(verb, session, grammar),
+        ADDRESS => Command::Set(Change::Address(Some(address_of(session)))),
+        DESCRIPTION => Command::Set(Change::Description(description_of(session, grammar))),
+        SHUTDOWN => Command::Set(Change::Shutdown(true)),
+        _ => Command::Nothing,
     }
 }
 
@@ -73,14 +76,14 @@ fn shown_by(what: u16) -> Command
 {
     match what {
         INTERFACE => Command::Show(Shown::Interfaces),
-        RUNNING_CONFIG => Command::Show(Shown::Configuration),
+        RUNNING => Command::Show(Shown::Configuration),
         VERSION => Command::Show(Shown::Version),
         _ => Command::Nothing,
     }
 }
 
 // What NO takes back, by its keyword.
-fn taken_back(what: u16, session: &Session<OctetRules>, grammar: &Grammar) -> Command
+fn taken_back(what: u16, session: &Session, grammar: &Grammar) -> Command
     requires { grammar.now ≡ router_graph }
     ensures { result ≡ taken_back what session.now }
 {
@@ -93,21 +96,8 @@ fn taken_back(what: u16, session: &Session<OctetRules>, grammar: &Grammar) -> Co
     }
 }
 
-// A setting, by its keyword.
-fn setting_by(verb: u16, session: &Session<OctetRules>, grammar: &Grammar) -> Command
-    requires { grammar.now ≡ router_graph }
-    ensures { result ≡ setting_by verb session.now }
-{
-    match verb {
-        ADDRESS => Command::Set(Change::Address(Some(address_of(session)))),
-        DESCRIPTION => Command::Set(Change::Description(description_of(session, grammar))),
-        SHUTDOWN => Command::Set(Change::Shutdown(true)),
-        _ => Command::Nothing,
-    }
-}
-
 // What the first field of a role stands for.
-fn value_of(session: &Session<OctetRules>, role: Role) -> Option<Value>
+fn value_of(session: &Session, role: Role) -> Option<Value>
     ensures { result ≡ value_of role session.now.fields }
 {
     match session.field_of(role) {
@@ -137,7 +127,7 @@ fn number_by(value: Option<Value>) -> u64
 }
 
 // The four numbers of an address.
-fn address_of(session: &Session<OctetRules>) -> Address
+fn address_of(session: &Session) -> Address
     ensures { result ≡ address_of session.now.fields }
 {
     Address {
@@ -149,7 +139,7 @@ fn address_of(session: &Session<OctetRules>) -> Address
 }
 
 // What the first field of a role said, and nothing where there is none.
-fn said_by<'a>(role: Role, session: &'a Session<OctetRules>, grammar: &'a Grammar) -> &'a [u8]
+fn said_by<'a>(role: Role, session: &'a Session, grammar: &'a Grammar) -> &'a [u8]
     requires { grammar.now ≡ router_graph }
     ensures value { result.now ≡ said_by role session.now }
     ensures ascii { IsAscii result.now }
@@ -161,7 +151,7 @@ fn said_by<'a>(role: Role, session: &'a Session<OctetRules>, grammar: &'a Gramma
 }
 
 // The name of an interface as the router keeps it.
-fn name_of(session: &Session<OctetRules>, grammar: &Grammar) -> Name
+fn name_of(session: &Session, grammar: &Grammar) -> Name
     requires { grammar.now ≡ router_graph }
     ensures { result ≡ name_of session.now }
 {
@@ -170,7 +160,7 @@ fn name_of(session: &Session<OctetRules>, grammar: &Grammar) -> Name
 }
 
 // What DESCRIPTION says.
-fn description_of(session: &Session<OctetRules>, grammar: &Grammar) -> Name
+fn description_of(session: &Session, grammar: &Grammar) -> Name
     requires { grammar.now ≡ router_graph }
     ensures { result ≡ description_of session.now }
 {

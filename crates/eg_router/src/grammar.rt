@@ -1,7 +1,8 @@
 // The grammar of the router.
 ghost use Rattle.std.specs.Prelude.{◌≡◌, IfOk};
-ghost use Rattle.eg_router.specs.Graph.{blocks, confirm, first_nodes, keyword, octet, point, router_graph, router_nodes};
+ghost use Rattle.eg_router.specs.Graph.{blocks, confirm, keyword, lines, octet, point, router_graph, router_nodes};
 
+use crate::rules::{NAME, NEW_NAME, OCTET};
 use crate::tables::tables;
 use cm_blocks::{Block, Function, Grammar, Node, Role};
 use cm_io::NoMemory;
@@ -27,7 +28,7 @@ pub(crate) const NO: u16 = 8;
 
 pub(crate) const ROUTER: u16 = 9;
 
-pub(crate) const RUNNING_CONFIG: u16 = 10;
+pub(crate) const RUNNING: u16 = 10;
 
 pub(crate) const SHOW: u16 = 11;
 
@@ -46,7 +47,7 @@ pub(crate) const INTERFACE_LINES: u16 = 3;
 
 pub(crate) const PROTOCOL_LINES: u16 = 4;
 
-pub(crate) const LINE_END: u16 = 6;
+pub(crate) const LINE_END: u16 = 5;
 
 /// The grammar of the router: for each mode the node where its lines begin.
 #[tactic(auto, using(crate::proofs::Faultless::graph_has_no_fault), unfolding(crate::specs::Graph::router_graph))]
@@ -57,37 +58,33 @@ pub fn grammar(alloc: Global) -> Result<Grammar, NoMemory>
     Ok(Grammar::of(nodes(alloc)?, tables))
 }
 
-#[tactic(auto, unfolding(crate::specs::Graph::router_nodes))]
+// Nodes 0 to 4, where a line of each mode begins with nothing or a command, and those of one block.
+#[tactic(auto, unfolding(crate::specs::Graph::router_nodes, crate::specs::Graph::first_nodes))]
 fn nodes(alloc: Global) -> Result<Vec<Node>, NoMemory>
     ensures { IfOk result (λ nodes. nodes.items ≡ router_nodes) }
 {
-    let mut nodes = first_nodes(alloc)?;
+    let mut nodes = vec![in alloc;
+        lines(0, alloc)?,
+        lines(1, alloc)?,
+        lines(2, alloc)?,
+        lines(3, alloc)?,
+        lines(4, alloc)?,
+    ]?;
     for block in blocks(alloc)? {
         nodes.push(Node::new(vec![in alloc; block]?))?;
     }
     Ok(nodes)
 }
 
-// Nodes 0 to 5: in each mode a line begins with nothing or a command; and behind INTERFACE stands the name of one that
-// is there, or a new one.
-#[tactic(auto, unfolding(crate::specs::Graph::first_nodes))]
-fn first_nodes(alloc: Global) -> Result<Vec<Node>, NoMemory>
-    ensures { IfOk result (λ nodes. nodes.items ≡ first_nodes) }
+// Nothing, or a keyword of this table.
+fn lines(table: u16, alloc: Global) -> Result<Node, NoMemory>
+    ensures { IfOk result (λ node. node ≡ lines table) }
 {
-    let old = Block::new(Function::User, Role::Files, LINE_END);
-    let new = Block::new(Function::Word, Role::Files, LINE_END);
-    let mut nodes = Vec::new(alloc);
-    nodes.push(Node::new(vec![in alloc; confirm(), keyword(0, Role::Verb)]?))?;
-    nodes.push(Node::new(vec![in alloc; confirm(), keyword(1, Role::Verb)]?))?;
-    nodes.push(Node::new(vec![in alloc; confirm(), keyword(2, Role::Verb)]?))?;
-    nodes.push(Node::new(vec![in alloc; confirm(), keyword(3, Role::Verb)]?))?;
-    nodes.push(Node::new(vec![in alloc; confirm(), keyword(4, Role::Verb)]?))?;
-    nodes.push(Node::new(vec![in alloc; old, new]?))?;
-    Ok(nodes)
+    Ok(Node::new(vec![in alloc; confirm(), keyword(table, Role::Verb)]?))
 }
 
-// Nodes 6 to 20, of one block each: the end of a line; CONFIGURE; SHOW; NO and what it takes back; ROUTER; the address,
-// four numbers with points between; the description.
+// Nodes 5 to 20, of one block each: the end of a line; CONFIGURE; SHOW; NO and what it takes back; INTERFACE; ROUTER;
+// the address, four numbers with points between; the description.
 #[tactic(auto, unfolding(crate::specs::Graph::blocks))]
 fn blocks(alloc: Global) -> Result<Vec<Block>, NoMemory>
     ensures { IfOk result (λ items. items.items ≡ blocks) }
@@ -97,8 +94,9 @@ fn blocks(alloc: Global) -> Result<Vec<Block>, NoMemory>
         keyword(5, Role::None),
         keyword(6, Role::What),
         keyword(7, Role::What),
-        Block::new(Function::User, Role::Files, LINE_END),
+        Block::new(Function::Hook(NAME), Role::Files, LINE_END),
         keyword(8, Role::What),
+        Block::new(Function::Hook(NEW_NAME), Role::Files, LINE_END),
         Block::new(Function::Word, Role::Value, LINE_END),
         octet(1, 14),
         point(15),
@@ -128,7 +126,7 @@ fn keyword(table: u16, role: Role) -> Block
 fn octet(place: u8, next: u16) -> Block
     ensures { result ≡ octet place next }
 {
-    Block::new(Function::Hook(0), Role::Own(place), next)
+    Block::new(Function::Hook(OCTET), Role::Own(place), next)
 }
 
 // A point between two of them.

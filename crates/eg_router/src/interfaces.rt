@@ -1,11 +1,10 @@
-// The interfaces of the router, and the catalogue in which a line names them.
+// The interfaces of the router.
 ghost use Rattle.std.specs.Prelude.{◌≡◌, ◌≤◌, [], true, length};
 ghost use Rattle.std.specs.List.{list_all};
 ghost use Rattle.eg_router.specs.Interfaces.{AreInterfaces, has, is_interface_name, is_name_byte, may_enter, place, with_change, with_name, without_name};
 
 use crate::{Change, Interface};
 use arrayvec::ArrayVec;
-use cm_files::{Names, Row};
 use cm_text::{NAME_LIMIT, Name, is_word};
 use std::cmp::Ordering;
 use std::marker::Model;
@@ -49,8 +48,8 @@ impl Interfaces {
         &self.items
     }
 
-    /// Whether the interface of this name is there, or may be made: it is a name, of 1 to 39 capital letters, digits and
-    /// hyphens, and there are fewer than 16 others.
+    /// Whether the interface of this name is there, or may be made: it is a name, of 1 to 39 capital letters, digits
+    /// and hyphens, and there are fewer than 16 others.
     pub fn may_enter(&self, name: &Name) -> bool
         ensures { result ≡ may_enter name.now self.now }
     {
@@ -137,47 +136,4 @@ fn is_interface_name(text: &[u8]) -> bool
     ensures { result ≡ is_interface_name text.now }
 {
     !text.is_empty() && text.len() <= NAME_LIMIT && are_name_bytes(text)
-}
-
-impl Names for Interfaces {
-    ghost use Rattle.eg_router.specs.Interfaces.{catalogue_of};
-
-    ghost catalogue = { λ it. catalogue_of it };
-
-    fn directories(&self) -> u16 {
-        self.items.len() as u16 + 1
-    }
-
-    fn directory(&self, i: u16) -> &str {
-        match i {
-            0 => "$.ROUTER",
-            _ => self.items[usize::from(i) - 1].name.as_str(),
-        }
-    }
-
-    fn connected(&self) -> u16 {
-        0
-    }
-
-    fn logical(&self, _name: &[u8]) -> Option<u16> {
-        None
-    }
-
-    fn rows(&self, directory: u16) -> u32 {
-        // That it is a catalogue, for the proof.
-        self.directories();
-        match directory {
-            0 => 1,
-            _ => 0,
-        }
-    }
-
-    fn row(&self, _directory: u16, _i: u32) -> Row<'_> {
-        Row {
-            name: "NONE",
-            kind: "",
-            generation: 1,
-            deleted: false,
-        }
-    }
 }

@@ -3,17 +3,20 @@ ghost use Rattle.std.specs.Prelude.{◌≡◌, ◌≤◌, ℕ, List, [], true};
 ghost use Rattle.std.specs.Fmt.{decimal};
 ghost use Rattle.std.specs.List.{flat_map};
 ghost use Rattle.cm_fields.specs.Quoted.{unquoted};
+ghost use Rattle.cm_hooks.specs.Meanings.{IsYes};
 ghost use Rattle.cm_hooks.specs.declared.answer.Answer.TheVariants.{Yes};
 ghost use Rattle.cm_run.specs.Keeping.{IsLineKeeping};
 ghost use Rattle.cm_run.specs.LineMeaning.{lines_only};
 ghost use Rattle.eg_router.specs.Command.{upper};
 ghost use Rattle.eg_router.specs.Configuration.{configuration, line_of, listing, quoted_byte};
-ghost use Rattle.eg_router.specs.Interfaces.{AreInterfaces, is_interface_name};
-ghost use Rattle.eg_router.specs.Octet.{octet_verdict};
+ghost use Rattle.eg_router.specs.Interfaces.{AreInterfaces, is_interface_name, may_enter};
+ghost use Rattle.eg_router.specs.Rules.{new_name_verdict, octet_verdict};
 ghost use Rattle.eg_router.specs.Program.{router_meaning};
 ghost use Rattle.eg_router.specs.Router.{configuring, obeyed_all};
+ghost use Rattle.eg_router.specs.declared.grammar.TheConstants.{ADDRESS, CONFIGURATION_LINES, CONFIGURE, DESCRIPTION, ENABLE, END, EXIT, INTERFACE, INTERFACE_LINES, LINE_END, NO, PRIVILEGED_LINES, PROTOCOL_LINES, ROUTER, RUNNING, SHOW, SHUTDOWN, USER_LINES, VERSION};
 ghost use Rattle.eg_router.specs.declared.interface.Interface.{Interface};
-ghost use Rattle.eg_router.specs.declared.octet.TheConstants.{OCTET_LIMIT};
+ghost use Rattle.eg_router.specs.declared.interfaces.TheConstants.{INTERFACE_LIMIT};
+ghost use Rattle.eg_router.specs.declared.rules.TheConstants.{NAME, NEW_NAME, OCTET, OCTET_LIMIT};
 
 /// The commands of the configuration, done by a new router in the mode of configuration, make the same interfaces, and
 /// leave it in that mode.
@@ -35,8 +38,27 @@ pub fn the_fields_are_what_was_written()
     ensures name { (name : List ℕ) → is_interface_name name ≡ true → upper name ≡ name }
 {}
 
-/// Each reply of the router is nothing, or ends with a line feed, and its prompts are printed bytes: so the screen shows
-/// prompt and line between keys.
+/// Each reply of the router is nothing, or ends with a line feed, and its prompts are printed bytes: so the screen
+/// shows prompt and line between keys.
 pub fn the_router_keeps_its_lines()
     ensures { IsLineKeeping (lines_only router_meaning) }
+{}
+
+/// A name that INTERFACE takes in the line may be entered, so that the act refuses none.
+pub fn a_name_that_is_taken_may_be_entered()
+    ensures { (interfaces : List Interface) → AreInterfaces interfaces → (atom : List ℕ)
+        → IsYes (new_name_verdict atom interfaces) → may_enter (upper atom) interfaces ≡ true }
+{}
+
+/// The numbers of the router: the most interfaces, the largest number of an address, the hooks, the codes of the
+/// keywords, and the nodes where lines begin and where they end.
+pub fn these_are_the_numbers()
+    ensures interfaces { INTERFACE_LIMIT ≡ 16 }
+    ensures octet { OCTET_LIMIT ≡ 255 }
+    ensures hooks { (OCTET ≡ 0) × (NAME ≡ 1) × (NEW_NAME ≡ 2) }
+    ensures codes { (ADDRESS ≡ 1) × (CONFIGURE ≡ 2) × (DESCRIPTION ≡ 3) × (ENABLE ≡ 4) × (END ≡ 5) × (EXIT ≡ 6)
+        × (INTERFACE ≡ 7) × (NO ≡ 8) × (ROUTER ≡ 9) × (RUNNING ≡ 10) × (SHOW ≡ 11) × (SHUTDOWN ≡ 12)
+        × (VERSION ≡ 13) }
+    ensures nodes { (USER_LINES ≡ 0) × (PRIVILEGED_LINES ≡ 1) × (CONFIGURATION_LINES ≡ 2) × (INTERFACE_LINES ≡ 3)
+        × (PROTOCOL_LINES ≡ 4) × (LINE_END ≡ 5) }
 {}

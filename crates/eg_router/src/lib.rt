@@ -1,5 +1,5 @@
-//! The command line of a router: modes, a tree of keywords, interfaces that come and go, and a configuration that can be
-//! typed again.
+//! The command line of a router: modes, a tree of keywords, interfaces that come and go, and a configuration that can
+//! be typed again.
 #![tactic(auto)]
 
 mod command;
@@ -8,16 +8,14 @@ pub mod grammar;
 mod interface;
 mod interfaces;
 pub mod laws;
-pub mod octet;
 mod program;
-mod prompts;
 mod router;
+mod rules;
 mod tables;
 
 pub use command::{Command, Shown, command_of};
 pub use interface::{Address, Change, Interface};
 pub use interfaces::{INTERFACE_LIMIT, Interfaces};
-pub use octet::OctetRules;
-pub use program::{Program, status_of};
-pub use prompts::Prompts;
+pub use program::status_of;
 pub use router::{Mode, Router};
+pub use rules::OCTET_LIMIT;

@@ -7,6 +7,7 @@ ghost use Rattle.eg_router.specs.Router.{above, entered, obeyed, router_start, w
 
 use crate::configuration::put_reply;
 use crate::{Change, Command, Interfaces};
+use cm_files::OneDirectory;
 use cm_io::{Put, Sink, Writer};
 use cm_text::Name;
 
@@ -30,7 +31,9 @@ pub enum Mode {
 /// The router in its course.
 #[derive(Drop)]
 pub struct Router {
-    /// Its interfaces. They are also the names that a line may mean.
+    /// The directories that a line may name, for grammars that read files. This one reads none.
+    pub names: OneDirectory,
+    /// Its interfaces. They are also the rules of its lines.
     pub interfaces: Interfaces,
     /// Where it is.
     pub mode: Mode,
@@ -42,6 +45,7 @@ impl Router {
         ensures { result ≡ router_start }
     {
         Router {
+            names: OneDirectory::nothing(),
             interfaces: Interfaces::new(),
             mode: Mode::User,
         }

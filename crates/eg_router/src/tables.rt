@@ -1,131 +1,92 @@
 // The keyword tables of the router, each entry with its code and the node behind it.
-ghost use Rattle.std.specs.Prelude.{◌≡◌, IfOk};
-ghost use Rattle.eg_router.specs.Tables.{configuration_entries, interface_entries, privileged_entries, protocol_entries, removal_entries, router_tables, setting_entries, terminal_entries, topic_entries, user_entries};
+ghost use Rattle.std.specs.Prelude.{◌≡◌, ◌≤◌, IfOk, length};
+ghost use Rattle.cm_text.specs.declared.name.TheConstants.{NAME_LIMIT};
+ghost use Rattle.eg_router.specs.Tables.{further_tables, mode_tables, router_tables, word};
 
 use crate::grammar::{
-    ADDRESS, CONFIGURE, DESCRIPTION, ENABLE, END, EXIT, INTERFACE, LINE_END, NO, ROUTER,
-    RUNNING_CONFIG, SHOW, SHUTDOWN, VERSION,
+    ADDRESS, CONFIGURE, DESCRIPTION, ENABLE, END, EXIT, INTERFACE, LINE_END, NO, ROUTER, RUNNING,
+    SHOW, SHUTDOWN, VERSION,
 };
 use cm_io::NoMemory;
 use cm_tables::{Entry, Table};
 use std::alloc::Global;
 
+// Those of the modes, and then those behind a keyword.
 #[tactic(auto, unfolding(crate::specs::Tables::router_tables))]
 pub(crate) fn tables(alloc: Global) -> Result<Vec<Table>, NoMemory>
     ensures { IfOk result (λ tables. tables.items ≡ router_tables) }
 {
-    let mut tables = vec![in alloc; user_words(alloc)?]?;
-    tables.push(privileged_words(alloc)?)?;
-    tables.push(configuration_words(alloc)?)?;
-    tables.push(interface_words(alloc)?)?;
-    tables.push(protocol_words(alloc)?)?;
-    tables.push(terminal_words(alloc)?)?;
-    tables.push(topics(alloc)?)?;
-    tables.push(removals(alloc)?)?;
-    tables.push(settings(alloc)?)?;
+    let mut tables = mode_tables(alloc)?;
+    for table in further_tables(alloc)? {
+        tables.push(table)?;
+    }
     Ok(tables)
 }
 
-// In the first mode.
-#[tactic(auto, unfolding(crate::specs::Tables::user_entries, cm_tables::specs::Order::table_fault))]
-fn user_words(alloc: Global) -> Result<Table, NoMemory>
-    ensures { IfOk result (λ table. table ≡ user_entries) }
+// In the order of the modes.
+#[tactic(auto, unfolding(crate::specs::Tables::mode_tables, crate::specs::Tables::user_entries, crate::specs::Tables::privileged_entries, crate::specs::Tables::configuration_entries, crate::specs::Tables::interface_entries, crate::specs::Tables::protocol_entries, cm_tables::specs::Order::table_fault))]
+fn mode_tables(alloc: Global) -> Result<Vec<Table>, NoMemory>
+    ensures { IfOk result (λ tables. tables.items ≡ mode_tables) }
 {
-    Ok(Table::of(vec![in alloc;
-        Entry::new("ENABLE", ENABLE, LINE_END),
-        Entry::new("EXIT", EXIT, LINE_END),
-        Entry::new("SHOW", SHOW, 8),
-    ]?))
+    Ok(vec![in alloc;
+        Table::of(vec![in alloc;
+            word("ENABLE", ENABLE, LINE_END, "Turn on privileged mode"),
+            word("EXIT", EXIT, LINE_END, "Exit current mode"),
+            word("SHOW", SHOW, 7, "Show the system"),
+        ]?),
+        Table::of(vec![in alloc;
+            word("CONFIGURE", CONFIGURE, 6, "Configure the router"),
+            word("EXIT", EXIT, LINE_END, "Exit current mode"),
+            word("SHOW", SHOW, 7, "Show the system"),
+        ]?),
+        Table::of(vec![in alloc;
+            word("END", END, LINE_END, "End current mode"),
+            word("EXIT", EXIT, LINE_END, "Exit current mode"),
+            word("INTERFACE", INTERFACE, 11, "Select an interface"),
+            word("NO", NO, 8, "Negate a command"),
+            word("ROUTER", ROUTER, 12, "Start a routing process"),
+        ]?),
+        Table::of(vec![in alloc;
+            word("ADDRESS", ADDRESS, 13, "Set the IP address"),
+            word("DESCRIPTION", DESCRIPTION, 20, "Describe the interface"),
+            word("END", END, LINE_END, "End current mode"),
+            word("EXIT", EXIT, LINE_END, "Exit current mode"),
+            word("NO", NO, 10, "Negate a command"),
+            word("SHUTDOWN", SHUTDOWN, LINE_END, "Shut the interface down"),
+        ]?),
+        Table::of(vec![in alloc;
+            word("END", END, LINE_END, "End current mode"),
+            word("EXIT", EXIT, LINE_END, "Exit current mode"),
+        ]?),
+    ]?)
 }
 
-// In that behind ENABLE.
-#[tactic(auto, unfolding(crate::specs::Tables::privileged_entries, cm_tables::specs::Order::table_fault))]
-fn privileged_words(alloc: Global) -> Result<Table, NoMemory>
-    ensures { IfOk result (λ table. table ≡ privileged_entries) }
+// Behind CONFIGURE, SHOW, NO where interfaces are made, and NO in the mode of an interface.
+#[tactic(auto, unfolding(crate::specs::Tables::further_tables, crate::specs::Tables::terminal_entries, crate::specs::Tables::topic_entries, crate::specs::Tables::removal_entries, crate::specs::Tables::setting_entries, cm_tables::specs::Order::table_fault))]
+fn further_tables(alloc: Global) -> Result<Vec<Table>, NoMemory>
+    ensures { IfOk result (λ tables. tables.items ≡ further_tables) }
 {
-    Ok(Table::of(vec![in alloc;
-        Entry::new("CONFIGURE", CONFIGURE, 7),
-        Entry::new("EXIT", EXIT, LINE_END),
-        Entry::new("SHOW", SHOW, 8),
-    ]?))
+    Ok(vec![in alloc;
+        Table::of(vec![in alloc; word("TERMINAL", CONFIGURE, LINE_END, "From the terminal")]?),
+        Table::of(vec![in alloc;
+            word("INTERFACES", INTERFACE, LINE_END, "Interface status"),
+            word("RUNNING-CONFIG", RUNNING, LINE_END, "The configuration"),
+            word("VERSION", VERSION, LINE_END, "System version"),
+        ]?),
+        Table::of(vec![in alloc; word("INTERFACE", INTERFACE, 9, "Remove an interface")]?),
+        Table::of(vec![in alloc;
+            word("ADDRESS", ADDRESS, LINE_END, "Take the IP address"),
+            word("DESCRIPTION", DESCRIPTION, LINE_END, "Take the description"),
+            word("SHUTDOWN", SHUTDOWN, LINE_END, "Take the interface up"),
+        ]?),
+    ]?)
 }
 
-// In that behind CONFIGURE TERMINAL.
-#[tactic(auto, unfolding(crate::specs::Tables::configuration_entries, cm_tables::specs::Order::table_fault))]
-fn configuration_words(alloc: Global) -> Result<Table, NoMemory>
-    ensures { IfOk result (λ table. table ≡ configuration_entries) }
+// A keyword, and what `?` says of it.
+fn word(text: &str, code: u16, next: u16, help: &str) -> Entry
+    requires text { length text.now ≤ NAME_LIMIT }
+    requires help { length help.now ≤ NAME_LIMIT }
+    ensures { result ≡ word text.now code next help.now }
 {
-    Ok(Table::of(vec![in alloc;
-        Entry::new("END", END, LINE_END),
-        Entry::new("EXIT", EXIT, LINE_END),
-        Entry::new("INTERFACE", INTERFACE, 5),
-        Entry::new("NO", NO, 9),
-        Entry::new("ROUTER", ROUTER, 12),
-    ]?))
-}
-
-// In that of an interface.
-#[tactic(auto, unfolding(crate::specs::Tables::interface_entries, cm_tables::specs::Order::table_fault))]
-fn interface_words(alloc: Global) -> Result<Table, NoMemory>
-    ensures { IfOk result (λ table. table ≡ interface_entries) }
-{
-    Ok(Table::of(vec![in alloc;
-        Entry::new("ADDRESS", ADDRESS, 13),
-        Entry::new("DESCRIPTION", DESCRIPTION, 20),
-        Entry::new("END", END, LINE_END),
-        Entry::new("EXIT", EXIT, LINE_END),
-        Entry::new("NO", NO, 11),
-        Entry::new("SHUTDOWN", SHUTDOWN, LINE_END),
-    ]?))
-}
-
-// In that of a protocol.
-#[tactic(auto, unfolding(crate::specs::Tables::protocol_entries, cm_tables::specs::Order::table_fault))]
-fn protocol_words(alloc: Global) -> Result<Table, NoMemory>
-    ensures { IfOk result (λ table. table ≡ protocol_entries) }
-{
-    Ok(Table::of(vec![in alloc;
-        Entry::new("END", END, LINE_END),
-        Entry::new("EXIT", EXIT, LINE_END),
-    ]?))
-}
-
-// Behind CONFIGURE.
-#[tactic(auto, unfolding(crate::specs::Tables::terminal_entries, cm_tables::specs::Order::table_fault))]
-fn terminal_words(alloc: Global) -> Result<Table, NoMemory>
-    ensures { IfOk result (λ table. table ≡ terminal_entries) }
-{
-    Ok(Table::of(vec![in alloc; Entry::new("TERMINAL", CONFIGURE, LINE_END)]?))
-}
-
-// Behind SHOW.
-#[tactic(auto, unfolding(crate::specs::Tables::topic_entries, cm_tables::specs::Order::table_fault))]
-fn topics(alloc: Global) -> Result<Table, NoMemory>
-    ensures { IfOk result (λ table. table ≡ topic_entries) }
-{
-    Ok(Table::of(vec![in alloc;
-        Entry::new("INTERFACES", INTERFACE, LINE_END),
-        Entry::new("RUNNING-CONFIG", RUNNING_CONFIG, LINE_END),
-        Entry::new("VERSION", VERSION, LINE_END),
-    ]?))
-}
-
-// Behind NO where interfaces are made.
-#[tactic(auto, unfolding(crate::specs::Tables::removal_entries, cm_tables::specs::Order::table_fault))]
-fn removals(alloc: Global) -> Result<Table, NoMemory>
-    ensures { IfOk result (λ table. table ≡ removal_entries) }
-{
-    Ok(Table::of(vec![in alloc; Entry::new("INTERFACE", INTERFACE, 10)]?))
-}
-
-// Behind NO in the mode of an interface.
-#[tactic(auto, unfolding(crate::specs::Tables::setting_entries, cm_tables::specs::Order::table_fault))]
-fn settings(alloc: Global) -> Result<Table, NoMemory>
-    ensures { IfOk result (λ table. table ≡ setting_entries) }
-{
-    Ok(Table::of(vec![in alloc;
-        Entry::new("ADDRESS", ADDRESS, LINE_END),
-        Entry::new("DESCRIPTION", DESCRIPTION, LINE_END),
-        Entry::new("SHUTDOWN", SHUTDOWN, LINE_END),
-    ]?))
+    Entry::new(text, code, next).with_help(help)
 }

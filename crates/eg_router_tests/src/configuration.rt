@@ -64,7 +64,7 @@ fn each_line_of_it_makes_its_setting(rt: HostRuntime) -> Result<(), Fail> {
     ] {
         let keys = format!(in rt.alloc(); "enable\rconfigure terminal\r{lines}")?;
         let outcome = outcome_of(&rt, keys.as_bytes(), None, 4096)?;
-        let made = outcome.program.router.interfaces.as_slice();
+        let made = outcome.router.interfaces.as_slice();
         assert!(rt; outcome.went == Ok(()) && made.len() == 1, "{lines}");
         assert!(rt; has_made(&made[0], name, address, text, is_down), "{lines}");
     }
@@ -85,6 +85,6 @@ fn there_are_at_most_sixteen(rt: HostRuntime) -> Result<(), Fail> {
     // The last is refused, so that its EXIT leaves the mode of configuration.
     let refusal = b"int e16\r\n?Too many interfaces\r\nrouter(config)#exit\r\nrouter#".as_slice();
     assert!(rt; outcome.went == Ok::<(), Stop>(()) && shown.ends_with(refusal));
-    assert_eq!(rt; outcome.program.router.interfaces.as_slice().len(), 16);
+    assert_eq!(rt; outcome.router.interfaces.as_slice().len(), 16);
     Ok(())
 }

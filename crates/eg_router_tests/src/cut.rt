@@ -9,7 +9,7 @@ const KEYS: &[u8] = b"en\rconf t\r";
 #[test]
 fn stops_where_the_keys_fail(rt: HostRuntime) -> Result<(), Fail> {
     let mut outcome = outcome_of(&rt, KEYS, Some(4), 4096)?;
-    assert!(rt; outcome.went == Err(Stop::Keys) && outcome.program.router.mode == Mode::Privileged);
+    assert!(rt; outcome.went == Err(Stop::Keys) && outcome.router.mode == Mode::Privileged);
     assert!(rt; outcome.screen.bytes() == b"router>en\r\nrouter#c".as_slice());
     assert!(rt; leaves(&mut outcome.keys, b"onf t\r"));
     Ok(())
@@ -26,7 +26,7 @@ fn takes_no_key_behind_a_failed_screen(rt: HostRuntime) -> Result<(), Fail> {
     ] {
         let mut outcome = outcome_of(&rt, KEYS, None, room)?;
         assert!(rt;
-            outcome.went == Err(Stop::Screen) && outcome.program.router.mode == mode,
+            outcome.went == Err(Stop::Screen) && outcome.router.mode == mode,
             "{room}"
         );
         assert!(rt; leaves(&mut outcome.keys, left.as_bytes()), "{room}");

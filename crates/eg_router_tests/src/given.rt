@@ -1,14 +1,11 @@
 // What the runs of the tests are given, and what is to stand at their ends.
 ghost use Rattle.std.specs.Prelude.{◌≡◌, ◌<◌};
-ghost use Rattle.eg_router.specs.Octet.{octet_completion, octet_help, octet_verdict};
 
 use cm_blocks::Steps;
-use cm_hooks::{Answer, Hook, Hooks, Tail};
 use cm_io::{Got, MemSink, MemSource, NoMemory, Sink, Source};
 use cm_run::Stop;
-use cm_text::Name;
+use eg_router::Router;
 use eg_router::grammar::grammar;
-use eg_router::{OctetRules, Program, octet};
 use std::marker::Brand;
 use std::sync::ledger::{Blank, Ledger};
 use std::test::Fail;
@@ -17,7 +14,7 @@ use std::test::Fail;
 #[derive(Drop)]
 pub struct Outcome {
     pub went: Result<(), Stop>,
-    pub program: Program,
+    pub router: Router,
     pub keys: MemSource,
     pub screen: MemSink,
 }
@@ -30,19 +27,19 @@ pub(crate) fn outcome_of(
     room: u32,
 ) -> Result<Outcome, NoMemory> {
     let alloc = runtime.alloc();
-    let mut program = Program::new();
+    let mut router = Router::new();
     let mut source = MemSource::new(alloc, keys, failing_get)?;
     let mut screen = MemSink::new(alloc, room)?;
-    let went = run_with_hook::<MemSource, MemSink, Brand>(
+    let went = run_program::<MemSource, MemSink, Brand>(
         runtime,
         Blank::new(1),
-        &mut program,
+        &mut router,
         &mut source,
         &mut screen,
     );
     Ok(Outcome {
         went,
-        program,
+        router,
         keys: source,
         screen,
     })
@@ -72,11 +69,11 @@ pub(crate) fn try_cases(runtime: &HostRuntime, cases: &[(&[u8], &[u8])]) -> Resu
     Ok(())
 }
 
-// Boxes the hook, makes the grammar and the counter of trials, and runs the program, as its `main` does.
-pub(crate) fn run_with_hook<K: Source, S: Sink, L: Ledger>(
+// Makes the grammar and the counter of trials, and runs the program, as its `main` does.
+pub(crate) fn run_program<K: Source, S: Sink, L: Ledger>(
     rt: &HostRuntime,
     blank: Blank,
-    program: &mut Program,
+    router: &mut Router,
     keys: &mut K,
     screen: &mut S,
 ) -> Result<(), Stop>
@@ -84,26 +81,9 @@ pub(crate) fn run_with_hook<K: Source, S: Sink, L: Ledger>(
     requires parts { blank.parts ≡ L.parts }
     requires some { 0 < L.parts }
 {
-    let alloc = rt.alloc();
-    let verdict = |atom: &[u8]| -> Answer
-        ensures { result ≡ octet_verdict atom.now }
-    { octet::verdict(atom) };
-    let completion = |atom: &[u8]| -> Tail
-        ensures { result ≡ octet_completion atom.now }
-    { octet::completion(atom) };
-    let help = || -> Name
-        ensures { result ≡ octet_help }
-    { octet::help() };
-    let (Ok(verdict), Ok(completion), Ok(help), Ok(grammar)) = (
-        Box::new(alloc, verdict),
-        Box::new(alloc, completion),
-        Box::new(alloc, help),
-        grammar(alloc),
-    ) else {
+    let Ok(grammar) = grammar(rt.alloc()) else {
         return Err(Stop::Memory);
     };
-    let mut hooks: Hooks<OctetRules> = Hooks::new();
-    let _ = hooks.push(Hook::new(0, verdict, completion, help));
     let mut steps: Steps<L> = Steps::new(rt, blank);
-    program.run(&grammar, &hooks, keys, screen, &mut steps)
+    router.run(&grammar, keys, screen, &mut steps)
 }

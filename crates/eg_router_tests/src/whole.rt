@@ -113,11 +113,23 @@ fn interfaces_come_and_go(rt: HostRuntime) -> Result<(), Fail> {
                 b"en\rconf t\rno int e\x1b",
                 b"router>en\r\nrouter#conf t\r\nrouter(config)#no int e\x07",
             ),
+            // Neither INTERFACE nor NO INTERFACE takes an abbreviation: one makes an interface, the other refuses it.
+            (
+                b"en\rconf t\rint eth0\rex\rint eth\rex\rno int et\rend\rsh i\r",
+                b"router>en\r\nrouter#conf t\r\nrouter(config)#int eth0\r\nrouter(config-if)#ex\r\n\
+                    router(config)#int eth\r\nrouter(config-if)#ex\r\nrouter(config)#no int et\r\n\
+                    ?No such interface\r\nrouter(config)#end\r\nrouter#sh i\r\nETH up\r\nETH0 up\r\nrouter#",
+            ),
+            (
+                b"en\rconf t\rint a_b\r",
+                b"router>en\r\nrouter#conf t\r\nrouter(config)#int a_b\r\n?Not a name of an interface\r\n\
+                    router(config)#",
+            ),
             // One that is gone is refused in the line.
             (
                 b"en\rconf t\rint a\rex\rno int a\rno int a\r",
                 b"router>en\r\nrouter#conf t\r\nrouter(config)#int a\r\nrouter(config-if)#ex\r\n\
-                    router(config)#no int a\r\nrouter(config)#no int a\r\n?No such user\r\nrouter(config)#",
+                    router(config)#no int a\r\nrouter(config)#no int a\r\n?No such interface\r\nrouter(config)#",
             ),
         ],
     )
@@ -152,13 +164,18 @@ fn explains_what_may_come(rt: HostRuntime) -> Result<(), Fail> {
         &[
             (
                 b"show ?",
-                b"router>show ? one of the following:\r\n  INTERFACES\r\n  RUNNING-CONFIG\r\n  VERSION\r\n\
-                    router>show ",
+                b"router>show ? one of the following:\r\n  INTERFACES  Interface status\r\n\
+                    \x20 RUNNING-CONFIG  The configuration\r\n  VERSION  System version\r\nrouter>show ",
             ),
             (
                 b"en\rconf t\rint a\raddress ?",
                 b"router>en\r\nrouter#conf t\r\nrouter(config)#int a\r\n\
                     router(config-if)#address ? number from 0 to 255\r\nrouter(config-if)#address ",
+            ),
+            (
+                b"en\rconf t\rno int ?",
+                b"router>en\r\nrouter#conf t\r\n\
+                    router(config)#no int ? name of an interface\r\nrouter(config)#no int ",
             ),
         ],
     )
